@@ -1,0 +1,2 @@
+pub mod MarkedHold
+pub mod PlanRows

@@ -1,0 +1,1 @@
+// Laws on lists and numbers that the kit lacks: proofs/ has them, and there is no code.

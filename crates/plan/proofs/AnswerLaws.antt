@@ -1,0 +1,31 @@
+-- Which answers are right: one at most, and the same under another name of the question. Assumes nothing.
+use Prim.Native.Nat.{ℕ}
+use mathlib.Core.Path.{_≡_, sym, ap, _∙_}
+use Rattle.plan.specs.Answers.{Answer, Answered, has, none, given, refused}
+
+-- x has one value at most
+abbrev pub One : (ℕ → ℕ → Type 0) → Type 0
+One Has = (x y z : ℕ) → Has x y → Has x z → y ≡ z
+
+-- two right answers are equal
+pub determined : (Has : ℕ → ℕ → Type 0) → One Has → (refusal x : ℕ) (a b : Answer) → Answered Has refusal x a → Answered Has refusal x b → a ≡ b
+determined Has one refusal x a b (has y p e) (has z q d) = e ∙ ap given (one x y z p q) ∙ sym d
+determined Has one refusal x a b (has y p e) (none n d) = absurd (n y p)
+determined Has one refusal x a b (none n e) (has z q d) = absurd (n z q)
+determined Has one refusal x a b (none n e) (none k d) = e ∙ sym d
+
+-- a right answer to a question is right of another that has the same values
+pub carried : {Has Has′ : ℕ → ℕ → Type 0} {refusal x x′ : ℕ} {a : Answer}
+    → ((y : ℕ) → Has x y → Has′ x′ y) → ((y : ℕ) → Has′ x′ y → Has x y) → Answered Has refusal x a → Answered Has′ refusal x′ a
+carried to from (has y p e) = has y (to y p) e
+carried to from (none n e) = none (λ y p. n y (from y p)) e
+
+-- 0 is answered only with a value that x has
+pub value-had : (Has : ℕ → ℕ → Type 0) (refusal x : ℕ) (a : Answer) → (refusal ≡ 0 → ⊥) → Answered Has refusal x a → a .number ≡ 0 → Has x (a .value)
+value-had Has refusal x a h (has y p e) z = rw e p
+value-had Has refusal x a h (none n e) z = absurd (h (sym (ap (λ (r : Answer). r .number) e) ∙ z))
+
+-- a value that x has is answered, with 0
+pub had-value : (Has : ℕ → ℕ → Type 0) → One Has → (refusal x y : ℕ) (a : Answer) → Answered Has refusal x a → Has x y → a ≡ given y
+had-value Has one refusal x y a (has z p e) q = e ∙ ap given (one x z y p q)
+had-value Has one refusal x y a (none n e) q = absurd (n y q)

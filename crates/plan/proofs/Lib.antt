@@ -1,0 +1,4 @@
+pub mod AnswerLaws
+pub mod FrequencyLaws
+pub mod NumberLaws
+pub mod Theorems
