@@ -1,2 +1,3 @@
 pub mod Every
 pub mod Table
+pub mod Seqs

@@ -1,0 +1,7 @@
+pub mod Canonical
+pub mod Carrier
+pub mod Fields
+pub mod Ranges
+pub mod Rows
+pub mod Settings
+pub mod Writing

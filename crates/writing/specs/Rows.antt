@@ -1,0 +1,48 @@
+-- Document 01's table of the ten settings, the columns "least / most" and the operations allowed.
+use Prim.Native.Nat.{ℕ, _+_, _*_, _/_, _≤_}
+use mathlib.Core.Bool.{Bool, true, false}
+use mathlib.Core.Option.{Option, none, some}
+use Rattle.writing.specs.declared.Kind.{Kind}
+use Rattle.writing.specs.declared.Kind.the-variants.{Lines, Key, QuickTexts, Home, Channels, System, StatusTexts, Group, Individual, Last}
+use Rattle.writing.specs.Ranges.{TextLimits}
+use Rattle.writing.specs.Settings.{Coding}
+use Rattle.writing.specs.Writing.{unit-width}
+
+-- which operations a type has: none, any of the three, or add and delete
+pub data Operations : Type 0 where
+  no-operation any add-or-delete : Operations
+
+-- a row: the least and, where fixed, the most of DataLength, and the operations
+pub record Row : Type 0 where
+  pub least : ℕ
+  pub most : Option ℕ
+  pub operations : Operations
+
+-- so many bytes have an empty text, and a longest one
+abbrev pub no-text : Coding → ℕ
+no-text c = unit-width c / 8
+
+abbrev pub longest-text : Coding → TextLimits → ℕ
+longest-text c k = (k .short + 1) * (unit-width c / 8)
+
+-- the ten rows
+abbrev pub row : Coding → TextLimits → Kind → Row
+row c k Lines = record { least = 4; most = none; operations = any }
+row c k Key = record { least = 3; most = some 6; operations = no-operation }
+row c k QuickTexts = record { least = 3; most = none; operations = any }
+row c k Home = record { least = 5; most = some 5; operations = no-operation }
+row c k Channels = record { least = 4; most = none; operations = any }
+row c k System = record { least = 5; most = some 5; operations = no-operation }
+row c k StatusTexts = record { least = 4; most = none; operations = any }
+row c k Group = record { least = 7 + no-text c; most = some (7 + longest-text c k); operations = add-or-delete }
+row c k Individual = record { least = 7 + no-text c; most = some (7 + longest-text c k); operations = add-or-delete }
+row c k Last = record { least = 3; most = some 13; operations = no-operation }
+
+-- a DataLength within the row
+abbrev pub AtMost : Option ℕ → ℕ → Type 0
+AtMost none n = Unit {0}
+AtMost (some most) n = n ≤ most
+
+pub record Within (r : Row) (data-length : ℕ) : Type 0 where
+  pub least : r .least ≤ data-length
+  pub most : AtMost (r .most) data-length

@@ -1,0 +1,76 @@
+-- What a setting says: document 01, "The ten settings". Operations, flags and fixed contents are the structs of src/.
+use Prim.Native.Nat.{ℕ}
+use mathlib.Core.Bool.{Bool, true, false}
+use mathlib.Core.List.{List}
+use Rattle.plan.specs.declared.numbers.GroupAddress.{GroupAddress}
+use Rattle.plan.specs.declared.numbers.IndividualAddress.{IndividualAddress}
+use Rattle.writing.specs.declared.Kind.{Kind}
+use Rattle.writing.specs.declared.Kind.the-variants.{Lines, Key, QuickTexts, Home, Channels, System, StatusTexts, Group, Individual, Last}
+use Rattle.writing.specs.declared.Operation.{Operation}
+use Rattle.writing.specs.declared.LineFlags.{LineFlags}
+use Rattle.writing.specs.declared.KeyTarget.{KeyTarget}
+use Rattle.writing.specs.declared.KeyFlags.{KeyFlags}
+use Rattle.writing.specs.declared.HomeNumbers.{HomeNumbers}
+use Rattle.writing.specs.declared.SystemCode.{SystemCode}
+use Rattle.writing.specs.declared.GroupFlags.{GroupFlags}
+use Rattle.writing.specs.declared.IndividualFlags.{IndividualFlags}
+use Rattle.writing.specs.declared.LastFlags.{LastFlags}
+
+-- a text's units, without the end unit
+abbrev pub Text : Type 0
+Text = List ℕ
+
+-- a number's digits, without the end mark
+abbrev pub Number : Type 0
+Number = List ℕ
+
+-- a line contact
+pub record Contact : Type 0 where
+  pub number : Number
+  pub text : Text
+
+-- a quick text by its index, a status text by its code
+pub record Entry : Type 0 where
+  pub index : ℕ
+  pub text : Text
+
+-- a group or an individual slot, by the kind of its address
+pub record Slot (Address : Type 0) : Type 0 where
+  pub index : ℕ
+  pub address : Address
+  pub text : Text
+
+-- a hash: its code, and the bytes of its value
+pub record Hash : Type 0 where
+  pub code : ℕ
+  pub value : List ℕ
+
+-- the ten settings, each with its operation inside it
+pub data Setting : Type 0 where
+  lines : Operation → LineFlags → List Contact → Setting
+  key : KeyTarget → KeyFlags → Setting
+  quick-texts : Operation → List Entry → Setting
+  home : HomeNumbers → Setting
+  channels : Operation → List ℕ → Setting
+  system : SystemCode → Setting
+  status-texts : Operation → List Entry → Setting
+  group : Operation → GroupFlags → Slot GroupAddress → Setting
+  individual : Operation → IndividualFlags → Slot IndividualAddress → Setting
+  last : LastFlags → Hash → Setting
+
+-- which of the ten it is
+abbrev pub kind : Setting → Kind
+kind (lines o f es) = Lines
+kind (key t f) = Key
+kind (quick-texts o es) = QuickTexts
+kind (home h) = Home
+kind (channels o es) = Channels
+kind (system s) = System
+kind (status-texts o es) = StatusTexts
+kind (group o f s) = Group
+kind (individual o f s) = Individual
+kind (last f h) = Last
+
+-- how texts are coded, by the carrier's coding type
+pub data Coding : Type 0 where
+  unicode16 : Coding

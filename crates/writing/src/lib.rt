@@ -1,0 +1,76 @@
+// What the ten settings say, as code, tables and definitions share it: operations, flags and fixed contents. No code reads or writes here.
+use plan::numbers::GroupAddress;
+use plan::numbers::IndividualAddress;
+
+// The ten types of setting, in the order of their type bytes.
+pub enum Kind {
+    Lines,
+    Key,
+    QuickTexts,
+    Home,
+    Channels,
+    System,
+    StatusTexts,
+    Group,
+    Individual,
+    Last,
+}
+
+pub enum Operation {
+    Add,
+    Delete,
+    Replace,
+}
+
+// Of all line contacts of one setting.
+pub struct LineFlags {
+    pub encryption: bool,
+    pub emergency: bool,
+    pub priority: u8,
+    pub pabx: bool,
+}
+
+// Where the emergency key calls: the current place, with its group bit, or an address of the kind that the group bit says.
+pub enum KeyTarget {
+    Current(bool),
+    ToGroup(GroupAddress),
+    ToIndividual(IndividualAddress),
+}
+
+pub struct KeyFlags {
+    pub voice: bool,
+    pub status: bool,
+    pub siren: bool,
+}
+
+pub struct HomeNumbers {
+    pub nzi: u16,
+    pub np: u16,
+}
+
+pub struct SystemCode {
+    pub lai: u16,
+    pub la: u8,
+    pub roaming: u8,
+    pub par: bool,
+}
+
+pub struct GroupFlags {
+    pub attribute: u8,
+    pub broadcast: bool,
+    pub encryption: bool,
+    pub ovcm: bool,
+    pub emergency: bool,
+    pub priority: u8,
+}
+
+pub struct IndividualFlags {
+    pub encryption: bool,
+    pub emergency: bool,
+    pub priority: u8,
+}
+
+pub struct LastFlags {
+    pub reboot: bool,
+    pub reply: bool,
+}
