@@ -1,0 +1,5 @@
+pub mod Heads
+pub mod Parts
+pub mod Walk
+pub mod TextWalk
+pub mod NumberWalk

@@ -1,0 +1,32 @@
+// Bytes of a message as numbers.
+ghost use mathlib.Core.Path.{_≡_};
+ghost use Prim.Native.Nat.{_+_, _-_, _≤_, _<_};
+ghost use lib.ListN.{length, take, drop};
+ghost use Rattle.wire.specs.Places.{be};
+
+fn long(x: u8) -> u64
+    ensures { λ r. ⌜ (r ≡ x) × (r < 256) ⌝ }
+{
+    x as u64
+}
+
+// How many bytes stand from a place on.
+pub(crate) fn remaining(m: &[u8], at: usize) -> usize
+    ensures { λ r. ⌜ r ≡ length (now (m .entry)) - at ⌝ }
+{
+    if m.len() < at { 0 } else { m.len() - at }
+}
+
+// The number that k bytes make, highest first.
+pub(crate) fn number(m: &[u8], at: usize, k: usize) -> u64
+    requires { ⌜ (k ≤ 8) × (at + k ≤ length (now m)) ⌝ }
+    ensures { λ r. ⌜ r ≡ be 0 (take k (drop at (now (m .entry)))) ⌝ }
+{
+    let mut n: u64 = 0;
+    let mut i: usize = 0;
+    while i < k {
+        n = n * 256 + long(m[at + i]);
+        i += 1;
+    }
+    n
+}

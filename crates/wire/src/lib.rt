@@ -1,0 +1,4 @@
+// Reads settings at a place of a message: a setting is read exactly when one is written there.
+mod bytes;
+pub mod numbers;
+pub mod texts;
