@@ -1,8 +1,8 @@
 -- Bits and fields: what bits say, and fields that are taken apart and put together. Assumes nothing.
 use Prim.Native.Nat.{ℕ, zero, suc, _+_, _*_, _/_, _%_, _^_, _≤_, _<_}
 use mathlib.Core.Path.{_≡_, refl, sym, ap, ap₂, _∙_, subst, subst⁻¹}
-use mathlib.Core.List.{List, [], _∷_, _++_, append-assoc, head-eq-of-cons-eq, tail-eq-of-cons-eq}
-use native.Mathlib.Nat.{mod-eq-of-lt, mod-lt, add-zero, zero-add, suc-add, add-comm, add-assoc}
+use mathlib.Core.List.{List, [], _∷_, _++_, map, append-assoc, head-eq-of-cons-eq, tail-eq-of-cons-eq}
+use native.Mathlib.Nat.{mod-eq-of-lt, mod-lt, add-zero, zero-add, suc-add, add-comm, add-assoc, zero-mul}
 use native.Mathlib.Numerals.{one-add}
 use native.Mathlib.Omega.{arith}
 use lib.ListN.{length, length-append}
@@ -90,6 +90,11 @@ shows-length (f ∷ fs) bs s =
 pub widths-append : (fs gs : List Field) → widths (fs ++ gs) ≡ widths fs + widths gs
 widths-append [] gs = sym (zero-add (widths gs))
 widths-append (f ∷ fs) gs = ap (λ n. width f + n) (widths-append fs gs) ∙ sym (add-assoc (width f) (widths fs) (widths gs))
+
+-- fields of one width
+pub widths-map : (f : ℕ → Field) (w : ℕ) → ((v : ℕ) → width (f v) ≡ w) → (l : List ℕ) → widths (map f l) ≡ length l * w
+widths-map f w h [] = sym (zero-mul w)
+widths-map f w h (x ∷ l) = omega (arith, h x, widths-map f w h l)
 
 -- fields one after the other
 pub shows-join : (fs gs : List Field) (a b : List ℕ) → Shows fs a → Shows gs b → Shows (fs ++ gs) (a ++ b)
