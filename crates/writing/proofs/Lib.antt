@@ -2,3 +2,4 @@ pub mod Bits
 pub mod Ends
 pub mod Unique
 pub mod Whole
+pub mod Lengths
