@@ -3,3 +3,4 @@ pub mod Ends
 pub mod Unique
 pub mod Whole
 pub mod Lengths
+pub mod CanonicalLaws

@@ -1,5 +1,5 @@
 -- No two settings share bytes: what is written says where it ends, and what it says. Assumes nothing.
-use Prim.Native.Nat.{ℕ, zero, suc, _+_, _*_, _/_}
+use Prim.Native.Nat.{ℕ, zero, suc, _/_}
 use mathlib.Core.Path.{_≡_, refl, sym, ap, ap₂, _∙_, subst, subst₂, subst⁻¹}
 use mathlib.Core.List.{List, [], _∷_, _++_, map, append-assoc, append-nil, nil≢cons}
 use mathlib.Core.Bool.{Bool, true, false, cond, true≢false}
@@ -22,9 +22,9 @@ use Rattle.writing.specs.declared.SystemCode.{SystemCode}
 use Rattle.writing.specs.declared.GroupFlags.{GroupFlags}
 use Rattle.writing.specs.declared.IndividualFlags.{IndividualFlags}
 use Rattle.writing.specs.declared.LastFlags.{LastFlags}
-use Rattle.writing.specs.Fields.{bitsOf, Field, val, item, res, Shows, widths, each}
+use Rattle.writing.specs.Fields.{bitsOf, Field, val, Shows, widths}
 use Rattle.writing.specs.Settings.{Contact, Entry, Slot, Hash, Setting, lines, key, quick-texts, home, channels, system, status-texts, group, individual, last, kind, Coding}
-use Rattle.writing.specs.Writing.{bit, flag, op-code, op, unit-width, text, fill, number, contact, quick-text, status-text, slot, current, to-group, key-address, hash, type-byte, body, data-length, fields, Written, WrittenAll, WrittenAs, request-head}
+use Rattle.writing.specs.Writing.{bit, flag, op-code, op, unit-width, text, fill, number, contact, quick-text, status-text, slot, current, to-group, key-address, type-byte, body, data-length, fields, Written, WrittenAll, WrittenAs, request-head}
 use Rattle.writing.proofs.Bits.{bitsOf-append, length-bitsOf, shows-length, widths-map}
 use Rattle.writing.proofs.Ends.{Agree, Ends, val-ends, res-ends, items-end, same-ends, vals-end, each-ends, all-read, regroup}
 use Rattle.writing.proofs.Whole.{never-empty}

@@ -1,5 +1,5 @@
 -- Settings are whole bytes: how many, and that the first is a type byte. Assumes nothing.
-use Prim.Native.Nat.{ℕ, zero, suc, _+_, _*_, _/_, _<_}
+use Prim.Native.Nat.{ℕ, zero, suc, _+_, _*_, _<_}
 use mathlib.Core.Path.{_≡_, refl, ap, _∙_}
 use mathlib.Core.List.{List, [], _∷_, _++_, map, nil≢cons}
 use native.Mathlib.Omega.{arith}
