@@ -1,12 +1,17 @@
 -- Lists of which every element has a property. Assumes nothing.
 use mathlib.Core.Bool.{Bool, true, false, _&&_}
-use mathlib.Core.List.{List, [], _∷_}
+use mathlib.Core.List.{List, [], _∷_, _++_}
 use lib.Dec.{T}
 
 -- every element of the list has P
 abbrev pub All : {A : Type 0} → (A → Type 0) → List A → Type 0
 All P [] = Unit {0}
 All P (x ∷ xs) = P x × All P xs
+
+-- every element of two lists, one after the other
+pub all-append : {A : Type 0} (P : A → Type 0) (a b : List A) → All P a → All P b → All P (a ++ b)
+all-append P [] b p q = q
+all-append P (x ∷ a) b p q = (p .0, all-append P a b (p .1) q)
 
 -- both tests passed
 pub both : (a b : Bool) → T (a && b) → T a × T b

@@ -1,14 +1,15 @@
 -- Bits and fields: what bits say, and fields that are taken apart and put together. Assumes nothing.
-use Prim.Native.Nat.{ℕ, zero, suc, _+_, _*_, _/_, _%_, _^_, _≤_, _<_}
-use mathlib.Core.Path.{_≡_, refl, sym, ap, ap₂, _∙_, subst, subst⁻¹}
-use mathlib.Core.List.{List, [], _∷_, _++_, append-assoc, head-eq-of-cons-eq, tail-eq-of-cons-eq}
-use native.Mathlib.Nat.{mod-eq-of-lt, mod-lt, add-zero, zero-add, suc-add, add-comm, add-assoc}
+use Prim.Native.Nat.{ℕ, zero, suc, _+_, _*_, _/_, _%_, _^_, _<_}
+use mathlib.Core.Path.{_≡_, refl, sym, ap, ap₂, _∙_, subst⁻¹}
+use mathlib.Core.List.{List, [], _∷_, _++_, map, append-assoc, head-eq-of-cons-eq, tail-eq-of-cons-eq, nil≢cons}
+use native.Mathlib.Nat.{mod-eq-of-lt, mod-lt, zero-add, suc-add, add-comm, add-assoc, zero-mul}
 use native.Mathlib.Numerals.{one-add}
 use native.Mathlib.Omega.{arith}
 use lib.ListN.{length, length-append}
 use lib.Pow.{shr-shr, pow-pos, mod-mod-pow, mod-pow-add, field}
+use Rattle.lists.proofs.Every.{All}
 use Rattle.lists.proofs.Seqs.{cut}
-use Rattle.writing.specs.Fields.{bits, bitsOf, Field, val, item, res, width, Holds, Shows, widths}
+use Rattle.writing.specs.Fields.{bits, bitsOf, Field, width, Holds, Shows, widths}
 
 -- ---- the bits of a number
 
@@ -57,6 +58,15 @@ pub length-bitsOf : (a : List ℕ) → length (bitsOf a) ≡ 8 * length a
 length-bitsOf [] = refl
 length-bitsOf (x ∷ a) = omega (arith, length-bitsOf a)
 
+-- bytes with the same bits are the same
+pub bitsOf-one : (a b : List ℕ) → All (_< 256) a → All (_< 256) b → bitsOf a ≡ bitsOf b → a ≡ b
+bitsOf-one [] [] h k e = refl
+bitsOf-one [] (y ∷ b) h k e = absurd (nil≢cons e)
+bitsOf-one (x ∷ a) [] h k e = absurd (nil≢cons (sym e))
+bitsOf-one (x ∷ a) (y ∷ b) h k e =
+    let (p, q) = cut (bits 8 x) (bits 8 y) refl e in
+    ap₂ (λ x y. x ∷ y) (bits-val 8 x y (h .0) (k .0) p) (bitsOf-one a b (h .1) (k .1) q)
+
 -- ---- fields
 
 -- a field of w bits with W bits below it is cut from a number, and put into one
@@ -90,6 +100,11 @@ shows-length (f ∷ fs) bs s =
 pub widths-append : (fs gs : List Field) → widths (fs ++ gs) ≡ widths fs + widths gs
 widths-append [] gs = sym (zero-add (widths gs))
 widths-append (f ∷ fs) gs = ap (λ n. width f + n) (widths-append fs gs) ∙ sym (add-assoc (width f) (widths fs) (widths gs))
+
+-- fields of one width
+pub widths-map : (f : ℕ → Field) (w : ℕ) → ((v : ℕ) → width (f v) ≡ w) → (l : List ℕ) → widths (map f l) ≡ length l * w
+widths-map f w h [] = sym (zero-mul w)
+widths-map f w h (x ∷ l) = omega (arith, h x, widths-map f w h l)
 
 -- fields one after the other
 pub shows-join : (fs gs : List Field) (a b : List ℕ) → Shows fs a → Shows gs b → Shows (fs ++ gs) (a ++ b)

@@ -1,12 +1,11 @@
 -- Two lists of fields that stand at the start of the same bits, taken apart field by field. Assumes nothing.
-use Prim.Native.Nat.{ℕ, zero, suc, _+_, _*_, _^_, _<_}
-use mathlib.Core.Path.{_≡_, refl, sym, ap, _∙_}
+use Prim.Native.Nat.{ℕ}
+use mathlib.Core.Path.{_≡_, refl, sym, _∙_}
 use mathlib.Core.List.{List, [], _∷_, _++_, map, append-assoc}
-use native.Mathlib.Nat.{zero-mul, suc-mul, add-comm}
 use native.Mathlib.Omega.{arith}
 use lib.ListN.{length}
 use Rattle.lists.proofs.Seqs.{cut}
-use Rattle.writing.specs.Fields.{bits, Field, val, item, res, width, Holds, Shows, widths, each}
+use Rattle.writing.specs.Fields.{bits, Field, val, item, res, width, Holds, Shows, each}
 use Rattle.writing.proofs.Bits.{length-bits, bits-val}
 
 -- fs and gs stand at the start of the same bits; r and q are what is left
@@ -84,7 +83,3 @@ each-ends f k (x ∷ l) (y ∷ m) n a =
 
 pub all-read : {r q : List ℕ} → Agree [] [] r q → r ≡ q
 all-read a = cc (a .left, a .right, a .same)
-
-pub widths-vals : (w : ℕ) (l : List ℕ) → widths (map (val w) l) ≡ length l * w
-widths-vals w [] = sym (zero-mul w)
-widths-vals w (x ∷ l) = ap (λ n. w + n) (widths-vals w l) ∙ add-comm w (length l * w) ∙ sym (suc-mul (length l) w)

@@ -1,3 +1,6 @@
 pub mod Bits
 pub mod Ends
 pub mod Unique
+pub mod Whole
+pub mod Lengths
+pub mod CanonicalLaws

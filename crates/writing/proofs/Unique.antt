@@ -1,5 +1,5 @@
 -- No two settings share bytes: what is written says where it ends, and what it says. Assumes nothing.
-use Prim.Native.Nat.{ℕ, zero, suc, _+_, _*_, _/_}
+use Prim.Native.Nat.{ℕ, zero, suc, _/_}
 use mathlib.Core.Path.{_≡_, refl, sym, ap, ap₂, _∙_, subst, subst₂, subst⁻¹}
 use mathlib.Core.List.{List, [], _∷_, _++_, map, append-assoc, append-nil, nil≢cons}
 use mathlib.Core.Bool.{Bool, true, false, cond, true≢false}
@@ -22,11 +22,12 @@ use Rattle.writing.specs.declared.SystemCode.{SystemCode}
 use Rattle.writing.specs.declared.GroupFlags.{GroupFlags}
 use Rattle.writing.specs.declared.IndividualFlags.{IndividualFlags}
 use Rattle.writing.specs.declared.LastFlags.{LastFlags}
-use Rattle.writing.specs.Fields.{bitsOf, Field, val, item, res, Shows, widths, each}
+use Rattle.writing.specs.Fields.{bitsOf, Field, val, Shows, widths}
 use Rattle.writing.specs.Settings.{Contact, Entry, Slot, Hash, Setting, lines, key, quick-texts, home, channels, system, status-texts, group, individual, last, kind, Coding}
-use Rattle.writing.specs.Writing.{bit, flag, op-code, op, unit-width, text, fill, number, contact, quick-text, status-text, slot, current, to-group, key-address, hash, type-byte, body, data-length, fields, Written, WrittenAll, WrittenAs, request-head}
-use Rattle.writing.proofs.Bits.{bitsOf-append, length-bitsOf, shows-length}
-use Rattle.writing.proofs.Ends.{Agree, Ends, val-ends, res-ends, items-end, same-ends, vals-end, each-ends, all-read, regroup, widths-vals}
+use Rattle.writing.specs.Writing.{bit, flag, op-code, op, unit-width, text, fill, number, contact, quick-text, status-text, slot, current, to-group, key-address, type-byte, body, data-length, fields, Written, WrittenAll, WrittenAs, request-head}
+use Rattle.writing.proofs.Bits.{bitsOf-append, length-bitsOf, shows-length, widths-map}
+use Rattle.writing.proofs.Ends.{Agree, Ends, val-ends, res-ends, items-end, same-ends, vals-end, each-ends, all-read, regroup}
+use Rattle.writing.proofs.Whole.{never-empty}
 
 -- ---- small values: each says which it is
 
@@ -251,7 +252,7 @@ body-ends c Last x y n a =
     let (p1, a) = flag-ends (x .0 .reboot) (y .0 .reboot) a in
     let (p2, a) = flag-ends (x .0 .reply) (y .0 .reply) a in
     let (p3, a) = val-ends a in
-    let (v, a) = vals-end 8 (x .1 .value) (y .1 .value) (omega (arith, widths-vals 8 (x .1 .value), widths-vals 8 (y .1 .value))) a in
+    let (v, a) = vals-end 8 (x .1 .value) (y .1 .value) (omega (arith, widths-map (val 8) 8 (λ v. refl) (x .1 .value), widths-map (val 8) 8 (λ v. refl) (y .1 .value))) a in
     (λ i. (record { reboot = p1 i; reply = p2 i }, record { code = p3 i; value = v i }), a)
 
 kind-make : (k : Kind) (x : Contents k) → kind (make k x) ≡ k
@@ -304,7 +305,7 @@ unique c s t bs cs r q w v e =
 
 -- a writing is not empty
 not-empty : (c : Coding) (s : Setting) (a z : List ℕ) → Written c s a → [] ≡ a ++ z → ⊥
-not-empty c s [] z w e = nil≢cons (w .4)
+not-empty c s [] z w e = never-empty c s w
 not-empty c s (b ∷ a) z w e = nil≢cons e
 
 -- lists of settings written as the same bytes are equal

@@ -4,13 +4,36 @@ use mathlib.Core.Bool.{Bool, true, false}
 use mathlib.Core.Option.{Option, none, some}
 use Rattle.writing.specs.declared.Kind.{Kind}
 use Rattle.writing.specs.declared.Kind.the-variants.{Lines, Key, QuickTexts, Home, Channels, System, StatusTexts, Group, Individual, Last}
+use Rattle.writing.specs.declared.Operation.{Operation}
+use Rattle.writing.specs.declared.Operation.the-variants.{Add, Delete, Replace}
 use Rattle.writing.specs.Ranges.{TextLimits}
-use Rattle.writing.specs.Settings.{Coding}
+use Rattle.writing.specs.Settings.{Setting, lines, key, quick-texts, home, channels, system, status-texts, group, individual, last, Coding}
 use Rattle.writing.specs.Writing.{unit-width}
 
 -- which operations a type has: none, any of the three, or add and delete
 pub data Operations : Type 0 where
   no-operation any add-or-delete : Operations
+
+-- the operation is among them
+abbrev pub Allows : Operations → Operation → Type 0
+Allows no-operation o = ⊥
+Allows any o = Unit {0}
+Allows add-or-delete Add = Unit {0}
+Allows add-or-delete Delete = Unit {0}
+Allows add-or-delete Replace = ⊥
+
+-- the operation of a setting, if it has one
+abbrev pub operation : Setting → Option Operation
+operation (lines o f es) = some o
+operation (key t f) = none
+operation (quick-texts o es) = some o
+operation (home h) = none
+operation (channels o es) = some o
+operation (system s) = none
+operation (status-texts o es) = some o
+operation (group o f s) = some o
+operation (individual o f s) = some o
+operation (last f h) = none
 
 -- a row: the least and, where fixed, the most of DataLength, and the operations
 pub record Row : Type 0 where
