@@ -3,3 +3,4 @@ pub mod Parts
 pub mod Walk
 pub mod TextWalk
 pub mod NumberWalk
+pub mod EntryLaws

@@ -1,5 +1,5 @@
 -- Walking along a list that is written in a message, piece after piece. Assumes nothing.
-use Prim.Native.Nat.{ℕ, zero, suc, _+_, _*_, _≤_, _<_}
+use Prim.Native.Nat.{ℕ, zero, suc, _+_, _-_, _*_, _≤_, _<_}
 use mathlib.Core.Path.{_≡_, refl, sym, ap, _∙_, subst, subst⁻¹}
 use mathlib.Core.List.{List, [], _∷_, _++_, append-assoc, append-nil}
 use native.Mathlib.Omega.{arith}
@@ -10,6 +10,8 @@ use Rattle.writing.specs.Fields.{bitsOf, Field, Shows, widths, each}
 use Rattle.writing.proofs.Bits.{bitsOf-append, length-bitsOf}
 use Rattle.writing.proofs.Ends.{Agree, Ends, all-read}
 use Rattle.wire.specs.Places.{PartAt}
+use Rattle.wire.specs.Entries.{Stand, WalkAt}
+use Rattle.wire.specs.declared.entries.Walk.the-variants.{To, Stopped}
 use Rattle.wire.proofs.Parts.{part-join, part-split, nothing}
 
 -- what says where it ends stands at one place in one way
@@ -104,3 +106,17 @@ module _ {A : Type 0} (f : A → List Field) (In : A → Type 0) (ends : Ends f)
     w .in-range,
     subst (λ (l : List A). PartAt (each f l) m at p) (append-nil (w .done)) (w .walked .back [] p (nothing m p)),
   )
+
+  -- ---- the same, as the code counts down
+
+  pub walk-on : (p q left : ℕ) (a : A) → 0 < left → Passed p left → In a → PartAt (f a) m p q → Passed q (left - 1)
+  walk-on p q left a l w i x = one-passed p q (left - 1) a (subst (Passed p) (let e : left ≡ suc (left - 1) = omega arith in e) w) i x
+
+  pub walk-stops : (p left : ℕ) → 0 < left → Passed p left → ((a : A) (q : ℕ) → In a → PartAt (f a) m p q → ⊥) → WalkAt f In m at count Stopped
+  walk-stops p left l w never xs next s =
+      stopped p (left - 1) (subst (Passed p) (let e : left ≡ suc (left - 1) = omega arith in e) w) never xs next (s .counted) (s .in-range) (s .stands)
+
+  pub walk-ends : (p left : ℕ) → left ≤ 0 → Passed p left → WalkAt f In m at count (To p)
+  walk-ends p left l w =
+      let (xs, n, i, x) = all-passed p (subst (Passed p) (let e : left ≡ 0 = omega arith in e) w) in
+      (xs, record { counted = n; in-range = i; stands = x })

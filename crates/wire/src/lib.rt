@@ -1,4 +1,5 @@
 // Reads settings at a place of a message: a setting is read exactly when one is written there.
 mod bytes;
+pub mod entries;
 pub mod numbers;
 pub mod texts;

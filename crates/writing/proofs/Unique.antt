@@ -71,7 +71,7 @@ number-ends = record {
       (e, same-ends (fill (suc (length m))) (rw e at z));
 }
 
-contact-ends : (c : Coding) → Ends (contact c)
+pub contact-ends : (c : Coding) → Ends (contact c)
 contact-ends c = record {
   ends = λ x y a.
       let (p, a) = number-ends .ends (x .number) (y .number) (regroup (number (x .number)) (text c (x .text)) (number (y .number)) (text c (y .text)) _ _ a) in
@@ -79,7 +79,7 @@ contact-ends c = record {
       (λ i. record { number = p i; text = e i }, a);
 }
 
-quick-ends : (c : Coding) → Ends (quick-text c)
+pub quick-ends : (c : Coding) → Ends (quick-text c)
 quick-ends c = record {
   ends = λ x y a.
       let (p, a) = val-ends (res-ends a) in
@@ -87,7 +87,7 @@ quick-ends c = record {
       (λ i. record { index = p i; text = e i }, a);
 }
 
-status-ends : (c : Coding) → Ends (status-text c)
+pub status-ends : (c : Coding) → Ends (status-text c)
 status-ends c = record {
   ends = λ x y a.
       let (p, a) = val-ends a in

@@ -26,7 +26,7 @@ pub append-whole : (fs gs : List Field) → Whole fs → Whole gs → Whole (fs 
 append-whole fs gs (n, e) (m, d) = (n + m, omega (arith, widths-append fs gs))
 
 -- parts that are whole bytes make whole bytes
-each-whole : {A : Type 0} (f : A → List Field) → ((a : A) → Whole (f a)) → (l : List A) → Whole (each f l)
+pub each-whole : {A : Type 0} (f : A → List Field) → ((a : A) → Whole (f a)) → (l : List A) → Whole (each f l)
 each-whole f h [] = (0, refl)
 each-whole f h (a ∷ l) = append-whole (f a) (each f l) (h a) (each-whole f h l)
 
@@ -40,17 +40,17 @@ text-widths c t =
     omega (arith, widths-append (map (item (unit-width c) 0) t) (val (unit-width c) 0 ∷ []), widths-map (item (unit-width c) 0) (unit-width c) (λ v. refl) t)
 
 -- a text is whole bytes
-text-whole : (c : Coding) (t : Text) → Whole (text c t)
+pub text-whole : (c : Coding) (t : Text) → Whole (text c t)
 text-whole c t = let (u, e) = unit-whole c in (suc (length t) * u, omega (arith, text-widths c t, ap (λ w. suc (length t) * w) e))
 
 -- half bytes, with what fills them, are whole bytes
-fill-whole : (n : ℕ) → WholeBits (4 * n + widths (fill n))
+pub fill-whole : (n : ℕ) → WholeBits (4 * n + widths (fill n))
 fill-whole zero = (0, refl)
 fill-whole (suc zero) = (1, refl)
 fill-whole (suc (suc n)) = let (k, e) = fill-whole n in (suc k, omega arith)
 
 -- a number is whole bytes
-number-whole : (ds : Number) → Whole (number ds)
+pub number-whole : (ds : Number) → Whole (number ds)
 number-whole ds =
     let (k, e) = fill-whole (suc (length ds)) in
     (k, omega (arith, widths-append (map (item 4 15) ds) (val 4 15 ∷ fill (suc (length ds))), widths-map (item 4 15) 4 (λ v. refl) ds))
@@ -62,11 +62,11 @@ key-whole (ToGroup a) = (3, refl)
 key-whole (ToIndividual a) = (3, refl)
 
 -- an index or a code of one byte, then a text, are whole bytes
-entry-whole : (c : Coding) (fs : List Field) → widths fs ≡ 8 → (t : Text) → Whole (fs ++ text c t)
+pub entry-whole : (c : Coding) (fs : List Field) → widths fs ≡ 8 → (t : Text) → Whole (fs ++ text c t)
 entry-whole c fs e t = append-whole fs (text c t) (1, e) (text-whole c t)
 
 -- a line contact is whole bytes
-contact-whole : (c : Coding) (e : Contact) → Whole (contact c e)
+pub contact-whole : (c : Coding) (e : Contact) → Whole (contact c e)
 contact-whole c e = append-whole (number (e .number)) (text c (e .text)) (number-whole (e .number)) (text-whole c (e .text))
 
 -- the fields after DataLength are whole bytes
