@@ -4,3 +4,5 @@ pub mod Walk
 pub mod TextWalk
 pub mod NumberWalk
 pub mod EntryLaws
+pub mod ChannelWalk
+pub mod ChannelPlace

@@ -112,11 +112,11 @@ module _ {A : Type 0} (f : A → List Field) (In : A → Type 0) (ends : Ends f)
   pub walk-on : (p q left : ℕ) (a : A) → 0 < left → Passed p left → In a → PartAt (f a) m p q → Passed q (left - 1)
   walk-on p q left a l w i x = one-passed p q (left - 1) a (subst (Passed p) (let e : left ≡ suc (left - 1) = omega arith in e) w) i x
 
-  pub walk-stops : (p left : ℕ) → 0 < left → Passed p left → ((a : A) (q : ℕ) → In a → PartAt (f a) m p q → ⊥) → WalkAt f In m at count Stopped
+  pub walk-stops : (p left : ℕ) → 0 < left → Passed p left → ((a : A) (q : ℕ) → In a → PartAt (f a) m p q → ⊥) → WalkAt (each f) In m at count Stopped
   walk-stops p left l w never xs next s =
       stopped p (left - 1) (subst (Passed p) (let e : left ≡ suc (left - 1) = omega arith in e) w) never xs next (s .counted) (s .in-range) (s .stands)
 
-  pub walk-ends : (p left : ℕ) → left ≤ 0 → Passed p left → WalkAt f In m at count (To p)
+  pub walk-ends : (p left : ℕ) → left ≤ 0 → Passed p left → WalkAt (each f) In m at count (To p)
   walk-ends p left l w =
       let (xs, n, i, x) = all-passed p (subst (Passed p) (let e : left ≡ 0 = omega arith in e) w) in
       (xs, record { counted = n; in-range = i; stands = x })

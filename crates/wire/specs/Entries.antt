@@ -1,13 +1,14 @@
 -- What reading entries answers: one entry in range with its place, as many as were counted, or that they do not stand there.
 use Prim.Native.Nat.{ℕ, _≤_}
 use mathlib.Core.Path.{_≡_}
-use mathlib.Core.List.{List}
+use mathlib.Core.List.{List, _++_, map}
+use mathlib.Core.Bool.{Bool, true, false}
 use lib.ListN.{length}
 use Rattle.lists.proofs.Every.{All}
-use Rattle.writing.specs.Fields.{Field, each}
+use Rattle.writing.specs.Fields.{Field, val, each}
 use Rattle.writing.specs.Settings.{Coding, Contact, Entry}
-use Rattle.writing.specs.Writing.{contact, quick-text, status-text}
-use Rattle.writing.specs.Ranges.{TextLimits, InContact, InStatus}
+use Rattle.writing.specs.Writing.{contact, quick-text, status-text, fill}
+use Rattle.writing.specs.Ranges.{TextLimits, InContact, InStatus, InChannel}
 use Rattle.wire.specs.Places.{PartAt}
 use Rattle.wire.specs.Parts.{TextIs, NumberIs}
 use Rattle.wire.specs.declared.entries.ContactPlace.{ContactPlace}
@@ -56,22 +57,34 @@ StatusAt c k = EntryAt c (status-text c) (InStatus k)
 
 -- ---- as many as were counted
 
--- so many entries of this form stand from `at` up to `next`, all in range
-pub record Stand {A : Type 0} (form : A → List Field) (In : A → Type 0) (m : List ℕ) (at count next : ℕ) (es : List A) : Type 0 where
+-- so many entries stand from `at` up to `next` in the form of a list, all in range
+pub record Stand {A : Type 0} (form : List A → List Field) (In : A → Type 0) (m : List ℕ) (at count next : ℕ) (es : List A) : Type 0 where
   pub counted : length es ≡ count
   pub in-range : All In es
-  pub stands : PartAt (each form es) m at next
+  pub stands : PartAt (form es) m at next
 
 -- they stand there, or none do
-abbrev pub WalkAt : {A : Type 0} → (A → List Field) → (A → Type 0) → List ℕ → ℕ → ℕ → Walk → Type 0
+abbrev pub WalkAt : {A : Type 0} → (List A → List Field) → (A → Type 0) → List ℕ → ℕ → ℕ → Walk → Type 0
 WalkAt {A} form In m at count (To next) = (es : List A) × Stand form In m at count next es
 WalkAt {A} form In m at count Stopped = (es : List A) (next : ℕ) → Stand form In m at count next es → ⊥
 
 abbrev pub ContactsAt : Coding → TextLimits → List ℕ → ℕ → ℕ → Walk → Type 0
-ContactsAt c k = WalkAt (contact c) (InContact k)
+ContactsAt c k = WalkAt (each (contact c)) (InContact k)
 
 abbrev pub QuicksAt : Coding → TextLimits → ℕ → List ℕ → ℕ → ℕ → Walk → Type 0
-QuicksAt c k least = WalkAt (quick-text c) (QuickFrom k least)
+QuicksAt c k least = WalkAt (each (quick-text c)) (QuickFrom k least)
 
 abbrev pub StatusesAt : Coding → TextLimits → List ℕ → ℕ → ℕ → Walk → Type 0
-StatusesAt c k = WalkAt (status-text c) (InStatus k)
+StatusesAt c k = WalkAt (each (status-text c)) (InStatus k)
+
+-- "each 12 bits; 4 bits 1111 if Count is odd"
+abbrev pub channel-list : List ℕ → List Field
+channel-list es = map (val 12) es ++ fill (length es)
+
+abbrev pub ChannelsAt : List ℕ → ℕ → ℕ → Walk → Type 0
+ChannelsAt = WalkAt channel-list InChannel
+
+-- whether a number is outside the channels
+abbrev pub OutOfRange : ℕ → Bool → Type 0
+OutOfRange n true = InChannel n → ⊥
+OutOfRange n false = InChannel n
