@@ -17,3 +17,13 @@ all-append P (x ∷ a) b p q = (p .0, all-append P a b (p .1) q)
 pub both : (a b : Bool) → T (a && b) → T a × T b
 both true b h = (tt, h)
 both false b h = absurd h
+
+-- the test passes at every element
+abbrev pub all? : {A : Type 0} → (A → Bool) → List A → Bool
+all? f [] = true
+all? f (x ∷ xs) = f x && all? f xs
+
+-- a test that passes at every element shows there what it tests
+pub all-passed : {A : Type 0} (f : A → Bool) (P : A → Type 0) → ((x : A) → T (f x) → P x) → (xs : List A) → T (all? f xs) → All P xs
+all-passed f P shown [] t = tt
+all-passed f P shown (x ∷ xs) t = let (p, q) = both (f x) (all? f xs) t in (shown x p, all-passed f P shown xs q)

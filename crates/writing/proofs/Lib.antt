@@ -4,3 +4,4 @@ pub mod Unique
 pub mod Whole
 pub mod Lengths
 pub mod CanonicalLaws
+pub mod Computed

@@ -50,7 +50,7 @@ fill-whole (suc zero) = (1, refl)
 fill-whole (suc (suc n)) = let (k, e) = fill-whole n in (suc k, omega arith)
 
 -- a number is whole bytes
-number-whole : (ds : Number) → Whole (number ds)
+pub number-whole : (ds : Number) → Whole (number ds)
 number-whole ds =
     let (k, e) = fill-whole (suc (length ds)) in
     (k, omega (arith, widths-append (map (item 4 15) ds) (val 4 15 ∷ fill (suc (length ds))), widths-map (item 4 15) 4 (λ v. refl) ds))
