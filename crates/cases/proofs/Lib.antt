@@ -1,2 +1,3 @@
 pub mod MarkedHold
 pub mod PlanRows
+pub mod WritingRows

@@ -1,40 +1,39 @@
 -- Every case that document 01 marks P holds. Assumes nothing.
+use mathlib.Core.List.{[], _∷_}
 use mathlib.Core.Path.{refl}
+use native.Mathlib.Omega.{arith}
 use lib.Dec.{lit≤}
 use Rattle.lists.proofs.Every.{All}
 use Rattle.plan.specs.Frequencies.{simplex, paired}
 use Rattle.plan.specs.Numbers.{IndividualShort, of-700, of-350, GroupShort, of-100}
 use Rattle.plan.proofs.NumberLaws.{individuals, groups}
+use Rattle.writing.specs.Settings.{home}
 use Rattle.cases.specs.Marked.{Holds, marked}
 use Rattle.cases.proofs.PlanRows.{member, channel}
+use Rattle.cases.proofs.WritingRows.{digits, setting, out-of-range}
+
+-- a row, and those below it
+infixr 60 _then_
+abbrev _then_ : {P Q : Type 0} → P → Q → P × Q
+p then q = (p, q)
 
 -- THE MARKED CASES
 pub marked-hold : All Holds marked
-marked-hold = (
-  member IndividualShort individuals 328 20 200 1 tt (of-700 (lit≤ tt) (lit≤ tt) (lit≤ tt) (lit≤ tt) refl),
-  (
-    member IndividualShort individuals 328 41 899 15400 tt (of-700 (lit≤ tt) (lit≤ tt) (lit≤ tt) (lit≤ tt) refl),
-    (
-      member IndividualShort individuals 328 42 200 15401 tt (of-350 (lit≤ tt) (lit≤ tt) (lit≤ tt) (lit≤ tt) refl),
-      (
-        member IndividualShort individuals 806 89 549 32200 tt (of-350 (lit≤ tt) (lit≤ tt) (lit≤ tt) (lit≤ tt) refl),
-        (
-          member GroupShort groups 328 20 900 1 tt (of-100 (lit≤ tt) (lit≤ tt) (lit≤ tt) (lit≤ tt) refl),
-          (
-            member GroupShort groups 806 89 999 7000 tt (of-100 (lit≤ tt) (lit≤ tt) (lit≤ tt) (lit≤ tt) refl),
-            (
-              channel 240 3610000 (simplex (lit≤ tt) (lit≤ tt) refl),
-              (
-                channel 241 3510125 (paired (lit≤ tt) (lit≤ tt) refl),
-                (
-                  channel 560 3550000 (paired (lit≤ tt) (lit≤ tt) refl),
-                  (channel 640 3560000 (paired (lit≤ tt) (lit≤ tt) refl), tt),
-                ),
-              ),
-            ),
-          ),
-        ),
-      ),
-    ),
-  ),
-)
+marked-hold =
+    member IndividualShort individuals 328 20 200 1 tt (of-700 (lit≤ tt) (lit≤ tt) (lit≤ tt) (lit≤ tt) refl)
+    then member IndividualShort individuals 328 41 899 15400 tt (of-700 (lit≤ tt) (lit≤ tt) (lit≤ tt) (lit≤ tt) refl)
+    then member IndividualShort individuals 328 42 200 15401 tt (of-350 (lit≤ tt) (lit≤ tt) (lit≤ tt) (lit≤ tt) refl)
+    then member IndividualShort individuals 806 89 549 32200 tt (of-350 (lit≤ tt) (lit≤ tt) (lit≤ tt) (lit≤ tt) refl)
+    then member GroupShort groups 328 20 900 1 tt (of-100 (lit≤ tt) (lit≤ tt) (lit≤ tt) (lit≤ tt) refl)
+    then member GroupShort groups 806 89 999 7000 tt (of-100 (lit≤ tt) (lit≤ tt) (lit≤ tt) (lit≤ tt) refl)
+    then channel 240 3610000 (simplex (lit≤ tt) (lit≤ tt) refl)
+    then channel 241 3510125 (paired (lit≤ tt) (lit≤ tt) refl)
+    then channel 560 3550000 (paired (lit≤ tt) (lit≤ tt) refl)
+    then channel 640 3560000 (paired (lit≤ tt) (lit≤ tt) refl)
+    then digits (2 ∷ 3 ∷ 4 ∷ 5 ∷ []) _ tt tt refl
+    then digits (1 ∷ 2 ∷ 3 ∷ []) _ tt tt refl
+    then setting _ _ tt refl
+    then out-of-range (home (record { nzi = 15; np = 807 })) _ tt refl (λ left. omega arith)
+    then setting _ _ tt refl
+    then setting _ _ tt refl
+    then tt

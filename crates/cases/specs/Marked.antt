@@ -1,27 +1,51 @@
 -- The cases that document 01 works by hand and marks P, as one table.
-use Prim.Native.Nat.{ℕ}
+use Prim.Native.Nat.{ℕ, _<_}
+use mathlib.Core.Bool.{true, false}
 use mathlib.Core.Path.{_≡_}
 use mathlib.Core.List.{List, [], _∷_}
-use Rattle.plan.specs.Answers.{Answer, Answered, given}
+use Rattle.lists.proofs.Every.{All}
+use Rattle.plan.specs.Answers.{Answered, given}
 use Rattle.plan.specs.Frequencies.{Transmits}
 use Rattle.plan.specs.Numbers.{Individual, Group}
+use Rattle.writing.specs.declared.LineFlags.{LineFlags}
+use Rattle.writing.specs.declared.Operation.the-variants.{Add, Replace}
+use Rattle.writing.specs.Canonical.{canonical}
+use Rattle.writing.specs.Fields.{bitsOf, Shows}
+use Rattle.writing.specs.Ranges.{text-limits, InRange}
+use Rattle.writing.specs.Settings.{Setting, home, channels, lines, unicode16}
+use Rattle.writing.specs.Writing.{number, Written}
 
 pub data Case : Type 0 where
   individual : (dialled address : ℕ) → Case
   group : (dialled address : ℕ) → Case
   transmit : (channel frequency : ℕ) → Case
+  digits-are : (digits bytes : List ℕ) → Case  -- a number's only bytes
+  setting-is : Setting → (bytes : List ℕ) → Case  -- the only setting written as these bytes, which have reserved bits 0
+  no-setting : (bytes : List ℕ) → Case  -- no setting in range is written as these bytes, whatever is still counted after it
 
--- a contract allows this outcome, and no other
+-- this outcome is allowed, and no other
 pub record Only {A : Type 0} (Allows : A → Type 0) (outcome : A) : Type 0 where
   pub allowed : Allows outcome
   pub alone : (other : A) → Allows other → other ≡ outcome
 
--- what a case claims of the library's calls
+-- these bytes show the number
+abbrev pub NumberIn : List ℕ → List ℕ → Type 0
+NumberIn digits bytes = All (_< 256) bytes × Shows (number digits) (bitsOf bytes)
+
+-- what a case claims
 abbrev pub Holds : Case → Type 0
 Holds (individual dialled address) = Only (Answered Individual 20 dialled) (given address)
 Holds (group dialled address) = Only (Answered Group 20 dialled) (given address)
 Holds (transmit channel frequency) = Only (Answered Transmits 22 channel) (given frequency)
+Holds (digits-are digits bytes) = Only (NumberIn digits) bytes
+Holds (setting-is s bytes) = Only (λ t. Written unicode16 t bytes) s × (canonical unicode16 s ≡ bytes)
+Holds (no-setting bytes) = (s : Setting) (left : ℕ) → InRange text-limits left s → Written unicode16 s bytes → ⊥
 
+-- the flags of case 11: PABX, and nothing else
+abbrev pub pabx-only : LineFlags
+pabx-only = record { encryption = false; emergency = false; priority = 0; pabx = true }
+
+-- the table
 abbrev pub marked : List Case
 marked =
     individual 32820200 0x100001  -- 1
@@ -34,4 +58,11 @@ marked =
     ∷ transmit 241 3510125
     ∷ transmit 560 3550000
     ∷ transmit 640 3560000
+    ∷ digits-are (2 ∷ 3 ∷ 4 ∷ 5 ∷ []) (0x23 ∷ 0x45 ∷ 0xFF ∷ [])  -- 8
+    ∷ digits-are (1 ∷ 2 ∷ 3 ∷ []) (0x12 ∷ 0x3F ∷ [])
+    ∷ setting-is (home (record { nzi = 15; np = 806 })) (0xCD ∷ 0x00 ∷ 0x05 ∷ 0x07 ∷ 0xE4 ∷ 0xC0 ∷ [])  -- 9
+    ∷ no-setting (0xCD ∷ 0x00 ∷ 0x05 ∷ 0x07 ∷ 0xE4 ∷ 0xE0 ∷ [])
+    ∷ setting-is (channels Replace (241 ∷ 640 ∷ [])) (0xCE ∷ 0x00 ∷ 0x07 ∷ 0xC0 ∷ 0x02 ∷ 0x0F ∷ 0x12 ∷ 0x80 ∷ [])  -- the setting of 10
+    ∷ setting-is (lines Add pabx-only (record { number = 2 ∷ 3 ∷ 4 ∷ 5 ∷ []; text = [] } ∷ []))
+    (0xCA ∷ 0x00 ∷ 0x09 ∷ 0x42 ∷ 0x01 ∷ 0x23 ∷ 0x45 ∷ 0xFF ∷ 0x00 ∷ 0x00 ∷ [])  -- the setting of 11
     ∷ []

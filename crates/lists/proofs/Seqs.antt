@@ -5,7 +5,6 @@ use mathlib.Core.List.{List, [], _∷_, _++_, head-eq-of-cons-eq, tail-eq-of-con
 use native.Mathlib.Omega.{arith}
 use lib.ListN.{length, drop}
 use lib.Seq.{drop-append-seam}
-use Rattle.lists.proofs.Every.{All}
 
 -- two lists that begin alike, cut at one length
 pub cut : {A : Type 0} (a b : List A) {x y : List A} → length a ≡ length b → a ++ x ≡ b ++ y → (a ≡ b) × (x ≡ y)
@@ -19,16 +18,3 @@ cut (p ∷ a) (q ∷ b) l e =
 -- what follows the same start is the same
 pub append-cancel : {A : Type 0} (w r q : List A) → w ++ r ≡ w ++ q → r ≡ q
 append-cancel w r q e = sym (drop-append-seam w r) ∙ ap (drop (length w)) e ∙ drop-append-seam w q
-
--- what holds of all of two lists holds of all of both
-pub all-append : {A : Type 0} (P : A → Type 0) (a b : List A) → All P a → All P b → All P (a ++ b)
-all-append P [] b p q = q
-all-append P (x ∷ a) b p q = (p .0, all-append P a b (p .1) q)
-
-pub all-left : {A : Type 0} (P : A → Type 0) (a b : List A) → All P (a ++ b) → All P a
-all-left P [] b p = tt
-all-left P (x ∷ a) b p = (p .0, all-left P a b (p .1))
-
-pub all-right : {A : Type 0} (P : A → Type 0) (a b : List A) → All P (a ++ b) → All P b
-all-right P [] b p = p
-all-right P (x ∷ a) b p = all-right P a b (p .1)

@@ -4,8 +4,7 @@ use mathlib.Core.Path.{_≡_, refl, sym, ap, ap₂, _∙_, subst}
 use mathlib.Core.List.{List, [], _∷_, _++_, append-nil}
 use native.Mathlib.Omega.{arith}
 use lib.ListN.{length, getD, drop, take, length-append}
-use Rattle.lists.proofs.Every.{All}
-use Rattle.lists.proofs.Seqs.{all-append, all-right}
+use Rattle.lists.proofs.Every.{All, all-append, all-right}
 use Rattle.writing.specs.Fields.{Field, val}
 use Rattle.writing.specs.Ranges.{InChannel}
 use Rattle.writing.proofs.Bits.{length-bitsOf}

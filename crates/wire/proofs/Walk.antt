@@ -4,8 +4,7 @@ use mathlib.Core.Path.{_≡_, refl, sym, ap, _∙_, subst, subst⁻¹}
 use mathlib.Core.List.{List, [], _∷_, _++_, append-assoc, append-nil}
 use native.Mathlib.Omega.{arith}
 use lib.ListN.{length, drop, length-append}
-use Rattle.lists.proofs.Every.{All}
-use Rattle.lists.proofs.Seqs.{all-append, all-right, all-left}
+use Rattle.lists.proofs.Every.{All, all-append, all-right, all-left}
 use Rattle.writing.specs.Fields.{bitsOf, Field, Shows, widths, each}
 use Rattle.writing.proofs.Bits.{bitsOf-append, length-bitsOf}
 use Rattle.writing.proofs.Ends.{Agree, Ends, all-read}

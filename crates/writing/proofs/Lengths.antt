@@ -13,7 +13,8 @@ use Rattle.writing.specs.declared.Operation.{Operation}
 use Rattle.writing.specs.declared.Operation.the-variants.{Add, Delete, Replace}
 use Rattle.writing.specs.Fields.{val, widths}
 use Rattle.writing.specs.Ranges.{TextLimits, text-limits, HashSize, no-hash, hash-4, hash-10, InRange, InSlot}
-use Rattle.writing.specs.Rows.{row, no-text, longest-text, Within, Allows, add-or-delete, operation}
+use Rattle.writing.specs.Rows.{row, no-text, longest-text, Within, Allows, operation}
+use Rattle.writing.specs.declared.Operations.the-variants.{AddOrDelete}
 use Rattle.writing.specs.Settings.{Text, Setting, lines, key, quick-texts, home, channels, system, status-texts, group, individual, last, kind, Coding, unicode16}
 use Rattle.writing.specs.Writing.{unit-width, text, key-address, data-length}
 use Rattle.writing.proofs.Bits.{widths-map}
@@ -57,7 +58,7 @@ within-row c k left (individual o f s) h = omega (arith, text-within c k (s .tex
 within-row c k left (last f x) h = omega (arith, hash-within (h .0), widths-map (val 8) 8 (λ v. refl) (x .value))
 
 -- in a D1 or D2, only add and delete are in range
-slot-allows : (o : Operation) (P : Type 0) → InSlot o P → Allows add-or-delete o
+slot-allows : (o : Operation) (P : Type 0) → InSlot o P → Allows AddOrDelete o
 slot-allows Add P h = tt
 slot-allows Delete P h = tt
 slot-allows Replace P h = h
@@ -72,8 +73,8 @@ allowed c k left (home x) o h e = Option·none-ne-some o e
 allowed c k left (channels p es) o h e = tt
 allowed c k left (system s) o h e = Option·none-ne-some o e
 allowed c k left (status-texts p es) o h e = tt
-allowed c k left (group p f s) o h e = subst (Allows add-or-delete) (Option·some-injective p o e) (slot-allows p _ (h .0))
-allowed c k left (individual p f s) o h e = subst (Allows add-or-delete) (Option·some-injective p o e) (slot-allows p _ (h .0))
+allowed c k left (group p f s) o h e = subst (Allows AddOrDelete) (Option·some-injective p o e) (slot-allows p _ (h .0))
+allowed c k left (individual p f s) o h e = subst (Allows AddOrDelete) (Option·some-injective p o e) (slot-allows p _ (h .0))
 allowed c k left (last f x) o h e = Option·none-ne-some o e
 
 -- the columns "least / most", in document 01's order of types

@@ -25,6 +25,7 @@ use Rattle.writing.specs.declared.LastFlags.{LastFlags}
 use Rattle.writing.specs.Fields.{bitsOf, Field, val, Shows, widths}
 use Rattle.writing.specs.Settings.{Contact, Entry, Slot, Hash, Setting, lines, key, quick-texts, home, channels, system, status-texts, group, individual, last, kind, Coding}
 use Rattle.writing.specs.Writing.{bit, flag, op-code, op, unit-width, text, fill, number, contact, quick-text, status-text, slot, current, to-group, key-address, type-byte, body, data-length, fields, Written, WrittenAll, WrittenAs, request-head}
+use Rattle.writing.proofs.ByKind.{Contents, make, of, kind-make}
 use Rattle.writing.proofs.Bits.{bitsOf-append, length-bitsOf, shows-length, widths-map}
 use Rattle.writing.proofs.Ends.{Agree, Ends, val-ends, res-ends, items-end, same-ends, vals-end, each-ends, all-read, regroup}
 use Rattle.writing.proofs.Whole.{never-empty}
@@ -127,42 +128,6 @@ target-ends (ToIndividual x) (ToIndividual y) e d a = let (p, a) = val-ends a in
 
 -- ---- the ten, by kind and contents
 
-abbrev Contents : Kind → Type 0
-Contents Lines = Operation × LineFlags × List Contact
-Contents Key = KeyTarget × KeyFlags
-Contents QuickTexts = Operation × List Entry
-Contents Home = HomeNumbers
-Contents Channels = Operation × List ℕ
-Contents System = SystemCode
-Contents StatusTexts = Operation × List Entry
-Contents Group = Operation × GroupFlags × Slot GroupAddress
-Contents Individual = Operation × IndividualFlags × Slot IndividualAddress
-Contents Last = LastFlags × Hash
-
-abbrev make : (k : Kind) → Contents k → Setting
-make Lines x = lines (x .0) (x .1) (x .2)
-make Key x = key (x .0) (x .1)
-make QuickTexts x = quick-texts (x .0) (x .1)
-make Home x = home x
-make Channels x = channels (x .0) (x .1)
-make System x = system x
-make StatusTexts x = status-texts (x .0) (x .1)
-make Group x = group (x .0) (x .1) (x .2)
-make Individual x = individual (x .0) (x .1) (x .2)
-make Last x = last (x .0) (x .1)
-
-abbrev of : (s : Setting) → (x : Contents (kind s)) × (s ≡ make (kind s) x)
-of (lines o f es) = ((o, f, es), refl)
-of (key t f) = ((t, f), refl)
-of (quick-texts o es) = ((o, es), refl)
-of (home h) = (h, refl)
-of (channels o es) = ((o, es), refl)
-of (system s) = (s, refl)
-of (status-texts o es) = ((o, es), refl)
-of (group o f s) = ((o, f, s), refl)
-of (individual o f s) = ((o, f, s), refl)
-of (last f h) = ((f, h), refl)
-
 -- a type byte says its kind
 kind-at : ℕ → Kind
 kind-at n =
@@ -254,18 +219,6 @@ body-ends c Last x y n a =
     let (p3, a) = val-ends a in
     let (v, a) = vals-end 8 (x .1 .value) (y .1 .value) (omega (arith, widths-map (val 8) 8 (λ v. refl) (x .1 .value), widths-map (val 8) 8 (λ v. refl) (y .1 .value))) a in
     (λ i. (record { reboot = p1 i; reply = p2 i }, record { code = p3 i; value = v i }), a)
-
-kind-make : (k : Kind) (x : Contents k) → kind (make k x) ≡ k
-kind-make Lines x = refl
-kind-make Key x = refl
-kind-make QuickTexts x = refl
-kind-make Home x = refl
-kind-make Channels x = refl
-kind-make System x = refl
-kind-make StatusTexts x = refl
-kind-make Group x = refl
-kind-make Individual x = refl
-kind-make Last x = refl
 
 fields-end : (c : Coding) (k l : Kind) (x : Contents k) (y : Contents l) {fs gs : List Field} {r q : List ℕ}
     → Agree (fields c (make k x) ++ fs) (fields c (make l y) ++ gs) r q → (make k x ≡ make l y) × Agree fs gs r q

@@ -36,8 +36,7 @@ unit-whole unicode16 = (2, refl)
 
 -- a text has a unit more than it says
 pub text-widths : (c : Coding) (t : Text) → widths (text c t) ≡ suc (length t) * unit-width c
-text-widths c t =
-    omega (arith, widths-append (map (item (unit-width c) 0) t) (val (unit-width c) 0 ∷ []), widths-map (item (unit-width c) 0) (unit-width c) (λ v. refl) t)
+text-widths c t = simp widths-append (omega (arith, widths-map (item (unit-width c) 0) (unit-width c) (λ v. refl) t))
 
 -- a text is whole bytes
 pub text-whole : (c : Coding) (t : Text) → Whole (text c t)
@@ -53,7 +52,7 @@ fill-whole (suc (suc n)) = let (k, e) = fill-whole n in (suc k, omega arith)
 pub number-whole : (ds : Number) → Whole (number ds)
 number-whole ds =
     let (k, e) = fill-whole (suc (length ds)) in
-    (k, omega (arith, widths-append (map (item 4 15) ds) (val 4 15 ∷ fill (suc (length ds))), widths-map (item 4 15) 4 (λ v. refl) ds))
+    (k, simp widths-append (omega (arith, widths-map (item 4 15) 4 (λ v. refl) ds)))
 
 -- the address of an emergency key is whole bytes
 key-whole : (t : KeyTarget) → Whole (key-address t)
@@ -78,7 +77,7 @@ body-whole c (quick-texts o es) =
 body-whole c (home h) = (3, refl)
 body-whole c (channels o es) =
     let (n, e) = fill-whole (length es) in
-    (2 + length es + n, omega (arith, widths-append (map (val 12) es) (fill (length es)), widths-map (val 12) 12 (λ v. refl) es))
+    (2 + length es + n, simp widths-append (omega (arith, widths-map (val 12) 12 (λ v. refl) es)))
 body-whole c (system s) = (3, refl)
 body-whole c (status-texts o es) =
     let (n, e) = each-whole (status-text c) (λ e. entry-whole c (val 8 (e .index) ∷ []) refl (e .text)) es in (2 + n, omega arith)

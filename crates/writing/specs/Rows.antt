@@ -1,26 +1,23 @@
 -- Document 01's table of the ten settings, the columns "least / most" and the operations allowed.
 use Prim.Native.Nat.{ℕ, _+_, _*_, _/_, _≤_}
-use mathlib.Core.Bool.{Bool, true, false}
 use mathlib.Core.Option.{Option, none, some}
 use Rattle.writing.specs.declared.Kind.{Kind}
 use Rattle.writing.specs.declared.Kind.the-variants.{Lines, Key, QuickTexts, Home, Channels, System, StatusTexts, Group, Individual, Last}
 use Rattle.writing.specs.declared.Operation.{Operation}
 use Rattle.writing.specs.declared.Operation.the-variants.{Add, Delete, Replace}
+use Rattle.writing.specs.declared.Operations.{Operations}
+use Rattle.writing.specs.declared.Operations.the-variants.{NoOperation, AnyOperation, AddOrDelete}
 use Rattle.writing.specs.Ranges.{TextLimits}
 use Rattle.writing.specs.Settings.{Setting, lines, key, quick-texts, home, channels, system, status-texts, group, individual, last, Coding}
 use Rattle.writing.specs.Writing.{unit-width}
 
--- which operations a type has: none, any of the three, or add and delete
-pub data Operations : Type 0 where
-  no-operation any add-or-delete : Operations
-
 -- the operation is among them
 abbrev pub Allows : Operations → Operation → Type 0
-Allows no-operation o = ⊥
-Allows any o = Unit {0}
-Allows add-or-delete Add = Unit {0}
-Allows add-or-delete Delete = Unit {0}
-Allows add-or-delete Replace = ⊥
+Allows NoOperation o = ⊥
+Allows AnyOperation o = Unit {0}
+Allows AddOrDelete Add = Unit {0}
+Allows AddOrDelete Delete = Unit {0}
+Allows AddOrDelete Replace = ⊥
 
 -- the operation of a setting, if it has one
 abbrev pub operation : Setting → Option Operation
@@ -50,16 +47,16 @@ longest-text c k = (k .short + 1) * (unit-width c / 8)
 
 -- the ten rows
 abbrev pub row : Coding → TextLimits → Kind → Row
-row c k Lines = record { least = 4; most = none; operations = any }
-row c k Key = record { least = 3; most = some 6; operations = no-operation }
-row c k QuickTexts = record { least = 3; most = none; operations = any }
-row c k Home = record { least = 5; most = some 5; operations = no-operation }
-row c k Channels = record { least = 4; most = none; operations = any }
-row c k System = record { least = 5; most = some 5; operations = no-operation }
-row c k StatusTexts = record { least = 4; most = none; operations = any }
-row c k Group = record { least = 7 + no-text c; most = some (7 + longest-text c k); operations = add-or-delete }
-row c k Individual = record { least = 7 + no-text c; most = some (7 + longest-text c k); operations = add-or-delete }
-row c k Last = record { least = 3; most = some 13; operations = no-operation }
+row c k Lines = record { least = 4; most = none; operations = AnyOperation }
+row c k Key = record { least = 3; most = some 6; operations = NoOperation }
+row c k QuickTexts = record { least = 3; most = none; operations = AnyOperation }
+row c k Home = record { least = 5; most = some 5; operations = NoOperation }
+row c k Channels = record { least = 4; most = none; operations = AnyOperation }
+row c k System = record { least = 5; most = some 5; operations = NoOperation }
+row c k StatusTexts = record { least = 4; most = none; operations = AnyOperation }
+row c k Group = record { least = 7 + no-text c; most = some (7 + longest-text c k); operations = AddOrDelete }
+row c k Individual = record { least = 7 + no-text c; most = some (7 + longest-text c k); operations = AddOrDelete }
+row c k Last = record { least = 3; most = some 13; operations = NoOperation }
 
 -- a DataLength within the row
 abbrev pub AtMost : Option ℕ → ℕ → Type 0

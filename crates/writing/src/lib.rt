@@ -22,6 +22,13 @@ pub enum Operation {
     Replace,
 }
 
+// Which operations a type of setting has.
+pub enum Operations {
+    NoOperation,
+    AnyOperation,
+    AddOrDelete,
+}
+
 // Of all line contacts of one setting.
 pub struct LineFlags {
     pub encryption: bool,
