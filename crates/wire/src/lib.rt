@@ -3,4 +3,5 @@ mod bytes;
 pub mod channels;
 pub mod entries;
 pub mod numbers;
+pub mod rows;
 pub mod texts;
