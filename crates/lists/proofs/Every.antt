@@ -22,6 +22,11 @@ pub all-right : {A : Type 0} (P : A → Type 0) (a b : List A) → All P (a ++ b
 all-right P [] b p = p
 all-right P (x ∷ a) b p = all-right P a b (p .1)
 
+-- what follows from P at each element holds of every element
+pub all-map : {A : Type 0} (P Q : A → Type 0) → ((a : A) → P a → Q a) → (xs : List A) → All P xs → All Q xs
+all-map P Q f [] p = tt
+all-map P Q f (x ∷ xs) p = (f x (p .0), all-map P Q f xs (p .1))
+
 -- both tests passed
 pub both : (a b : Bool) → T (a && b) → T a × T b
 both true b h = (tt, h)

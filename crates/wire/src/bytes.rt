@@ -1,6 +1,7 @@
 // Bytes of a message as numbers.
 ghost use mathlib.Core.Path.{_≡_};
-ghost use Prim.Native.Nat.{_+_, _-_, _≤_, _<_};
+ghost use Prim.Native.Nat.{_+_, _-_, _%_, _≤_, _<_};
+ghost use lib.Dec.{eqb};
 ghost use lib.ListN.{length, take, drop};
 ghost use Rattle.wire.specs.Places.{be};
 
@@ -29,4 +30,11 @@ pub(crate) fn number(m: &[u8], at: usize, k: usize) -> u64
         i += 1;
     }
     n
+}
+
+// The lowest bit.
+pub(crate) fn flag(x: u64) -> bool
+    ensures { λ r. ⌜ r ≡ eqb (x % 2) 1 ⌝ }
+{
+    x % 2 == 1
 }

@@ -2,6 +2,9 @@
 mod bytes;
 pub mod channels;
 pub mod entries;
+pub mod hashes;
+pub mod list_settings;
 pub mod numbers;
 pub mod rows;
+pub mod settings;
 pub mod texts;

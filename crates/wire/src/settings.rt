@@ -1,0 +1,52 @@
+// A setting once read: a kind with its operation inside it; texts, numbers and entries stay as places in the message.
+use super::hashes::HashPlace;
+use super::texts::TextPlace;
+use plan::numbers::GroupAddress;
+use plan::numbers::IndividualAddress;
+use writing::GroupFlags;
+use writing::HomeNumbers;
+use writing::IndividualFlags;
+use writing::KeyFlags;
+use writing::KeyTarget;
+use writing::LastFlags;
+use writing::LineFlags;
+use writing::Operation;
+use writing::SystemCode;
+
+// So many entries, from start up to next.
+pub struct Entries {
+    pub start: usize,
+    pub count: usize,
+    pub next: usize,
+}
+
+pub struct GroupPlace {
+    pub index: u8,
+    pub address: GroupAddress,
+    pub text: TextPlace,
+}
+
+pub struct IndividualPlace {
+    pub index: u8,
+    pub address: IndividualAddress,
+    pub text: TextPlace,
+}
+
+pub enum Setting {
+    Lines(Operation, LineFlags, Entries),
+    Key(KeyTarget, KeyFlags),
+    QuickTexts(Operation, Entries),
+    Home(HomeNumbers),
+    Channels(Operation, Entries),
+    System(SystemCode),
+    StatusTexts(Operation, Entries),
+    Group(Operation, GroupFlags, GroupPlace),
+    Individual(Operation, IndividualFlags, IndividualPlace),
+    Last(LastFlags, HashPlace),
+}
+
+// The fields after DataLength, and the place after them.
+pub enum BodyRead {
+    Body(Setting, usize),
+    NoBody,
+}
