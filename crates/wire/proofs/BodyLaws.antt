@@ -3,6 +3,7 @@ use Prim.Native.Nat.{ℕ, zero, suc, _+_, _*_, _/_, _%_, _^_, _≤_, _<_}
 use mathlib.Core.Path.{_≡_, refl, sym, ap, _∙_, subst, subst⁻¹}
 use mathlib.Core.List.{List, [], _∷_, _++_, map}
 use mathlib.Core.Bool.{Bool, true, false}
+use mathlib.Core.Logic.{_≢_}
 use native.Mathlib.Omega.{arith}
 use borrow.Author.Tests.{eqb-true, eqb-false}
 use lib.Dec.{eqb}
@@ -12,18 +13,20 @@ use Rattle.writing.specs.declared.Kind.{Kind}
 use Rattle.writing.specs.declared.Kind.the-variants.{Lines, Key, QuickTexts, Home, Channels, System, StatusTexts, Group, Individual, Last}
 use Rattle.writing.specs.declared.Operation.{Operation}
 use Rattle.writing.specs.declared.Operation.the-variants.{Add, Delete, Replace}
+use Rattle.writing.specs.declared.KeyTarget.{KeyTarget}
+use Rattle.writing.specs.declared.KeyTarget.the-variants.{Current, ToGroup, ToIndividual}
 use Rattle.writing.specs.Fields.{Field, val, res, widths, each}
-use Rattle.writing.specs.Ranges.{text-limits, InRange, InQuick}
+use Rattle.writing.specs.Ranges.{text-limits, InRange, InQuick, InAddress, InSlot, InTarget}
 use Rattle.writing.specs.Settings.{Setting, Entry, unicode16, kind}
 use Rattle.writing.specs.Writing.{bit, flag, op, op-code, text, contact, quick-text, status-text, current, to-group, key-address, body}
 use Rattle.writing.proofs.ByKind.{Contents, make, of-kind, kind-make}
 use Rattle.wire.specs.Entries.{channel-list, QuickFrom}
 use Rattle.wire.specs.Places.{PartAt, be}
-use Rattle.wire.specs.Settings.{Meant, BodyAt, LeastIs}
+use Rattle.wire.specs.Settings.{Meant, BodyAt, LeastIs, AddressRefused, GroupRefused, IndividualRefused}
 use Rattle.wire.specs.declared.settings.Setting.{Setting as Read}
 use Rattle.wire.specs.declared.settings.BodyRead.the-variants.{Body, NoBody}
-use Rattle.wire.proofs.Heads.{Cut, head-in, head-out}
-use Rattle.wire.proofs.Parts.{Bytes}
+use Rattle.wire.proofs.Heads.{Cut, head-in, head-out, be-small}
+use Rattle.wire.proofs.Parts.{Bytes, nothing}
 
 -- the fields of a kind: a head of so many bytes, and what follows it
 pub record Headed (K : Kind) : Type 0 where
@@ -59,63 +62,112 @@ module _ (K : Kind) (f : Headed K) (left : ℕ) (m : List ℕ) (p : ℕ) (h : By
     -- these contents, which have this head and what follows
     pub the-body : (x : Contents K) (r : Read) (next : ℕ) → p + f .size ≤ length m → Cut (f .head x) N → InRange text-limits left (make K x)
         → PartAt (f .tail x) m (p + f .size) next → Meant m r (make K x) → BodyAt K left m p (Body r next)
-    the-body x r next room k i y means =
-        (make K x, kind-make K x, means, i,
-        subst⁻¹ (λ (l : List Field). PartAt l m p next) (f .split x)
-        (head-in (f .head x) (f .tail x) m p (f .size) (f .wide x) (f .some-byte) h next room (subst (Cut (f .head x)) number k) y))
+    the-body x r next room k i y means = (
+      make K x,
+      kind-make K x,
+      means,
+      i,
+      subst⁻¹ (λ (l : List Field). PartAt l m p next) (f .split x)
+          (head-in (f .head x) (f .tail x) m p (f .size) (f .wide x) (f .some-byte) h next room (subst (Cut (f .head x)) number k) y),
+    )
 
 -- ---- the heads, in the order of the table
 
 abbrev pub lines-head : Headed Lines
-lines-head = record
-  { head = λ x. op (x .0) ∷ flag (x .1 .encryption) ∷ flag (x .1 .emergency) ∷ val 2 (x .1 .priority) ∷ flag (x .1 .pabx) ∷ res 1 ∷ val 8 (length (x .2)) ∷ []
-  ; tail = λ x. each (contact unicode16) (x .2); size = 2; split = λ x. refl; wide = λ x. refl; some-byte = omega arith }
+lines-head = record {
+  head = λ x. op (x .0) ∷ flag (x .1 .encryption) ∷ flag (x .1 .emergency) ∷ val 2 (x .1 .priority) ∷ flag (x .1 .pabx) ∷ res 1 ∷ val 8 (length (x .2)) ∷ [];
+  tail = λ x. each (contact unicode16) (x .2);
+  size = 2;
+  split = λ x. refl;
+  wide = λ x. refl;
+  some-byte = omega arith;
+}
 
 abbrev pub key-head : Headed Key
-key-head = record
-  { head = λ x. flag (current (x .0)) ∷ flag (to-group (x .0)) ∷ flag (x .1 .voice) ∷ flag (x .1 .status) ∷ flag (x .1 .siren) ∷ res 3 ∷ []
-  ; tail = λ x. key-address (x .0); size = 1; split = λ x. refl; wide = λ x. refl; some-byte = omega arith }
+key-head = record {
+  head = λ x. flag (current (x .0)) ∷ flag (to-group (x .0)) ∷ flag (x .1 .voice) ∷ flag (x .1 .status) ∷ flag (x .1 .siren) ∷ res 3 ∷ [];
+  tail = λ x. key-address (x .0);
+  size = 1;
+  split = λ x. refl;
+  wide = λ x. refl;
+  some-byte = omega arith;
+}
 
 abbrev pub quick-head : Headed QuickTexts
-quick-head = record
-  { head = λ x. op (x .0) ∷ val 6 (length (x .1)) ∷ []; tail = λ x. each (quick-text unicode16) (x .1); size = 1; split = λ x. refl; wide = λ x. refl
-  ; some-byte = omega arith }
+quick-head = record {
+  head = λ x. op (x .0) ∷ val 6 (length (x .1)) ∷ [];
+  tail = λ x. each (quick-text unicode16) (x .1);
+  size = 1;
+  split = λ x. refl;
+  wide = λ x. refl;
+  some-byte = omega arith;
+}
 
 abbrev pub home-head : Headed Home
 home-head = record
-  { head = λ x. val 9 (x .nzi) ∷ val 10 (x .np) ∷ res 5 ∷ []; tail = λ x. []; size = 3; split = λ x. refl; wide = λ x. refl; some-byte = omega arith }
+    { head = λ x. val 9 (x .nzi) ∷ val 10 (x .np) ∷ res 5 ∷ []; tail = λ x. []; size = 3; split = λ x. refl; wide = λ x. refl; some-byte = omega arith }
 
 abbrev pub channels-head : Headed Channels
-channels-head = record
-  { head = λ x. op (x .0) ∷ res 4 ∷ val 10 (length (x .1)) ∷ []; tail = λ x. channel-list (x .1); size = 2; split = λ x. refl; wide = λ x. refl
-  ; some-byte = omega arith }
+channels-head = record {
+  head = λ x. op (x .0) ∷ res 4 ∷ val 10 (length (x .1)) ∷ [];
+  tail = λ x. channel-list (x .1);
+  size = 2;
+  split = λ x. refl;
+  wide = λ x. refl;
+  some-byte = omega arith;
+}
 
 abbrev pub system-head : Headed System
-system-head = record
-  { head = λ x. val 12 (x .lai) ∷ val 4 (x .la) ∷ val 2 (x .roaming) ∷ flag (x .par) ∷ res 5 ∷ []; tail = λ x. []; size = 3; split = λ x. refl
-  ; wide = λ x. refl; some-byte = omega arith }
+system-head = record {
+  head = λ x. val 12 (x .lai) ∷ val 4 (x .la) ∷ val 2 (x .roaming) ∷ flag (x .par) ∷ res 5 ∷ [];
+  tail = λ x. [];
+  size = 3;
+  split = λ x. refl;
+  wide = λ x. refl;
+  some-byte = omega arith;
+}
 
 abbrev pub status-head : Headed StatusTexts
-status-head = record
-  { head = λ x. op (x .0) ∷ res 6 ∷ val 8 (length (x .1)) ∷ []; tail = λ x. each (status-text unicode16) (x .1); size = 2; split = λ x. refl
-  ; wide = λ x. refl; some-byte = omega arith }
+status-head = record {
+  head = λ x. op (x .0) ∷ res 6 ∷ val 8 (length (x .1)) ∷ [];
+  tail = λ x. each (status-text unicode16) (x .1);
+  size = 2;
+  split = λ x. refl;
+  wide = λ x. refl;
+  some-byte = omega arith;
+}
 
 abbrev pub group-head : Headed Group
-group-head = record
-  { head = λ x. op (x .0) ∷ val 2 (x .1 .attribute) ∷ flag (x .1 .broadcast) ∷ flag (x .1 .encryption) ∷ flag (x .1 .ovcm) ∷ flag (x .1 .emergency)
-      ∷ val 2 (x .1 .priority) ∷ res 2 ∷ val 4 (x .2 .index) ∷ val 24 (x .2 .address .0) ∷ []
-  ; tail = λ x. text unicode16 (x .2 .text); size = 5; split = λ x. refl; wide = λ x. refl; some-byte = omega arith }
+group-head = record {
+  head = λ x. op (x .0) ∷ val 2 (x .1 .attribute) ∷ flag (x .1 .broadcast) ∷ flag (x .1 .encryption) ∷ flag (x .1 .ovcm) ∷ flag (x .1 .emergency)
+      ∷ val 2 (x .1 .priority) ∷ res 2 ∷ val 4 (x .2 .index) ∷ val 24 (x .2 .address .0) ∷ [];
+  tail = λ x. text unicode16 (x .2 .text);
+  size = 5;
+  split = λ x. refl;
+  wide = λ x. refl;
+  some-byte = omega arith;
+}
 
 abbrev pub individual-head : Headed Individual
-individual-head = record
-  { head = λ x. op (x .0) ∷ flag (x .1 .encryption) ∷ flag (x .1 .emergency) ∷ val 2 (x .1 .priority) ∷ res 6 ∷ val 4 (x .2 .index)
-      ∷ val 24 (x .2 .address .0) ∷ []
-  ; tail = λ x. text unicode16 (x .2 .text); size = 5; split = λ x. refl; wide = λ x. refl; some-byte = omega arith }
+individual-head = record {
+  head = λ x. op (x .0) ∷ flag (x .1 .encryption) ∷ flag (x .1 .emergency) ∷ val 2 (x .1 .priority) ∷ res 6 ∷ val 4 (x .2 .index)
+      ∷ val 24 (x .2 .address .0) ∷ [];
+  tail = λ x. text unicode16 (x .2 .text);
+  size = 5;
+  split = λ x. refl;
+  wide = λ x. refl;
+  some-byte = omega arith;
+}
 
 abbrev pub last-head : Headed Last
-last-head = record
-  { head = λ x. flag (x .0 .reboot) ∷ flag (x .0 .reply) ∷ val 6 (x .1 .code) ∷ []; tail = λ x. map (val 8) (x .1 .value); size = 1; split = λ x. refl
-  ; wide = λ x. refl; some-byte = omega arith }
+last-head = record {
+  head = λ x. flag (x .0 .reboot) ∷ flag (x .0 .reply) ∷ val 6 (x .1 .code) ∷ [];
+  tail = λ x. map (val 8) (x .1 .value);
+  size = 1;
+  split = λ x. refl;
+  wide = λ x. refl;
+  some-byte = omega arith;
+}
 
 -- ---- small values
 
@@ -160,3 +212,59 @@ pub quick-from : (o p : Operation) (n : ℕ) (es : List Entry) → op-code o ≡
 quick-from o p n es e l i =
     all-map (InQuick text-limits o) (QuickFrom text-limits n) (λ x. quick-one o n x l) es
     (subst (λ (q : Operation). All (InQuick text-limits q) es) (sym (one-op o p e)) i)
+
+-- ---- addresses
+
+-- the 24 bits of an address are three bytes
+pub address-out : (a : ℕ) (m : List ℕ) (q next : ℕ) → Bytes m → PartAt (val 24 a ∷ []) m q next → (q + 3 ≤ length m) × (a ≡ be 0 (take 3 (drop q m)))
+address-out a m q next h x =
+    let (r, k, y) = head-out (val 24 a ∷ []) [] m q 3 refl (omega arith) h next x in
+    let s : be 0 (take 3 (drop q m)) < 16777216 = be-small m q 3 h r in
+    (r, omega (arith, s, k .0))
+
+pub address-in : (a : ℕ) (m : List ℕ) (q : ℕ) → Bytes m → q + 3 ≤ length m → a ≡ be 0 (take 3 (drop q m)) % 16777216 → PartAt (val 24 a ∷ []) m q (q + 3)
+address-in a m q h r e = head-in (val 24 a ∷ []) [] m q 3 refl (omega arith) h (q + 3) r (omega arith, tt) (nothing m (q + 3))
+
+-- an address that the key calls stands after its head, in range
+pub key-address-out : (t : KeyTarget) (m : List ℕ) (q next : ℕ) → Bytes m → (bit (current t) ≡ 1 → ⊥) → InTarget t → PartAt (key-address t) m q next
+    → (q + 3 ≤ length m) × InAddress (be 0 (take 3 (drop q m)) % 16777216)
+key-address-out (Current g) m q next h n i x = absurd (n refl)
+key-address-out (ToGroup a) m q next h n i x =
+    let (r, e) = address-out (a .0) m q next h x in
+    let s : be 0 (take 3 (drop q m)) < 16777216 = be-small m q 3 h r in
+    (r, subst InAddress (omega (arith, s)) i)
+key-address-out (ToIndividual a) m q next h n i x =
+    let (r, e) = address-out (a .0) m q next h x in
+    let s : be 0 (take 3 (drop q m)) < 16777216 = be-small m q 3 h r in
+    (r, subst InAddress (omega (arith, s)) i)
+
+-- what is in range of a slot is said by its cuts
+pub group-in : (o p : Operation) (a b x y : ℕ) → op-code o ≡ op-code p → a ≡ b → x ≡ y → InSlot p ((b ≢ 0) × InAddress y) → InSlot o ((a ≢ 0) × InAddress x)
+group-in o p a b x y e d f i =
+    subst (λ (q : Operation). InSlot q ((a ≢ 0) × InAddress x)) (sym (one-op o p e))
+    (subst (λ (z : ℕ). InSlot p ((z ≢ 0) × InAddress x)) (sym d) (subst (λ (z : ℕ). InSlot p ((b ≢ 0) × InAddress z)) (sym f) i))
+
+pub individual-in : (o p : Operation) (x y : ℕ) → op-code o ≡ op-code p → x ≡ y → InSlot p (InAddress y) → InSlot o (InAddress x)
+individual-in o p x y e f i =
+    subst (λ (q : Operation). InSlot q (InAddress x)) (sym (one-op o p e)) (subst (λ (z : ℕ). InSlot p (InAddress z)) (sym f) i)
+
+-- the last item is out of range before the last place
+pub not-last : (left : ℕ) (m : List ℕ) (p : ℕ) → 0 < left → BodyAt Last left m p NoBody
+not-last left m p l s next e i y =
+    let (x, d) = of-kind Last s e in
+    omega (arith, subst (InRange text-limits left) d i .1)
+
+-- an add is refused as its address is, a group's where its attribute is not 0
+pub group-add : (attribute a : ℕ) (r : Bool) → (attribute ≡ 0 → ⊥) → AddressRefused a r → GroupRefused Add attribute a r
+group-add attribute a true n h = λ i. h (i .1)
+group-add attribute a false n h = (n, h)
+
+pub individual-add : (a : ℕ) (r : Bool) → AddressRefused a r → IndividualRefused Add a r
+individual-add a true h = h
+individual-add a false h = h
+
+-- a slot's operation in range is add or delete
+pub slot-op : (o : Operation) (P : Type 0) → InSlot o P → op-code o ≤ 2
+slot-op Add P i = omega arith
+slot-op Delete P i = omega arith
+slot-op Replace P i = absurd i

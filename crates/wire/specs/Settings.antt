@@ -1,15 +1,18 @@
 -- What a setting that was read means, and what reading its fields answers.
 use Prim.Native.Nat.{ℕ, _+_}
 use mathlib.Core.Path.{_≡_}
-use mathlib.Core.List.{List, map}
+use mathlib.Core.Bool.{Bool, true, false}
+use mathlib.Core.Logic.{_≢_}
+use mathlib.Core.List.{List, [], _∷_, map}
 use lib.ListN.{length}
 use Rattle.writing.specs.declared.Kind.{Kind}
 use Rattle.writing.specs.declared.Operation.{Operation}
 use Rattle.writing.specs.declared.Operation.the-variants.{Add, Delete, Replace}
+use Rattle.writing.specs.declared.KeyTarget.{KeyTarget}
 use Rattle.writing.specs.Fields.{Field, val, each}
-use Rattle.writing.specs.Ranges.{text-limits, InRange}
+use Rattle.writing.specs.Ranges.{text-limits, InRange, InAddress, InSlot, InTarget}
 use Rattle.writing.specs.Settings.{Setting, unicode16, Contact, Entry, Hash, lines, key, quick-texts, home, channels, system, status-texts, group, individual, last, kind}
-use Rattle.writing.specs.Writing.{contact, quick-text, status-text, body}
+use Rattle.writing.specs.Writing.{contact, quick-text, status-text, body, current, to-group, key-address}
 use Rattle.wire.specs.Entries.{channel-list}
 use Rattle.wire.specs.Parts.{TextIs}
 use Rattle.wire.specs.Places.{PartAt}
@@ -52,3 +55,24 @@ abbrev pub LeastIs : Operation → ℕ → Type 0
 LeastIs Add n = n ≡ 1
 LeastIs Delete n = n ≡ 0
 LeastIs Replace n = n ≡ 1
+
+-- ---- inner steps: no promise cites these
+
+-- whether an address is out of range
+abbrev pub AddressRefused : ℕ → Bool → Type 0
+AddressRefused a true = InAddress a → ⊥
+AddressRefused a false = InAddress a
+
+-- whether a group slot's operation, attribute or address is out of range
+abbrev pub GroupRefused : Operation → ℕ → ℕ → Bool → Type 0
+GroupRefused o attribute a true = InSlot o ((attribute ≢ 0) × InAddress a) → ⊥
+GroupRefused o attribute a false = InSlot o ((attribute ≢ 0) × InAddress a)
+
+-- whether an individual slot's operation or address is out of range
+abbrev pub IndividualRefused : Operation → ℕ → Bool → Type 0
+IndividualRefused o a true = InSlot o (InAddress a) → ⊥
+IndividualRefused o a false = InSlot o (InAddress a)
+
+-- an address of the kind that the group bit says
+abbrev pub TargetIs : Bool → ℕ → KeyTarget → Type 0
+TargetIs g a t = (current t ≡ false) × (to-group t ≡ g) × (key-address t ≡ val 24 a ∷ []) × (InAddress a → InTarget t)

@@ -2,6 +2,7 @@
 mod bytes;
 pub mod channels;
 pub mod entries;
+pub mod fixed_settings;
 pub mod hashes;
 pub mod list_settings;
 pub mod numbers;
