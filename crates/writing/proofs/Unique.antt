@@ -151,8 +151,21 @@ kind-at-byte Last = refl
 pub one-kind : (k l : Kind) → type-byte k ≡ type-byte l → k ≡ l
 one-kind k l e = cc (kind-at-byte k, kind-at-byte l, ap kind-at e)
 
-body-ends : (c : Coding) (k : Kind) (x y : Contents k) {fs gs : List Field} {r q : List ℕ}
-    → widths (body c (make k x)) / 8 ≡ widths (body c (make k y)) / 8
+-- hash values of one length: the fields after DataLength do not say it
+abbrev pub Sized : (k : Kind) → Contents k → Contents k → Type 0
+Sized Lines x y = Unit {0}
+Sized Key x y = Unit {0}
+Sized QuickTexts x y = Unit {0}
+Sized Home x y = Unit {0}
+Sized Channels x y = Unit {0}
+Sized System x y = Unit {0}
+Sized StatusTexts x y = Unit {0}
+Sized Group x y = Unit {0}
+Sized Individual x y = Unit {0}
+Sized Last x y = length (x .1 .value) ≡ length (y .1 .value)
+
+-- the fields after DataLength say where they end
+pub body-ends : (c : Coding) (k : Kind) (x y : Contents k) {fs gs : List Field} {r q : List ℕ} → Sized k x y
     → Agree (body c (make k x) ++ fs) (body c (make k y) ++ gs) r q → (x ≡ y) × Agree fs gs r q
 body-ends c Lines x y n a =
     let (o, a) = op-ends (x .0) (y .0) a in
@@ -217,8 +230,21 @@ body-ends c Last x y n a =
     let (p1, a) = flag-ends (x .0 .reboot) (y .0 .reboot) a in
     let (p2, a) = flag-ends (x .0 .reply) (y .0 .reply) a in
     let (p3, a) = val-ends a in
-    let (v, a) = vals-end 8 (x .1 .value) (y .1 .value) (omega (arith, widths-map (val 8) 8 (λ v. refl) (x .1 .value), widths-map (val 8) 8 (λ v. refl) (y .1 .value))) a in
+    let (v, a) = vals-end 8 (x .1 .value) (y .1 .value) n a in
     (λ i. (record { reboot = p1 i; reply = p2 i }, record { code = p3 i; value = v i }), a)
+
+-- equal DataLengths are equal hash values' lengths
+sized : (c : Coding) (k : Kind) (x y : Contents k) → data-length c (make k x) ≡ data-length c (make k y) → Sized k x y
+sized c Lines x y e = tt
+sized c Key x y e = tt
+sized c QuickTexts x y e = tt
+sized c Home x y e = tt
+sized c Channels x y e = tt
+sized c System x y e = tt
+sized c StatusTexts x y e = tt
+sized c Group x y e = tt
+sized c Individual x y e = tt
+sized c Last x y e = omega (arith, widths-map (val 8) 8 (λ v. refl) (x .1 .value), widths-map (val 8) 8 (λ v. refl) (y .1 .value))
 
 fields-end : (c : Coding) (k l : Kind) (x : Contents k) (y : Contents l) {fs gs : List Field} {r q : List ℕ}
     → Agree (fields c (make k x) ++ fs) (fields c (make l y) ++ gs) r q → (make k x ≡ make l y) × Agree fs gs r q
@@ -227,7 +253,7 @@ fields-end c k l x y {fs} {gs} {r} {q} a =
     let e : k ≡ l = sym (kind-make k x) ∙ one-kind (kind (make k x)) (kind (make l y)) p ∙ kind-make l y in
     subst (λ (m : Kind). (z : Contents m) → Agree (val 16 (data-length c (make k x)) ∷ body c (make k x) ++ fs)
     (val 16 (data-length c (make m z)) ∷ body c (make m z) ++ gs) r q → (make k x ≡ make m z) × Agree fs gs r q) e
-    (λ z b. let (n, b) = val-ends b in let (i, b) = body-ends c k x z (omega arith) b in (ap (make k) i, b)) y a
+    (λ z b. let (n, b) = val-ends b in let (i, b) = body-ends c k x z (sized c k x z n) b in (ap (make k) i, b)) y a
 
 setting-end : (c : Coding) (s t : Setting) {fs gs : List Field} {r q : List ℕ} → Agree (fields c s ++ fs) (fields c t ++ gs) r q → (s ≡ t) × Agree fs gs r q
 setting-end c s t {fs} {gs} {r} {q} a =
