@@ -1,9 +1,9 @@
 -- Laws on lists that the kit lacks. Assumes nothing.
-use Prim.Native.Nat.{ℕ}
+use Prim.Native.Nat.{ℕ, zero, suc}
 use mathlib.Core.Path.{_≡_, refl, sym, ap, ap₂, _∙_}
-use mathlib.Core.List.{List, [], _∷_, _++_, head-eq-of-cons-eq, tail-eq-of-cons-eq}
+use mathlib.Core.List.{List, [], _∷_, _++_, map, nil≢cons, cons≢nil, head-eq-of-cons-eq, tail-eq-of-cons-eq}
 use native.Mathlib.Omega.{arith}
-use lib.ListN.{length, drop}
+use lib.ListN.{length, drop, set}
 use lib.Seq.{drop-append-seam}
 use Rattle.lists.proofs.Every.{All}
 
@@ -32,3 +32,16 @@ all-left P (x ∷ a) b p = (p .0, all-left P a b (p .1))
 pub all-right : {A : Type 0} (P : A → Type 0) (a b : List A) → All P (a ++ b) → All P b
 all-right P [] b p = p
 all-right P (x ∷ a) b p = all-right P a b (p .1)
+
+-- an element put in place k of what a function makes
+pub map-set : {A B : Type 0} (g : A → B) (xs : List A) (k : ℕ) (x : A) → map g (set xs k x) ≡ set (map g xs) k (g x)
+map-set g [] k x = refl
+map-set g (y ∷ ys) zero x = refl
+map-set g (y ∷ ys) (suc k) x = ap (λ l. g y ∷ l) (map-set g ys k x)
+
+-- a function that is one-to-one makes equal lists of equal lists only
+pub map-one : {A B : Type 0} (f : A → B) → ((a b : A) → f a ≡ f b → a ≡ b) → (xs ys : List A) → map f xs ≡ map f ys → xs ≡ ys
+map-one f h [] [] e = refl
+map-one f h [] (y ∷ ys) e = absurd (nil≢cons e)
+map-one f h (x ∷ xs) [] e = absurd (cons≢nil e)
+map-one f h (x ∷ xs) (y ∷ ys) e = ap₂ (λ x y. x ∷ y) (h x y (head-eq-of-cons-eq e)) (map-one f h xs ys (tail-eq-of-cons-eq e))
