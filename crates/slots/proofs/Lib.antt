@@ -1,0 +1,5 @@
+pub mod Gaps
+pub mod Pads
+pub mod Parts
+pub mod Runs
+pub mod Search
