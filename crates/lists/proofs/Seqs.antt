@@ -1,9 +1,10 @@
 -- Laws on lists that the kit lacks. Assumes nothing.
-use Prim.Native.Nat.{ℕ, zero, suc}
+use Prim.Native.Nat.{ℕ, zero, suc, _<_}
 use mathlib.Core.Path.{_≡_, refl, sym, ap, ap₂, _∙_}
 use mathlib.Core.List.{List, [], _∷_, _++_, map, nil≢cons, cons≢nil, head-eq-of-cons-eq, tail-eq-of-cons-eq}
+use native.Mathlib.Nat.{not-suc-le-zero, le-of-suc-le-suc}
 use native.Mathlib.Omega.{arith}
-use lib.ListN.{length, drop, set}
+use lib.ListN.{length, drop, getD, set}
 use lib.Seq.{drop-append-seam}
 use Rattle.lists.proofs.Every.{All}
 
@@ -45,3 +46,9 @@ map-one f h [] [] e = refl
 map-one f h [] (y ∷ ys) e = absurd (nil≢cons e)
 map-one f h (x ∷ xs) [] e = absurd (cons≢nil e)
 map-one f h (x ∷ xs) (y ∷ ys) e = ap₂ (λ x y. x ∷ y) (h x y (head-eq-of-cons-eq e)) (map-one f h xs ys (tail-eq-of-cons-eq e))
+
+-- the element in place k of what a function makes
+pub getD-map : {A B : Type 0} (g : A → B) (xs : List A) (k : ℕ) (d : A) (e : B) → k < length xs → getD (map g xs) k e ≡ g (getD xs k d)
+getD-map g [] k d e h = absurd (not-suc-le-zero h)
+getD-map g (x ∷ xs) zero d e h = refl
+getD-map g (x ∷ xs) (suc k) d e h = getD-map g xs k d e (le-of-suc-le-suc h)

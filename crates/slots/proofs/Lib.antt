@@ -3,3 +3,4 @@ pub mod Pads
 pub mod Parts
 pub mod Runs
 pub mod Search
+pub mod Tables

@@ -2,8 +2,8 @@
 use mathlib.Core.Path.{_≡_, refl, sym, ap, _∙_}
 use mathlib.Core.Logic.{_≢_}
 use mathlib.Core.List.{List, [], _∷_, _++_, head-eq-of-cons-eq, tail-eq-of-cons-eq}
-use Prim.Native.Nat.{ℕ, zero, suc, _-_, _≤_}
-use native.Mathlib.Nat.{not-suc-le-zero, le-of-suc-le-suc, zero-sub, sub-zero, suc-sub-suc}
+use Prim.Native.Nat.{ℕ, zero, suc, _+_, _-_, _≤_}
+use native.Mathlib.Nat.{not-suc-le-zero, le-of-suc-le-suc, zero-add, suc-add, zero-sub, sub-zero, suc-sub-suc}
 use native.Mathlib.Omega.{arith}
 use lib.ListN.{length, take, replicate}
 use Rattle.lists.proofs.Every.{All}
@@ -25,6 +25,11 @@ module _ {A : Type 0} (d : A) where
   pad-is zero xs = rw zero-sub
   pad-is (suc n) [] = rw sub-zero (ap (λ l. d ∷ l) (pad-nil n))
   pad-is (suc n) (x ∷ xs) = rw suc-sub-suc (ap (λ l. x ∷ l) (pad-is n xs))
+
+  -- what stands before is kept
+  pub pad-after : (a b : List A) (n : ℕ) → pad d (length a + n) (a ++ b) ≡ a ++ pad d n b
+  pad-after [] b n = rw zero-add
+  pad-after (x ∷ a) b n = rw suc-add (ap (λ l. x ∷ l) (pad-after a b n))
 
   -- what is filled up with d, and holds no d, is known by what it is filled up to
   pub pad-one : (n : ℕ) (xs ys : List A) → All (λ x. x ≢ d) xs → All (λ x. x ≢ d) ys → length xs ≤ n → length ys ≤ n → pad d n xs ≡ pad d n ys → xs ≡ ys

@@ -40,7 +40,7 @@ flat-take [] (suc k) = refl
 flat-take (x ∷ xs) (suc k) = length-append x (flat (take k xs)) ∙ ap (λ (n : ℕ). length x + n) (flat-take xs k)
 
 -- the width of part k
-getD-length : (xs : List (List ℕ)) (k : ℕ) → length (getD xs k []) ≡ getD (map length xs) k 0
+pub getD-length : (xs : List (List ℕ)) (k : ℕ) → length (getD xs k []) ≡ getD (map length xs) k 0
 getD-length [] k = refl
 getD-length (x ∷ xs) zero = refl
 getD-length (x ∷ xs) (suc k) = getD-length xs k
