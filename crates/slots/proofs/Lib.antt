@@ -1,4 +1,5 @@
 pub mod Gaps
+pub mod Keys
 pub mod Pads
 pub mod Parts
 pub mod Runs

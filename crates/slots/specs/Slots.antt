@@ -79,19 +79,27 @@ pub record SlotOf {A : Type 0} (P : A → Type 0) (w : ℕ) (f : A → List ℕ)
   pub holds : Present P entry
   pub bytes : x ≡ slot w f entry
 
+-- s is the indexed table of os, with n places
+pub record Placed {A : Type 0} (P : A → Type 0) (w : ℕ) (f : A → List ℕ) (n : ℕ) (os : List (Option A)) (s : List ℕ) : Type 0 where
+  pub many : length os ≡ n
+  pub each : All (Present P) os
+  pub bytes : s ≡ places w f os
+
+-- s is the list table of ls, with n places
+pub record Listed {A : Type 0} (P : A → Type 0) (w : ℕ) (f : A → List ℕ) (n : ℕ) (ls : List A) (s : List ℕ) : Type 0 where
+  pub few : length ls ≤ n
+  pub each : All P ls
+  pub bytes : s ≡ places w f (front n ls)
+
 -- s is an indexed table with n places
-pub record TableOf {A : Type 0} (P : A → Type 0) (w : ℕ) (f : A → List ℕ) (n : ℕ) (s : List ℕ) : Type 0 where
+pub record PlacesOf {A : Type 0} (P : A → Type 0) (w : ℕ) (f : A → List ℕ) (n : ℕ) (s : List ℕ) : Type 0 where
   pub entries : List (Option A)
-  pub many : length entries ≡ n
-  pub each : All (Present P) entries
-  pub bytes : s ≡ places w f entries
+  pub placed : Placed P w f n entries s
 
 -- s is a list table with n places
-pub record FrontOf {A : Type 0} (P : A → Type 0) (w : ℕ) (f : A → List ℕ) (n : ℕ) (s : List ℕ) : Type 0 where
+pub record ListOf {A : Type 0} (P : A → Type 0) (w : ℕ) (f : A → List ℕ) (n : ℕ) (s : List ℕ) : Type 0 where
   pub entries : List A
-  pub few : length entries ≤ n
-  pub each : All P entries
-  pub bytes : s ≡ places w f (front n entries)
+  pub listed : Listed P w f n entries s
 
 -- ---- what the functions over slots of any width do
 
