@@ -9,11 +9,11 @@ use native.Mathlib.Omega.{arith}
 use borrow.Author.Tests.{ltb-true, ltb-false}
 use borrow.Rule.Slice.PartMut.{putMid}
 use lib.Dec.{ltb}
-use lib.ListN.{length, drop, take, replicate, take-append-drop}
+use lib.ListN.{length, drop, take, replicate}
 use Rattle.lists.proofs.Every.{All, all-turn}
-use Rattle.lists.proofs.Bools.{is-false, and-parts, or-rest}
+use Rattle.lists.proofs.Bools.{is-false, or-rest}
 use Rattle.slots.specs.Slots.{flat, slot, places, front, bytesBefore, zeros?, same?, hit, fit, removed, unless, indexOf, putAt, Listed, KeyAt, First, Found, Removed}
-use Rattle.slots.proofs.Runs.{zeros-all, zeros-append, same-are}
+use Rattle.slots.proofs.Runs.{zeros-all, zeros-part, same-are}
 use Rattle.slots.proofs.Tables.{front-length, front-more, front-put, index-le, index-none, place-put, places-length, put-end, table-slots, unless-short}
 
 -- ---- any search
@@ -101,12 +101,6 @@ pub record Keyed {A : Type 0} (P : A → Type 0) (w : ℕ) (f : A → List ℕ) 
   pub key-long : (a : A) → length (key a) ≡ m
   pub stands : (a : A) → take m (drop o (f a)) ≡ key a
   pub shown : (a : A) → P a → zeros? (key a) ≡ false
-
--- a part of zeros is zeros
-zeros-part : (i j : ℕ) (s : List ℕ) → zeros? s ≡ true → zeros? (take j (drop i s)) ≡ true
-zeros-part i j s z =
-    let a = and-parts (zeros? (take i s)) (zeros? (drop i s)) (sym (zeros-append (take i s) (drop i s)) ∙ ap zeros? (take-append-drop i s) ∙ z) in
-    and-parts (zeros? (take j (drop i s))) (zeros? (drop j (drop i s))) (sym (zeros-append (take j (drop i s)) (drop j (drop i s))) ∙ ap zeros? (take-append-drop j (drop i s)) ∙ a .1) .0
 
 module _ {A : Type 0} (P : A → Type 0) (w : ℕ) (f : A → List ℕ) (o m : ℕ) (key : A → List ℕ) (d : Keyed P w f o m key) where
   -- an entry with a key is not all zeros

@@ -1,3 +1,4 @@
+pub mod Codes
 pub mod Gaps
 pub mod Keys
 pub mod Pads
@@ -5,3 +6,4 @@ pub mod Parts
 pub mod Runs
 pub mod Search
 pub mod Tables
+pub mod Walks

@@ -9,7 +9,7 @@ use native.Mathlib.Omega.{arith}
 use borrow.Author.Tests.{eqb-true, eq-eqb, ltb-true, ltb-false}
 use borrow.Rule.Slice.PartMut.{putMid, midOf, postOf}
 use lib.Dec.{eqb, ltb}
-use lib.ListN.{length, set, drop, take, getD, replicate, length-append, length-drop, length-take, drop-of-length-le}
+use lib.ListN.{length, set, drop, take, getD, replicate, length-append, length-drop, length-take, drop-of-length-le, take-append-drop}
 use lib.Seq.{drop-cons, drop-nil, take-all, take-at, length-take-le}
 use Rattle.lists.proofs.Bools.{is-false, and-parts}
 use Rattle.slots.specs.Slots.{pad, zeros?, same?}
@@ -100,6 +100,16 @@ zeros-append (x ∷ a) b = go (eqb x 0) (zeros-append a b)
     go : (c : Bool) → zeros? (a ++ b) ≡ (zeros? a && zeros? b) → (c && zeros? (a ++ b)) ≡ ((c && zeros? a) && zeros? b)
     go true e = e
     go false e = refl
+
+-- zeros up to a place and from it on
+pub zeros-split : (i : ℕ) (s : List ℕ) → zeros? s ≡ (zeros? (take i s) && zeros? (drop i s))
+zeros-split i s = ap zeros? (sym (take-append-drop i s)) ∙ zeros-append (take i s) (drop i s)
+
+-- a part of zeros is zeros
+pub zeros-part : (i j : ℕ) (s : List ℕ) → zeros? s ≡ true → zeros? (take j (drop i s)) ≡ true
+zeros-part i j s z =
+    let a = and-parts (zeros? (take i s)) (zeros? (drop i s)) (sym (zeros-split i s) ∙ z) in
+    and-parts (zeros? (take j (drop i s))) (zeros? (drop j (drop i s))) (sym (zeros-split j (drop i s)) ∙ a .1) .0
 
 -- ---- the same bytes
 
