@@ -39,6 +39,7 @@ module _ {A : Type 0} (P : A → Type 0) (w : ℕ) (f : A → List ℕ) (k : Cod
       o (some a) none p q e = absurd (true≢false (sym (zeros-all w) ∙ ap zeros? (sym e) ∙ z a p))
       o (some a) (some b) p q e = ap some (k .one a b p q e)
 
+-- what is there is not absent
 some-not-none : {A : Type 0} (a : A) → some a ≢ none
 some-not-none a e = let z : _≡_ {A = ℕ} 0 1 = cc in omega arith
 

@@ -38,6 +38,7 @@ record Last (w : ℕ) (xs : List (List ℕ)) : Type 0 where
   both : xs ≡ init ++ (last ∷ [])
   long : length last ≡ w
 
+-- the last of slots that have bytes
 last-of : (w : ℕ) (xs : List (List ℕ)) → Slots w xs → 0 < w → w ≤ length (flat xs) → Last w xs
 last-of w [] q p h = absurd (omega arith)
 last-of w (x ∷ []) q p h = record { init = []; last = x; both = refl; long = q .0 }
@@ -50,6 +51,7 @@ module _ (w o : ℕ) (key : List ℕ) (xs : List (List ℕ)) where
   pub gone-start : (s : List ℕ) → s ≡ flat xs → Gone w o key xs s (length s)
   gone-start s e = record { kept = xs; done = []; all = sym (append-nil xs); here = sym (ap length e); bytes = e ∙ sym (append-nil (flat xs)) }
 
+  -- a turn takes the last slot that still stands as it was
   pub turn : (s : List ℕ) (at : ℕ) → Slots w xs → 0 < w → Gone w o key xs s at → w ≤ at → Turn w o key xs s (at - w)
   turn s at q p g h =
       let k = g .kept in

@@ -37,6 +37,7 @@ record Sought {A : Type 0} (P : A → Type 0) (w : ℕ) (f : A → List ℕ) (e 
   at : r ≡ indexOf e ls * w
 
 module _ {A : Type 0} (P : A → Type 0) (w : ℕ) (f : A → List ℕ) (e : A → Bool) (n : ℕ) (ls : List A) (s : List ℕ) (r : ℕ) (g : Sought P w f e n ls s r) where
+  -- the table has n slots
   s-length : length s ≡ n * w
   s-length = ap length (g .listed .bytes) ∙ places-length w f (g .long) (front n ls) ∙ ap (λ (k : ℕ). k * w) (front-length n ls)
 
@@ -65,6 +66,7 @@ module _ {A : Type 0} (P : A → Type 0) (w : ℕ) (f : A → List ℕ) (e : A �
 -- ---- the first free place
 
 module _ {A : Type 0} (P : A → Type 0) (w : ℕ) (f : A → List ℕ) (long : (a : A) → length (f a) ≡ w) (shown : (a : A) → P a → zeros? (f a) ≡ false) (wide : 0 < w) (n : ℕ) (ls : List A) (s : List ℕ) (t : Listed P w f n ls s) (r : ℕ) (found : Found (0 < w) zeros? w s r) where
+  -- the first empty slot is sought among no entries
   used-sought : Sought P w f (λ a. false) n ls s r
   used-sought =
       record {
@@ -79,9 +81,11 @@ module _ {A : Type 0} (P : A → Type 0) (w : ℕ) (f : A → List ℕ) (long : 
   pub used-at : r ≡ length ls * w
   used-at = used-sought .at ∙ ap (λ (k : ℕ). k * w) (index-none ls)
 
+  -- where a slot is left there, one more entry has room
   pub used-room : w ≤ length s - r → length ls < n
   used-room h = omega (arith, sought-room P w f (λ a. false) n ls s r used-sought h, index-none ls)
 
+  -- where none is left, all places are used
   pub used-full : length s - r < w → n ≤ length ls
   used-full h = omega (arith, sought-full P w f (λ a. false) n ls s r used-sought h, index-none ls)
 
@@ -135,9 +139,11 @@ removed-front w f o key e z (suc n) (a ∷ ls) q h = rw (q .0) (go (e a) (remove
 
 -- e says which entries have the key k
 module _ {A : Type 0} (P : A → Type 0) (w : ℕ) (f : A → List ℕ) (o m : ℕ) (key : A → List ℕ) (d : Keyed P w f o m key) (k : List ℕ) (l : length k ≡ m) (z : zeros? k ≡ false) (e : A → Bool) (is : (a : A) → P a → same? (key a) k ≡ e a) (n : ℕ) (ls : List A) (s : List ℕ) (t : Listed P w f n ls s) where
+  -- the key fits the slots
   key-inside : KeyAt w o k
   key-inside = record { wide = d .wide; inside = omega (arith, d .inside) }
 
+  -- the slots that have the key are those whose entries e says yes of
   hits : (a : A) → P a → hit o k (f a) ≡ e a
   hits a p = keyed-hit P w f o m key d k l a ∙ is a p
 
@@ -147,9 +153,11 @@ module _ {A : Type 0} (P : A → Type 0) (w : ℕ) (f : A → List ℕ) (o m : �
       r .gone key-inside (map (slot w f) (front n ls)) (table-slots w f (d .long) (front n ls)) (t .bytes)
       ∙ ap flat (removed-front w f o k e (empty-hit P w f o m key d k z) n ls (all-turn P (λ a. hit o k (f a) ≡ e a) hits ls (t .each)) (t .few))
 
+  -- and so are those that fit, of those that are not empty
   fits : (a : A) → P a → fit o k (f a) ≡ e a
   fits a p = or-rest (hit o k (f a)) (zeros? (f a)) (keyed-shown P w f o m key d a p) ∙ hits a p
 
+  -- the slot that fits is sought among the entries
   key-sought : (r : ℕ) → Found (KeyAt w o k) (fit o k) w s r → Sought P w f e n ls s r
   key-sought r found =
       record {
@@ -165,9 +173,11 @@ module _ {A : Type 0} (P : A → Type 0) (w : ℕ) (f : A → List ℕ) (o m : �
     pub key-at : r ≡ indexOf e ls * w
     key-at = key-sought r found .at
 
+    -- where a slot is left there, there is room
     pub key-room : w ≤ length s - r → indexOf e ls < n
     key-room = sought-room P w f e n ls s r (key-sought r found)
 
+    -- where none is left, the key is none of the n entries that there are
     pub key-full : length s - r < w → n ≤ indexOf e ls
     key-full = sought-full P w f e n ls s r (key-sought r found)
 

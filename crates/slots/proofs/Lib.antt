@@ -1,6 +1,7 @@
 pub mod Codes
 pub mod Gaps
 pub mod Keys
+pub mod Numbers
 pub mod Pads
 pub mod Parts
 pub mod Runs

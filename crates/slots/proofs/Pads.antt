@@ -10,6 +10,7 @@ use Rattle.lists.proofs.Every.{All}
 use Rattle.slots.specs.Slots.{pad}
 
 module _ {A : Type 0} (d : A) where
+  -- n elements
   pub pad-length : (n : ℕ) (xs : List A) → length (pad d n xs) ≡ n
   pad-length zero xs = refl
   pad-length (suc n) [] = ap suc (pad-length n [])

@@ -18,6 +18,7 @@ put-part pre mid post ys a k p q = rw (take-at pre (mid ++ post) a p, drop-at pr
 pub get-part : (pre mid post : List ℕ) (a k : ℕ) → length pre ≡ a → length mid ≡ k → midOf a k (pre ++ (mid ++ post)) ≡ mid
 get-part pre mid post a k p q = rw (drop-at pre (mid ++ post) a p, take-at mid post k q)
 
+-- slots after slots are bytes after bytes
 pub flat-append : (xs ys : List (List ℕ)) → flat (xs ++ ys) ≡ flat xs ++ flat ys
 flat-append [] ys = refl
 flat-append (x ∷ xs) ys = ap (λ (l : List ℕ). x ++ l) (flat-append xs ys) ∙ sym (append-assoc x (flat xs) (flat ys))
@@ -29,6 +30,7 @@ slots-length w (x ∷ xs) q = omega (arith, length-append x (flat xs), slots-len
 
 -- ---- parts of given widths
 
+-- the sum of the widths
 abbrev pub sum : List ℕ → ℕ
 sum [] = 0
 sum (x ∷ xs) = x + sum xs
@@ -50,9 +52,11 @@ module _ (xs : List (List ℕ)) (ws : List ℕ) (e : map length xs ≡ ws) (k : 
   split : flat xs ≡ flat (take k xs) ++ (getD xs k [] ++ flat (drop (suc k) xs))
   split = ap flat (split-at xs k [] h) ∙ flat-append (take k xs) (getD xs k [] ∷ drop (suc k) xs)
 
+  -- where part k starts
   start : length (flat (take k xs)) ≡ sum (take k ws)
   start = flat-take xs k ∙ ap (λ (l : List ℕ). sum (take k l)) e
 
+  -- how wide it is
   wide : length (getD xs k []) ≡ getD ws k 0
   wide = getD-length xs k ∙ ap (λ (l : List ℕ). getD l k 0) e
 

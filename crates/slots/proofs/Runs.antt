@@ -1,6 +1,6 @@
 -- Laws of bytes: what a loop over them has done so far, and what zero and equal bytes are. Assumes nothing.
 use mathlib.Core.Path.{_≡_, refl, sym, ap, ap₂, _∙_}
-use mathlib.Core.Bool.{Bool, true, false, _&&_}
+use mathlib.Core.Bool.{Bool, true, false, _&&_, false≢true}
 use mathlib.Core.List.{List, [], _∷_, _++_, append-nil}
 use Prim.Native.Nat.{ℕ, zero, suc, _+_, _-_, _≤_, _<_, min}
 use native.Mathlib.Nat.{not-suc-le-zero, le-of-suc-le-suc}
@@ -17,6 +17,7 @@ use Rattle.slots.proofs.Pads.{pad-is}
 
 -- ---- copying
 
+-- one byte more is copied, counted from 1
 copy-suc : (src dst : List ℕ) (i : ℕ) → i < length src → i < length dst → set (take i src ++ drop i dst) i (getD src i 0) ≡ take (suc i) src ++ drop (suc i) dst
 copy-suc [] dst i h k = absurd (not-suc-le-zero h)
 copy-suc (x ∷ xs) [] i h k = absurd (not-suc-le-zero k)
@@ -81,6 +82,7 @@ shift-done s t u w n h e l v =
 pub zeros-step : (s : List ℕ) (i : ℕ) → i < length s → zeros? (drop i s) ≡ (eqb (getD s i 0) 0 && zeros? (drop (i + 1) s))
 zeros-step s i h = rw (add-one, drop-cons s i 0)
 
+-- zeros are zeros
 pub zeros-all : (n : ℕ) → zeros? (replicate n 0) ≡ true
 zeros-all zero = refl
 zeros-all (suc n) = zeros-all n
@@ -117,6 +119,7 @@ zeros-part i j s z =
 pub same-step : (a b : List ℕ) (i : ℕ) → i < length a → i < length b → same? (drop i a) (drop i b) ≡ (eqb (getD a i 0) (getD b i 0) && same? (drop (i + 1) a) (drop (i + 1) b))
 same-step a b i h k = rw (add-one, drop-cons a i 0, drop-cons b i 0)
 
+-- bytes are the same as themselves
 pub same-refl : (a : List ℕ) → same? a a ≡ true
 same-refl [] = refl
 same-refl (x ∷ a) = rw (eq-eqb x x refl) (same-refl a)
@@ -124,8 +127,8 @@ same-refl (x ∷ a) = rw (eq-eqb x x refl) (same-refl a)
 -- bytes that compare as the same are equal
 pub same-are : (a b : List ℕ) → same? a b ≡ true → a ≡ b
 same-are [] [] e = refl
-same-are [] (y ∷ b) e = absurd (mathlib.Core.Bool.false≢true e)
-same-are (x ∷ a) [] e = absurd (mathlib.Core.Bool.false≢true e)
+same-are [] (y ∷ b) e = absurd (false≢true e)
+same-are (x ∷ a) [] e = absurd (false≢true e)
 same-are (x ∷ a) (y ∷ b) e =
     let p = and-parts (eqb x y) (same? a b) e in
     ap₂ (λ x y. x ∷ y) (eqb-true x y (p .0)) (same-are a b (p .1))

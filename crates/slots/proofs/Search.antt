@@ -31,6 +31,7 @@ pub search-start : (p : List ℕ → Bool) (s : List ℕ) (w : ℕ) (xs : List (
 search-start p s w xs q e = record { rest = xs; slots = q; here = e; sum = omega arith }
 
 module _ (p : List ℕ → Bool) (s : List ℕ) (w at : ℕ) (xs : List (List ℕ)) (r : Rest p s w at xs) where
+  -- where a slot is left there is a next one
   next : 0 < w → w ≤ length s - at → Next p s w at xs
   next c h = go (r .rest) (r .slots) (r .here) (r .sum)
     where
@@ -70,6 +71,7 @@ module _ (p : List ℕ → Bool) (s : List ℕ) (w at : ℕ) (xs : List (List �
 
 -- ---- a slot, read where it stands
 
+-- the slot is empty or not
 pub part-zeros : (s : List ℕ) (at w : ℕ) {b : Bool} → zeros? (midOf at (at + w - at) s) ≡ b → zeros? (take w (drop at s)) ≡ b
 part-zeros s at w h = let k : at + w - at ≡ w = omega arith in rw k at h
 
@@ -81,6 +83,7 @@ key-there s x r at o key d h {b} e =
     let g : midOf (at + o) (at + o + length key - (at + o)) s ≡ take (length key) (drop o x) = (rw (n, f) (take-append-le (length key) (drop o x) r (omega (arith, length-drop o x)))) in
     ap (λ (m : List ℕ). same? m key) (sym g) ∙ e
 
+-- the slot that stands at `at` has the key or not
 pub part-hit : (s : List ℕ) (at w o : ℕ) (key : List ℕ) → o + length key ≤ w → w ≤ length s - at → {b : Bool} → same? (midOf (at + o) (at + o + length key - (at + o)) s) key ≡ b → hit o key (take w (drop at s)) ≡ b
 part-hit s at w o key h k e =
     let l : length (take w (drop at s)) ≡ w = length-take-le w (drop at s) (omega (arith, length-drop at s)) in

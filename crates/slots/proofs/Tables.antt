@@ -23,9 +23,11 @@ slots-before w [] (suc k) q h = absurd (not-suc-le-zero h)
 slots-before w (x ∷ xs) (suc k) q h = omega (arith, q .0, slots-before w xs k (q .1) (le-of-suc-le-suc h), suc-mul k w)
 
 module _ (w : ℕ) (xs : List (List ℕ)) (q : Slots w xs) (k : ℕ) (h : k < length xs) where
+  -- where slot k starts
   start : sum (take k (map length xs)) ≡ k * w
   start = slots-before w xs k q (omega arith)
 
+  -- how wide it is
   wide : getD (map length xs) k 0 ≡ w
   wide = sym (getD-length xs k) ∙ all-get (λ x. length x ≡ w) xs k [] q h
 
@@ -50,13 +52,16 @@ flat-pad w g long d z (suc n) (x ∷ xs) =
 -- ---- a table whose entries' bytes are w long
 
 module _ {A : Type 0} (w : ℕ) (f : A → List ℕ) (long : (a : A) → length (f a) ≡ w) where
+  -- a slot has w bytes
   pub slot-long : (o : Option A) → length (slot w f o) ≡ w
   slot-long none = length-replicate w 0
   slot-long (some a) = long a
 
+  -- a table's slots have w bytes each
   pub table-slots : (os : List (Option A)) → Slots w (map (slot w f) os)
   table-slots os = all-made (λ x. length x ≡ w) (slot w f) slot-long os
 
+  -- a table of n places has n * w bytes
   pub places-length : (os : List (Option A)) → length (places w f os) ≡ length os * w
   places-length os = slots-length w (map (slot w f) os) (table-slots os) ∙ ap (λ (n : ℕ). n * w) (length-map os (slot w f))
 
@@ -74,6 +79,7 @@ module _ {A : Type 0} (w : ℕ) (f : A → List ℕ) (long : (a : A) → length 
 
 -- ---- entries from the front
 
+-- a list table has n places
 pub front-length : {A : Type 0} (n : ℕ) (ls : List A) → length (front n ls) ≡ n
 front-length n ls = pad-length none n (map some ls)
 
@@ -111,14 +117,17 @@ front-more (suc n) (a ∷ ls) h = ap (λ l. some a ∷ l) (front-more n ls (le-o
 
 -- ---- lists of entries
 
+-- an entry put past the last is added at the end
 pub put-end : {A : Type 0} (ls : List A) (a : A) → putAt (length ls) a ls ≡ ls ++ (a ∷ [])
 put-end [] a = refl
 put-end (b ∷ bs) a = ap (λ m. b ∷ m) (put-end bs a)
 
+-- where no entry is sought, none is found
 pub index-none : {A : Type 0} (ls : List A) → indexOf (λ a. false) ls ≡ length ls
 index-none [] = refl
 index-none (a ∷ ls) = ap suc (index-none ls)
 
+-- what is found stands among the entries, or just behind them
 pub index-le : {A : Type 0} (p : A → Bool) (ls : List A) → indexOf p ls ≤ length ls
 index-le p [] = omega arith
 index-le p (a ∷ ls) = go (p a) (index-le p ls)
@@ -127,6 +136,7 @@ index-le p (a ∷ ls) = go (p a) (index-le p ls)
     go true h = omega arith
     go false h = omega arith
 
+-- taking entries out leaves no more
 pub unless-short : {A : Type 0} (p : A → Bool) (ls : List A) → length (unless p ls) ≤ length ls
 unless-short p [] = omega arith
 unless-short p (a ∷ ls) = go (p a) (unless-short p ls)

@@ -25,9 +25,11 @@ no-bytes w (x ∷ s) l = absurd (omega (arith, zero-mul w))
 module _ {A : Type 0} (P : A → Type 0) (w : ℕ) (f : A → List ℕ) where
   -- ---- an indexed table, by its first slot
 
+  -- no bytes are a table with no places
   pub places-none : (s : List ℕ) → length s ≡ zero * w → PlacesOf P w f zero s
   places-none s l = record { entries = []; placed = record { many = refl; each = tt; bytes = no-bytes w s l } }
 
+  -- a slot before a table makes a table
   pub places-cons : (n : ℕ) (s : List ℕ) → SlotOf P w f (take w s) → PlacesOf P w f n (drop w s) → PlacesOf P w f (suc n) s
   places-cons n s x t =
       record {
@@ -39,6 +41,7 @@ module _ {A : Type 0} (P : A → Type 0) (w : ℕ) (f : A → List ℕ) where
         };
       }
 
+  -- a table is a slot before a table
   pub places-uncons : ((a : A) → length (f a) ≡ w) → (n : ℕ) (s : List ℕ) → PlacesOf P w f (suc n) s → SlotOf P w f (take w s) × PlacesOf P w f n (drop w s)
   places-uncons long n s t = go (t .entries) (t .placed .many) (t .placed .each) (t .placed .bytes)
     where
@@ -54,6 +57,7 @@ module _ {A : Type 0} (P : A → Type 0) (w : ℕ) (f : A → List ℕ) where
 
   -- ---- a list table, by its first slot
 
+  -- zeros are a list table with no entries
   pub list-none : (n : ℕ) (s : List ℕ) → length s ≡ n * w → zeros? s ≡ true → ListOf P w f n s
   list-none n s l z =
       record {
@@ -65,6 +69,7 @@ module _ {A : Type 0} (P : A → Type 0) (w : ℕ) (f : A → List ℕ) where
         };
       }
 
+  -- an entry before a list table makes one
   pub list-cons : (n : ℕ) (s : List ℕ) → EntryOf P f (take w s) → ListOf P w f n (drop w s) → ListOf P w f (suc n) s
   list-cons n s x t =
       record {
@@ -163,6 +168,7 @@ module _ (T : ℕ → List ℕ → Type 0) (w n : ℕ) (s : List ℕ) where
   left-start l = record { left = n; long = l; same = (λ t. t, λ t. t) }
 
   module _ (at : ℕ) (q : Left T w n s at) where
+    -- where a slot is left there is a next one
     ahead : 0 < w → w ≤ length s - at → Ahead T w n s at
     ahead c h = go (q .left) (q .long) (q .same)
       where
@@ -178,6 +184,7 @@ module _ (T : ℕ → List ℕ → Type 0) (w n : ℕ) (s : List ℕ) where
         go zero l = (refl, no-bytes w (drop at s) l)
         go (suc m) l = absurd (omega (arith, length-drop at s, suc-mul m w))
 
+    -- the next slot is taken
     left-more : (a : Ahead T w n s at) → T (suc (a .more)) (drop at s) ↔ T (a .more) (drop w (drop at s)) → Left T w n s (at + w)
     left-more a e =
         let d : drop w (drop at s) ≡ drop (at + w) s = drop-drop w at s in

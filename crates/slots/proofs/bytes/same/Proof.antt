@@ -19,7 +19,7 @@ abbrev μ-loop : tie.MeasureT-loop
 returns : tie.Need-returns Inv-loop μ-loop
 returns c =
     let a = c .before .args in
-    sym (same-not (a .a .now) (a .b .now) (λ e. c .if1 .taken (ap length e)))
+    sym (same-not (a .a .now) (a .b .now) (λ e. omega (arith, ap length e)))
 
 loop-holds : tie.Need-loop-holds Inv-loop μ-loop
 loop-holds c = (omega arith, refl)
