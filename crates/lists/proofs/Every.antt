@@ -4,7 +4,7 @@ use mathlib.Core.List.{List, [], _∷_, _++_, map}
 use Prim.Native.Nat.{ℕ, zero, suc, _<_}
 use native.Mathlib.Nat.{not-suc-le-zero, le-of-suc-le-suc}
 use lib.Dec.{T}
-use lib.ListN.{getD, length, take}
+use lib.ListN.{getD, length, set, take}
 
 -- every element of the list has P
 abbrev pub All : {A : Type 0} → (A → Type 0) → List A → Type 0
@@ -37,6 +37,12 @@ pub all-get : {A : Type 0} (P : A → Type 0) (xs : List A) (k : ℕ) (d : A) �
 all-get P [] k d p h = absurd (not-suc-le-zero h)
 all-get P (x ∷ xs) zero d p h = p .0
 all-get P (x ∷ xs) (suc k) d p h = all-get P xs k d (p .1) (le-of-suc-le-suc h)
+
+-- an element put in place k
+pub all-set : {A : Type 0} (P : A → Type 0) (xs : List A) (k : ℕ) (a : A) → P a → All P xs → All P (set xs k a)
+all-set P [] k a h p = tt
+all-set P (x ∷ xs) zero a h p = (h, p .1)
+all-set P (x ∷ xs) (suc k) a h p = (p .0, all-set P xs k a h (p .1))
 
 -- both tests passed
 pub both : (a b : Bool) → T (a && b) → T a × T b

@@ -1,7 +1,7 @@
 -- Equal bytes are equal tables: a slot's bytes tell the entry, and a table's bytes its entries. Assumes nothing.
 use mathlib.Core.Path.{_≡_, refl, sym, ap, ap₂, _∙_}
 use mathlib.Core.Logic.{_≢_}
-use mathlib.Core.Bool.{true≢false, true, false}
+use mathlib.Core.Bool.{true≢false, false}
 use mathlib.Core.Option.{Option, none, some}
 use mathlib.Core.List.{List, [], _∷_, map}
 use Prim.Native.Nat.{ℕ, _≤_}

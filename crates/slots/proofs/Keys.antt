@@ -1,7 +1,7 @@
 -- Entries of a list table that a search finds: where they stand, and what putting them and taking them out leaves. Assumes nothing.
-use mathlib.Core.Path.{_≡_, refl, sym, ap, _∙_}
+use mathlib.Core.Path.{_≡_, refl, sym, ap, _∙_, subst}
 use mathlib.Core.Bool.{Bool, true, false, _||_, cond, true≢false, or-true}
-use mathlib.Core.Option.{Option, none, some}
+use mathlib.Core.Option.{none, some}
 use mathlib.Core.List.{List, [], _∷_, _++_, map, map-append}
 use Prim.Native.Nat.{ℕ, zero, suc, _+_, _*_, _-_, _≤_, _<_}
 use native.Mathlib.Nat.{not-suc-le-zero, le-of-suc-le-suc, suc-mul, zero-mul, lt-of-mul-lt-mul-right, mul-le-mul-right}
@@ -12,9 +12,9 @@ use lib.Dec.{ltb}
 use lib.ListN.{length, drop, take, replicate}
 use Rattle.lists.proofs.Every.{All, all-turn}
 use Rattle.lists.proofs.Bools.{is-false, or-rest}
-use Rattle.slots.specs.Slots.{flat, slot, places, front, bytesBefore, zeros?, same?, hit, fit, removed, unless, indexOf, putAt, Listed, KeyAt, First, Found, Removed}
+use Rattle.slots.specs.Slots.{flat, slot, places, front, bytesBefore, zeros?, same?, hit, fit, removed, unless, indexOf, putAt, Listed, KeyAt, Found, Removed}
 use Rattle.slots.proofs.Runs.{zeros-all, zeros-part, same-are}
-use Rattle.slots.proofs.Tables.{front-length, front-more, front-put, index-le, index-none, place-put, places-length, put-end, table-slots, unless-short}
+use Rattle.slots.proofs.Tables.{front-length, front-more, front-put, index-le, index-none, place-put, places-length, put-end, put-all, put-short, table-slots, unless-all, unless-short}
 
 -- ---- any search
 
@@ -56,12 +56,16 @@ module _ {A : Type 0} (P : A → Type 0) (w : ℕ) (f : A → List ℕ) (e : A �
       go false t = ltb-false _ _ t
 
   -- an entry's bytes there make the table with the entry in that place
-  sought-put : (a : A) (y : List ℕ) → w ≤ length s - r → y ≡ f a → putMid r (r + w - r) s y ≡ places w f (front n (putAt (indexOf e ls) a ls))
-  sought-put a y h q =
+  sought-put : (a : A) (y : List ℕ) → P a → w ≤ length s - r → y ≡ f a → Listed P w f n (putAt (indexOf e ls) a ls) (putMid r (r + w - r) s y)
+  sought-put a y p h q =
       let m : indexOf e ls < n = sought-room h in
       let k : r + w - r ≡ w = omega arith in
-      (rw (k, q, g .listed .bytes, g .at)
-      (place-put w f (g .long) (front n ls) (indexOf e ls) (some a) (omega (arith, front-length n ls)) ∙ ap (places w f) (front-put n (indexOf e ls) ls a (index-le e ls) m)))
+      record {
+        few = put-short (indexOf e ls) n a ls m (g .listed .few);
+        each = put-all P (indexOf e ls) a ls p (g .listed .each);
+        bytes = rw (k, q, g .listed .bytes, g .at)
+            (place-put w f (g .long) (front n ls) (indexOf e ls) (some a) (omega (arith, front-length n ls)) ∙ ap (places w f) (front-put n (indexOf e ls) ls a (index-le e ls) m));
+      }
 
 -- ---- the first free place
 
@@ -90,10 +94,10 @@ module _ {A : Type 0} (P : A → Type 0) (w : ℕ) (f : A → List ℕ) (long : 
   used-full h = omega (arith, sought-full P w f (λ a. false) n ls s r used-sought h, index-none ls)
 
   -- an entry's bytes there add it at the end
-  pub used-put : (a : A) (y : List ℕ) → w ≤ length s - r → y ≡ f a → putMid r (r + w - r) s y ≡ places w f (front n (ls ++ (a ∷ [])))
-  used-put a y h q =
-      sought-put P w f (λ a. false) n ls s r used-sought a y h q
-      ∙ ap (λ (l : List A). places w f (front n l)) (ap (λ (k : ℕ). putAt k a ls) (index-none ls) ∙ put-end ls a)
+  pub used-put : (a : A) (y : List ℕ) → P a → w ≤ length s - r → y ≡ f a → Listed P w f n (ls ++ (a ∷ [])) (putMid r (r + w - r) s y)
+  used-put a y p h q =
+      subst (λ (l : List A). Listed P w f n l (putMid r (r + w - r) s y)) (ap (λ (k : ℕ). putAt k a ls) (index-none ls) ∙ put-end ls a)
+      (sought-put P w f (λ a. false) n ls s r used-sought a y p h q)
 
 -- ---- entries with a key
 
@@ -148,10 +152,14 @@ module _ {A : Type 0} (P : A → Type 0) (w : ℕ) (f : A → List ℕ) (o m : �
   hits a p = keyed-hit P w f o m key d k l a ∙ is a p
 
   -- what taking the key out leaves is the table without the entries that have it
-  pub key-removed : (u : List ℕ) → Removed w o k s u → u ≡ places w f (front n (unless e ls))
+  pub key-removed : (u : List ℕ) → Removed w o k s u → Listed P w f n (unless e ls) u
   key-removed u r =
-      r .gone key-inside (map (slot w f) (front n ls)) (table-slots w f (d .long) (front n ls)) (t .bytes)
-      ∙ ap flat (removed-front w f o k e (empty-hit P w f o m key d k z) n ls (all-turn P (λ a. hit o k (f a) ≡ e a) hits ls (t .each)) (t .few))
+      record {
+        few = omega (arith, unless-short e ls, t .few);
+        each = unless-all P e ls (t .each);
+        bytes = r .gone key-inside (map (slot w f) (front n ls)) (table-slots w f (d .long) (front n ls)) (t .bytes)
+            ∙ ap flat (removed-front w f o k e (empty-hit P w f o m key d k z) n ls (all-turn P (λ a. hit o k (f a) ≡ e a) hits ls (t .each)) (t .few));
+      }
 
   -- and so are those that fit, of those that are not empty
   fits : (a : A) → P a → fit o k (f a) ≡ e a
@@ -182,5 +190,5 @@ module _ {A : Type 0} (P : A → Type 0) (w : ℕ) (f : A → List ℕ) (o m : �
     key-full = sought-full P w f e n ls s r (key-sought r found)
 
     -- an entry's bytes there put it in place of the one that has the key, or add it at the end
-    pub key-put : (a : A) (y : List ℕ) → w ≤ length s - r → y ≡ f a → putMid r (r + w - r) s y ≡ places w f (front n (putAt (indexOf e ls) a ls))
+    pub key-put : (a : A) (y : List ℕ) → P a → w ≤ length s - r → y ≡ f a → Listed P w f n (putAt (indexOf e ls) a ls) (putMid r (r + w - r) s y)
     key-put = sought-put P w f e n ls s r (key-sought r found)

@@ -1,5 +1,5 @@
 -- A search among slots, from the front: what is left to look at, and what a slot shows. Assumes nothing.
-use mathlib.Core.Path.{_≡_, refl, sym, ap, _∙_}
+use mathlib.Core.Path.{_≡_, sym, ap, _∙_}
 use mathlib.Core.Bool.{Bool, true, false, not, true≢false}
 use mathlib.Core.Logic.{_↔_}
 use mathlib.Core.List.{List, [], _∷_, _++_}
@@ -84,18 +84,19 @@ key-there s x r at o key d h {b} e =
     ap (λ (m : List ℕ). same? m key) (sym g) ∙ e
 
 -- the slot that stands at `at` has the key or not
-pub part-hit : (s : List ℕ) (at w o : ℕ) (key : List ℕ) → o + length key ≤ w → w ≤ length s - at → {b : Bool} → same? (midOf (at + o) (at + o + length key - (at + o)) s) key ≡ b → hit o key (take w (drop at s)) ≡ b
+part-hit : (s : List ℕ) (at w o : ℕ) (key : List ℕ) → o + length key ≤ w → w ≤ length s - at → {b : Bool} → same? (midOf (at + o) (at + o + length key - (at + o)) s) key ≡ b → hit o key (take w (drop at s)) ≡ b
 part-hit s at w o key h k e =
     let l : length (take w (drop at s)) ≡ w = length-take-le w (drop at s) (omega (arith, length-drop at s)) in
     key-there s (take w (drop at s)) (drop w (drop at s)) at o key (sym (take-append-drop w (drop at s))) (omega arith) e
 
--- a slot that has the key fits
-pub fit-hit : (o : ℕ) (key x : List ℕ) → hit o key x ≡ true → fit o key x ≡ true
-fit-hit o key x h = rw h
+module _ (s : List ℕ) (at w o : ℕ) (key : List ℕ) (h : o + length key ≤ w) (k : w ≤ length s - at) where
+  -- a slot that has the key fits
+  pub fit-hit : same? (midOf (at + o) (at + o + length key - (at + o)) s) key ≡ true → fit o key (take w (drop at s)) ≡ true
+  fit-hit e = rw (part-hit s at w o key h k e)
 
--- one that has it not fits where it is empty
-pub fit-miss : (o : ℕ) (key x : List ℕ) {b : Bool} → hit o key x ≡ false → zeros? x ≡ b → fit o key x ≡ b
-fit-miss o key x h z = rw h z
+  -- one that has it not fits where it is empty
+  pub fit-miss : {b : Bool} → same? (midOf (at + o) (at + o + length key - (at + o)) s) key ≡ false → zeros? (midOf at (at + w - at) s) ≡ b → fit o key (take w (drop at s)) ≡ b
+  fit-miss e z = rw (part-hit s at w o key h k e) (part-zeros s at w z)
 
 -- ---- whether the key fits the slots
 

@@ -1,17 +1,18 @@
 -- Laws of tables of slots: their lengths, and what reading and changing a place does. Assumes nothing.
 use mathlib.Core.Path.{_≡_, refl, sym, ap, ap₂, _∙_}
-use mathlib.Core.Bool.{Bool, true, false, cond}
+use mathlib.Core.Bool.{Bool, true, false, cond, true≢false}
 use mathlib.Core.Option.{Option, none, some}
 use mathlib.Core.List.{List, [], _∷_, _++_, map, map-map}
-use Prim.Native.Nat.{ℕ, zero, suc, _+_, _*_, _≤_, _<_}
-use native.Mathlib.Nat.{not-suc-le-zero, le-of-suc-le-suc, suc-mul, zero-mul, add-comm}
+use Prim.Native.Nat.{ℕ, zero, suc, _+_, _*_, _-_, _≤_, _<_}
+use native.Mathlib.Nat.{not-suc-le-zero, le-of-suc-le-suc, suc-mul, zero-mul, add-comm, mul-le-mul-right}
 use native.Mathlib.Omega.{arith}
-use borrow.Rule.Slice.PartMut.{putMid, midOf}
-use lib.ListN.{length, set, take, getD, replicate, length-append, length-map, length-replicate, replicate-append-replicate}
-use Rattle.lists.proofs.Every.{All, all-get, all-made}
+use borrow.Rule.Slice.PartMut.{putMid, midOf, mid-len}
+use lib.ListN.{length, set, take, drop, getD, replicate, length-set, length-map, length-replicate, replicate-append-replicate}
+use Rattle.lists.proofs.Every.{All, all-get, all-made, all-set}
 use Rattle.lists.proofs.Seqs.{map-set, getD-map}
-use Rattle.slots.specs.Slots.{flat, pad, slot, places, front, Present, Slots, unless, indexOf, putAt}
+use Rattle.slots.specs.Slots.{flat, pad, slot, places, front, Present, Slots, unless, indexOf, putAt, zeros?, Placed}
 use Rattle.slots.proofs.Pads.{pad-length, pad-nil, pad-after}
+use Rattle.slots.proofs.Runs.{copy-whole, zeros-all}
 use Rattle.slots.proofs.Parts.{sum, getD-length, parts-get, parts-put, slots-length}
 
 -- ---- slots, read and changed
@@ -76,6 +77,58 @@ module _ {A : Type 0} (w : ℕ) (f : A → List ℕ) (long : (a : A) → length 
   -- a list table is its entries' bytes, filled up with zeros
   pub front-bytes : (n : ℕ) (xs : List A) → places w f (front n xs) ≡ pad 0 (n * w) (flat (map f xs))
   front-bytes n xs = flat-pad w (slot w f) slot-long none refl n (map some xs) ∙ ap (λ (l : List (List ℕ)). pad 0 (n * w) (flat l)) (map-map (slot w f) some xs)
+
+-- ---- a slot of s, lent from `at` on
+
+-- it has w bytes
+pub slot-wide : (s : List ℕ) (at w : ℕ) → at + w ≤ length s → length (midOf at (at + w - at) s) ≡ w
+slot-wide s at w h = mid-len at (at + w) s h ∙ omega arith
+
+-- w bytes copied into it are what comes back
+pub slot-copied : (s x y : List ℕ) (at w : ℕ) → at + w ≤ length s → length x ≡ w → y ≡ take (length (midOf at (at + w - at) s)) x ++ drop (length x) (midOf at (at + w - at) s) → y ≡ x
+slot-copied s x y at w h l e = e ∙ copy-whole x (midOf at (at + w - at) s) (slot-wide s at w h ∙ sym l)
+
+-- place k of an indexed table
+module _ {A : Type 0} (P : A → Type 0) (w : ℕ) (f : A → List ℕ) (long : (a : A) → length (f a) ≡ w) (n : ℕ) (os : List (Option A)) (s : List ℕ) (t : Placed P w f n os s) (k : ℕ) (h : k < n) where
+  -- there is one
+  there : k < length os
+  there = omega (arith, t .many)
+
+  -- it stands in s
+  pub place-fits : k * w + w ≤ length s
+  place-fits =
+      let m : suc k * w ≤ n * w = mul-le-mul-right w h in
+      omega (arith, suc-mul k w, ap length (t .bytes), places-length w f long os, ap (λ (i : ℕ). i * w) (t .many))
+
+  -- it is read
+  pub place-read : midOf (k * w) (k * w + w - k * w) s ≡ slot w f (getD os k none)
+  place-read = let e : k * w + w - k * w ≡ w = omega arith in rw (e, t .bytes) (place-get w f long os k there)
+
+  -- an entry's bytes, or zeros, come back
+  pub place-written : (o : Option A) (y : List ℕ) → Present P o → y ≡ slot w f o → Placed P w f n (set os k o) (putMid (k * w) (k * w + w - k * w) s y)
+  place-written o y p q =
+      let e : k * w + w - k * w ≡ w = omega arith in
+      record { many = length-set os k o ∙ t .many; each = all-set (Present P) os k o p (t .each); bytes = rw (e, t .bytes, q) (place-put w f long os k o there) }
+
+  -- it is wiped
+  pub place-wiped : (y : List ℕ) → y ≡ replicate (length (midOf (k * w) (k * w + w - k * w) s)) 0 → Placed P w f n (set os k none) (putMid (k * w) (k * w + w - k * w) s y)
+  place-wiped y e = place-written none y tt (e ∙ ap (λ (i : ℕ). replicate i 0) (slot-wide s (k * w) w place-fits))
+
+  -- zeros are no entry
+  pub place-none : ((a : A) → P a → zeros? (f a) ≡ false) → zeros? (midOf (k * w) (k * w + w - k * w) s) ≡ true → getD os k none ≡ none
+  place-none shown z = go (getD os k none) (all-get (Present P) os k none (t .each) there) (ap zeros? (sym place-read) ∙ z)
+    where
+      go : (o : Option A) → Present P o → zeros? (slot w f o) ≡ true → o ≡ none
+      go none p e = refl
+      go (some a) p e = absurd (true≢false (sym e ∙ shown a p))
+
+  -- what is not zeros is an entry
+  pub place-some : zeros? (midOf (k * w) (k * w + w - k * w) s) ≡ false → (a : A) × (getD os k none ≡ some a) × P a
+  place-some z = go (getD os k none) (all-get (Present P) os k none (t .each) there) (ap zeros? (sym place-read) ∙ z)
+    where
+      go : (o : Option A) → Present P o → zeros? (slot w f o) ≡ false → (a : A) × (o ≡ some a) × P a
+      go none p e = absurd (true≢false (sym (zeros-all w) ∙ e))
+      go (some a) p e = (a, refl, p)
 
 -- ---- entries from the front
 

@@ -1,9 +1,9 @@
 -- Whether bytes are a table: slot by slot, with a test that decides for a slot. Assumes nothing.
 use mathlib.Core.Path.{_≡_, refl, sym, ap, ap₂, _∙_, subst}
-use mathlib.Core.Bool.{Bool, true, false, _&&_, cond, true≢false, false≢true}
+use mathlib.Core.Bool.{Bool, true, false, _&&_, cond, true≢false}
 use mathlib.Core.Logic.{_↔_}
-use mathlib.Core.Option.{Option, none, some}
-use mathlib.Core.List.{List, [], _∷_, _++_, map}
+use mathlib.Core.Option.{Option, none}
+use mathlib.Core.List.{List, [], _∷_, _++_}
 use Prim.Native.Nat.{ℕ, zero, suc, _+_, _*_, _-_, _≤_, _<_}
 use native.Mathlib.Nat.{suc-mul, zero-mul, le-of-suc-le-suc}
 use native.Mathlib.Omega.{arith}
@@ -13,7 +13,7 @@ use lib.Seq.{take-at, drop-at, drop-drop, take-all, length-take-le}
 use Rattle.lists.proofs.Bools.{and-parts, and-made}
 use Rattle.lists.proofs.Bytes.{Bytes, bytes-take, bytes-drop}
 use Rattle.lists.proofs.Every.{All}
-use Rattle.slots.specs.Slots.{slot, places, front, zeros?, Present, EntryOf, SlotOf, Placed, Listed, PlacesOf, ListOf}
+use Rattle.slots.specs.Slots.{slot, places, front, zeros?, Present, EntryOf, SlotOf, PlacesOf, ListOf}
 use Rattle.slots.proofs.Runs.{zeros-all, zeros-are, zeros-split}
 use Rattle.slots.proofs.Tables.{slot-long, front-nil, places-nil}
 

@@ -2,10 +2,10 @@ use borrow.Author.Needs.{needs}
 use native.Mathlib.Omega.{arith}
 use Prim.Native.Nat.{ℕ, _-_, _≤_}
 use mathlib.Core.Path.{_≡_, refl, sym, _∙_}
-use lib.ListN.{length, drop, take}
+use lib.ListN.{length}
 use mathlib.Core.List.{List}
 use Rattle.slots.specs.Slots.{Slots, flat, fit, KeyAt}
-use Rattle.slots.proofs.Search.{Rest, search-start, search-more, search-stop, search-end, part-zeros, part-hit, fit-hit, fit-miss, key-fits, key-not}
+use Rattle.slots.proofs.Search.{Rest, search-start, search-more, search-stop, search-end, fit-hit, fit-miss, key-fits, key-not}
 use Rattle.slots.proofs.slots.place_of.Statement.{statement}
 use Rattle.slots.proofs.slots.place_of.Tie as tie
 
@@ -58,11 +58,10 @@ returns-2 : tie.Need-returns-2 Inv-loop μ-loop
 returns-2 c =
     let l = c .before .before .before .before .loop in
     let a = c .before .before .before .before .before .before .before .before .before .args in
-    let x = take (a .w) (drop (l .at) (a .s .now)) in
-    let t = part-hit (a .s .now) (l .at) (a .w) (a .o) (a .key .now) (omega arith) (omega arith) (sym (c .before .same .ensures) ∙ c .if2 .taken) in
+    let t = fit-hit (a .s .now) (l .at) (a .w) (a .o) (a .key .now) (omega arith) (omega arith) (sym (c .before .same .ensures) ∙ c .if2 .taken) in
     record {
       within = omega arith;
-      first = λ k xs q e. search-stop (fit (a .o) (a .key .now)) (a .s .now) (a .w) (l .at) xs (l .inv .1 .1 xs q e) (omega arith) (omega arith) (fit-hit (a .o) (a .key .now) x t);
+      first = λ k xs q e. search-stop (fit (a .o) (a .key .now)) (a .s .now) (a .w) (l .at) xs (l .inv .1 .1 xs q e) (omega arith) (omega arith) t;
       cannot = λ h. absurd (h (l .inv .1 .0));
     }
 
@@ -82,12 +81,10 @@ returns-3 : tie.Need-returns-3 Inv-loop μ-loop
 returns-3 c =
     let l = c .before .before .before .before .before .before .before .loop in
     let a = c .before .before .before .before .before .before .before .before .before .before .before .before .args in
-    let x = take (a .w) (drop (l .at) (a .s .now)) in
-    let t = part-hit (a .s .now) (l .at) (a .w) (a .o) (a .key .now) (omega arith) (omega arith) (sym (c .before .before .before .before .same .ensures) ∙ c .before .before .before .if2 .left) in
-    let z = part-zeros (a .s .now) (l .at) (a .w) (sym (c .before .is-zeros .ensures) ∙ c .if3 .taken) in
+    let t = fit-miss (a .s .now) (l .at) (a .w) (a .o) (a .key .now) (omega arith) (omega arith) (sym (c .before .before .before .before .same .ensures) ∙ c .before .before .before .if2 .left) (sym (c .before .is-zeros .ensures) ∙ c .if3 .taken) in
     record {
       within = omega arith;
-      first = λ k xs q e. search-stop (fit (a .o) (a .key .now)) (a .s .now) (a .w) (l .at) xs (l .inv .1 .1 xs q e) (omega arith) (omega arith) (fit-miss (a .o) (a .key .now) x t z);
+      first = λ k xs q e. search-stop (fit (a .o) (a .key .now)) (a .s .now) (a .w) (l .at) xs (l .inv .1 .1 xs q e) (omega arith) (omega arith) t;
       cannot = λ h. absurd (h (l .inv .1 .0));
     }
 
@@ -98,10 +95,8 @@ loop-again : tie.Need-loop-again Inv-loop μ-loop
 loop-again c =
     let l = c .before .before .before .before .before .before .before .loop in
     let a = c .before .before .before .before .before .before .before .before .before .before .before .before .args in
-    let x = take (a .w) (drop (l .at) (a .s .now)) in
-    let t = part-hit (a .s .now) (l .at) (a .w) (a .o) (a .key .now) (omega arith) (omega arith) (sym (c .before .before .before .before .same .ensures) ∙ c .before .before .before .if2 .left) in
-    let z = part-zeros (a .s .now) (l .at) (a .w) (sym (c .before .is-zeros .ensures) ∙ c .if3 .left) in
-    (omega arith, (l .inv .1 .0, λ xs q e. search-more (fit (a .o) (a .key .now)) (a .s .now) (a .w) (l .at) xs (l .inv .1 .1 xs q e) (omega arith) (omega arith) (fit-miss (a .o) (a .key .now) x t z)))
+    let t = fit-miss (a .s .now) (l .at) (a .w) (a .o) (a .key .now) (omega arith) (omega arith) (sym (c .before .before .before .before .same .ensures) ∙ c .before .before .before .if2 .left) (sym (c .before .is-zeros .ensures) ∙ c .if3 .left) in
+    (omega arith, (l .inv .1 .0, λ xs q e. search-more (fit (a .o) (a .key .now)) (a .s .now) (a .w) (l .at) xs (l .inv .1 .1 xs q e) (omega arith) (omega arith) t))
 
 returns-4 : tie.Need-returns-4 Inv-loop μ-loop
 returns-4 c =
