@@ -1,7 +1,10 @@
 -- Lists of which every element has a property. Assumes nothing.
 use mathlib.Core.Bool.{Bool, true, false, _&&_}
-use mathlib.Core.List.{List, [], _∷_, _++_}
+use mathlib.Core.List.{List, [], _∷_, _++_, map}
+use Prim.Native.Nat.{ℕ, zero, suc, _<_}
+use native.Mathlib.Nat.{not-suc-le-zero, le-of-suc-le-suc}
 use lib.Dec.{T}
+use lib.ListN.{getD, length, set, take}
 
 -- every element of the list has P
 abbrev pub All : {A : Type 0} → (A → Type 0) → List A → Type 0
@@ -22,10 +25,33 @@ pub all-right : {A : Type 0} (P : A → Type 0) (a b : List A) → All P (a ++ b
 all-right P [] b p = p
 all-right P (x ∷ a) b p = all-right P a b (p .1)
 
--- what follows from P at each element holds of every element
-pub all-map : {A : Type 0} (P Q : A → Type 0) → ((a : A) → P a → Q a) → (xs : List A) → All P xs → All Q xs
-all-map P Q f [] p = tt
-all-map P Q f (x ∷ xs) p = (f x (p .0), all-map P Q f xs (p .1))
+-- what has P has Q
+pub all-turn : {A : Type 0} (P Q : A → Type 0) → ((a : A) → P a → Q a) → (xs : List A) → All P xs → All Q xs
+all-turn P Q h [] p = tt
+all-turn P Q h (x ∷ xs) p = (h x (p .0), all-turn P Q h xs (p .1))
+
+-- what a function makes has P
+pub all-made : {A B : Type 0} (P : B → Type 0) (f : A → B) → ((a : A) → P (f a)) → (xs : List A) → All P (map f xs)
+all-made P f h [] = tt
+all-made P f h (x ∷ xs) = (h x, all-made P f h xs)
+
+-- the first k elements
+pub all-take : {A : Type 0} (P : A → Type 0) (k : ℕ) (xs : List A) → All P xs → All P (take k xs)
+all-take P zero xs p = tt
+all-take P (suc k) [] p = tt
+all-take P (suc k) (x ∷ xs) p = (p .0, all-take P k xs (p .1))
+
+-- the element in place k
+pub all-get : {A : Type 0} (P : A → Type 0) (xs : List A) (k : ℕ) (d : A) → All P xs → k < length xs → P (getD xs k d)
+all-get P [] k d p h = absurd (not-suc-le-zero h)
+all-get P (x ∷ xs) zero d p h = p .0
+all-get P (x ∷ xs) (suc k) d p h = all-get P xs k d (p .1) (le-of-suc-le-suc h)
+
+-- an element put in place k
+pub all-set : {A : Type 0} (P : A → Type 0) (xs : List A) (k : ℕ) (a : A) → P a → All P xs → All P (set xs k a)
+all-set P [] k a h p = tt
+all-set P (x ∷ xs) zero a h p = (h, p .1)
+all-set P (x ∷ xs) (suc k) a h p = (p .0, all-set P xs k a h (p .1))
 
 -- both tests passed
 pub both : (a b : Bool) → T (a && b) → T a × T b

@@ -1,3 +1,5 @@
+pub mod Bools
+pub mod Bytes
 pub mod Every
 pub mod Table
 pub mod Seqs

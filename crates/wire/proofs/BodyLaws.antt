@@ -8,7 +8,8 @@ use native.Mathlib.Omega.{arith}
 use borrow.Author.Tests.{eqb-true, eqb-false}
 use lib.Dec.{eqb}
 use lib.ListN.{length, drop, take}
-use Rattle.lists.proofs.Every.{All, all-map}
+use Rattle.lists.proofs.Bytes.{Bytes}
+use Rattle.lists.proofs.Every.{All, all-turn}
 use Rattle.writing.specs.declared.Kind.{Kind}
 use Rattle.writing.specs.declared.Kind.the-variants.{Lines, Key, QuickTexts, Home, Channels, System, StatusTexts, Group, Individual, Last}
 use Rattle.writing.specs.declared.Operation.{Operation}
@@ -26,7 +27,7 @@ use Rattle.wire.specs.Settings.{Meant, BodyAt, LeastIs, AddressRefused, 
 use Rattle.wire.specs.declared.settings.Setting.{Setting as Read}
 use Rattle.wire.specs.declared.settings.BodyRead.the-variants.{Body, NoBody}
 use Rattle.wire.proofs.Heads.{Cut, head-in, head-out, be-small}
-use Rattle.wire.proofs.Parts.{Bytes, nothing}
+use Rattle.wire.proofs.Parts.{nothing}
 
 -- the fields of a kind: a head of so many bytes, and what follows it
 pub record Headed (K : Kind) : Type 0 where
@@ -206,11 +207,11 @@ one-quick Delete n e l i = i .1
 one-quick Replace n e l i = (omega (arith, i .0), i .1)
 
 pub quick-in : (o : Operation) (n : ℕ) (es : List Entry) → LeastIs o n → All (QuickFrom text-limits n) es → All (InQuick text-limits o) es
-quick-in o n es l i = all-map (QuickFrom text-limits n) (InQuick text-limits o) (λ e. one-quick o n e l) es i
+quick-in o n es l i = all-turn (QuickFrom text-limits n) (InQuick text-limits o) (λ e. one-quick o n e l) es i
 
 pub quick-from : (o p : Operation) (n : ℕ) (es : List Entry) → op-code o ≡ op-code p → LeastIs o n → All (InQuick text-limits p) es → All (QuickFrom text-limits n) es
 quick-from o p n es e l i =
-    all-map (InQuick text-limits o) (QuickFrom text-limits n) (λ x. quick-one o n x l) es
+    all-turn (InQuick text-limits o) (QuickFrom text-limits n) (λ x. quick-one o n x l) es
     (subst (λ (q : Operation). All (InQuick text-limits q) es) (sym (one-op o p e)) i)
 
 -- ---- addresses

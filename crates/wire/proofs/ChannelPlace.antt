@@ -4,10 +4,10 @@ use mathlib.Core.Path.{_≡_, refl, sym, ap, _∙_, subst}
 use mathlib.Core.List.{List, [], _∷_}
 use native.Mathlib.Omega.{arith}
 use lib.ListN.{length, getD, drop, take}
+use Rattle.lists.proofs.Bytes.{Bytes}
 use Rattle.wire.specs.Places.{PartAt, be}
 use Rattle.wire.specs.Entries.{channel-list}
 use Rattle.wire.proofs.Heads.{be-turn, be-small}
-use Rattle.wire.proofs.Parts.{Bytes}
 use Rattle.wire.proofs.ChannelWalk.{Pair, Single, pair-out, single-out}
 
 -- two bytes of three, the first two and the last two

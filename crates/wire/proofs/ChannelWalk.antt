@@ -4,6 +4,7 @@ use mathlib.Core.Path.{_≡_, refl, sym, ap, ap₂, _∙_, subst}
 use mathlib.Core.List.{List, [], _∷_, _++_, append-nil}
 use native.Mathlib.Omega.{arith}
 use lib.ListN.{length, getD, drop, take, length-append}
+use Rattle.lists.proofs.Bytes.{Bytes}
 use Rattle.lists.proofs.Every.{All, all-append, all-right}
 use Rattle.writing.specs.Fields.{Field, val}
 use Rattle.writing.specs.Ranges.{InChannel}
@@ -12,7 +13,7 @@ use Rattle.wire.specs.Places.{PartAt, be}
 use Rattle.wire.specs.Entries.{Stand, ChannelsAt, channel-list}
 use Rattle.wire.specs.declared.entries.Walk.the-variants.{To, Stopped}
 use Rattle.wire.proofs.Heads.{Cut, head-in, head-out, be-small}
-use Rattle.wire.proofs.Parts.{Bytes, nothing}
+use Rattle.wire.proofs.Parts.{nothing}
 use Rattle.wire.proofs.Walk.{Walked, not-yet, extend}
 
 -- where a walk over the channels stands: these have been passed, all in range, and so many are left

@@ -5,6 +5,7 @@ use mathlib.Core.List.{List, [], _∷_, _++_}
 use native.Mathlib.Nat.{mod-eq-of-lt}
 use native.Mathlib.Omega.{arith}
 use lib.ListN.{length, drop, take}
+use Rattle.lists.proofs.Bytes.{Bytes}
 use Rattle.writing.specs.Fields.{Field, val, res, widths}
 use Rattle.writing.specs.Ranges.{TextLimits, InContact, InNumber}
 use Rattle.writing.specs.Settings.{Coding, Contact, Entry, unicode16}
@@ -24,7 +25,7 @@ use Rattle.wire.specs.declared.entries.ContactRead.the-variants.{Contact
 use Rattle.wire.specs.declared.entries.EntryPlace.{EntryPlace}
 use Rattle.wire.specs.declared.entries.EntryRead.the-variants.{Entry as AnEntry, NoEntry}
 use Rattle.wire.proofs.Heads.{Cut, head-in, head-out}
-use Rattle.wire.proofs.Parts.{Bytes, part-join, part-split}
+use Rattle.wire.proofs.Parts.{part-join, part-split}
 use Rattle.wire.proofs.Walk.{one-part}
 
 -- ---- line contacts

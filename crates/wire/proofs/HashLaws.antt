@@ -6,6 +6,7 @@ use mathlib.Core.List.{List, [], _∷_, _++_, map, nil≢cons}
 use native.Mathlib.Omega.{arith}
 use lib.ListN.{length, drop, take, length-append, length-drop, take-append-drop}
 use lib.Seq.{length-take-le, take-at}
+use Rattle.lists.proofs.Bytes.{Bytes}
 use Rattle.lists.proofs.Seqs.{cut}
 use Rattle.writing.specs.Fields.{bits, bitsOf, val, Shows}
 use Rattle.writing.specs.Ranges.{HashSize, no-hash, hash-4, hash-10}
@@ -13,7 +14,7 @@ use Rattle.writing.proofs.Bits.{bits-val}
 use Rattle.wire.specs.Places.{PartAt}
 use Rattle.wire.specs.Hashes.{HashAt, SizeOf}
 use Rattle.wire.specs.declared.hashes.HashRead.the-variants.{Hash as AHash, NoHash}
-use Rattle.wire.proofs.Parts.{Bytes, bytes-left, bytes-at}
+use Rattle.wire.proofs.Parts.{bytes-left, bytes-at}
 
 -- ---- the size by the code
 

@@ -9,10 +9,11 @@ use lib.ListN.{length, getD, drop, take, length-append, length-drop, take-append
 use lib.Seq.{length-take-le, take-at, take-suc, getD-drop}
 use lib.Pow.{high, low, pow-add, pow-mono}
 use lib.Arith.{digits-lt}
+use Rattle.lists.proofs.Bytes.{Bytes}
 use Rattle.writing.specs.Fields.{bits, bitsOf, Field, width, Holds, Shows, widths}
 use Rattle.writing.proofs.Bits.{bits-split, bits-cong, peel, put}
 use Rattle.wire.specs.Places.{PartAt, be}
-use Rattle.wire.proofs.Parts.{Bytes, bytes-left, bytes-at, part-join, part-split}
+use Rattle.wire.proofs.Parts.{bytes-left, bytes-at, part-join, part-split}
 
 -- each field holds its cut of N
 abbrev pub Cut : List Field → ℕ → Type 0

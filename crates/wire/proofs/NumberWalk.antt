@@ -5,6 +5,7 @@ use mathlib.Core.Logic.{_≢_}
 use mathlib.Core.List.{List, [], _∷_, _++_, append-nil}
 use native.Mathlib.Omega.{arith}
 use lib.ListN.{length, drop, take, length-append}
+use Rattle.lists.proofs.Bytes.{Bytes}
 use Rattle.lists.proofs.Every.{All, all-append, all-right}
 use Rattle.writing.specs.Fields.{Field, val, item}
 use Rattle.writing.specs.Ranges.{InNumber}
@@ -17,7 +18,7 @@ use Rattle.wire.specs.declared.numbers.NumberRead.the-variants.{Number a
 use Rattle.wire.specs.declared.numbers.Digits.{Digits}
 use Rattle.wire.specs.declared.numbers.Digits.the-variants.{Two, One, Zero, Bad}
 use Rattle.wire.proofs.Heads.{Cut, head-in, head-out, be-small}
-use Rattle.wire.proofs.Parts.{Bytes, nothing}
+use Rattle.wire.proofs.Parts.{nothing}
 use Rattle.wire.proofs.Walk.{Walked, not-yet, extend, one-part}
 
 abbrev Any : List ℕ → Type 0

@@ -6,14 +6,11 @@ use native.Mathlib.Nat.{add-zero}
 use native.Mathlib.Omega.{arith}
 use lib.ListN.{length, getD, drop, take, length-append, length-drop, take-append-drop}
 use lib.Seq.{length-take-le, drop-drop, drop-append-seam, getD-drop}
+use Rattle.lists.proofs.Bytes.{Bytes}
 use Rattle.lists.proofs.Seqs.{cut}
 use Rattle.writing.specs.Fields.{bitsOf, Field, Shows, widths}
 use Rattle.writing.proofs.Bits.{bitsOf-append, length-bitsOf, shows-length, shows-join, shows-split}
 use Rattle.wire.specs.Places.{PartAt}
-
--- every element is a byte
-abbrev pub Bytes : List ℕ → Type 0
-Bytes l = (i : ℕ) → getD l i 0 < 256
 
 -- the first of two lists of bytes is bytes
 pub bytes-left : (a b : List ℕ) → Bytes (a ++ b) → Bytes a

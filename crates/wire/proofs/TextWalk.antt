@@ -5,6 +5,7 @@ use mathlib.Core.Logic.{_≢_}
 use mathlib.Core.List.{List, [], _∷_, _++_, append-nil}
 use native.Mathlib.Omega.{arith}
 use lib.ListN.{length, drop, take, length-append}
+use Rattle.lists.proofs.Bytes.{Bytes}
 use Rattle.writing.specs.Fields.{Field, val, item}
 use Rattle.writing.specs.Settings.{unicode16}
 use Rattle.writing.specs.Writing.{text}
@@ -13,7 +14,7 @@ use Rattle.wire.specs.Parts.{TextAt}
 use Rattle.wire.specs.declared.texts.TextPlace.{TextPlace}
 use Rattle.wire.specs.declared.texts.TextRead.the-variants.{Text as AText, NoText}
 use Rattle.wire.proofs.Heads.{Cut, head-in, head-out, be-small}
-use Rattle.wire.proofs.Parts.{Bytes, nothing}
+use Rattle.wire.proofs.Parts.{nothing}
 use Rattle.wire.proofs.Walk.{Walked, not-yet, extend}
 
 abbrev Any : List ℕ → Type 0

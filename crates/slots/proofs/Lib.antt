@@ -1,0 +1,10 @@
+pub mod Codes
+pub mod Gaps
+pub mod Keys
+pub mod Numbers
+pub mod Pads
+pub mod Parts
+pub mod Runs
+pub mod Search
+pub mod Tables
+pub mod Walks

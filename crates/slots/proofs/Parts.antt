@@ -1,0 +1,81 @@
+-- Parts of bytes: one is read, or comes back changed, and the others stand. Assumes nothing.
+use mathlib.Core.Path.{_≡_, refl, sym, ap, ap₂, _∙_}
+use mathlib.Core.List.{List, [], _∷_, _++_, map, append-assoc, nil≢cons, cons≢nil, head-eq-of-cons-eq, tail-eq-of-cons-eq}
+use Prim.Native.Nat.{ℕ, zero, suc, _+_, _*_, _<_}
+use native.Mathlib.Nat.{zero-mul, suc-mul}
+use native.Mathlib.Omega.{arith}
+use borrow.Rule.Slice.PartMut.{putMid, midOf}
+use lib.ListN.{length, set, drop, take, getD, length-append}
+use lib.Seq.{take-at, drop-at, split-at, set-split}
+use Rattle.lists.proofs.Seqs.{cut}
+use Rattle.slots.specs.Slots.{flat, Slots}
+
+-- the part between pre and post becomes ys
+pub put-part : (pre mid post ys : List ℕ) (a k : ℕ) → length pre ≡ a → length mid ≡ k → putMid a k (pre ++ (mid ++ post)) ys ≡ pre ++ (ys ++ post)
+put-part pre mid post ys a k p q = rw (take-at pre (mid ++ post) a p, drop-at pre (mid ++ post) a p, drop-at mid post k q)
+
+-- the part between pre and post is read
+pub get-part : (pre mid post : List ℕ) (a k : ℕ) → length pre ≡ a → length mid ≡ k → midOf a k (pre ++ (mid ++ post)) ≡ mid
+get-part pre mid post a k p q = rw (drop-at pre (mid ++ post) a p, take-at mid post k q)
+
+-- slots after slots are bytes after bytes
+pub flat-append : (xs ys : List (List ℕ)) → flat (xs ++ ys) ≡ flat xs ++ flat ys
+flat-append [] ys = refl
+flat-append (x ∷ xs) ys = ap (λ (l : List ℕ). x ++ l) (flat-append xs ys) ∙ sym (append-assoc x (flat xs) (flat ys))
+
+-- n slots of w bytes are n * w bytes
+pub slots-length : (w : ℕ) (xs : List (List ℕ)) → Slots w xs → length (flat xs) ≡ length xs * w
+slots-length w [] q = sym (zero-mul w)
+slots-length w (x ∷ xs) q = omega (arith, length-append x (flat xs), slots-length w xs (q .1), q .0, suc-mul (length xs) w)
+
+-- ---- parts of given widths
+
+-- the sum of the widths
+abbrev pub sum : List ℕ → ℕ
+sum [] = 0
+sum (x ∷ xs) = x + sum xs
+
+-- the widths of the first k parts
+flat-take : (xs : List (List ℕ)) (k : ℕ) → length (flat (take k xs)) ≡ sum (take k (map length xs))
+flat-take xs zero = refl
+flat-take [] (suc k) = refl
+flat-take (x ∷ xs) (suc k) = length-append x (flat (take k xs)) ∙ ap (λ (n : ℕ). length x + n) (flat-take xs k)
+
+-- the width of part k
+pub getD-length : (xs : List (List ℕ)) (k : ℕ) → length (getD xs k []) ≡ getD (map length xs) k 0
+getD-length [] k = refl
+getD-length (x ∷ xs) zero = refl
+getD-length (x ∷ xs) (suc k) = getD-length xs k
+
+module _ (xs : List (List ℕ)) (ws : List ℕ) (e : map length xs ≡ ws) (k : ℕ) (h : k < length xs) where
+  -- what stands before part k, the part, and what stands after it
+  split : flat xs ≡ flat (take k xs) ++ (getD xs k [] ++ flat (drop (suc k) xs))
+  split = ap flat (split-at xs k [] h) ∙ flat-append (take k xs) (getD xs k [] ∷ drop (suc k) xs)
+
+  -- where part k starts
+  start : length (flat (take k xs)) ≡ sum (take k ws)
+  start = flat-take xs k ∙ ap (λ (l : List ℕ). sum (take k l)) e
+
+  -- how wide it is
+  wide : length (getD xs k []) ≡ getD ws k 0
+  wide = getD-length xs k ∙ ap (λ (l : List ℕ). getD l k 0) e
+
+  -- part k is read
+  pub parts-get : midOf (sum (take k ws)) (getD ws k 0) (flat xs) ≡ getD xs k []
+  parts-get = ap (midOf (sum (take k ws)) (getD ws k 0)) split ∙ get-part (flat (take k xs)) (getD xs k []) (flat (drop (suc k) xs)) (sum (take k ws)) (getD ws k 0) start wide
+
+  -- part k comes back as y
+  pub parts-put : (y : List ℕ) → putMid (sum (take k ws)) (getD ws k 0) (flat xs) y ≡ flat (set xs k y)
+  parts-put y =
+      ap (λ (l : List ℕ). putMid (sum (take k ws)) (getD ws k 0) l y) split
+      ∙ put-part (flat (take k xs)) (getD xs k []) (flat (drop (suc k) xs)) y (sum (take k ws)) (getD ws k 0) start wide
+      ∙ sym (ap flat (set-split xs k y h) ∙ flat-append (take k xs) (y ∷ drop (suc k) xs))
+
+-- parts of the same widths that make the same bytes are the same
+pub parts-one : (xs ys : List (List ℕ)) → map length xs ≡ map length ys → flat xs ≡ flat ys → xs ≡ ys
+parts-one [] [] s e = refl
+parts-one [] (y ∷ ys) s e = absurd (nil≢cons s)
+parts-one (x ∷ xs) [] s e = absurd (cons≢nil s)
+parts-one (x ∷ xs) (y ∷ ys) s e =
+    let r = cut x y (head-eq-of-cons-eq s) e in
+    ap₂ (λ x y. x ∷ y) (r .0) (parts-one xs ys (tail-eq-of-cons-eq s) (r .1))

@@ -1,0 +1,136 @@
+use borrow.Author.Needs.{needs}
+use native.Mathlib.Omega.{arith}
+use Prim.Native.Nat.{ℕ, _-_, _≤_}
+use mathlib.Core.Path.{_≡_, refl, sym, _∙_}
+use lib.ListN.{length}
+use mathlib.Core.List.{List}
+use Rattle.slots.specs.Slots.{Slots, flat, fit, KeyAt}
+use Rattle.slots.proofs.Search.{Rest, search-start, search-more, search-stop, search-end, fit-hit, fit-miss, key-fits, key-not}
+use Rattle.slots.proofs.slots.place_of.Statement.{statement}
+use Rattle.slots.proofs.slots.place_of.Tie as tie
+
+abbrev Inv-loop : tie.InvT-loop
+Inv-loop s w o key at₀ at = (at ≤ length s) × (KeyAt w o key × ((xs : List (List ℕ)) → Slots w xs → s ≡ flat xs → Rest (fit o key) s w at xs))
+
+abbrev μ-loop : tie.MeasureT-loop
+μ-loop s w o key at₀ at = length s - at
+
+key-fits-requires : tie.Need-key-fits-requires Inv-loop μ-loop
+key-fits-requires c κs = search needs
+
+returns : tie.Need-returns Inv-loop μ-loop
+returns c =
+    let a = c .before .before .before .before .args in
+    let f = c .before .key-fits in
+    record { within = omega arith; first = λ k. absurd (key-not (a .w) (a .o) (a .key .now) (f .result) (f .ensures) (c .if1 .taken) k); cannot = λ h. refl }
+
+loop-holds : tie.Need-loop-holds Inv-loop μ-loop
+loop-holds c =
+    let a = c .before .before .before .before .args in
+    let f = c .before .key-fits in
+    (omega arith, (key-fits (a .w) (a .o) (a .key .now) (f .result) (f .ensures) (c .if1 .left), search-start (fit (a .o) (a .key .now)) (a .s .now) (a .w)))
+
+sub-loop : tie.Need-sub-loop Inv-loop μ-loop
+sub-loop c = search needs
+
+add-a : tie.Need-add-a Inv-loop μ-loop
+add-a c = search needs
+
+add-b : tie.Need-add-b Inv-loop μ-loop
+add-b c = search needs
+
+add-e : tie.Need-add-e Inv-loop μ-loop
+add-e c = search needs
+
+sub-same : tie.Need-sub-same Inv-loop μ-loop
+sub-same c = search needs
+
+part-same-start : tie.Need-part-same-start Inv-loop μ-loop
+part-same-start c = search needs
+
+part-same-end : tie.Need-part-same-end Inv-loop μ-loop
+part-same-end c = search needs
+
+same-requires : tie.Need-same-requires Inv-loop μ-loop
+same-requires c κs = search needs
+
+returns-2 : tie.Need-returns-2 Inv-loop μ-loop
+returns-2 c =
+    let l = c .before .before .before .before .loop in
+    let a = c .before .before .before .before .before .before .before .before .before .args in
+    let t = fit-hit (a .s .now) (l .at) (a .w) (a .o) (a .key .now) (omega arith) (omega arith) (sym (c .before .same .ensures) ∙ c .if2 .taken) in
+    record {
+      within = omega arith;
+      first = λ k xs q e. search-stop (fit (a .o) (a .key .now)) (a .s .now) (a .w) (l .at) xs (l .inv .1 .1 xs q e) (omega arith) (omega arith) t;
+      cannot = λ h. absurd (h (l .inv .1 .0));
+    }
+
+sub-is-zeros : tie.Need-sub-is-zeros Inv-loop μ-loop
+sub-is-zeros c = search needs
+
+part-is-zeros-start : tie.Need-part-is-zeros-start Inv-loop μ-loop
+part-is-zeros-start c = search needs
+
+part-is-zeros-end : tie.Need-part-is-zeros-end Inv-loop μ-loop
+part-is-zeros-end c = search needs
+
+is-zeros-requires : tie.Need-is-zeros-requires Inv-loop μ-loop
+is-zeros-requires c κs = search needs
+
+returns-3 : tie.Need-returns-3 Inv-loop μ-loop
+returns-3 c =
+    let l = c .before .before .before .before .before .before .before .loop in
+    let a = c .before .before .before .before .before .before .before .before .before .before .before .before .args in
+    let t = fit-miss (a .s .now) (l .at) (a .w) (a .o) (a .key .now) (omega arith) (omega arith) (sym (c .before .before .before .before .same .ensures) ∙ c .before .before .before .if2 .left) (sym (c .before .is-zeros .ensures) ∙ c .if3 .taken) in
+    record {
+      within = omega arith;
+      first = λ k xs q e. search-stop (fit (a .o) (a .key .now)) (a .s .now) (a .w) (l .at) xs (l .inv .1 .1 xs q e) (omega arith) (omega arith) t;
+      cannot = λ h. absurd (h (l .inv .1 .0));
+    }
+
+loop-less : tie.Need-loop-less Inv-loop μ-loop
+loop-less c = search needs
+
+loop-again : tie.Need-loop-again Inv-loop μ-loop
+loop-again c =
+    let l = c .before .before .before .before .before .before .before .loop in
+    let a = c .before .before .before .before .before .before .before .before .before .before .before .before .args in
+    let t = fit-miss (a .s .now) (l .at) (a .w) (a .o) (a .key .now) (omega arith) (omega arith) (sym (c .before .before .before .before .same .ensures) ∙ c .before .before .before .if2 .left) (sym (c .before .is-zeros .ensures) ∙ c .if3 .left) in
+    (omega arith, (l .inv .1 .0, λ xs q e. search-more (fit (a .o) (a .key .now)) (a .s .now) (a .w) (l .at) xs (l .inv .1 .1 xs q e) (omega arith) (omega arith) t))
+
+returns-4 : tie.Need-returns-4 Inv-loop μ-loop
+returns-4 c =
+    let l = c .before .loop in
+    let a = c .before .before .before .before .before .before .args in
+    record {
+      within = omega arith;
+      first = λ k xs q e. search-end (fit (a .o) (a .key .now)) (a .s .now) (a .w) (l .at) xs (l .inv .1 .1 xs q e) (omega arith);
+      cannot = λ h. absurd (h (l .inv .1 .0));
+    }
+
+pub place-of-spec : {M : Type 1} → statement M
+place-of-spec =
+    tie.close
+    (tie.spec
+    Inv-loop
+    μ-loop
+    key-fits-requires
+    returns
+    loop-holds
+    sub-loop
+    add-a
+    add-b
+    add-e
+    sub-same
+    part-same-start
+    part-same-end
+    same-requires
+    returns-2
+    sub-is-zeros
+    part-is-zeros-start
+    part-is-zeros-end
+    is-zeros-requires
+    returns-3
+    loop-less
+    loop-again
+    returns-4)

@@ -1,0 +1,76 @@
+// Runs of bytes: copied, wiped and compared. Every length is taken.
+ghost use mathlib.Core.Path.{_≡_};
+ghost use mathlib.Core.List.{_++_};
+ghost use Prim.Native.Nat.{min};
+ghost use lib.ListN.{length, take, drop, replicate};
+ghost use Rattle.slots.specs.Slots.{pad, zeros?, same?};
+
+// The smaller of two.
+fn smaller(a: usize, b: usize) -> usize
+    ensures { λ r. ⌜ r ≡ min a b ⌝ }
+{
+    if a < b { a } else { b }
+}
+
+// Copies as many bytes as both have.
+pub fn copy(dst: &mut [u8], src: &[u8])
+    ensures { λ _. ⌜ now (dst .exit) ≡ take (length (now (dst .entry))) (now (src .entry)) ++ drop (length (now (src .entry))) (now (dst .entry)) ⌝ }
+{
+    let n = smaller(dst.len(), src.len());
+    let mut i = 0;
+    while i < n {
+        dst[i] = src[i];
+        i += 1;
+    }
+}
+
+// Makes every byte 0.
+pub fn wipe(s: &mut [u8])
+    ensures { λ _. ⌜ now (s .exit) ≡ replicate (length (now (s .entry))) 0 ⌝ }
+{
+    let mut i = 0;
+    while i < s.len() {
+        s[i] = 0;
+        i += 1;
+    }
+}
+
+// Copies src, as far as dst goes, and wipes what is left of dst.
+pub fn copy_padded(dst: &mut [u8], src: &[u8])
+    ensures { λ _. ⌜ now (dst .exit) ≡ pad 0 (length (now (dst .entry))) (now (src .entry)) ⌝ }
+{
+    let n = smaller(dst.len(), src.len());
+    copy(dst, src);
+    wipe(&mut dst[n..]);
+}
+
+// Whether every byte is 0.
+pub fn is_zeros(s: &[u8]) -> bool
+    ensures { λ r. ⌜ r ≡ zeros? (now (s .entry)) ⌝ }
+{
+    let mut i = 0;
+    while i < s.len() {
+        if s[i] != 0 {
+            return false;
+        }
+        i += 1;
+    }
+    true
+}
+
+// Whether both are the same bytes, and as many.
+pub fn same(a: &[u8], b: &[u8]) -> bool
+    ensures { λ r. ⌜ r ≡ same? (now (a .entry)) (now (b .entry)) ⌝ }
+{
+    if a.len() != b.len() {
+        return false;
+    }
+    let mut i = 0;
+    while i < a.len() {
+        if a[i] != b[i] {
+            return false;
+        }
+        i += 1;
+    }
+    true
+}
