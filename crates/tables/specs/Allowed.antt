@@ -1,0 +1,87 @@
+-- Which tables the rules allow: the ranges of "The ten settings", the room, and one line to a number.
+use Prim.Native.Nat.{ℕ, _≤_, _<_}
+use mathlib.Core.Path.{_≡_}
+use mathlib.Core.Logic.{_≢_}
+use mathlib.Core.List.{List, [], _∷_}
+use lib.ListN.{length}
+use Rattle.lists.proofs.Every.{All}
+use Rattle.slots.specs.Slots.{Present}
+use Rattle.writing.specs.declared.KeyTarget.{KeyTarget}
+use Rattle.writing.specs.declared.KeyTarget.the-variants.{Current, ToGroup, ToIndividual}
+use Rattle.writing.specs.declared.HomeNumbers.{HomeNumbers}
+use Rattle.writing.specs.declared.SystemCode.{SystemCode}
+use Rattle.writing.specs.Ranges.{text-limits, InNumber, InAddress, InChannel, HashSize}
+use Rattle.writing.specs.Settings.{Text, Hash}
+use Rattle.tables.specs.declared.limits.Limits.{Limits}
+use Rattle.tables.specs.Limits.{quick-places, status-places, slot-places}
+use Rattle.tables.specs.Tables.{Line, GroupMember, IndividualMember, Key, Tables}
+
+-- "At most 16 units before the end, 23 in quick texts", none of them 0
+pub record TextOk (limit : ℕ) (us : Text) : Type 0 where
+  pub short : length us ≤ limit
+  pub units : All (λ u. (u ≢ 0) × (u < 65536)) us
+
+-- "A quick text is not empty"
+pub record QuickOk (us : Text) : Type 0 where
+  pub some-unit : 1 ≤ length us
+  pub text : TextOk (text-limits .quick) us
+
+abbrev pub StatusOk : Text → Type 0
+StatusOk us = TextOk (text-limits .short) us
+
+-- an address in range, which has 24 bits
+abbrev pub AddressOk : ℕ → Type 0
+AddressOk a = InAddress a × (a < 16777216)
+
+pub record LineOk (l : Line) : Type 0 where
+  pub priority : l .flags .priority < 4
+  pub number : InNumber (l .number)
+  pub text : TextOk (text-limits .short) (l .text)
+
+pub record GroupOk (g : GroupMember) : Type 0 where
+  pub attribute : (g .flags .attribute ≢ 0) × (g .flags .attribute < 4)
+  pub priority : g .flags .priority < 4
+  pub address : AddressOk (g .address .0)
+  pub text : TextOk (text-limits .short) (g .text)
+
+pub record IndividualOk (i : IndividualMember) : Type 0 where
+  pub priority : i .flags .priority < 4
+  pub address : AddressOk (i .address .0)
+  pub text : TextOk (text-limits .short) (i .text)
+
+abbrev pub TargetOk : KeyTarget → Type 0
+TargetOk (Current g) = Unit {0}
+TargetOk (ToGroup a) = AddressOk (a .0)
+TargetOk (ToIndividual a) = AddressOk (a .0)
+
+pub record HomeOk (h : HomeNumbers) : Type 0 where
+  pub nzi : h .nzi < 512
+  pub np : h .np ≤ 806
+
+pub record SystemOk (s : SystemCode) : Type 0 where
+  pub lai : s .lai < 4096
+  pub la : s .la ≤ 8
+  pub roaming : s .roaming < 3
+
+pub record HashOk (h : Hash) : Type 0 where
+  pub size : HashSize (h .code) (length (h .value))
+  pub bytes : All (_< 256) (h .value)
+
+-- no two lines have one number
+abbrev pub Distinct : List Line → Type 0
+Distinct [] = Unit {0}
+Distinct (l ∷ ls) = All (λ x. x .number ≢ l .number) ls × Distinct ls
+
+-- the tables that a set with these limits can hold
+pub record Allowed (m : Limits) (t : Tables) : Type 0 where
+  pub hash : HashOk (t .hash)
+  pub key : TargetOk (t .key .target)
+  pub home : HomeOk (t .home)
+  pub system : SystemOk (t .system)
+  pub quick : (length (t .quick) ≡ quick-places) × All (Present QuickOk) (t .quick)
+  pub status : (length (t .status) ≡ status-places) × All (Present StatusOk) (t .status)
+  pub groups : (length (t .groups) ≡ slot-places) × All (Present GroupOk) (t .groups)
+  pub individuals : (length (t .individuals) ≡ slot-places) × All (Present IndividualOk) (t .individuals)
+  pub channels : (length (t .channels) ≤ m .channels) × All InChannel (t .channels)
+  pub lines : (length (t .lines) ≤ m .lines) × All LineOk (t .lines)
+  pub distinct : Distinct (t .lines)

@@ -1,0 +1,131 @@
+-- What each setting does to its table: document 01, "What each operation does". None is "no room".
+use Prim.Native.Nat.{ℕ, _-_}
+use mathlib.Core.Bool.{Bool, cond}
+use mathlib.Core.List.{List, [], _∷_, _++_}
+use mathlib.Core.Option.{Option, none, some}
+use lib.ListN.{length, getD, set, replicate}
+use lib.Dec.{eqb, ltb}
+use Rattle.slots.specs.Slots.{unless, indexOf, putAt, same?}
+use Rattle.writing.specs.declared.LineFlags.{LineFlags}
+use Rattle.writing.specs.declared.Operation.{Operation}
+use Rattle.writing.specs.declared.Operation.the-variants.{Add, Delete, Replace}
+use Rattle.writing.specs.Settings.{Text, Number, Contact, Entry, Setting, lines, key, quick-texts, home, channels, system, status-texts, group, individual, last}
+use Rattle.tables.specs.declared.limits.Limits.{Limits}
+use Rattle.tables.specs.Limits.{quick-places, status-places}
+use Rattle.tables.specs.Tables.{Line, Tables, with-hash, with-key, with-home, with-system, with-quick, with-status, with-groups, with-individuals, with-channels, with-lines}
+
+-- ---- entries in turn
+
+-- and then the next, where the first had room
+abbrev pub and-then : {A B : Type 0} → Option A → (A → Option B) → Option B
+and-then none f = none
+and-then (some a) f = f a
+
+-- "A setting has no room when, at some entry, the table is then full and the entry needs a new place"
+abbrev pub in-turn : {A T : Type 0} → (A → T → Option T) → List A → T → Option T
+in-turn step [] t = some t
+in-turn step (a ∷ l) t = and-then (step a t) (in-turn step l)
+
+-- "Replace empties the table, then adds each entry in order"
+abbrev pub start-from : {T : Type 0} → Operation → T → T → T
+start-from Add empty t = t
+start-from Delete empty t = t
+start-from Replace empty t = empty
+
+-- ---- line contacts
+
+-- "Line contacts: the key is the digits"
+abbrev pub has-number : Number → Line → Bool
+has-number d l = same? (l .number) d
+
+-- "Add puts a new key at the end and overwrites a known one in its place, flags included"
+abbrev pub put-line : ℕ → Line → List Line → Option (List Line)
+put-line room l ls =
+    cond (ltb (indexOf (has-number (l .number)) ls) room) (some (putAt (indexOf (has-number (l .number)) ls) l ls)) none
+
+-- "Delete closes the gap"; "Deleting what isn't there does nothing"
+abbrev pub drop-line : Number → List Line → List Line
+drop-line d ls = unless (has-number d) ls
+
+abbrev pub line-of : LineFlags → Contact → Line
+line-of f e = record { flags = f; number = e .number; text = e .text }
+
+abbrev pub line-step : ℕ → Operation → LineFlags → Contact → List Line → Option (List Line)
+line-step room Add f e ls = put-line room (line-of f e) ls
+line-step room Delete f e ls = some (drop-line (e .number) ls)
+line-step room Replace f e ls = put-line room (line-of f e) ls
+
+abbrev pub lines-after : ℕ → Operation → LineFlags → List Contact → List Line → Option (List Line)
+lines-after room o f es ls = in-turn (line-step room o f) es (start-from o [] ls)
+
+-- ---- quick texts and status texts
+
+-- "Quick texts: add to an index that has a text does nothing"
+abbrev pub if-absent : Option Text → Text → Option Text
+if-absent none us = some us
+if-absent (some vs) us = some vs
+
+abbrev pub quick-step : Operation → Entry → List (Option Text) → Option (List (Option Text))
+quick-step Add e qs = some (set qs (e .index) (if-absent (getD qs (e .index) none) (e .text)))
+quick-step Delete e qs = some (set qs (e .index) none)
+quick-step Replace e qs = some (set qs (e .index) (if-absent (getD qs (e .index) none) (e .text)))
+
+abbrev pub quick-after : Operation → List Entry → List (Option Text) → Option (List (Option Text))
+quick-after o es qs = in-turn (quick-step o) es (start-from o (replicate quick-places none) qs)
+
+-- "Status texts and slots: add overwrites"; status code 32 has the first place
+abbrev pub status-step : Operation → Entry → List (Option Text) → Option (List (Option Text))
+status-step Add e ss = some (set ss (e .index - 32) (some (e .text)))
+status-step Delete e ss = some (set ss (e .index - 32) none)
+status-step Replace e ss = some (set ss (e .index - 32) (some (e .text)))
+
+abbrev pub status-after : Operation → List Entry → List (Option Text) → Option (List (Option Text))
+status-after o es ss = in-turn (status-step o) es (start-from o (replicate status-places none) ss)
+
+-- ---- channels
+
+-- "Channels: add always appends, so repeats are kept"
+abbrev pub put-channel : ℕ → ℕ → List ℕ → Option (List ℕ)
+put-channel room n cs = cond (ltb (length cs) room) (some (cs ++ (n ∷ []))) none
+
+-- "delete removes every match"
+abbrev pub drop-channel : ℕ → List ℕ → List ℕ
+drop-channel n cs = unless (λ c. eqb c n) cs
+
+abbrev pub channel-step : ℕ → Operation → ℕ → List ℕ → Option (List ℕ)
+channel-step room Add n cs = put-channel room n cs
+channel-step room Delete n cs = some (drop-channel n cs)
+channel-step room Replace n cs = put-channel room n cs
+
+abbrev pub channels-after : ℕ → Operation → List ℕ → List ℕ → Option (List ℕ)
+channels-after room o ns cs = in-turn (channel-step room o) ns (start-from o [] cs)
+
+-- ---- slots
+
+-- "Status texts and slots: add overwrites"; a delete empties the slot
+abbrev pub slot-after : {A : Type 0} → Operation → A → Option A
+slot-after Add a = some a
+slot-after Delete a = none
+slot-after Replace a = some a
+
+-- ---- a setting
+
+-- where there was room
+abbrev pub with-room : {A B : Type 0} → (A → B) → Option A → Option B
+with-room f none = none
+with-room f (some a) = some (f a)
+
+-- what a setting makes of the tables; "CB, CD and CF overwrite"; FF's hash is kept
+abbrev pub apply : Limits → Setting → Tables → Option Tables
+apply m (lines o f es) t = with-room (with-lines t) (lines-after (m .lines) o f es (t .lines))
+apply m (key target f) t = some (with-key t (record { target = target; flags = f }))
+apply m (quick-texts o es) t = with-room (with-quick t) (quick-after o es (t .quick))
+apply m (home h) t = some (with-home t h)
+apply m (channels o ns) t = with-room (with-channels t) (channels-after (m .channels) o ns (t .channels))
+apply m (system s) t = some (with-system t s)
+apply m (status-texts o es) t = with-room (with-status t) (status-after o es (t .status))
+apply m (group o f s) t =
+    some (with-groups t (set (t .groups) (s .index) (slot-after o (record { flags = f; address = s .address; text = s .text }))))
+apply m (individual o f s) t =
+    some (with-individuals t (set (t .individuals) (s .index) (slot-after o (record { flags = f; address = s .address; text = s .text }))))
+apply m (last f h) t = some (with-hash t h)

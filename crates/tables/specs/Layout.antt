@@ -1,0 +1,134 @@
+-- The bytes of tables: docs/STORE.md. "Unused bytes are 0, so equal contents are equal bytes."
+use Prim.Native.Nat.{ℕ, suc, _+_, _*_, _-_, _≤_}
+use mathlib.Core.Path.{_≡_}
+use mathlib.Core.List.{List, [], _∷_, _++_, map}
+use lib.ListN.{length, replicate}
+use Rattle.slots.specs.Slots.{flat, pad, places, front, u16, u24}
+use Rattle.writing.specs.declared.LineFlags.{LineFlags}
+use Rattle.writing.specs.declared.KeyTarget.{KeyTarget}
+use Rattle.writing.specs.declared.KeyTarget.the-variants.{Current, ToGroup, ToIndividual}
+use Rattle.writing.specs.declared.HomeNumbers.{HomeNumbers}
+use Rattle.writing.specs.declared.SystemCode.{SystemCode}
+use Rattle.writing.specs.declared.GroupFlags.{GroupFlags}
+use Rattle.writing.specs.declared.IndividualFlags.{IndividualFlags}
+use Rattle.writing.specs.Ranges.{text-limits}
+use Rattle.writing.specs.Settings.{Text, Hash}
+use Rattle.writing.specs.Writing.{bit, current, to-group}
+use Rattle.tables.specs.declared.limits.Limits.{Limits}
+use Rattle.tables.specs.Allowed.{Allowed}
+use Rattle.tables.specs.Tables.{Line, GroupMember, IndividualMember, Key, Tables}
+
+-- ---- an entry's bytes
+
+-- n units of two bytes, high byte first, zeros after the last
+abbrev pub text-bytes : ℕ → Text → List ℕ
+text-bytes n us = flat (map u16 (pad 0 n us))
+
+abbrev pub quick-bytes : Text → List ℕ
+quick-bytes us = text-bytes (text-limits .quick) us
+
+-- a status text may be empty: 1 says that it is there
+abbrev pub status-bytes : Text → List ℕ
+status-bytes us = 1 ∷ text-bytes (text-limits .short) us
+
+abbrev pub line-flags : LineFlags → ℕ
+line-flags f = bit (f .encryption) * 16 + bit (f .emergency) * 8 + f .priority * 2 + bit (f .pabx)
+
+-- a digit is kept as one more than itself, so that none is 0
+abbrev pub digit-bytes : List ℕ → List ℕ
+digit-bytes ds = pad 0 18 (map suc ds)
+
+abbrev pub line-bytes : Line → List ℕ
+line-bytes l = line-flags (l .flags) ∷ digit-bytes (l .number) ++ text-bytes (text-limits .short) (l .text)
+
+abbrev pub group-flags : GroupFlags → ℕ
+group-flags f =
+    f .attribute * 64 + bit (f .broadcast) * 32 + bit (f .encryption) * 16 + bit (f .ovcm) * 8 + bit (f .emergency) * 4 + f .priority
+
+abbrev pub group-bytes : GroupMember → List ℕ
+group-bytes g = group-flags (g .flags) ∷ u24 (g .address .0) ++ text-bytes (text-limits .short) (g .text)
+
+abbrev pub individual-flags : IndividualFlags → ℕ
+individual-flags f = bit (f .encryption) * 8 + bit (f .emergency) * 4 + f .priority
+
+abbrev pub individual-bytes : IndividualMember → List ℕ
+individual-bytes i = individual-flags (i .flags) ∷ u24 (i .address .0) ++ text-bytes (text-limits .short) (i .text)
+
+abbrev pub key-flags : Key → ℕ
+key-flags k =
+    bit (current (k .target)) * 16 + bit (to-group (k .target)) * 8 + bit (k .flags .voice) * 4 + bit (k .flags .status) * 2 + bit (k .flags .siren)
+
+-- the address, 0 where the key calls the current place: "an address held before is dropped"
+abbrev pub key-address : KeyTarget → ℕ
+key-address (Current g) = 0
+key-address (ToGroup a) = a .0
+key-address (ToIndividual a) = a .0
+
+abbrev pub key-bytes : Key → List ℕ
+key-bytes k = key-flags k ∷ u24 (key-address (k .target))
+
+abbrev pub home-bytes : HomeNumbers → List ℕ
+home-bytes h = u16 (h .nzi) ++ u16 (h .np)
+
+abbrev pub system-bytes : SystemCode → List ℕ
+system-bytes s = u16 (s .lai) ++ ((s .la * 8 + s .roaming * 2 + bit (s .par)) ∷ [])
+
+abbrev pub hash-bytes : Hash → List ℕ
+hash-bytes h = h .code ∷ pad 0 10 (h .value)
+
+-- ---- a slot's width
+
+abbrev pub quick-width : ℕ
+quick-width = 46
+
+abbrev pub status-width : ℕ
+status-width = 33
+
+abbrev pub member-width : ℕ
+member-width = 36
+
+abbrev pub channel-width : ℕ
+channel-width = 2
+
+abbrev pub line-width : ℕ
+line-width = 51
+
+-- ---- the store
+
+-- how many bytes each part has, the spare ones aside: hash, key, home, system, quick, status, groups, individuals, channels, lines
+abbrev pub part-widths : Limits → List ℕ
+part-widths m = 11 ∷ 4 ∷ 4 ∷ 3 ∷ 2944 ∷ 3168 ∷ 576 ∷ 576 ∷ m .channels * channel-width ∷ m .lines * line-width ∷ []
+
+-- the bytes that the tables take
+abbrev pub used-size : Limits → ℕ
+used-size m = 7286 + (m .channels * channel-width + m .lines * line-width)
+
+-- the parts, in order; the bytes that no table uses are 0
+abbrev pub parts : Limits → Tables → List (List ℕ)
+parts m t =
+    hash-bytes (t .hash)
+    ∷ key-bytes (t .key)
+    ∷ home-bytes (t .home)
+    ∷ system-bytes (t .system)
+    ∷ places quick-width quick-bytes (t .quick)
+    ∷ places status-width status-bytes (t .status)
+    ∷ places member-width group-bytes (t .groups)
+    ∷ places member-width individual-bytes (t .individuals)
+    ∷ places channel-width u16 (front (m .channels) (t .channels))
+    ∷ places line-width line-bytes (front (m .lines) (t .lines))
+    ∷ replicate (m .size - used-size m) 0
+    ∷ []
+
+-- the bytes of the tables
+unfoldable pub layout : Limits → Tables → List ℕ
+layout m t = flat (parts m t)
+
+-- limits whose tables fit the store
+abbrev pub Roomy : Limits → Type 0
+Roomy m = used-size m ≤ m .size
+
+-- "A store is exactly the bytes of tables and a kept hash that these rules allow"
+pub record IsStore (m : Limits) (bytes : List ℕ) : Type 0 where
+  pub tables : Tables
+  pub allowed : Allowed m tables
+  pub bytes-are : bytes ≡ layout m tables

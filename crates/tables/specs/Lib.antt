@@ -1,0 +1,5 @@
+pub mod Allowed
+pub mod Apply
+pub mod Layout
+pub mod Limits
+pub mod Tables

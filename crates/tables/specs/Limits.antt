@@ -1,0 +1,17 @@
+-- What differs between sets. The struct is that of src/; the standard fixes the other sizes by its index widths and codes.
+use Prim.Native.Nat.{ℕ, _+_, _*_, _≤_}
+use Rattle.tables.specs.declared.limits.Limits.{Limits}
+
+-- "Room: 32 line contacts, 64 channels"; messages of at most 4,096 bytes and a store of 12,288
+abbrev pub handheld : Limits
+handheld = record { lines = 32; channels = 64; message = 4096; size = 12288 }
+
+-- places of quick texts (index 6 bits), of status texts (codes 32 to 127), and of group and individual slots (index 4 bits)
+abbrev pub quick-places : ℕ
+quick-places = 64
+
+abbrev pub status-places : ℕ
+status-places = 96
+
+abbrev pub slot-places : ℕ
+slot-places = 16

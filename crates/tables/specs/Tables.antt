@@ -1,0 +1,215 @@
+-- The tables of a set, and a fresh one: document 01, "What each operation does".
+use Prim.Native.Nat.{ℕ}
+use mathlib.Core.Bool.{Bool, true, false}
+use mathlib.Core.List.{List, []}
+use mathlib.Core.Option.{Option, none, some}
+use lib.ListN.{replicate}
+use Rattle.plan.specs.declared.numbers.GroupAddress.{GroupAddress}
+use Rattle.plan.specs.declared.numbers.IndividualAddress.{IndividualAddress}
+use Rattle.writing.specs.declared.LineFlags.{LineFlags}
+use Rattle.writing.specs.declared.KeyTarget.{KeyTarget}
+use Rattle.writing.specs.declared.KeyTarget.the-variants.{Current}
+use Rattle.writing.specs.declared.KeyFlags.{KeyFlags}
+use Rattle.writing.specs.declared.HomeNumbers.{HomeNumbers}
+use Rattle.writing.specs.declared.SystemCode.{SystemCode}
+use Rattle.writing.specs.declared.GroupFlags.{GroupFlags}
+use Rattle.writing.specs.declared.IndividualFlags.{IndividualFlags}
+use Rattle.writing.specs.Settings.{Text, Number, Hash}
+use Rattle.tables.specs.Limits.{quick-places, status-places, slot-places}
+
+-- a line contact, with the flags that it was sent with
+pub record Line : Type 0 where
+  pub flags : LineFlags
+  pub number : Number
+  pub text : Text
+
+-- a group or an individual in a slot, by the kind of its flags and address
+pub record Member (Flags Address : Type 0) : Type 0 where
+  pub flags : Flags
+  pub address : Address
+  pub text : Text
+
+abbrev pub GroupMember : Type 0
+GroupMember = Member GroupFlags GroupAddress
+
+abbrev pub IndividualMember : Type 0
+IndividualMember = Member IndividualFlags IndividualAddress
+
+-- the emergency key
+pub record Key : Type 0 where
+  pub target : KeyTarget
+  pub flags : KeyFlags
+
+-- quick texts by index, status texts by code less 32, slots by index; lines and channels in order; and the hash kept
+pub record Tables : Type 0 where
+  pub hash : Hash
+  pub key : Key
+  pub home : HomeNumbers
+  pub system : SystemCode
+  pub quick : List (Option Text)
+  pub status : List (Option Text)
+  pub groups : List (Option GroupMember)
+  pub individuals : List (Option IndividualMember)
+  pub channels : List ℕ
+  pub lines : List Line
+
+-- no hash is kept
+abbrev pub no-hash : Hash
+no-hash = record { code = 0; value = [] }
+
+-- "A fresh store has empty tables, CB with current 1 and all else 0, CD and CF all 0, no hash"
+abbrev pub fresh : Tables
+fresh = record {
+  hash = no-hash;
+  key = record { target = Current false; flags = record { voice = false; status = false; siren = false } };
+  home = record { nzi = 0; np = 0 };
+  system = record { lai = 0; la = 0; roaming = 0; par = false };
+  quick = replicate quick-places none;
+  status = replicate status-places none;
+  groups = replicate slot-places none;
+  individuals = replicate slot-places none;
+  channels = [];
+  lines = [];
+}
+
+-- ---- the tables with one of them changed
+
+abbrev pub with-hash : Tables → Hash → Tables
+with-hash t x = record {
+  hash = x;
+  key = t .key;
+  home = t .home;
+  system = t .system;
+  quick = t .quick;
+  status = t .status;
+  groups = t .groups;
+  individuals = t .individuals;
+  channels = t .channels;
+  lines = t .lines;
+}
+
+abbrev pub with-key : Tables → Key → Tables
+with-key t x = record {
+  hash = t .hash;
+  key = x;
+  home = t .home;
+  system = t .system;
+  quick = t .quick;
+  status = t .status;
+  groups = t .groups;
+  individuals = t .individuals;
+  channels = t .channels;
+  lines = t .lines;
+}
+
+abbrev pub with-home : Tables → HomeNumbers → Tables
+with-home t x = record {
+  hash = t .hash;
+  key = t .key;
+  home = x;
+  system = t .system;
+  quick = t .quick;
+  status = t .status;
+  groups = t .groups;
+  individuals = t .individuals;
+  channels = t .channels;
+  lines = t .lines;
+}
+
+abbrev pub with-system : Tables → SystemCode → Tables
+with-system t x = record {
+  hash = t .hash;
+  key = t .key;
+  home = t .home;
+  system = x;
+  quick = t .quick;
+  status = t .status;
+  groups = t .groups;
+  individuals = t .individuals;
+  channels = t .channels;
+  lines = t .lines;
+}
+
+abbrev pub with-quick : Tables → List (Option Text) → Tables
+with-quick t x = record {
+  hash = t .hash;
+  key = t .key;
+  home = t .home;
+  system = t .system;
+  quick = x;
+  status = t .status;
+  groups = t .groups;
+  individuals = t .individuals;
+  channels = t .channels;
+  lines = t .lines;
+}
+
+abbrev pub with-status : Tables → List (Option Text) → Tables
+with-status t x = record {
+  hash = t .hash;
+  key = t .key;
+  home = t .home;
+  system = t .system;
+  quick = t .quick;
+  status = x;
+  groups = t .groups;
+  individuals = t .individuals;
+  channels = t .channels;
+  lines = t .lines;
+}
+
+abbrev pub with-groups : Tables → List (Option GroupMember) → Tables
+with-groups t x = record {
+  hash = t .hash;
+  key = t .key;
+  home = t .home;
+  system = t .system;
+  quick = t .quick;
+  status = t .status;
+  groups = x;
+  individuals = t .individuals;
+  channels = t .channels;
+  lines = t .lines;
+}
+
+abbrev pub with-individuals : Tables → List (Option IndividualMember) → Tables
+with-individuals t x = record {
+  hash = t .hash;
+  key = t .key;
+  home = t .home;
+  system = t .system;
+  quick = t .quick;
+  status = t .status;
+  groups = t .groups;
+  individuals = x;
+  channels = t .channels;
+  lines = t .lines;
+}
+
+abbrev pub with-channels : Tables → List ℕ → Tables
+with-channels t x = record {
+  hash = t .hash;
+  key = t .key;
+  home = t .home;
+  system = t .system;
+  quick = t .quick;
+  status = t .status;
+  groups = t .groups;
+  individuals = t .individuals;
+  channels = x;
+  lines = t .lines;
+}
+
+abbrev pub with-lines : Tables → List Line → Tables
+with-lines t x = record {
+  hash = t .hash;
+  key = t .key;
+  home = t .home;
+  system = t .system;
+  quick = t .quick;
+  status = t .status;
+  groups = t .groups;
+  individuals = t .individuals;
+  channels = t .channels;
+  lines = x;
+}

@@ -1,0 +1,2 @@
+// The tables of a set in lent bytes: what each setting does to them.
+pub mod limits;
