@@ -6,3 +6,4 @@ pub mod NumberWalk
 pub mod EntryLaws
 pub mod ChannelWalk
 pub mod ChannelPlace
+pub mod HashLaws

@@ -2,5 +2,6 @@
 mod bytes;
 pub mod channels;
 pub mod entries;
+pub mod hashes;
 pub mod numbers;
 pub mod texts;
