@@ -7,3 +7,5 @@ pub mod EntryLaws
 pub mod ChannelWalk
 pub mod ChannelPlace
 pub mod HashLaws
+pub mod CarrierLaws
+pub mod MessageLaws

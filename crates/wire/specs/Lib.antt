@@ -1,4 +1,5 @@
 pub mod Entries
 pub mod Hashes
+pub mod Message
 pub mod Parts
 pub mod Places
