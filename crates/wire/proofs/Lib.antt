@@ -9,3 +9,4 @@ pub mod ChannelPlace
 pub mod HashLaws
 pub mod CarrierLaws
 pub mod MessageLaws
+pub mod MessageOne
