@@ -20,11 +20,12 @@ abbrev pub Cut : List Field → ℕ → Type 0
 Cut [] N = Unit {0}
 Cut (f ∷ fs) N = Holds f (N / 2 ^ widths fs % 2 ^ width f) × Cut fs N
 
-cut-out : (fs : List Field) (N : ℕ) → Shows fs (bits (widths fs) N ++ []) → Cut fs N
+-- fields that are written as one number are its cuts, and the other way round
+pub cut-out : (fs : List Field) (N : ℕ) → Shows fs (bits (widths fs) N ++ []) → Cut fs N
 cut-out [] N s = tt
 cut-out (f ∷ fs) N s = let (p, r) = peel f fs (widths fs) N [] s in (p, cut-out fs N r)
 
-cut-in : (fs : List Field) (N : ℕ) → Cut fs N → Shows fs (bits (widths fs) N ++ [])
+pub cut-in : (fs : List Field) (N : ℕ) → Cut fs N → Shows fs (bits (widths fs) N ++ [])
 cut-in [] N c = refl
 cut-in (f ∷ fs) N c = put f fs (widths fs) N [] (c .0) (cut-in fs N (c .1))
 

@@ -13,7 +13,7 @@ pub enum HashRead {
     NoHash,
 }
 
-// How many bytes a hash value of this code has; no other code has any.
+// How many bytes a hash value of this code has; 0 for a code out of range.
 pub fn hash_size(code: u8) -> usize
     ensures { λ r. ⌜ SizeOf code r ⌝ }
 {

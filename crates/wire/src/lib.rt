@@ -1,5 +1,6 @@
 // Reads settings at a place of a message: a setting is read exactly when one is written there.
 mod bytes;
+pub mod carrier;
 pub mod channels;
 pub mod entries;
 pub mod fixed_settings;
