@@ -1,1 +1,4 @@
+pub mod Answers
 pub mod Judge
+pub mod Replies
+pub mod Taking

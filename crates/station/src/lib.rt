@@ -1,1 +1,2 @@
 // Takes requests and answers result queries.
+pub mod answers;

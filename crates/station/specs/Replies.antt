@@ -1,0 +1,15 @@
+-- The bytes of a reply: document 01, "The carrier".
+use Prim.Native.Nat.{ℕ, _+_}
+use mathlib.Core.List.{List, _++_}
+use lib.ListN.{length, drop}
+use Rattle.writing.specs.Canonical.{plain}
+use Rattle.writing.specs.Carrier.{start, carrier, reply}
+use Rattle.writing.specs.Settings.{Hash}
+
+-- "We write coding type 0000 and the true length", which counts two bytes of the carrier and the data
+abbrev pub reply-bytes : (result failed : ℕ) → Hash → List ℕ
+reply-bytes result failed h = start ++ plain (carrier (6 + length (h .value)) 0 ++ reply result failed h)
+
+-- "Reply buffer bytes past its length stay"
+abbrev pub written-over : List ℕ → List ℕ → List ℕ
+written-over bytes buffer = bytes ++ drop (length bytes) buffer
