@@ -10,7 +10,7 @@ use Rattle.writing.specs.declared.Operation.{Operation}
 use Rattle.writing.specs.declared.Operation.the-variants.{Add, Delete, Replace}
 use Rattle.writing.specs.declared.KeyTarget.{KeyTarget}
 use Rattle.writing.specs.Fields.{Field, val, each}
-use Rattle.writing.specs.Ranges.{text-limits, InRange, InAddress, InSlot, InTarget}
+use Rattle.writing.specs.Ranges.{text-limits, HashSize, InRange, InAddress, InSlot, InTarget}
 use Rattle.writing.specs.Settings.{Setting, unicode16, Contact, Entry, Hash, lines, key, quick-texts, home, channels, system, status-texts, group, individual, last, kind}
 use Rattle.writing.specs.Writing.{contact, quick-text, status-text, body, current, to-group, key-address}
 use Rattle.wire.specs.Entries.{channel-list}
@@ -43,7 +43,7 @@ Meant m (System x) s = s ≡ system x
 Meant m (StatusTexts o p) s = (es : List Entry) × (s ≡ status-texts o es) × EntriesAre (each (status-text unicode16)) m p es
 Meant m (Group o f p) s = (us : List ℕ) × (s ≡ group o f (record { index = p .index; address = p .address; text = us })) × TextOf m (p .text) us
 Meant m (Individual o f p) s = (us : List ℕ) × (s ≡ individual o f (record { index = p .index; address = p .address; text = us })) × TextOf m (p .text) us
-Meant m (Last f p) s = (v : List ℕ) × (s ≡ last f (record { code = p .code; value = v })) × PartAt (map (val 8) v) m (p .start) (p .start + length v)
+Meant m (Last f p) s = (v : List ℕ) × (s ≡ last f (record { code = p .code; value = v })) × PartAt (map (val 8) v) m (p .start) (p .start + length v) × HashSize (p .code) (length v)
 
 -- the fields after DataLength of a setting in range of this kind stand at p, or none do
 abbrev pub BodyAt : Kind → ℕ → List ℕ → ℕ → BodyRead → Type 0
