@@ -9,3 +9,4 @@ pub mod ChannelPlace
 pub mod RowLaws
 pub mod HashLaws
 pub mod BodyLaws
+pub mod SettingLaws
