@@ -10,3 +10,4 @@ pub mod RowLaws
 pub mod HashLaws
 pub mod BodyLaws
 pub mod SettingLaws
+pub mod Theorems
