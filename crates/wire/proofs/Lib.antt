@@ -10,5 +10,7 @@ pub mod MessageOne
 pub mod NumberWalk
 pub mod Parts
 pub mod RowLaws
+pub mod SettingLaws
 pub mod TextWalk
+pub mod Theorems
 pub mod Walk

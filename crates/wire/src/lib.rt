@@ -7,6 +7,7 @@ pub mod fixed_settings;
 pub mod hashes;
 pub mod list_settings;
 pub mod numbers;
+pub mod reader;
 pub mod rows;
 pub mod settings;
 pub mod texts;
