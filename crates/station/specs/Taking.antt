@@ -83,10 +83,11 @@ module _ (m : Limits) (message store reply : List ℕ) where
 
   -- a reply that carries this hash
   abbrev pub replies : (number failed : ℕ) → Bool → Bool → Hash → List ℕ → After
-  replies number failed send reboot h after = record
-    { answer = record { number = number; failed = failed; send = send; reboot = reboot; length = 10 + length (h .value) }
-    ; store = after
-    ; reply = written-over (reply-bytes number failed h) reply }
+  replies number failed send reboot h after = record {
+    answer = record { number = number; failed = failed; send = send; reboot = reboot; length = 10 + length (h .value) };
+    store = after;
+    reply = written-over (reply-bytes number failed h) reply;
+  }
 
   -- "1, 2, 3 and 4 carry code 0"; "Send: yes for 1 to 5"; "Reboot: FF's bit of a taken request"
   abbrev pub turned-down : (number failed : ℕ) → After

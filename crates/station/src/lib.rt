@@ -1,2 +1,3 @@
 // Takes requests and answers result queries.
 pub mod answers;
+mod replies;
