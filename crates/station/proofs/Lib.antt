@@ -1,3 +1,4 @@
 pub mod JudgeLaws
 pub mod ReplyLaws
 pub mod QueryLaws
+pub mod RunLaws
