@@ -7,6 +7,8 @@ use native.Mathlib.Omega.{arith}
 use borrow.Rule.Slice.PartMut.{putMid, midOf}
 use lib.ListN.{length, set, drop, take, getD, length-append}
 use lib.Seq.{take-at, drop-at, split-at, set-split}
+use Rattle.lists.proofs.Bytes.{Bytes, bytes-append, bytes-zeros}
+use Rattle.lists.proofs.Every.{All}
 use Rattle.lists.proofs.Seqs.{cut}
 use Rattle.slots.specs.Slots.{flat, Slots}
 
@@ -22,6 +24,11 @@ get-part pre mid post a k p q = rw (drop-at pre (mid ++ post) a p, take-at mid p
 pub flat-append : (xs ys : List (List ℕ)) → flat (xs ++ ys) ≡ flat xs ++ flat ys
 flat-append [] ys = refl
 flat-append (x ∷ xs) ys = ap (λ (l : List ℕ). x ++ l) (flat-append xs ys) ∙ sym (append-assoc x (flat xs) (flat ys))
+
+-- slots of bytes are bytes
+pub flat-bytes : (xs : List (List ℕ)) → All Bytes xs → Bytes (flat xs)
+flat-bytes [] p = bytes-zeros 0
+flat-bytes (x ∷ xs) p = bytes-append x (flat xs) (p .0) (flat-bytes xs (p .1))
 
 -- n slots of w bytes are n * w bytes
 pub slots-length : (w : ℕ) (xs : List (List ℕ)) → Slots w xs → length (flat xs) ≡ length xs * w
