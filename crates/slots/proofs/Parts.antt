@@ -42,6 +42,11 @@ abbrev pub sum : List ℕ → ℕ
 sum [] = 0
 sum (x ∷ xs) = x + sum xs
 
+-- all parts together
+pub flat-length : (xs : List (List ℕ)) → length (flat xs) ≡ sum (map length xs)
+flat-length [] = refl
+flat-length (x ∷ xs) = length-append x (flat xs) ∙ ap (λ (n : ℕ). length x + n) (flat-length xs)
+
 -- the widths of the first k parts
 flat-take : (xs : List (List ℕ)) (k : ℕ) → length (flat (take k xs)) ≡ sum (take k (map length xs))
 flat-take xs zero = refl

@@ -45,6 +45,7 @@ bit-one false false e = refl
 pub quick-code : Code QuickOk quick-width quick-bytes
 quick-code = record { long = text-length 23; one = λ a b p q e. text-one 23 a b (p .text) (q .text) e }
 
+-- they are not all zeros
 pub quick-shown : (us : Text) → QuickOk us → zeros? (quick-bytes us) ≡ false
 quick-shown us p = text-shown 23 us (p .text) (p .some-unit)
 
@@ -52,6 +53,7 @@ quick-shown us p = text-shown 23 us (p .text) (p .some-unit)
 pub status-code : Code StatusOk status-width status-bytes
 status-code = record { long = λ us. ap suc (text-length 16 us); one = λ a b p q e. text-one 16 a b p q (tail-eq-of-cons-eq e) }
 
+-- they are not all zeros
 pub status-shown : (us : Text) → StatusOk us → zeros? (status-bytes us) ≡ false
 status-shown us p = refl
 
@@ -61,6 +63,7 @@ status-shown us p = refl
 pub channel-code : Code InChannel channel-width u16
 channel-code = u16-code InChannel
 
+-- they are not all zeros
 pub channel-shown : (n : ℕ) → InChannel n → zeros? (u16 n) ≡ false
 channel-shown n p = u16-shown n (λ e. omega (arith, p .0))
 
@@ -113,6 +116,7 @@ line-keyed =
       shown = λ l p. digits-shown (l .number) (p .number .0);
     }
 
+-- they are not all zeros
 pub line-shown : (l : Line) → LineOk l → zeros? (line-bytes l) ≡ false
 line-shown = keyed-shown LineOk line-width line-bytes 1 18 (λ l. digit-bytes (l .number)) line-keyed
 
@@ -180,6 +184,7 @@ group-one a b p q e =
 pub group-code : Code GroupOk member-width group-bytes
 group-code = record { long = member-long group-flags (λ x. x .0); one = group-one }
 
+-- they are not all zeros
 pub group-shown : (g : GroupMember) → GroupOk g → zeros? (group-bytes g) ≡ false
 group-shown g p = member-shown group-flags (λ x. x .0) g (p .address .0 .0)
 
@@ -212,5 +217,6 @@ individual-one a b p q e =
 pub individual-code : Code IndividualOk member-width individual-bytes
 individual-code = record { long = member-long individual-flags (λ x. x .0); one = individual-one }
 
+-- they are not all zeros
 pub individual-shown : (g : IndividualMember) → IndividualOk g → zeros? (individual-bytes g) ≡ false
 individual-shown g p = member-shown individual-flags (λ x. x .0) g (p .address .0 .0)

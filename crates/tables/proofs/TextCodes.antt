@@ -51,8 +51,8 @@ text-shown (suc n) (u ∷ us) p h =
     true≢false (sym (a .0) ∙ u16-shown u (p .units .0 .0)))
 
 -- they are bytes
-pub text-are-bytes : (n m : ℕ) (us : Text) → TextOk m us → Bytes (text-bytes n us)
-text-are-bytes n m us p =
+pub text-are-bytes : (n : ℕ) (us : Text) → TextOk n us → Bytes (text-bytes n us)
+text-are-bytes n us p =
     flat-bytes (map u16 (pad 0 n us))
     (all-map (_< 65536) Bytes u16 u16-bytes (pad 0 n us)
     (pad-all 0 (_< 65536) (omega arith) n us (all-turn (λ u. (u ≢ 0) × (u < 65536)) (_< 65536) (λ u h. h .1) us (p .units))))
