@@ -2,3 +2,4 @@ pub mod JudgeLaws
 pub mod ReplyLaws
 pub mod QueryLaws
 pub mod RunLaws
+pub mod Determined

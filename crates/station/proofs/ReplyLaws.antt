@@ -8,7 +8,7 @@ use borrow.Rule.Slice.PartMut.{midOf, postOf, putMid, mid-len}
 use Rattle.slots.proofs.Runs.{copy-whole}
 use lib.ListN.{length, getD, take, drop, replicate, length-append, length-drop}
 use lib.Seq.{take-at, drop-at, take-all, drop-drop}
-use Rattle.lists.proofs.Bytes.{Bytes}
+use Rattle.lists.proofs.Bytes.{Bytes, all-bytes}
 use Rattle.lists.proofs.Every.{All, all-made, all-turn}
 use Rattle.slots.proofs.Pads.{pad-is}
 use Rattle.writing.specs.Canonical.{plain, FitsField}
@@ -23,12 +23,6 @@ use Rattle.wire.proofs.HashLaws.{shown-bytes, one-size, small-size, small-code}
 use Rattle.tables.specs.Allowed.{HashOk}
 use Rattle.tables.specs.Layout.{hash-bytes}
 use Rattle.station.specs.Replies.{reply-bytes, written-over}
-
--- elements that are all below 256 are bytes
-all-bytes : (l : List ℕ) → All (_< 256) l → Bytes l
-all-bytes [] a i = omega arith
-all-bytes (x ∷ l) a zero = a .0
-all-bytes (x ∷ l) a (suc i) = all-bytes l (a .1) i
 
 -- a hash value has at most 10 bytes
 pub size-most : {code size : ℕ} → SizeOf code size → size ≤ 10

@@ -2,7 +2,7 @@
 use Prim.Native.Nat.{ℕ, zero, suc, _+_, _*_}
 use mathlib.Core.Path.{_≡_, refl, sym, ap, ap₂, _∙_, subst, subst⁻¹}
 use mathlib.Core.Logic.{_≢_, _⊎_, ⊎-elim}
-use mathlib.Core.List.{List, [], _∷_, _++_, map}
+use mathlib.Core.List.{List, [], _∷_, _++_, map, append-nil}
 use mathlib.Core.Bool.{cond}
 use native.Mathlib.Nat.{mul-comm}
 use native.Mathlib.Omega.{arith}
@@ -16,7 +16,7 @@ use Rattle.writing.specs.Writing.{request-head}
 use Rattle.writing.specs.Ranges.{HashSize}
 use Rattle.writing.specs.Carrier.{Carries, coding-type, query, Query}
 use Rattle.writing.proofs.Bits.{shows-length, shows-split, widths-map}
-use Rattle.writing.proofs.Ends.{Agree, val-ends, res-ends}
+use Rattle.writing.proofs.Ends.{Agree, val-ends, res-ends, vals-end}
 use Rattle.wire.specs.Places.{PartAt}
 use Rattle.wire.specs.Message.{InSize, first-byte, Opens, Counted, MessageIs}
 use Rattle.wire.specs.declared.hashes.HashPlace.{HashPlace}
@@ -65,6 +65,21 @@ query-code {h} {k} a b =
     let (q, g) = val-ends g in
     let (z, g) = val-ends (res-ends g) in
     z
+
+-- a query has one hash
+pub query-hash : {h k : Hash} {m : List ℕ} → Query h m → Query k m → h ≡ k
+query-hash {h} {k} a b =
+    let e : a .data-bytes ≡ b .data-bytes = carries-one (a .carried) (b .carried) .1 in
+    let g : Agree (query h ++ []) (query k ++ []) [] []
+    = agree (bitsOf (b .data-bytes)) (subst⁻¹ (λ (l : List Field). Shows l (bitsOf (b .data-bytes))) (append-nil (query h)) (subst (λ (l : List ℕ). Shows (query h) (bitsOf l)) e (a .written)))
+      (subst⁻¹ (λ (l : List Field). Shows l (bitsOf (b .data-bytes))) (append-nil (query k)) (b .written)) in
+    let (p, g) = val-ends g in
+    let (q, g) = val-ends g in
+    let (z, g) = val-ends (res-ends g) in
+    let n : length (h .value) ≡ length (k .value)
+    = one-size (subst (λ (c : ℕ). HashSize c (length (h .value))) z (a .in-range)) (b .in-range) in
+    let (v, g) = vals-end 8 (h .value) (k .value) n g in
+    λ i. record { code = z i; value = v i }
 
 -- ---- requests and queries open as such
 
