@@ -2,4 +2,5 @@ pub mod Allowed
 pub mod Apply
 pub mod Layout
 pub mod Limits
+pub mod Lists
 pub mod Tables
