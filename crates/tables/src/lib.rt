@@ -1,2 +1,3 @@
 // The tables of a set in lent bytes: what each setting does to them.
 pub mod limits;
+pub mod texts;

@@ -1,0 +1,2 @@
+pub mod EntryWalk
+pub mod TextLaws
