@@ -1,2 +1,4 @@
-pub mod ListLaws
 pub mod ChannelLaws
+pub mod EntryWalk
+pub mod ListLaws
+pub mod TextLaws

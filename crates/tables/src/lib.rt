@@ -1,3 +1,4 @@
 // The tables of a set in lent bytes: what each setting does to them.
 pub mod channels;
 pub mod limits;
+pub mod texts;
