@@ -1,7 +1,7 @@
 -- Laws of the table of channels: what a turn of its loops does. Assumes nothing.
 use mathlib.Core.Path.{_≡_, refl, sym, ap, _∙_, subst}
 use mathlib.Core.Bool.{Bool, true, false, cond}
-use mathlib.Core.List.{List, [], _∷_, _++_}
+use mathlib.Core.List.{List, [], _∷_, _++_, head-eq-of-cons-eq, tail-eq-of-cons-eq}
 use mathlib.Core.Option.{none, some}
 use Prim.Native.Nat.{ℕ, _+_, _-_, _≤_, _<_}
 use native.Mathlib.Numerals.{add-one}
@@ -9,9 +9,8 @@ use native.Mathlib.Omega.{arith}
 use borrow.Author.Tests.{lt-ltb, le-ltb}
 use borrow.Rule.Slice.PartMut.{putMid, midOf}
 use lib.Dec.{eqb}
-use lib.ListN.{length, take, drop, getD, replicate, drop-of-length-le}
+use lib.ListN.{length, take, drop, getD, replicate}
 use lib.Seq.{drop-cons}
-use Rattle.lists.proofs.Every.{All, all-get}
 use Rattle.slots.specs.Slots.{u16, zeros?, Found, Removed}
 use Rattle.slots.proofs.Keys.{Keyed, key-removed, used-room, used-full, used-put}
 use Rattle.slots.proofs.Numbers.{u16-shown, u16-same}
@@ -23,9 +22,9 @@ use Rattle.wire.specs.declared.settings.Entries.{Entries}
 use Rattle.wire.specs.Places.{PartAt}
 use Rattle.wire.specs.Entries.{channel-list}
 use Rattle.wire.specs.Settings.{EntriesAre}
-use Rattle.tables.specs.Apply.{in-turn, start-from, channel-step, channels-after}
+use Rattle.tables.specs.Apply.{channel-step}
 use Rattle.tables.specs.Lists.{ChannelTable, ChannelApplied, ChannelsApplied}
-use Rattle.tables.proofs.ListLaws.{tried-room, tried-full, Going, going-end, going-on, going-stop, wiped}
+use Rattle.tables.proofs.ListLaws.{tried-room, tried-full, Trying, Applied, trying-start, trying-next, trying-full, trying-end, wiped}
 
 -- a channel is not 0, so its bytes are not zeros
 channel-shown : (c : ℕ) → InChannel c → zeros? (u16 c) ≡ false
@@ -62,46 +61,49 @@ channel-deleted s t key c e r n cs l p =
 
 -- ---- the loops
 
--- on a part that was s, the channels from place i on are left, and it is now t
-abbrev pub ChannelsLeft : Operation → List ℕ → Entries → List ℕ → ℕ → List ℕ → Type 0
-ChannelsLeft o m p s i t =
-    (n : ℕ) (cs ns : List ℕ) → ChannelTable n cs s → EntriesAre channel-list m p ns → All InChannel ns → Going (ChannelTable n) (channel-step n o) (channels-after n o ns cs) (drop i ns) t
+-- of the channels that stand, those from place i on are left
+abbrev FromPlace : List ℕ → List ℕ → ℕ → Type 0
+FromPlace ns rest i = rest ≡ drop i ns
 
 -- x is the channel in place i
 abbrev pub ChannelIs : List ℕ → Entries → ℕ → ℕ → Type 0
 ChannelIs m p i x = (es : List ℕ) (next : ℕ) → PartAt (channel-list es) m (p .start) next → i < length es → x ≡ getD es i 0
 
 module _ (o : Operation) (m : List ℕ) (p : Entries) (s : List ℕ) where
+  -- on a part that was s, the channels from place i on are left, and it is now t
+  abbrev pub ChannelsLeft : ℕ → List ℕ → Type 0
+  ChannelsLeft i t = Trying (EntriesAre channel-list m p) FromPlace InChannel (λ n. channel-step n o) ChannelTable s i (p .count - i) t
+
+  -- all channels are applied in turn
+  abbrev pub ChannelsDone : List ℕ → Bool → Type 0
+  ChannelsDone = Applied (EntriesAre channel-list m p) FromPlace InChannel (λ n. channel-step n o) ChannelTable s
+
   -- at the start all are left
-  pub channels-start : ((cs : List ℕ) → start-from o [] cs ≡ cs) → ChannelsLeft o m p s 0 s
-  channels-start keeps n cs ns l e q = record { table = cs; is = l; left = ap (in-turn (channel-step n o) ns) (sym (keeps cs)) }
+  pub channels-start : ChannelsLeft 0 s
+  channels-start = trying-start (EntriesAre channel-list m p) FromPlace InChannel (λ n. channel-step n o) ChannelTable s 0 (p .count - 0) (λ ns e. (omega (arith, e .counted), refl))
 
   -- at the end none is left
-  pub channels-end : (i : ℕ) (t : List ℕ) → p .count ≤ i → ChannelsLeft o m p s i t → ChannelsApplied o m p s t true
-  channels-end i t h g n cs ns l e q =
-      going-end (ChannelTable n) (channel-step n o) (channels-after n o ns cs) t
-      (subst (λ (rest : List ℕ). Going (ChannelTable n) (channel-step n o) (channels-after n o ns cs) rest t) (drop-of-length-le ns {i = i} (omega (arith, e .counted))) (g n cs ns l e q))
+  pub channels-end : (i : ℕ) (t : List ℕ) → p .count ≤ i → ChannelsLeft i t → ChannelsDone t true
+  channels-end i t h = trying-end (EntriesAre channel-list m p) FromPlace InChannel (λ n. channel-step n o) ChannelTable s i (p .count - i) t (omega arith)
 
-  module _ (i x : ℕ) (t u : List ℕ) (r : Bool) (h : i < p .count) (g : ChannelsLeft o m p s i t) (is : ChannelIs m p i x) (turn : ChannelApplied o x t u r) where
-    -- what is left starts with the channel in place i
-    next : (n : ℕ) (cs ns : List ℕ) → ChannelTable n cs s → EntriesAre channel-list m p ns → All InChannel ns → InChannel x × Going (ChannelTable n) (channel-step n o) (channels-after n o ns cs) (x ∷ drop (i + 1) ns) t
-    next n cs ns l e q =
+  module _ (i x : ℕ) (t u : List ℕ) (r : Bool) (h : i < p .count) (g : ChannelsLeft i t) (is : ChannelIs m p i x) (turn : ChannelApplied o x t u r) where
+    -- the channel in place i is the next
+    next : (ns : List ℕ) → EntriesAre channel-list m p ns → (b : ℕ) (more : List ℕ) → FromPlace ns (b ∷ more) i → (b ≡ x) × FromPlace ns more (i + 1)
+    next ns e b more d =
         let k : i < length ns = omega (arith, e .counted) in
-        let y : x ≡ getD ns i 0 = is ns (p .next) (e .stands) k in
-        let d : drop i ns ≡ x ∷ drop (i + 1) ns = rw (y, add-one) (drop-cons ns i 0 k) in
-        (rw y (all-get InChannel ns i 0 q k), subst (λ (rest : List ℕ). Going (ChannelTable n) (channel-step n o) (channels-after n o ns cs) rest t) d (g n cs ns l e q))
+        let z : b ∷ more ≡ getD ns i 0 ∷ drop (i + 1) ns = rw add-one (d ∙ drop-cons ns i 0 k) in
+        (head-eq-of-cons-eq z ∙ sym (is ns (p .next) (e .stands) k), tail-eq-of-cons-eq z)
 
     -- it had room
-    pub channels-on : r ≡ true → ChannelsLeft o m p s (i + 1) u
-    channels-on z n cs ns l e q =
-        let (y, f) = next n cs ns l e q in
-        going-on (ChannelTable n) (channel-step n o) (channels-after n o ns cs) x (drop (i + 1) ns) t u r f (λ v k. turn n v k y) z
+    pub channels-on : r ≡ true → ChannelsLeft (i + 1) u
+    channels-on e =
+        let k : p .count - i - 1 ≡ p .count - (i + 1) = omega arith in
+        subst (λ (left : ℕ). Trying (EntriesAre channel-list m p) FromPlace InChannel (λ n. channel-step n o) ChannelTable s (i + 1) left u) k
+        (trying-next (EntriesAre channel-list m p) FromPlace InChannel (λ n. channel-step n o) ChannelTable s i (i + 1) (p .count - i) t u x (omega arith) next g r turn e)
 
     -- it had none
-    pub channels-stop : r ≡ false → ChannelsApplied o m p s u false
-    channels-stop z n cs ns l e q =
-        let (y, f) = next n cs ns l e q in
-        going-stop (ChannelTable n) (channel-step n o) (channels-after n o ns cs) x (drop (i + 1) ns) t u r f (λ v k. turn n v k y) u z
+    pub channels-stop : r ≡ false → ChannelsDone u false
+    channels-stop e = trying-full (EntriesAre channel-list m p) FromPlace InChannel (λ n. channel-step n o) ChannelTable s i (i + 1) (p .count - i) t u x (omega arith) next g r turn e u
 
 -- ---- replacing
 

@@ -18,7 +18,7 @@ abbrev μ-loop : tie.MeasureT-loop
 loop-holds : tie.Need-loop-holds Inv-loop μ-loop
 loop-holds c =
     let a = c .before .before .args in
-    (refl, channels-start Delete (a .m .now) (a .entries) (a .part .now) (λ cs. refl))
+    (refl, channels-start Delete (a .m .now) (a .entries) (a .part .now))
 
 channel-at-requires : tie.Need-channel-at-requires Inv-loop μ-loop
 channel-at-requires c κs = search needs
