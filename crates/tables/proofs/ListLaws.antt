@@ -11,7 +11,7 @@ use Rattle.slots.specs.Slots.{places, front, Listed}
 use Rattle.slots.proofs.Tables.{front-length, front-nil, places-length, places-nil}
 use Rattle.tables.specs.Apply.{in-turn}
 use Rattle.tables.specs.Lists.{Tried}
-use Rattle.tables.proofs.EntryWalk.{Going, going-start, going-next, going-full, going-end}
+use Rattle.tables.proofs.EntryWalk.{Going, going-start, going-stuck, going-next, going-full, going-end}
 
 -- ---- answers
 
@@ -51,6 +51,10 @@ module _ {A T : Type 0} (Starts : List A → Type 0) (Stands : List A → List A
     pub trying-full : r ≡ false → (u : List ℕ) → Applied u false
     trying-full e u n start es i h k =
         tried-full (Is n) (going-full Starts Stands In (step n) (Is n) s₀ p q left s a l next (g n) (λ now j y. tried n now j y .full e) es start h k i)
+
+  -- where none that is in range stands next, none is left, so this is not reached
+  pub trying-stuck : (p left : ℕ) (s t : List ℕ) (r : Bool) → 0 < left → ((es : List A) → Starts es → (b : A) (more : List A) → In b → Stands es (b ∷ more) p → ⊥) → Trying p left s → Applied t r
+  trying-stuck p left s t r l never g n start es i h k = absurd (going-stuck Starts Stands In (step n) (Is n) s₀ p left s l never (g n) es start h k i)
 
   -- all have been applied
   pub trying-end : (p left : ℕ) (s : List ℕ) → left ≤ 0 → Trying p left s → Applied s true

@@ -2,4 +2,5 @@
 pub mod channels;
 pub mod limits;
 mod line_slots;
+pub mod lines;
 pub mod texts;

@@ -40,7 +40,11 @@ same-length-3 : tie.Need-same-length-3
 same-length-3 c = search needs
 
 returns-3 : tie.Need-returns-3
-returns-3 c = let a = c .before .before .before .before .before .before .before .before .before .before .before .before .args in rw (c .before .before .before .before .before .before .before .before .enum-told3 .given .1) (channels-replaced (a .m .now) (a .entries) (a .part .now) (c .before .before .before .before .before .before .wipe .last .0) (c .before .before .add-channels2 .last .0) (c .before .before .add-channels2 .result) (c .before .before .before .before .before .before .wipe .ensures) (c .before .before .add-channels2 .ensures))
+returns-3 c =
+    let a = c .before .before .before .before .before .before .before .before .before .before .before .before .args in
+    let w = c .before .before .before .before .before .before .wipe in
+    let k = c .before .before .add-channels2 in
+    rw (c .before .before .before .before .before .before .before .before .enum-told3 .given .1) (channels-replaced (a .m .now) (a .entries) (a .part .now) (w .last .0) (k .last .0) (k .result) (w .ensures) (k .ensures))
 
 pub apply-channels-spec : {M : Type 1} → statement M
 apply-channels-spec =
