@@ -1,6 +1,12 @@
+pub mod ChannelLaws
+pub mod DigitLaws
 pub mod EntryBytes
 pub mod EntryCodes
+pub mod EntryWalk
 pub mod FixedCodes
 pub mod Frames
 pub mod LayoutLaws
+pub mod LineLaws
+pub mod ListLaws
 pub mod TextCodes
+pub mod TextLaws

@@ -1,5 +1,7 @@
 pub mod Allowed
 pub mod Apply
+pub mod Changes
 pub mod Layout
 pub mod Limits
+pub mod Lists
 pub mod Tables
