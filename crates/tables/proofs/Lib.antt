@@ -1,2 +1,4 @@
 pub mod EntryWalk
+pub mod IndexedLaws
+pub mod QuickLaws
 pub mod TextLaws

@@ -1,15 +1,68 @@
 -- What the functions that change one part of the store promise: its bytes at exit, for every table that its bytes at entry are.
-use Prim.Native.Nat.{ℕ, _*_, _≤_}
+use Prim.Native.Nat.{ℕ, _*_, _≤_, _<_}
 use mathlib.Core.Path.{_≡_}
 use mathlib.Core.List.{List}
+use mathlib.Core.Option.{Option, none, some}
 use lib.ListN.{length}
-use Rattle.writing.specs.Settings.{Text, unicode16}
+use Rattle.lists.proofs.Every.{All}
+use Rattle.slots.specs.Slots.{slot, Present, Placed}
+use Rattle.writing.specs.declared.Operation.{Operation}
+use Rattle.writing.specs.declared.Operation.the-variants.{Add, Delete, Replace}
+use Rattle.writing.specs.Fields.{each}
+use Rattle.writing.specs.Ranges.{text-limits, InQuick}
+use Rattle.writing.specs.Settings.{Text, Entry, unicode16}
+use Rattle.writing.specs.Writing.{quick-text}
+use Rattle.wire.specs.Entries.{EntryIs}
 use Rattle.wire.specs.Parts.{TextIs}
+use Rattle.wire.specs.Settings.{EntriesAre}
+use Rattle.wire.specs.declared.entries.EntryPlace.{EntryPlace}
+use Rattle.wire.specs.declared.settings.Entries.{Entries}
 use Rattle.wire.specs.declared.texts.TextPlace.{TextPlace}
-use Rattle.tables.specs.Layout.{text-bytes}
+use Rattle.tables.specs.Allowed.{QuickOk}
+use Rattle.tables.specs.Apply.{if-absent, quick-step, quick-after}
+use Rattle.tables.specs.Layout.{text-bytes, quick-bytes, quick-width}
+use Rattle.tables.specs.Limits.{quick-places}
+
+-- whatever table the bytes s are, the change has room for it, and makes it the table that the bytes t are
+abbrev pub Changed : {T : Type 0} → (T → List ℕ → Type 0) → (T → Option T) → List ℕ → List ℕ → Type 0
+Changed {T} Is change s t = (was : T) → Is was s → (u : T) × (change was ≡ some u) × Is u t
 
 -- ---- texts
 
 -- room for n units becomes the text's units, and zeros after them
 abbrev pub TextPut : List ℕ → TextPlace → List ℕ → List ℕ → Type 0
 TextPut m p s t = (n : ℕ) (us : Text) (next : ℕ) → TextIs unicode16 m p us next → length us ≤ n → length s ≡ 2 * n → t ≡ text-bytes n us
+
+-- ---- quick texts
+
+-- the bytes are the quick texts
+abbrev pub QuicksAre : List (Option Text) → List ℕ → Type 0
+QuicksAre qs s = Placed QuickOk quick-width quick-bytes quick-places qs s
+
+-- what the entries make of the quick texts
+abbrev pub QuickApplied : List ℕ → Operation → Entries → List ℕ → List ℕ → Type 0
+QuickApplied m o p s t =
+    (es : List Entry) → EntriesAre (each (quick-text unicode16)) m p es → All (InQuick text-limits o) es → Changed QuicksAre (quick-after o es) s t
+
+-- inner steps: one entry
+abbrev pub QuickStep : List ℕ → Operation → EntryPlace → List ℕ → List ℕ → Type 0
+QuickStep m o p s t =
+    (e : Entry) → EntryIs unicode16 m p e → e .index < quick-places → InQuick text-limits o e → Changed QuicksAre (quick-step o e) s t
+
+-- a slot that holds q becomes that of what q is changed to
+abbrev pub QuickChanged : List ℕ → TextPlace → (Option Text → Text → Option Text) → List ℕ → List ℕ → Type 0
+QuickChanged m p change s t =
+    (q : Option Text) (us : Text) (next : ℕ) → TextIs unicode16 m p us next → length us ≤ text-limits .quick → Present QuickOk q
+    → s ≡ slot quick-width quick-bytes q → t ≡ slot quick-width quick-bytes (change q us)
+
+-- what an operation leaves in a slot
+abbrev pub quick-slot : Operation → Option Text → Text → Option Text
+quick-slot Add q us = if-absent q us
+quick-slot Delete q us = none
+quick-slot Replace q us = if-absent q us
+
+abbrev pub QuickSlot : List ℕ → Operation → TextPlace → List ℕ → List ℕ → Type 0
+QuickSlot m o p = QuickChanged m p (quick-slot o)
+
+abbrev pub QuickIfAbsent : List ℕ → TextPlace → List ℕ → List ℕ → Type 0
+QuickIfAbsent m p = QuickChanged m p if-absent
