@@ -1,7 +1,7 @@
 -- What the functions that change one part of the store promise: its bytes at exit, for every table that its bytes at entry are.
-use Prim.Native.Nat.{ℕ, _*_, _≤_, _<_}
+use Prim.Native.Nat.{ℕ, _+_, _*_, _≤_, _<_}
 use mathlib.Core.Path.{_≡_}
-use mathlib.Core.List.{List}
+use mathlib.Core.List.{List, _++_}
 use mathlib.Core.Option.{Option, none, some}
 use lib.ListN.{length}
 use Rattle.lists.proofs.Every.{All}
@@ -9,19 +9,19 @@ use Rattle.slots.specs.Slots.{slot, Present, Placed}
 use Rattle.writing.specs.declared.Operation.{Operation}
 use Rattle.writing.specs.declared.Operation.the-variants.{Add, Delete, Replace}
 use Rattle.writing.specs.Fields.{each}
-use Rattle.writing.specs.Ranges.{text-limits, InQuick}
+use Rattle.writing.specs.Ranges.{text-limits, InQuick, InStatus}
 use Rattle.writing.specs.Settings.{Text, Entry, unicode16}
-use Rattle.writing.specs.Writing.{quick-text}
+use Rattle.writing.specs.Writing.{quick-text, status-text}
 use Rattle.wire.specs.Entries.{EntryIs}
 use Rattle.wire.specs.Parts.{TextIs}
 use Rattle.wire.specs.Settings.{EntriesAre}
 use Rattle.wire.specs.declared.entries.EntryPlace.{EntryPlace}
 use Rattle.wire.specs.declared.settings.Entries.{Entries}
 use Rattle.wire.specs.declared.texts.TextPlace.{TextPlace}
-use Rattle.tables.specs.Allowed.{QuickOk}
-use Rattle.tables.specs.Apply.{if-absent, quick-step, quick-after}
-use Rattle.tables.specs.Layout.{text-bytes, quick-bytes, quick-width}
-use Rattle.tables.specs.Limits.{quick-places}
+use Rattle.tables.specs.Allowed.{QuickOk, StatusOk}
+use Rattle.tables.specs.Apply.{if-absent, quick-step, quick-after, status-step, status-after, slot-after}
+use Rattle.tables.specs.Layout.{text-bytes, quick-bytes, quick-width, status-bytes, status-width}
+use Rattle.tables.specs.Limits.{quick-places, status-places}
 
 -- whatever table the bytes s are, the change has room for it, and makes it the table that the bytes t are
 abbrev pub Changed : {T : Type 0} → (T → List ℕ → Type 0) → (T → Option T) → List ℕ → List ℕ → Type 0
@@ -66,3 +66,30 @@ QuickSlot m o p = QuickChanged m p (quick-slot o)
 
 abbrev pub QuickIfAbsent : List ℕ → TextPlace → List ℕ → List ℕ → Type 0
 QuickIfAbsent m p = QuickChanged m p if-absent
+
+-- ---- slots that are overwritten
+
+-- a slot of a head and room for n units: the text's bytes behind the head's, or zeros in a delete
+abbrev pub SlotSet : List ℕ → Operation → TextPlace → List ℕ → List ℕ → List ℕ → Type 0
+SlotSet m o p head s t =
+    (n : ℕ) (us : Text) (next : ℕ) → TextIs unicode16 m p us next → length us ≤ n → length s ≡ length head + 2 * n
+    → t ≡ slot (length s) (λ us. head ++ text-bytes n us) (slot-after o us)
+
+-- an inner step: one that is filled
+abbrev pub SlotPut : List ℕ → TextPlace → List ℕ → List ℕ → List ℕ → Type 0
+SlotPut m = SlotSet m Add
+
+-- ---- status texts
+
+-- the bytes are the status texts
+abbrev pub StatusesAre : List (Option Text) → List ℕ → Type 0
+StatusesAre ss s = Placed StatusOk status-width status-bytes status-places ss s
+
+-- what the entries make of the status texts
+abbrev pub StatusApplied : List ℕ → Operation → Entries → List ℕ → List ℕ → Type 0
+StatusApplied m o p s t =
+    (es : List Entry) → EntriesAre (each (status-text unicode16)) m p es → All (InStatus text-limits) es → Changed StatusesAre (status-after o es) s t
+
+-- an inner step: one entry
+abbrev pub StatusStep : List ℕ → Operation → EntryPlace → List ℕ → List ℕ → Type 0
+StatusStep m o p s t = (e : Entry) → EntryIs unicode16 m p e → InStatus text-limits e → Changed StatusesAre (status-step o e) s t

@@ -1,5 +1,7 @@
 // The tables of a set in lent bytes: what each setting does to them.
 pub mod limits;
+pub mod overwriting;
 pub mod quick;
 pub mod replacing;
+pub mod status;
 pub mod texts;

@@ -1,0 +1,77 @@
+-- Slots of a head and a text, which are overwritten: in themselves, and in the place of a table. Assumes nothing.
+use Prim.Native.Nat.{ℕ, _+_, _-_, _*_, _≤_, _<_}
+use mathlib.Core.Path.{_≡_, refl, sym, ap, _∙_, subst⁻¹}
+use mathlib.Core.List.{List, [], _++_, append-nil}
+use mathlib.Core.Option.{Option}
+use native.Mathlib.Omega.{arith}
+use borrow.Rule.Slice.PartMut.{putMid, midOf}
+use lib.ListN.{length, set, take, drop, replicate, length-append, length-drop}
+use lib.Seq.{take-all}
+use Rattle.slots.specs.Slots.{slot, Present, Placed}
+use Rattle.slots.proofs.Parts.{put-part, get-part}
+use Rattle.slots.proofs.Tables.{slot-wide, place-fits, place-written}
+use Rattle.writing.specs.declared.Operation.{Operation}
+use Rattle.writing.specs.declared.Operation.the-variants.{Add, Delete, Replace}
+use Rattle.writing.specs.Settings.{Text, unicode16}
+use Rattle.wire.specs.Parts.{TextIs}
+use Rattle.wire.specs.declared.texts.TextPlace.{TextPlace}
+use Rattle.tables.specs.Apply.{slot-after}
+use Rattle.tables.specs.Changes.{TextPut, SlotPut, SlotSet}
+use Rattle.tables.specs.Layout.{text-bytes}
+
+module _ (m : List ℕ) (p : TextPlace) (head s : List ℕ) where
+  -- a slot has room for its head
+  pub slot-narrow : (t : List ℕ) → length s < length head → SlotPut m p head s t
+  slot-narrow t l n us next is k w = absurd (omega arith)
+
+  -- the head was copied, and the text put behind it
+  pub slot-filled : (a y : List ℕ) → a ≡ take (length s) head ++ drop (length head) s → TextPut m p (midOf (length head) (length a - length head) a) y
+      → SlotPut m p head s (putMid (length head) (length a - length head) a y)
+  slot-filled a y e put n us next is k w =
+      let rest : List ℕ = drop (length head) s in
+      let r : length rest ≡ 2 * n = omega (arith, length-drop (length head) s) in
+      let d : a ≡ head ++ (rest ++ [])
+      = e ∙ ap (λ (l : List ℕ). l ++ rest) (take-all (length s) head (omega arith)) ∙ ap (λ (l : List ℕ). head ++ l) (sym (append-nil rest)) in
+      let q : length a - length head ≡ length rest = omega (arith, ap length d, length-append head (rest ++ []), length-append rest []) in
+      let x : midOf (length head) (length a - length head) a ≡ rest
+      = ap (midOf (length head) (length a - length head)) d ∙ get-part head rest [] (length head) (length a - length head) refl (sym q) in
+      ap (λ (l : List ℕ). putMid (length head) (length a - length head) l y) d
+      ∙ put-part head rest [] y (length head) (length a - length head) refl (sym q)
+      ∙ ap (λ (l : List ℕ). head ++ l) (append-nil y ∙ put n us next is k (ap length x ∙ r))
+
+  module _ (o : Operation) (t : List ℕ) where
+    -- an operation that adds fills the slot
+    pub set-added : o ≡ Add → SlotPut m p head s t → SlotSet m o p head s t
+    set-added e k = subst⁻¹ (λ (o : Operation). SlotSet m o p head s t) e k
+
+    pub set-replaced : o ≡ Replace → SlotPut m p head s t → SlotSet m o p head s t
+    set-replaced e k = subst⁻¹ (λ (o : Operation). SlotSet m o p head s t) e k
+
+    -- a delete leaves zeros
+    pub set-deleted : o ≡ Delete → t ≡ replicate (length s) 0 → SlotSet m o p head s t
+    set-deleted e z = subst⁻¹ (λ (o : Operation). SlotSet m o p head s t) e (λ n us next is k w. z)
+
+-- entries with the same bytes leave the same slots
+slot-same : {A B : Type 0} (w : ℕ) (f : A → List ℕ) (g : B → List ℕ) (a : A) (b : B) → f a ≡ g b → (o : Operation) → slot w f (slot-after o a) ≡ slot w g (slot-after o b)
+slot-same w f g a b e Add = e
+slot-same w f g a b e Delete = refl
+slot-same w f g a b e Replace = e
+
+-- what an operation leaves of an entry that is allowed is allowed
+pub present-after : {A : Type 0} (P : A → Type 0) (a : A) → P a → (o : Operation) → Present P (slot-after o a)
+present-after P a h Add = h
+present-after P a h Delete = tt
+present-after P a h Replace = h
+
+-- place k of a table, where an entry is a head and a text
+module _ {A : Type 0} (P : A → Type 0) (w : ℕ) (f : A → List ℕ) (long : (a : A) → length (f a) ≡ w) (n : ℕ) (os : List (Option A)) (s : List ℕ)
+    (t : Placed P w f n os s) (k : ℕ) (h : k < n) where
+  pub place-overwritten : (o : Operation) (a : A) → Present P (slot-after o a) → {m : List ℕ} {p : TextPlace} (head : List ℕ) (limit : ℕ) (us : Text) (next : ℕ)
+      → TextIs unicode16 m p us next → length us ≤ limit → w ≡ length head + 2 * limit → head ++ text-bytes limit us ≡ f a
+      → (y : List ℕ) → SlotSet m o p head (midOf (k * w) (k * w + w - k * w) s) y → Placed P w f n (set os k (slot-after o a)) (putMid (k * w) (k * w + w - k * w) s y)
+  place-overwritten o a ok head limit us next is l wide bytes y changed =
+      let q : length (midOf (k * w) (k * w + w - k * w) s) ≡ w = slot-wide s (k * w) w (place-fits P w f long n os s t k h) in
+      place-written P w f long n os s t k h (slot-after o a) y ok
+      (changed limit us next is l (q ∙ wide)
+      ∙ slot-same (length (midOf (k * w) (k * w + w - k * w) s)) (λ us. head ++ text-bytes limit us) f us a bytes o
+      ∙ ap (λ (i : ℕ). slot i f (slot-after o a)) q)
