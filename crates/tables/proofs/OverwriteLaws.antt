@@ -1,8 +1,9 @@
 -- Slots of a head and a text, which are overwritten: in themselves, and in the place of a table. Assumes nothing.
 use Prim.Native.Nat.{ℕ, _+_, _-_, _*_, _≤_, _<_}
-use mathlib.Core.Path.{_≡_, refl, sym, ap, _∙_, subst⁻¹}
+use mathlib.Core.Path.{_≡_, refl, sym, ap, _∙_, subst, subst⁻¹}
 use mathlib.Core.List.{List, [], _++_, append-nil}
 use mathlib.Core.Option.{Option}
+use native.Mathlib.Nat.{mul-le-mul-right}
 use native.Mathlib.Omega.{arith}
 use borrow.Rule.Slice.PartMut.{putMid, midOf}
 use lib.ListN.{length, set, take, drop, replicate, length-append, length-drop}
@@ -16,7 +17,7 @@ use Rattle.writing.specs.Settings.{Text, unicode16}
 use Rattle.wire.specs.Parts.{TextIs}
 use Rattle.wire.specs.declared.texts.TextPlace.{TextPlace}
 use Rattle.tables.specs.Apply.{slot-after}
-use Rattle.tables.specs.Changes.{TextPut, SlotPut, SlotSet}
+use Rattle.tables.specs.Changes.{TextPut, SlotPut, SlotSet, PlaceSet}
 use Rattle.tables.specs.Layout.{text-bytes}
 
 module _ (m : List ℕ) (p : TextPlace) (head s : List ℕ) where
@@ -63,15 +64,33 @@ present-after P a h Add = h
 present-after P a h Delete = tt
 present-after P a h Replace = h
 
+-- place k was lent, and its slot set
+pub place-lent : (m : List ℕ) (o : Operation) (p : TextPlace) (head : List ℕ) (w k : ℕ) (s y : List ℕ) → SlotSet m o p head (midOf (k * w) (k * w + w - k * w) s) y
+    → PlaceSet m o p head w k s (putMid (k * w) (k * w + w - k * w) s y)
+place-lent m o p head w k s y set =
+    let e : k * w + w - k * w ≡ w = omega arith in
+    record { slot = y; set = subst (λ (i : ℕ). SlotSet m o p head (midOf (k * w) i s) y) e set; others = rw e refl }
+
 -- place k of a table, where an entry is a head and a text
 module _ {A : Type 0} (P : A → Type 0) (w : ℕ) (f : A → List ℕ) (long : (a : A) → length (f a) ≡ w) (n : ℕ) (os : List (Option A)) (s : List ℕ)
     (t : Placed P w f n os s) (k : ℕ) (h : k < n) where
+  -- the place was set to such an entry
   pub place-overwritten : (o : Operation) (a : A) → Present P (slot-after o a) → {m : List ℕ} {p : TextPlace} (head : List ℕ) (limit : ℕ) (us : Text) (next : ℕ)
       → TextIs unicode16 m p us next → length us ≤ limit → w ≡ length head + 2 * limit → head ++ text-bytes limit us ≡ f a
-      → (y : List ℕ) → SlotSet m o p head (midOf (k * w) (k * w + w - k * w) s) y → Placed P w f n (set os k (slot-after o a)) (putMid (k * w) (k * w + w - k * w) s y)
-  place-overwritten o a ok head limit us next is l wide bytes y changed =
-      let q : length (midOf (k * w) (k * w + w - k * w) s) ≡ w = slot-wide s (k * w) w (place-fits P w f long n os s t k h) in
-      place-written P w f long n os s t k h (slot-after o a) y ok
-      (changed limit us next is l (q ∙ wide)
-      ∙ slot-same (length (midOf (k * w) (k * w + w - k * w) s)) (λ us. head ++ text-bytes limit us) f us a bytes o
-      ∙ ap (λ (i : ℕ). slot i f (slot-after o a)) q)
+      → (u : List ℕ) → (k * w + w ≤ length s → PlaceSet m o p head w k s u) → Placed P w f n (set os k (slot-after o a)) u
+  place-overwritten o a ok {m} {p} head limit us next is l wide bytes u changed =
+      let fits : k * w + w ≤ length s = place-fits P w f long n os s t k h in
+      let c : PlaceSet m o p head w k s u = changed fits in
+      let e : k * w + w - k * w ≡ w = omega arith in
+      let q : length (take w (drop (k * w) s)) ≡ w = subst (λ (i : ℕ). length (midOf (k * w) i s) ≡ w) e (slot-wide s (k * w) w fits) in
+      let y : c .slot ≡ slot w f (slot-after o a)
+      = c .set limit us next is l (q ∙ wide) ∙ slot-same (length (take w (drop (k * w) s))) (λ us. head ++ text-bytes limit us) f us a bytes o
+      ∙ ap (λ (i : ℕ). slot i f (slot-after o a)) q in
+      subst⁻¹ (Placed P w f n (set os k (slot-after o a))) (c .others)
+      (subst (λ (i : ℕ). Placed P w f n (set os k (slot-after o a)) (putMid (k * w) i s (c .slot))) e (place-written P w f long n os s t k h (slot-after o a) (c .slot) ok y))
+
+-- the place of a small width and a small number is small
+pub small-place : (k w : ℕ) → k < 256 → w < 256 → k * w ≤ 65025
+small-place k w h l =
+    let a : k * w ≤ 255 * w = mul-le-mul-right w (let z : k ≤ 255 = omega arith in z) in
+    omega arith

@@ -4,11 +4,8 @@ use mathlib.Core.Path.{_≡_, refl, ap, subst⁻¹}
 use mathlib.Core.List.{List, [], _∷_}
 use mathlib.Core.Option.{Option, some}
 use native.Mathlib.Omega.{arith}
-use borrow.Rule.Slice.PartMut.{putMid, midOf}
 use lib.ListN.{length, set, replicate}
 use Rattle.lists.proofs.Bytes.{Bytes}
-use Rattle.slots.specs.Slots.{Present}
-use Rattle.slots.proofs.Tables.{place-fits}
 use Rattle.writing.specs.declared.Operation.{Operation}
 use Rattle.writing.specs.declared.Operation.the-variants.{Add, Delete, Replace}
 use Rattle.writing.specs.Ranges.{text-limits, InStatus}
@@ -23,7 +20,7 @@ use Rattle.wire.specs.declared.entries.EntryRead.the-variants.{Entry as AnEntry
 use Rattle.wire.specs.declared.settings.Entries.{Entries}
 use Rattle.tables.specs.Allowed.{StatusOk}
 use Rattle.tables.specs.Apply.{start-from, slot-after, status-step}
-use Rattle.tables.specs.Changes.{SlotSet, StatusStep, StatusApplied, StatusesAre}
+use Rattle.tables.specs.Changes.{PlaceSet, StatusStep, StatusApplied, StatusesAre}
 use Rattle.tables.specs.Layout.{status-bytes, status-width}
 use Rattle.tables.specs.Limits.{status-places}
 use Rattle.tables.proofs.EntryWalk.{Applying, applying-end, entry-applied, entry-missing}
@@ -48,25 +45,17 @@ module _ (m : List ℕ) (o : Operation) (p : EntryPlace) (s : List ℕ) where
   pub code-outside : (t : List ℕ) → p .index < 32 → StatusStep m o p s t
   code-outside t l e is i ss h = absurd (omega (arith, is .index, i .0))
 
-  -- every place of the table stands in its bytes
-  pub place-outside : (t : List ℕ) → length s < (p .index - 32) * status-width + status-width → StatusStep m o p s t
-  place-outside t l e is i ss h =
-      let k : p .index - 32 < status-places = omega (arith, is .index, i .0, i .1) in
-      absurd (omega (arith, place-fits StatusOk status-width status-bytes status-long status-places ss s h (p .index - 32) k))
-
-  -- the entry's place, whose slot was set
-  pub place-stepped : Bytes m → (y : List ℕ)
-      → SlotSet m o (p .text) (1 ∷ []) (midOf ((p .index - 32) * status-width) ((p .index - 32) * status-width + status-width - (p .index - 32) * status-width) s) y
-      → StatusStep m o p s (putMid ((p .index - 32) * status-width) ((p .index - 32) * status-width + status-width - (p .index - 32) * status-width) s y)
-  place-stepped b y changed e is i ss h =
+  -- the entry's place was set
+  pub place-stepped : Bytes m → (t : List ℕ)
+      → ((p .index - 32) * status-width + status-width ≤ length s → PlaceSet m o (p .text) (1 ∷ []) status-width (p .index - 32) s t) → StatusStep m o p s t
+  place-stepped b t changed e is i ss h =
       let k : p .index - 32 < status-places = omega (arith, is .index, i .0, i .1) in
       let ok : StatusOk (e .text) = record { short = i .2; units = text-out m (p .text .start) (is .end) (e .text) b (is .text .stands) .units } in (
         set ss (e .index - 32) (slot-after o (e .text)),
         status-one o e ss,
-        subst⁻¹ (λ (j : ℕ). StatusesAre (set ss (j - 32) (slot-after o (e .text)))
-            (putMid ((p .index - 32) * status-width) ((p .index - 32) * status-width + status-width - (p .index - 32) * status-width) s y)) (is .index)
+        subst⁻¹ (λ (j : ℕ). StatusesAre (set ss (j - 32) (slot-after o (e .text))) t) (is .index)
             (place-overwritten StatusOk status-width status-bytes status-long status-places ss s h (p .index - 32) k o (e .text) (present-after StatusOk (e .text) ok o)
-            (1 ∷ []) (text-limits .short) (e .text) (is .end) (is .text) (i .2) refl refl y changed),
+            (1 ∷ []) (text-limits .short) (e .text) (is .end) (is .text) (i .2) refl refl t changed),
       )
 
 -- ---- the loop over the entries

@@ -3,7 +3,7 @@ use Prim.Native.Nat.{ℕ, _+_, _*_, _≤_, _<_}
 use mathlib.Core.Path.{_≡_}
 use mathlib.Core.List.{List, _++_}
 use mathlib.Core.Option.{Option, none, some}
-use lib.ListN.{length}
+use lib.ListN.{length, take, drop}
 use Rattle.lists.proofs.Every.{All}
 use Rattle.slots.specs.Slots.{slot, Present, Placed}
 use Rattle.writing.specs.declared.Operation.{Operation}
@@ -75,7 +75,13 @@ SlotSet m o p head s t =
     (n : ℕ) (us : Text) (next : ℕ) → TextIs unicode16 m p us next → length us ≤ n → length s ≡ length head + 2 * n
     → t ≡ slot (length s) (λ us. head ++ text-bytes n us) (slot-after o us)
 
--- an inner step: one that is filled
+-- place k of slots of w bytes is set so, and the others stand
+pub record PlaceSet (m : List ℕ) (o : Operation) (p : TextPlace) (head : List ℕ) (w k : ℕ) (s t : List ℕ) : Type 0 where
+  pub slot : List ℕ
+  pub set : SlotSet m o p head (take w (drop (k * w) s)) slot
+  pub others : t ≡ take (k * w) s ++ (slot ++ drop w (drop (k * w) s))
+
+-- an inner step: a slot that is filled
 abbrev pub SlotPut : List ℕ → TextPlace → List ℕ → List ℕ → List ℕ → Type 0
 SlotPut m = SlotSet m Add
 

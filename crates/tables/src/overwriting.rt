@@ -4,7 +4,9 @@ use slots::bytes::copy;
 use slots::bytes::wipe;
 use wire::texts::TextPlace;
 use writing::Operation;
-ghost use Rattle.tables.specs.Changes.{SlotPut, SlotSet};
+ghost use Prim.Native.Nat.{_+_, _*_, _≤_};
+ghost use lib.ListN.{length};
+ghost use Rattle.tables.specs.Changes.{SlotPut, SlotSet, PlaceSet};
 
 // Fills a slot with the head and the text.
 fn put_slot(slot: &mut [u8], head: &[u8], m: &[u8], text: TextPlace)
@@ -19,7 +21,7 @@ fn put_slot(slot: &mut [u8], head: &[u8], m: &[u8], text: TextPlace)
 }
 
 // Fills a slot with the head and the text, or wipes it in a delete.
-pub fn set_slot(slot: &mut [u8], head: &[u8], m: &[u8], operation: Operation, text: TextPlace)
+fn set_slot(slot: &mut [u8], head: &[u8], m: &[u8], operation: Operation, text: TextPlace)
     ensures { λ _. ⌜ SlotSet (now (m .entry)) operation text (now (head .entry)) (now (slot .entry)) (now (slot .exit)) ⌝ }
 {
     match operation {
@@ -27,4 +29,24 @@ pub fn set_slot(slot: &mut [u8], head: &[u8], m: &[u8], operation: Operation, te
         Operation::Delete => wipe(slot),
         Operation::Replace => put_slot(slot, head, m, text),
     }
+}
+
+// Sets place k of slots of w bytes. Bytes that have no such place stay.
+pub fn set_place(
+    part: &mut [u8],
+    w: u8,
+    k: u8,
+    head: &[u8],
+    m: &[u8],
+    operation: Operation,
+    text: TextPlace,
+)
+    ensures { λ _. ⌜ (k * w + w ≤ length (now (part .entry)) → PlaceSet (now (m .entry)) operation text (now (head .entry)) w k (now (part .entry)) (now (part .exit))) ⌝ }
+{
+    let at = k as usize * w as usize;
+    let e = at + w as usize;
+    if part.len() < e {
+        return;
+    }
+    set_slot(&mut part[at..e], head, m, operation, text);
 }

@@ -1,5 +1,5 @@
 // Status texts: a place for each code from 32 to 127; a text may be empty.
-use super::overwriting::set_slot;
+use super::overwriting::set_place;
 use super::replacing::empty_to_replace;
 use wire::entries::EntryPlace;
 use wire::entries::EntryRead;
@@ -9,7 +9,7 @@ use writing::Operation;
 ghost use Rattle.tables.specs.Changes.{StatusStep, StatusApplied};
 
 // A slot's bytes: 1, which says that the text is there, and 16 units of two.
-const WIDTH: usize = 33;
+const WIDTH: u8 = 33;
 
 // Applies one entry: code 32 has the first place.
 fn apply_entry(part: &mut [u8], m: &[u8], operation: Operation, place: EntryPlace)
@@ -18,13 +18,16 @@ fn apply_entry(part: &mut [u8], m: &[u8], operation: Operation, place: EntryPlac
     if place.index < 32 {
         return;
     }
-    let at = (place.index - 32) as usize * WIDTH;
-    let e = at + WIDTH;
-    if part.len() < e {
-        return;
-    }
     let head: [u8; 1] = [1];
-    set_slot(&mut part[at..e], &head, m, operation, place.text);
+    set_place(
+        part,
+        WIDTH,
+        place.index - 32,
+        &head,
+        m,
+        operation,
+        place.text,
+    );
 }
 
 // Applies the entries in order. Entries that do not stand in the message end it.
