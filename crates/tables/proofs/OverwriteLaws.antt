@@ -52,17 +52,21 @@ module _ (m : List ℕ) (p : TextPlace) (head s : List ℕ) where
     pub set-deleted : o ≡ Delete → t ≡ replicate (length s) 0 → SlotSet m o p head s t
     set-deleted e z = subst⁻¹ (λ (o : Operation). SlotSet m o p head s t) e (λ n us next is k w. z)
 
--- entries with the same bytes leave the same slots
-slot-same : {A B : Type 0} (w : ℕ) (f : A → List ℕ) (g : B → List ℕ) (a : A) (b : B) → f a ≡ g b → (o : Operation) → slot w f (slot-after o a) ≡ slot w g (slot-after o b)
-slot-same w f g a b e Add = e
-slot-same w f g a b e Delete = refl
-slot-same w f g a b e Replace = e
+-- an entry that is allowed, and whose bytes are the head and the text
+abbrev pub Made : {A : Type 0} → (A → Type 0) → (A → List ℕ) → List ℕ → ℕ → Text → A → Type 0
+Made P f head limit us a = P a × (length us ≤ limit) × (head ++ text-bytes limit us ≡ f a)
 
--- what an operation leaves of an entry that is allowed is allowed
+-- what an operation leaves of an entry has what the entry has
 pub present-after : {A : Type 0} (P : A → Type 0) (a : A) → P a → (o : Operation) → Present P (slot-after o a)
 present-after P a h Add = h
 present-after P a h Delete = tt
 present-after P a h Replace = h
+
+-- and has Q where it has P, of which Q follows
+pub after-turn : {A : Type 0} (P Q : A → Type 0) (a : A) → (P a → Q a) → (o : Operation) → Present P (slot-after o a) → Present Q (slot-after o a)
+after-turn P Q a turn Add h = turn h
+after-turn P Q a turn Delete h = tt
+after-turn P Q a turn Replace h = turn h
 
 -- place k was lent, and its slot set
 pub place-lent : (m : List ℕ) (o : Operation) (p : TextPlace) (head : List ℕ) (w k : ℕ) (s y : List ℕ) → SlotSet m o p head (midOf (k * w) (k * w + w - k * w) s) y
@@ -74,20 +78,25 @@ place-lent m o p head w k s y set =
 -- place k of a table, where an entry is a head and a text
 module _ {A : Type 0} (P : A → Type 0) (w : ℕ) (f : A → List ℕ) (long : (a : A) → length (f a) ≡ w) (n : ℕ) (os : List (Option A)) (s : List ℕ)
     (t : Placed P w f n os s) (k : ℕ) (h : k < n) where
-  -- the place was set to such an entry
-  pub place-overwritten : (o : Operation) (a : A) → Present P (slot-after o a) → {m : List ℕ} {p : TextPlace} (head : List ℕ) (limit : ℕ) (us : Text) (next : ℕ)
-      → TextIs unicode16 m p us next → length us ≤ limit → w ≡ length head + 2 * limit → head ++ text-bytes limit us ≡ f a
+  -- the place was set to such an entry, or emptied
+  pub place-overwritten : (o : Operation) (a : A) {m : List ℕ} {p : TextPlace} (head : List ℕ) (limit : ℕ) (us : Text) (next : ℕ)
+      → TextIs unicode16 m p us next → w ≡ length head + 2 * limit → Present (Made P f head limit us) (slot-after o a)
       → (u : List ℕ) → (k * w + w ≤ length s → PlaceSet m o p head w k s u) → Placed P w f n (set os k (slot-after o a)) u
-  place-overwritten o a ok {m} {p} head limit us next is l wide bytes u changed =
+  place-overwritten o a {m} {p} head limit us next is wide made u changed =
       let fits : k * w + w ≤ length s = place-fits P w f long n os s t k h in
       let c : PlaceSet m o p head w k s u = changed fits in
       let e : k * w + w - k * w ≡ w = omega arith in
       let q : length (take w (drop (k * w) s)) ≡ w = subst (λ (i : ℕ). length (midOf (k * w) i s) ≡ w) e (slot-wide s (k * w) w fits) in
-      let y : c .slot ≡ slot w f (slot-after o a)
-      = c .set limit us next is l (q ∙ wide) ∙ slot-same (length (take w (drop (k * w) s))) (λ us. head ++ text-bytes limit us) f us a bytes o
-      ∙ ap (λ (i : ℕ). slot i f (slot-after o a)) q in
+      let (ok, short, same) = parts o made in
+      let y : c .slot ≡ slot w f (slot-after o a) = c .set limit us next is short (q ∙ wide) ∙ ap (λ (i : ℕ). slot i (λ us. head ++ text-bytes limit us) (slot-after o us)) q ∙ same in
       subst⁻¹ (Placed P w f n (set os k (slot-after o a))) (c .others)
       (subst (λ (i : ℕ). Placed P w f n (set os k (slot-after o a)) (putMid (k * w) i s (c .slot))) e (place-written P w f long n os s t k h (slot-after o a) (c .slot) ok y))
+    where
+      parts : (o : Operation) → Present (Made P f head limit us) (slot-after o a)
+          → Present P (slot-after o a) × Present (λ us. length us ≤ limit) (slot-after o us) × (slot w (λ us. head ++ text-bytes limit us) (slot-after o us) ≡ slot w f (slot-after o a))
+      parts Add made = made
+      parts Delete made = (tt, tt, refl)
+      parts Replace made = made
 
 -- the place of a small width and a small number is small
 pub small-place : (k w : ℕ) → k < 256 → w < 256 → k * w ≤ 65025

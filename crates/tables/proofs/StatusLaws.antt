@@ -25,7 +25,7 @@ use Rattle.tables.specs.Layout.{status-bytes, status-width}
 use Rattle.tables.specs.Limits.{status-places}
 use Rattle.tables.proofs.EntryWalk.{Applying, applying-end, entry-applied, entry-missing}
 use Rattle.tables.proofs.IndexedLaws.{place-started}
-use Rattle.tables.proofs.OverwriteLaws.{place-overwritten, present-after}
+use Rattle.tables.proofs.OverwriteLaws.{Made, place-overwritten, present-after}
 use Rattle.tables.proofs.TextLaws.{text-out, text-long}
 
 -- a status text's bytes are as many as its slot has
@@ -54,8 +54,8 @@ module _ (m : List ℕ) (o : Operation) (p : EntryPlace) (s : List ℕ) where
         set ss (e .index - 32) (slot-after o (e .text)),
         status-one o e ss,
         subst⁻¹ (λ (j : ℕ). StatusesAre (set ss (j - 32) (slot-after o (e .text))) t) (is .index)
-            (place-overwritten StatusOk status-width status-bytes status-long status-places ss s h (p .index - 32) k o (e .text) (present-after StatusOk (e .text) ok o)
-            (1 ∷ []) (text-limits .short) (e .text) (is .end) (is .text) (i .2) refl refl t changed),
+            (place-overwritten StatusOk status-width status-bytes status-long status-places ss s h (p .index - 32) k o (e .text) (1 ∷ []) (text-limits .short) (e .text)
+            (is .end) (is .text) refl (present-after (Made StatusOk status-bytes (1 ∷ []) (text-limits .short) (e .text)) (e .text) (ok, i .2, refl) o) t changed),
       )
 
 -- ---- the loop over the entries

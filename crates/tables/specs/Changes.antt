@@ -3,9 +3,11 @@ use Prim.Native.Nat.{ℕ, _+_, _*_, _≤_, _<_}
 use mathlib.Core.Path.{_≡_}
 use mathlib.Core.List.{List, _++_}
 use mathlib.Core.Option.{Option, none, some}
-use lib.ListN.{length, take, drop}
+use lib.ListN.{length, take, drop, set}
 use Rattle.lists.proofs.Every.{All}
 use Rattle.slots.specs.Slots.{slot, Present, Placed}
+use Rattle.writing.specs.declared.GroupFlags.{GroupFlags}
+use Rattle.writing.specs.declared.IndividualFlags.{IndividualFlags}
 use Rattle.writing.specs.declared.Operation.{Operation}
 use Rattle.writing.specs.declared.Operation.the-variants.{Add, Delete, Replace}
 use Rattle.writing.specs.Fields.{each}
@@ -17,11 +19,14 @@ use Rattle.wire.specs.Parts.{TextIs}
 use Rattle.wire.specs.Settings.{EntriesAre}
 use Rattle.wire.specs.declared.entries.EntryPlace.{EntryPlace}
 use Rattle.wire.specs.declared.settings.Entries.{Entries}
+use Rattle.wire.specs.declared.settings.GroupPlace.{GroupPlace}
+use Rattle.wire.specs.declared.settings.IndividualPlace.{IndividualPlace}
 use Rattle.wire.specs.declared.texts.TextPlace.{TextPlace}
-use Rattle.tables.specs.Allowed.{QuickOk, StatusOk}
+use Rattle.tables.specs.Allowed.{QuickOk, StatusOk, GroupOk, IndividualOk}
 use Rattle.tables.specs.Apply.{if-absent, quick-step, quick-after, status-step, status-after, slot-after}
-use Rattle.tables.specs.Layout.{text-bytes, quick-bytes, quick-width, status-bytes, status-width}
-use Rattle.tables.specs.Limits.{quick-places, status-places}
+use Rattle.tables.specs.Layout.{text-bytes, quick-bytes, quick-width, status-bytes, status-width, group-bytes, individual-bytes, member-width}
+use Rattle.tables.specs.Limits.{quick-places, status-places, slot-places}
+use Rattle.tables.specs.Tables.{GroupMember, IndividualMember}
 
 -- whatever table the bytes s are, the change has room for it, and makes it the table that the bytes t are
 abbrev pub Changed : {T : Type 0} → (T → List ℕ → Type 0) → (T → Option T) → List ℕ → List ℕ → Type 0
@@ -72,7 +77,7 @@ QuickIfAbsent m p = QuickChanged m p if-absent
 -- a slot of a head and room for n units: the text's bytes behind the head's, or zeros in a delete
 abbrev pub SlotSet : List ℕ → Operation → TextPlace → List ℕ → List ℕ → List ℕ → Type 0
 SlotSet m o p head s t =
-    (n : ℕ) (us : Text) (next : ℕ) → TextIs unicode16 m p us next → length us ≤ n → length s ≡ length head + 2 * n
+    (n : ℕ) (us : Text) (next : ℕ) → TextIs unicode16 m p us next → Present (λ us. length us ≤ n) (slot-after o us) → length s ≡ length head + 2 * n
     → t ≡ slot (length s) (λ us. head ++ text-bytes n us) (slot-after o us)
 
 -- place k of slots of w bytes is set so, and the others stand
@@ -99,3 +104,34 @@ StatusApplied m o p s t =
 -- an inner step: one entry
 abbrev pub StatusStep : List ℕ → Operation → EntryPlace → List ℕ → List ℕ → Type 0
 StatusStep m o p s t = (e : Entry) → EntryIs unicode16 m p e → InStatus text-limits e → Changed StatusesAre (status-step o e) s t
+
+-- ---- group and individual slots
+
+-- the bytes are the group slots
+abbrev pub GroupsAre : List (Option GroupMember) → List ℕ → Type 0
+GroupsAre gs s = Placed GroupOk member-width group-bytes slot-places gs s
+
+-- the bytes are the individual slots
+abbrev pub IndividualsAre : List (Option IndividualMember) → List ℕ → Type 0
+IndividualsAre is s = Placed IndividualOk member-width individual-bytes slot-places is s
+
+-- the member that a group setting gives
+abbrev pub group-member : GroupFlags → GroupPlace → Text → GroupMember
+group-member f p us = record { flags = f; address = p .address; text = us }
+
+-- the member that an individual setting gives
+abbrev pub individual-member : IndividualFlags → IndividualPlace → Text → IndividualMember
+individual-member f p us = record { flags = f; address = p .address; text = us }
+
+-- a group slot is set to the member, or emptied, and the others stand; in a delete the member need not be allowed
+abbrev pub GroupApplied : List ℕ → Operation → GroupFlags → GroupPlace → List ℕ → List ℕ → Type 0
+GroupApplied m o f p s t =
+    (gs : List (Option GroupMember)) (us : Text) (next : ℕ) → TextIs unicode16 m (p .text) us next → p .index < slot-places
+    → Present GroupOk (slot-after o (group-member f p us)) → GroupsAre gs s → GroupsAre (set gs (p .index) (slot-after o (group-member f p us))) t
+
+-- and so is an individual slot
+abbrev pub IndividualApplied : List ℕ → Operation → IndividualFlags → IndividualPlace → List ℕ → List ℕ → Type 0
+IndividualApplied m o f p s t =
+    (is : List (Option IndividualMember)) (us : Text) (next : ℕ) → TextIs unicode16 m (p .text) us next → p .index < slot-places
+    → Present IndividualOk (slot-after o (individual-member f p us)) → IndividualsAre is s
+    → IndividualsAre (set is (p .index) (slot-after o (individual-member f p us))) t

@@ -1,5 +1,7 @@
 // The tables of a set in lent bytes: what each setting does to them.
+pub mod heads;
 pub mod limits;
+pub mod members;
 pub mod overwriting;
 pub mod quick;
 pub mod replacing;
