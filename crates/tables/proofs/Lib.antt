@@ -5,8 +5,14 @@ pub mod EntryCodes
 pub mod EntryWalk
 pub mod FixedCodes
 pub mod Frames
+pub mod HeadLaws
+pub mod IndexedLaws
 pub mod LayoutLaws
 pub mod LineLaws
 pub mod ListLaws
+pub mod MemberLaws
+pub mod OverwriteLaws
+pub mod QuickLaws
+pub mod StatusLaws
 pub mod TextCodes
 pub mod TextLaws
