@@ -5,7 +5,7 @@ use Prim.Native.Nat.{ℕ, zero, suc, _+_, _*_, _<_}
 use native.Mathlib.Nat.{zero-mul, suc-mul}
 use native.Mathlib.Omega.{arith}
 use borrow.Rule.Slice.PartMut.{putMid, midOf}
-use lib.ListN.{length, set, drop, take, getD, length-append}
+use lib.ListN.{length, set, drop, take, getD, replicate, length-append, replicate-append-replicate}
 use lib.Seq.{take-at, drop-at, split-at, set-split}
 use Rattle.lists.proofs.Bytes.{Bytes, bytes-append, bytes-zeros}
 use Rattle.lists.proofs.Every.{All}
@@ -46,6 +46,11 @@ sum (x ∷ xs) = x + sum xs
 pub flat-length : (xs : List (List ℕ)) → length (flat xs) ≡ sum (map length xs)
 flat-length [] = refl
 flat-length (x ∷ xs) = length-append x (flat xs) ∙ ap (λ (n : ℕ). length x + n) (flat-length xs)
+
+-- parts of zeros are zeros
+pub flat-zeros : (ws : List ℕ) → flat (map (λ w. replicate w 0) ws) ≡ replicate (sum ws) 0
+flat-zeros [] = refl
+flat-zeros (w ∷ ws) = ap (λ (l : List ℕ). replicate w 0 ++ l) (flat-zeros ws) ∙ replicate-append-replicate w (sum ws) 0
 
 -- the widths of the first k parts
 flat-take : (xs : List (List ℕ)) (k : ℕ) → length (flat (take k xs)) ≡ sum (take k (map length xs))

@@ -5,6 +5,7 @@ pub mod EntryCodes
 pub mod EntryWalk
 pub mod FixedCodes
 pub mod Frames
+pub mod FreshLaws
 pub mod HeadLaws
 pub mod IndexedLaws
 pub mod LayoutLaws
