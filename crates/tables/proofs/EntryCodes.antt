@@ -131,12 +131,18 @@ module _ {F A : Type 0} (flags-of : F → ℕ) (number-of : A → ℕ) where
   member-long : (g : Member F A) → length (member-bytes flags-of number-of g) ≡ member-width
   member-long g = omega (arith, text-length 16 (g .text))
 
-  -- the bytes tell flags, address and text
-  member-one : (a b : Member F A) → TextOk 16 (a .text) → TextOk 16 (b .text) → member-bytes flags-of number-of a ≡ member-bytes flags-of number-of b
-      → (flags-of (a .flags) ≡ flags-of (b .flags)) × (number-of (a .address) ≡ number-of (b .address)) × (a .text ≡ b .text)
-  member-one a b p q e =
-      let r = cut (u24 (number-of (a .address))) (u24 (number-of (b .address))) refl (tail-eq-of-cons-eq e) in
-      (head-eq-of-cons-eq e, u24-one (number-of (a .address)) (number-of (b .address)) (r .0), text-one 16 (a .text) (b .text) p q (r .1))
+  -- where the byte of flags tells the flags, and the number the address, the bytes tell the slot
+  member-code : (P : Member F A → Type 0) → ((g : Member F A) → P g → TextOk 16 (g .text)) → ((a b : Member F A) → P a → P b → flags-of (a .flags) ≡ flags-of (b .flags) → a .flags ≡ b .flags)
+      → ((a b : A) → number-of a ≡ number-of b → a ≡ b) → Code P member-width (member-bytes flags-of number-of)
+  member-code P text-ok flags-one number-one = record { long = member-long; one = one }
+    where
+      one : (a b : Member F A) → P a → P b → member-bytes flags-of number-of a ≡ member-bytes flags-of number-of b → a ≡ b
+      one a b p q e =
+          let r = cut (u24 (number-of (a .address))) (u24 (number-of (b .address))) refl (tail-eq-of-cons-eq e) in
+          let f = flags-one a b p q (head-eq-of-cons-eq e) in
+          let n = number-one (a .address) (b .address) (u24-one (number-of (a .address)) (number-of (b .address)) (r .0)) in
+          let t = text-one 16 (a .text) (b .text) (text-ok a p) (text-ok b q) (r .1) in
+          (λ i. record { flags = f i; address = n i; text = t i })
 
   -- a slot with an address is not all zeros
   member-shown : (g : Member F A) → 1048576 ≤ number-of (g .address) → zeros? (member-bytes flags-of number-of g) ≡ false
@@ -171,18 +177,11 @@ group-flags-one f g p q e =
     let y' = bit-one (f .emergency) (g .emergency) y in
     (λ i. record { attribute = u i; broadcast = v' i; encryption = w' i; ovcm = x' i; emergency = y' i; priority = z i })
 
--- the bytes tell the slot
-group-one : (a b : GroupMember) → GroupOk a → GroupOk b → group-bytes a ≡ group-bytes b → a ≡ b
-group-one a b p q e =
-    let r = member-one group-flags (λ x. x .0) a b (p .text) (q .text) e in
-    let f = group-flags-one (a .flags) (b .flags) (p .priority) (q .priority) (r .0) in
-    let n = r .1 in
-    let t = r .2 in
-    (λ i. record { flags = f i; address = record { 0 = n i }; text = t i })
-
 -- a group slot's bytes
 pub group-code : Code GroupOk member-width group-bytes
-group-code = record { long = member-long group-flags (λ x. x .0); one = group-one }
+group-code =
+    member-code group-flags (λ x. x .0) GroupOk (λ g p. p .text) (λ a b p q e. group-flags-one (a .flags) (b .flags) (p .priority) (q .priority) e)
+    (λ a b e i. record { 0 = e i })
 
 -- they are not all zeros
 pub group-shown : (g : GroupMember) → GroupOk g → zeros? (group-bytes g) ≡ false
@@ -204,18 +203,11 @@ individual-flags-one f g p q e =
     let v' = bit-one (f .emergency) (g .emergency) v in
     (λ i. record { encryption = u' i; emergency = v' i; priority = w i })
 
--- the bytes tell the slot
-individual-one : (a b : IndividualMember) → IndividualOk a → IndividualOk b → individual-bytes a ≡ individual-bytes b → a ≡ b
-individual-one a b p q e =
-    let r = member-one individual-flags (λ x. x .0) a b (p .text) (q .text) e in
-    let f = individual-flags-one (a .flags) (b .flags) (p .priority) (q .priority) (r .0) in
-    let n = r .1 in
-    let t = r .2 in
-    (λ i. record { flags = f i; address = record { 0 = n i }; text = t i })
-
 -- an individual slot's bytes
 pub individual-code : Code IndividualOk member-width individual-bytes
-individual-code = record { long = member-long individual-flags (λ x. x .0); one = individual-one }
+individual-code =
+    member-code individual-flags (λ x. x .0) IndividualOk (λ g p. p .text) (λ a b p q e. individual-flags-one (a .flags) (b .flags) (p .priority) (q .priority) e)
+    (λ a b e i. record { 0 = e i })
 
 -- they are not all zeros
 pub individual-shown : (g : IndividualMember) → IndividualOk g → zeros? (individual-bytes g) ≡ false

@@ -2,6 +2,7 @@ pub mod ChannelLaws
 pub mod DigitLaws
 pub mod EntryBytes
 pub mod EntryCodes
+pub mod EntryPlaces
 pub mod EntryWalk
 pub mod FixedCodes
 pub mod Frames

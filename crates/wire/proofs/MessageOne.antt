@@ -72,7 +72,7 @@ query-hash {h} {k} a b =
     let e : a .data-bytes ≡ b .data-bytes = carries-one (a .carried) (b .carried) .1 in
     let g : Agree (query h ++ []) (query k ++ []) [] []
     = agree (bitsOf (b .data-bytes)) (subst⁻¹ (λ (l : List Field). Shows l (bitsOf (b .data-bytes))) (append-nil (query h)) (subst (λ (l : List ℕ). Shows (query h) (bitsOf l)) e (a .written)))
-      (subst⁻¹ (λ (l : List Field). Shows l (bitsOf (b .data-bytes))) (append-nil (query k)) (b .written)) in
+    (subst⁻¹ (λ (l : List Field). Shows l (bitsOf (b .data-bytes))) (append-nil (query k)) (b .written)) in
     let (p, g) = val-ends g in
     let (q, g) = val-ends g in
     let (z, g) = val-ends (res-ends g) in
