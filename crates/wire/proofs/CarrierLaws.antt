@@ -3,12 +3,12 @@ use Prim.Native.Nat.{ℕ, suc, _+_, _-_, _*_, _/_, _%_, _≤_, _<_}
 use mathlib.Core.Path.{_≡_, refl, sym, ap, ap₂, _∙_, subst, subst⁻¹}
 use mathlib.Core.Logic.{_≢_, inr, ⊎-elim}
 use mathlib.Core.List.{List, [], _∷_, _++_}
-use mathlib.Core.Bool.{Bool, true, false}
+use mathlib.Core.Bool.{Bool, true, false, not}
 use native.Mathlib.Omega.{arith}
 use lib.Dec.{eqb}
 use lib.ListN.{length, getD, drop, take, length-drop}
 use lib.Seq.{drop-cons, drop-drop, drop-at, drop-append-seam}
-use borrow.Author.Tests.{eqb-true, eqb-false}
+use borrow.Author.Tests.{eqb-true, eqb-false, not-true, not-false}
 use Rattle.lists.proofs.Bytes.{Bytes}
 use Rattle.lists.proofs.Seqs.{cut}
 use Rattle.writing.specs.Fields.{bitsOf, Field, Shows, widths}
@@ -64,6 +64,13 @@ starts-by m false l a e = λ rest d. eqb-false (getD m 1 0) 2 e (start-out m res
 pub length-by : (stated after : ℕ) (r : Bool) → stated ≢ 0 → eqb stated after ≡ r → LengthIs stated after r
 length-by stated after true n e = inr (eqb-true stated after e)
 length-by stated after false n e = ⊎-elim n (eqb-false stated after e)
+
+-- a length that was found wrong, and one that was not
+pub length-wrong : (stated after n : ℕ) (r : Bool) → LengthIs stated after r → after ≡ n → not r ≡ true → States stated n → ⊥
+length-wrong stated after n r k e t s = subst (LengthIs stated after) (not-true r t) k (subst⁻¹ (States stated) e s)
+
+pub length-right : (stated after n : ℕ) (r : Bool) → LengthIs stated after r → after ≡ n → not r ≡ false → States stated n
+length-right stated after n r k e t = subst (States stated) e (subst (LengthIs stated after) (not-false r t) k)
 
 -- ---- the four bytes after them
 

@@ -79,7 +79,8 @@ fn read_carrier(m: &[u8]) -> CarrierRead
     if head / 256 % 256 != MFID {
         return CarrierRead::NotCarried;
     }
-    CarrierRead::Coding((head % 16) as u8)
+    let coding = (head % 16) as u8;
+    CarrierRead::Coding(coding)
 }
 
 // A request, or none, where the first data byte says one.

@@ -35,5 +35,6 @@ pub fn read_hash(m: &[u8], at: usize, code: u8) -> HashRead
     if remaining(m, at) < size {
         return HashRead::NoHash;
     }
-    HashRead::Hash(HashPlace { code, start: at }, at + size)
+    let next = at + size;
+    HashRead::Hash(HashPlace { code, start: at }, next)
 }

@@ -1,12 +1,10 @@
 -- `wire::carrier::read_carrier` meets its contract. Assumes nothing.
 use borrow.Author.Needs.{needs}
 use native.Mathlib.Omega.{arith}
-use Prim.Native.Nat.{_-_, _/_}
 use mathlib.Core.Path.{refl, subst}
-use lib.ListN.{length}
 use borrow.Author.Tests.{not-true, not-false}
-use Rattle.wire.specs.Message.{StartsWith, LengthIs}
-use Rattle.wire.proofs.CarrierLaws.{not-carried, carries-in}
+use Rattle.wire.specs.Message.{StartsWith}
+use Rattle.wire.proofs.CarrierLaws.{length-wrong, length-right, not-carried, carries-in}
 use Rattle.wire.proofs.carrier.read_carrier.Statement.{statement}
 use Rattle.wire.proofs.carrier.read_carrier.Tie as tie
 
@@ -33,17 +31,15 @@ states-requires c κs = search needs
 
 returns-3 : tie.Need-returns-3
 returns-3 c =
-    let m = c .before .before .before .before .before .before .before .args .m .now in
-    let n = c .before .before .number in
     let s = c .before .states in
-    let never = subst (LengthIs (n .result / 65536) (length m - 4)) (not-true (s .result) (c .if3 .taken)) (s .ensures) in
-    not-carried m (λ i. (c .before .before .before .before .before .before .shared-slice-known .given i) .fits) (n .ensures) (λ coding k. never (k .length-field))
+    not-carried (c .before .before .before .before .before .before .before .args .m .now) (λ i. (c .before .before .before .before .before .before .shared-slice-known .given i) .fits) (c .before .before .number .ensures)
+    (λ coding k. length-wrong _ _ _ (s .result) (s .ensures) (omega arith) (c .if3 .taken) (k .length-field))
 
 returns-4 : tie.Need-returns-4
 returns-4 c = not-carried (c .before .before .before .before .before .before .before .before .args .m .now) (λ i. (c .before .before .before .before .before .before .before .shared-slice-known .given i) .fits) (c .before .before .before .number .ensures) (λ coding k. omega (arith, k .mfid))
 
-cast-t9 : tie.Need-cast-t9
-cast-t9 c = search needs
+cast-coding : tie.Need-cast-coding
+cast-coding c = search needs
 
 returns-5 : tie.Need-returns-5
 returns-5 c =
@@ -54,7 +50,7 @@ returns-5 c =
     carries-in m (λ i. (c .before .before .before .before .before .before .before .shared-slice-known .given i) .fits) (n .ensures) _ (record {
       room = omega arith;
       starts = subst (StartsWith m) (not-false (b .result) (c .before .before .before .before .if2 .left)) (b .ensures);
-      length-field = subst (LengthIs (n .result / 65536) (length m - 4)) (not-false (s .result) (c .before .if3 .left)) (s .ensures);
+      length-field = length-right _ _ _ (s .result) (s .ensures) (omega arith) (c .before .if3 .left);
       mfid = omega arith;
       coded = omega arith;
     })
@@ -71,5 +67,5 @@ read-carrier-spec =
     states-requires
     returns-3
     returns-4
-    cast-t9
+    cast-coding
     returns-5)
