@@ -6,7 +6,7 @@ use lib.ListN.{length}
 use Rattle.wire.proofs.BodyLaws.{last-head, no-room, no-body, the-body, flag-bit, not-last}
 use Rattle.writing.specs.Ranges.{HashSize}
 use Rattle.writing.specs.Fields.{val}
-use mathlib.Core.List.{List, map}
+use mathlib.Core.List.{map}
 use Rattle.wire.specs.Places.{PartAt}
 use Rattle.wire.specs.Hashes.{HashAt}
 use Rattle.wire.proofs.HashLaws.{bytes-out}
@@ -16,7 +16,7 @@ use Rattle.wire.proofs.fixed_settings.read_last.Statement.{statement}
 use Rattle.wire.proofs.fixed_settings.read_last.Tie as tie
 
 returns : tie.Need-returns
-returns c = not-last _ _ _ (c .if1 .taken)
+returns c = not-last _ _ _ (omega arith)
 
 remaining-requires : tie.Need-remaining-requires
 remaining-requires c κs = search needs
