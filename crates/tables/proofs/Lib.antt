@@ -1,7 +1,10 @@
+pub mod AllowedLaws
 pub mod EntryBytes
 pub mod EntryCodes
+pub mod FitsLaws
 pub mod FixedCodes
 pub mod Frames
 pub mod FreshLaws
 pub mod LayoutLaws
+pub mod StepLaws
 pub mod TextCodes
