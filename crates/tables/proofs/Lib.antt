@@ -6,5 +6,7 @@ pub mod FixedCodes
 pub mod Frames
 pub mod FreshLaws
 pub mod LayoutLaws
+pub mod RoomSentences
+pub mod Sentences
 pub mod StepLaws
 pub mod TextCodes
