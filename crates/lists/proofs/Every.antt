@@ -30,6 +30,11 @@ pub all-turn : {A : Type 0} (P Q : A → Type 0) → ((a : A) → P a → Q a) �
 all-turn P Q h [] p = tt
 all-turn P Q h (x ∷ xs) p = (h x (p .0), all-turn P Q h xs (p .1))
 
+-- what has P and Q has R
+pub all-both : {A : Type 0} (P Q R : A → Type 0) → ((a : A) → P a → Q a → R a) → (xs : List A) → All P xs → All Q xs → All R xs
+all-both P Q R h [] p q = tt
+all-both P Q R h (x ∷ xs) p q = (h x (p .0) (q .0), all-both P Q R h xs (p .1) (q .1))
+
 -- what a function makes has P
 pub all-made : {A B : Type 0} (P : B → Type 0) (f : A → B) → ((a : A) → P (f a)) → (xs : List A) → All P (map f xs)
 all-made P f h [] = tt

@@ -19,7 +19,7 @@ use Rattle.tables.specs.Tables.{fresh}
 use Rattle.tables.proofs.Frames.{all-widths}
 
 -- a table with n empty places
-empty-table : {A : Type 0} (P : A → Type 0) (n : ℕ) → (length (replicate {A = Option A} n none) ≡ n) × All (Present P) (replicate n none)
+pub empty-table : {A : Type 0} (P : A → Type 0) (n : ℕ) → (length (replicate {A = Option A} n none) ≡ n) × All (Present P) (replicate n none)
 empty-table {A = A} P n = (length-replicate {A = Option A} n none, all-replicate (Present P) n none tt)
 
 -- FRESH-ALLOWED: a fresh store is one of any set

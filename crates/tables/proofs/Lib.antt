@@ -1,9 +1,11 @@
+pub mod AllowedLaws
 pub mod ChannelLaws
 pub mod DigitLaws
 pub mod EntryBytes
 pub mod EntryCodes
 pub mod EntryPlaces
 pub mod EntryWalk
+pub mod FitsLaws
 pub mod FixedCodes
 pub mod Frames
 pub mod FreshLaws
@@ -15,6 +17,9 @@ pub mod ListLaws
 pub mod MemberLaws
 pub mod OverwriteLaws
 pub mod QuickLaws
+pub mod RoomSentences
+pub mod Sentences
 pub mod StatusLaws
+pub mod StepLaws
 pub mod TextCodes
 pub mod TextLaws
