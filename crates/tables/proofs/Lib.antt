@@ -1,4 +1,5 @@
 pub mod EntryWalk
+pub mod FixedLaws
 pub mod HeadLaws
 pub mod IndexedLaws
 pub mod MemberLaws

@@ -1,9 +1,10 @@
 // The tables of a set in lent bytes: what each setting does to them.
-pub mod heads;
+pub mod fixed;
+mod heads;
 pub mod limits;
 pub mod members;
-pub mod overwriting;
+mod overwriting;
 pub mod quick;
-pub mod replacing;
+mod replacing;
 pub mod status;
 pub mod texts;
