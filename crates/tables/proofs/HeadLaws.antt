@@ -3,7 +3,7 @@ use Prim.Native.Nat.{ℕ, _/_, _%_, _<_}
 use mathlib.Core.Path.{_≡_, ap₂}
 use mathlib.Core.List.{List, [], _∷_}
 use native.Mathlib.Omega.{arith}
-use Rattle.slots.specs.Slots.{u16, u24}
+use Rattle.slots.specs.Slots.{u24}
 
 -- three bytes that are cut from an address are its bytes
 pub address-cut : (flags a : ℕ) → a < 16777216 → flags ∷ a / 65536 % 256 ∷ a / 256 % 256 ∷ a % 256 ∷ [] ≡ flags ∷ u24 a

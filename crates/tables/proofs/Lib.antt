@@ -7,6 +7,7 @@ pub mod EntryPlaces
 pub mod EntryWalk
 pub mod FitsLaws
 pub mod FixedCodes
+pub mod FixedLaws
 pub mod Frames
 pub mod FreshLaws
 pub mod HeadLaws

@@ -19,15 +19,17 @@ use Rattle.tables.specs.Tables.{GroupMember, IndividualMember}
 use Rattle.tables.proofs.OverwriteLaws.{Made, place-overwritten, after-turn}
 use Rattle.tables.proofs.TextLaws.{text-long}
 
--- a member's bytes are as many as its slot has
+-- a group's bytes are as many as its slot has
 pub group-long : (g : GroupMember) → length (group-bytes g) ≡ member-width
 group-long g = ap (λ (n : ℕ). suc (suc (suc (suc n)))) (text-long (text-limits .short) (g .text))
 
+-- and so are an individual's
 pub individual-long : (i : IndividualMember) → length (individual-bytes i) ≡ member-width
 individual-long i = ap (λ (n : ℕ). suc (suc (suc (suc n)))) (text-long (text-limits .short) (i .text))
 
 -- a place was set, with a head of four bytes: the flags and the address
 module _ (m : List ℕ) (o : Operation) (s t head : List ℕ) (four : length head ≡ 4) (flags : ℕ) where
+  -- a group's place
   pub group-applied : (f : GroupFlags) (p : GroupPlace) → (f .attribute < 4 → f .priority < 4 → flags ≡ group-flags f)
       → (p .address .0 < 16777216 → head ≡ flags ∷ u24 (p .address .0)) → (p .index * member-width + member-width ≤ length s → PlaceSet m o (p .text) head member-width (p .index) s t)
       → GroupApplied m o f p s t
@@ -41,6 +43,7 @@ module _ (m : List ℕ) (o : Operation) (s t head : List ℕ) (four : length hea
             (hd (g .address .1) ∙ ap (λ (x : ℕ). x ∷ u24 (p .address .0)) (fl (g .attribute .1) (g .priority))),
       )) o ok) t changed
 
+  -- an individual's place
   pub individual-applied : (f : IndividualFlags) (p : IndividualPlace) → (f .priority < 4 → flags ≡ individual-flags f)
       → (p .address .0 < 16777216 → head ≡ flags ∷ u24 (p .address .0)) → (p .index * member-width + member-width ≤ length s → PlaceSet m o (p .text) head member-width (p .index) s t)
       → IndividualApplied m o f p s t

@@ -45,6 +45,7 @@ module _ (m : List ℕ) (p : TextPlace) (head s : List ℕ) where
     pub set-added : o ≡ Add → SlotPut m p head s t → SlotSet m o p head s t
     set-added e k = subst⁻¹ (λ (o : Operation). SlotSet m o p head s t) e k
 
+    -- and so does a replace
     pub set-replaced : o ≡ Replace → SlotPut m p head s t → SlotSet m o p head s t
     set-replaced e k = subst⁻¹ (λ (o : Operation). SlotSet m o p head s t) e k
 

@@ -56,6 +56,7 @@ module _ (m : List ℕ) (p : TextPlace) (s t : List ℕ) where
     pub slot-added : o ≡ Add → QuickIfAbsent m p s t → QuickSlot m o p s t
     slot-added e k = subst⁻¹ (λ (o : Operation). QuickSlot m o p s t) e k
 
+    -- and so does a replace
     pub slot-replaced : o ≡ Replace → QuickIfAbsent m p s t → QuickSlot m o p s t
     slot-replaced e k = subst⁻¹ (λ (o : Operation). QuickSlot m o p s t) e k
 

@@ -1,30 +1,35 @@
 -- What the functions that change one part of the store promise: its bytes at exit, for every table that its bytes at entry are.
 use Prim.Native.Nat.{ℕ, _+_, _*_, _≤_, _<_}
 use mathlib.Core.Path.{_≡_}
-use mathlib.Core.List.{List, _++_}
+use mathlib.Core.List.{List, _++_, map}
 use mathlib.Core.Option.{Option, none, some}
 use lib.ListN.{length, take, drop, set}
 use Rattle.lists.proofs.Every.{All}
 use Rattle.slots.specs.Slots.{slot, Present, Placed}
 use Rattle.writing.specs.declared.GroupFlags.{GroupFlags}
 use Rattle.writing.specs.declared.IndividualFlags.{IndividualFlags}
+use Rattle.writing.specs.declared.KeyFlags.{KeyFlags}
+use Rattle.writing.specs.declared.KeyTarget.{KeyTarget}
 use Rattle.writing.specs.declared.Operation.{Operation}
 use Rattle.writing.specs.declared.Operation.the-variants.{Add, Delete, Replace}
-use Rattle.writing.specs.Fields.{each}
-use Rattle.writing.specs.Ranges.{text-limits, InQuick, InStatus}
+use Rattle.writing.specs.declared.SystemCode.{SystemCode}
+use Rattle.writing.specs.Fields.{each, val}
+use Rattle.writing.specs.Ranges.{text-limits, InQuick, InStatus, HashSize}
 use Rattle.writing.specs.Settings.{Text, Entry, unicode16}
 use Rattle.writing.specs.Writing.{quick-text, status-text}
 use Rattle.wire.specs.Entries.{EntryIs}
 use Rattle.wire.specs.Parts.{TextIs}
+use Rattle.wire.specs.Places.{PartAt}
 use Rattle.wire.specs.Settings.{EntriesAre}
 use Rattle.wire.specs.declared.entries.EntryPlace.{EntryPlace}
+use Rattle.wire.specs.declared.hashes.HashPlace.{HashPlace}
 use Rattle.wire.specs.declared.settings.Entries.{Entries}
 use Rattle.wire.specs.declared.settings.GroupPlace.{GroupPlace}
 use Rattle.wire.specs.declared.settings.IndividualPlace.{IndividualPlace}
 use Rattle.wire.specs.declared.texts.TextPlace.{TextPlace}
 use Rattle.tables.specs.Allowed.{QuickOk, StatusOk, GroupOk, IndividualOk}
 use Rattle.tables.specs.Apply.{if-absent, quick-step, quick-after, status-step, status-after, slot-after}
-use Rattle.tables.specs.Layout.{text-bytes, quick-bytes, quick-width, status-bytes, status-width, group-bytes, individual-bytes, member-width}
+use Rattle.tables.specs.Layout.{text-bytes, quick-bytes, quick-width, status-bytes, status-width, group-bytes, individual-bytes, member-width, key-address, key-bytes, system-bytes, hash-bytes}
 use Rattle.tables.specs.Limits.{quick-places, status-places, slot-places}
 use Rattle.tables.specs.Tables.{GroupMember, IndividualMember}
 
@@ -66,9 +71,11 @@ quick-slot Add q us = if-absent q us
 quick-slot Delete q us = none
 quick-slot Replace q us = if-absent q us
 
+-- a slot that an operation changes
 abbrev pub QuickSlot : List ℕ → Operation → TextPlace → List ℕ → List ℕ → Type 0
 QuickSlot m o p = QuickChanged m p (quick-slot o)
 
+-- a slot that a text is put in where there is none
 abbrev pub QuickIfAbsent : List ℕ → TextPlace → List ℕ → List ℕ → Type 0
 QuickIfAbsent m p = QuickChanged m p if-absent
 
@@ -135,3 +142,19 @@ IndividualApplied m o f p s t =
     (is : List (Option IndividualMember)) (us : Text) (next : ℕ) → TextIs unicode16 m (p .text) us next → p .index < slot-places
     → Present IndividualOk (slot-after o (individual-member f p us)) → IndividualsAre is s
     → IndividualsAre (set is (p .index) (slot-after o (individual-member f p us))) t
+
+-- ---- the fixed parts
+
+-- four bytes become the key's
+abbrev pub KeyPut : KeyTarget → KeyFlags → List ℕ → List ℕ → Type 0
+KeyPut target flags s t = key-address target < 16777216 → length s ≡ 4 → t ≡ key-bytes (record { target = target; flags = flags })
+
+-- three bytes become the system code's
+abbrev pub SystemPut : SystemCode → List ℕ → List ℕ → Type 0
+SystemPut c s t = c .la < 16 → c .roaming < 4 → length s ≡ 3 → t ≡ system-bytes c
+
+-- eleven bytes become the hash's, whose value stands in the message
+abbrev pub HashPut : List ℕ → HashPlace → List ℕ → List ℕ → Type 0
+HashPut m p s t =
+    (v : List ℕ) → HashSize (p .code) (length v) → PartAt (map (val 8) v) m (p .start) (p .start + length v) → length s ≡ 11
+    → t ≡ hash-bytes (record { code = p .code; value = v })

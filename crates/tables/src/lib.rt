@@ -1,12 +1,14 @@
 // The tables of a set in lent bytes: what each setting does to them.
 pub mod channels;
+pub mod fixed;
 pub mod heads;
+mod heads;
 pub mod limits;
 mod line_slots;
 pub mod lines;
 pub mod members;
-pub mod overwriting;
+mod overwriting;
 pub mod quick;
-pub mod replacing;
+mod replacing;
 pub mod status;
 pub mod texts;

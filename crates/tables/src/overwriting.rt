@@ -32,7 +32,7 @@ fn set_slot(slot: &mut [u8], head: &[u8], m: &[u8], operation: Operation, text: 
 }
 
 // Sets place k of slots of w bytes. Bytes that have no such place stay.
-pub fn set_place(
+pub(crate) fn set_place(
     part: &mut [u8],
     w: u8,
     k: u8,

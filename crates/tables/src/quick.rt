@@ -23,6 +23,7 @@ fn put_if_absent(slot: &mut [u8], m: &[u8], text: TextPlace)
     }
 }
 
+// Applies the operation to a slot.
 fn change_slot(slot: &mut [u8], m: &[u8], operation: Operation, text: TextPlace)
     ensures { λ _. ⌜ QuickSlot (now (m .entry)) operation text (now (slot .entry)) (now (slot .exit)) ⌝ }
 {
