@@ -1,7 +1,6 @@
 // The tables of a set in lent bytes: what each setting does to them.
 pub mod channels;
 pub mod fixed;
-pub mod heads;
 mod heads;
 pub mod limits;
 mod line_slots;
