@@ -22,5 +22,6 @@ pub mod RoomSentences
 pub mod Sentences
 pub mod StatusLaws
 pub mod StepLaws
+pub mod StoreLaws
 pub mod TextCodes
 pub mod TextLaws

@@ -4,4 +4,5 @@ pub mod Changes
 pub mod Layout
 pub mod Limits
 pub mod Lists
+pub mod Store
 pub mod Tables

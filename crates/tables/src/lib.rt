@@ -10,4 +10,5 @@ mod overwriting;
 pub mod quick;
 mod replacing;
 pub mod status;
+pub mod store;
 pub mod texts;

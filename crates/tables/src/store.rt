@@ -1,0 +1,78 @@
+// The whole store: a setting that was read is applied to its part.
+use super::channels::apply_channels;
+use super::fixed::put_hash;
+use super::fixed::put_home;
+use super::fixed::put_key;
+use super::fixed::put_system;
+use super::limits::Limits;
+use super::lines::apply_lines;
+use super::members::apply_group;
+use super::members::apply_individual;
+use super::quick::apply_quick;
+use super::status::apply_status;
+use wire::settings::Setting;
+ghost use mathlib.Core.Path.{_≡_};
+ghost use mathlib.Core.Bool.{true, false};
+ghost use Prim.Native.Nat.{_≤_};
+ghost use Rattle.tables.specs.Layout.{used-size};
+ghost use Rattle.tables.specs.Store.{Applied};
+
+// Whether so many bytes are too few for the tables.
+fn cramped(limits: Limits, bytes: usize) -> bool
+    ensures { λ r. ⌜ (r ≡ true → used-size limits ≤ bytes → ⊥) × (r ≡ false → used-size limits ≤ bytes) ⌝ }
+{
+    if bytes < 7286 {
+        return true;
+    }
+    let left = bytes - 7286;
+    if left / 2 < limits.channels {
+        return true;
+    }
+    (left - limits.channels * 2) / 51 < limits.lines
+}
+
+// Whether there was room; a store too small for its tables is left as it was.
+pub fn apply(store: &mut [u8], limits: Limits, m: &[u8], setting: Setting) -> bool
+    ensures { λ r. ⌜ Applied limits (now (m .entry)) setting (now (store .entry)) (now (store .exit)) r ⌝ }
+{
+    if cramped(limits, store.len()) {
+        return false;
+    }
+    let lines = 7286 + limits.channels * 2;
+    let end = lines + limits.lines * 51;
+    match setting {
+        Setting::Lines(operation, flags, entries) => {
+            return apply_lines(&mut store[lines..end], m, operation, flags, entries);
+        }
+        Setting::Channels(operation, entries) => {
+            return apply_channels(&mut store[7286..lines], m, operation, entries);
+        }
+        Setting::Key(target, flags) => put_key(&mut store[11..15], target, flags),
+        Setting::QuickTexts(operation, entries) => apply_quick(
+            &mut store[22..2966],
+            m,
+            operation,
+            entries,
+        ),
+        Setting::Home(numbers) => put_home(&mut store[15..19], numbers),
+        Setting::System(code) => put_system(&mut store[19..22], code),
+        Setting::StatusTexts(operation, entries) => apply_status(
+            &mut store[2966..6134],
+            m,
+            operation,
+            entries,
+        ),
+        Setting::Group(operation, flags, place) => apply_group(
+            &mut store[6134..6710],
+            m,
+            operation,
+            flags,
+            place,
+        ),
+        Setting::Individual(operation, flags, place) => {
+            apply_individual(&mut store[6710..7286], m, operation, flags, place)
+        }
+        Setting::Last(_, hash) => put_hash(&mut store[0..11], m, hash),
+    }
+    true
+}
