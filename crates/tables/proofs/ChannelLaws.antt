@@ -27,11 +27,11 @@ use Rattle.tables.specs.Lists.{ChannelTable, ChannelApplied, ChannelsApp
 use Rattle.tables.proofs.ListLaws.{tried-room, tried-full, Trying, Applied, trying-start, trying-next, trying-full, trying-end, wiped}
 
 -- a channel is not 0, so its bytes are not zeros
-channel-shown : (c : ℕ) → InChannel c → zeros? (u16 c) ≡ false
+pub channel-shown : (c : ℕ) → InChannel c → zeros? (u16 c) ≡ false
 channel-shown c h = u16-shown c (λ e. omega (arith, h .0))
 
 -- a channel's two bytes are its key
-channel-keyed : Keyed InChannel 2 u16 0 2 u16
+pub channel-keyed : Keyed InChannel 2 u16 0 2 u16
 channel-keyed = record { wide = omega arith; inside = omega arith; long = λ a. refl; key-long = λ a. refl; stands = λ a. refl; shown = channel-shown }
 
 -- ---- one channel

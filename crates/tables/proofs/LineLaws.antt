@@ -61,19 +61,19 @@ slot-made m f p b y z flags digits text e is range low =
 -- ---- a line's key
 
 -- a text of n units has twice as many bytes
-text-length : (n : ℕ) (us : Text) → length (text-bytes n us) ≡ 2 * n
+pub text-length : (n : ℕ) (us : Text) → length (text-bytes n us) ≡ 2 * n
 text-length n us = ap length (sym (text-padded n us)) ∙ pad-length 0 (2 * n) (flat (map u16 us))
 
 -- the digits of a line, as they are kept
-abbrev key : Line → List ℕ
+abbrev pub key : Line → List ℕ
 key l = digit-bytes (l .number)
 
 -- there are 18
-key-length : (l : Line) → length (key l) ≡ 18
+pub key-length : (l : Line) → length (key l) ≡ 18
 key-length l = pad-length 0 18 (map suc (l .number))
 
 -- a line's key stands in its slot behind the flags
-line-keyed : Keyed LineOk 51 line-bytes 1 18 key
+pub line-keyed : Keyed LineOk 51 line-bytes 1 18 key
 line-keyed = record {
   wide = omega arith;
   inside = omega arith;
@@ -129,7 +129,7 @@ line-dropped x s t r n ls l i ok e =
 -- ---- the loops
 
 -- a contact in range that stands at a place makes a line in range
-line-ok : (m : List ℕ) → Bytes m → (f : LineFlags) (p : ContactPlace) (e : Contact) → ContactIs unicode16 m p e → InContact text-limits e → f .priority < 4 → LineOk (line-of f e)
+pub line-ok : (m : List ℕ) → Bytes m → (f : LineFlags) (p : ContactPlace) (e : Contact) → ContactIs unicode16 m p e → InContact text-limits e → f .priority < 4 → LineOk (line-of f e)
 line-ok m h f p e is range low = record {
   priority = low;
   number = range .0;
