@@ -1,13 +1,14 @@
 -- Lists of which every element is a byte. Assumes nothing.
 use mathlib.Core.Path.{_≡_, refl}
 use mathlib.Core.Bool.{Bool, true, false}
-use mathlib.Core.List.{List}
-use Prim.Native.Nat.{ℕ, _+_, _<_}
+use mathlib.Core.List.{List, [], _∷_, _++_}
+use Prim.Native.Nat.{ℕ, zero, suc, _+_, _<_}
 use native.Mathlib.Omega.{arith}
 use borrow.Author.Tests.{ltb-true, ltb-false}
 use lib.Dec.{ltb}
-use lib.ListN.{getD, take, drop, length-take, List·getD-eq-default}
+use lib.ListN.{getD, take, drop, replicate, length-take, List·getD-eq-default}
 use lib.Seq.{getD-take, getD-drop}
+use Rattle.lists.proofs.Every.{All, all-replicate}
 
 -- every element is a byte
 abbrev pub Bytes : List ℕ → Type 0
@@ -24,3 +25,24 @@ bytes-take n l b i = go (ltb i n) refl
     go : (t : Bool) → ltb i n ≡ t → getD (take n l) i 0 < 256
     go true h = rw (getD-take n l i 0 (ltb-true i n h)) (b i)
     go false h = rw (List·getD-eq-default (take n l) 0 {n = i} (simp length-take (omega (arith, ltb-false i n h)))) (omega arith)
+
+-- what is below 256 is bytes
+pub all-bytes : (l : List ℕ) → All (_< 256) l → Bytes l
+all-bytes [] p i = omega arith
+all-bytes (x ∷ l) p zero = p .0
+all-bytes (x ∷ l) p (suc i) = all-bytes l (p .1) i
+
+-- zeros are bytes
+pub bytes-zeros : (n : ℕ) → Bytes (replicate n 0)
+bytes-zeros n = all-bytes (replicate n 0) (all-replicate (_< 256) n 0 (omega arith))
+
+-- a byte before bytes
+pub bytes-cons : (x : ℕ) (l : List ℕ) → x < 256 → Bytes l → Bytes (x ∷ l)
+bytes-cons x l h b zero = h
+bytes-cons x l h b (suc i) = b i
+
+-- bytes after bytes
+pub bytes-append : (a b : List ℕ) → Bytes a → Bytes b → Bytes (a ++ b)
+bytes-append [] b p q i = q i
+bytes-append (x ∷ a) b p q zero = p zero
+bytes-append (x ∷ a) b p q (suc i) = bytes-append a b (λ j. p (suc j)) q i

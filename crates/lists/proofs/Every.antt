@@ -4,7 +4,7 @@ use mathlib.Core.List.{List, [], _∷_, _++_, map}
 use Prim.Native.Nat.{ℕ, zero, suc, _<_}
 use native.Mathlib.Nat.{not-suc-le-zero, le-of-suc-le-suc}
 use lib.Dec.{T}
-use lib.ListN.{getD, length, set, take}
+use lib.ListN.{getD, length, set, take, replicate}
 
 -- every element of the list has P
 abbrev pub All : {A : Type 0} → (A → Type 0) → List A → Type 0
@@ -30,10 +30,30 @@ pub all-turn : {A : Type 0} (P Q : A → Type 0) → ((a : A) → P a → Q a) �
 all-turn P Q h [] p = tt
 all-turn P Q h (x ∷ xs) p = (h x (p .0), all-turn P Q h xs (p .1))
 
+-- what has P and Q has R
+pub all-both : {A : Type 0} (P Q R : A → Type 0) → ((a : A) → P a → Q a → R a) → (xs : List A) → All P xs → All Q xs → All R xs
+all-both P Q R h [] p q = tt
+all-both P Q R h (x ∷ xs) p q = (h x (p .0) (q .0), all-both P Q R h xs (p .1) (q .1))
+
 -- what a function makes has P
 pub all-made : {A B : Type 0} (P : B → Type 0) (f : A → B) → ((a : A) → P (f a)) → (xs : List A) → All P (map f xs)
 all-made P f h [] = tt
 all-made P f h (x ∷ xs) = (h x, all-made P f h xs)
+
+-- what a function makes of what has P has Q
+pub all-map : {A B : Type 0} (P : A → Type 0) (Q : B → Type 0) (f : A → B) → ((a : A) → P a → Q (f a)) → (xs : List A) → All P xs → All Q (map f xs)
+all-map P Q f h [] p = tt
+all-map P Q f h (x ∷ xs) p = (h x (p .0), all-map P Q f h xs (p .1))
+
+-- what everything has
+pub all-any : {A : Type 0} (P : A → Type 0) → ((a : A) → P a) → (xs : List A) → All P xs
+all-any P h [] = tt
+all-any P h (x ∷ xs) = (h x, all-any P h xs)
+
+-- one element, many times
+pub all-replicate : {A : Type 0} (P : A → Type 0) (n : ℕ) (a : A) → P a → All P (replicate n a)
+all-replicate P zero a p = tt
+all-replicate P (suc n) a p = (p, all-replicate P n a p)
 
 -- the first k elements
 pub all-take : {A : Type 0} (P : A → Type 0) (k : ℕ) (xs : List A) → All P xs → All P (take k xs)

@@ -3,3 +3,4 @@ pub mod Bytes
 pub mod Every
 pub mod Table
 pub mod Seqs
+pub mod Ladder

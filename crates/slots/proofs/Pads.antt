@@ -27,6 +27,12 @@ module _ {A : Type 0} (d : A) where
   pad-is (suc n) [] = rw sub-zero (ap (λ l. d ∷ l) (pad-nil n))
   pad-is (suc n) (x ∷ xs) = rw suc-sub-suc (ap (λ l. x ∷ l) (pad-is n xs))
 
+  -- every element has P where d has it
+  pub pad-all : (P : A → Type 0) → P d → (n : ℕ) (xs : List A) → All P xs → All P (pad d n xs)
+  pad-all P h zero xs p = tt
+  pad-all P h (suc n) [] p = (h, pad-all P h n [] tt)
+  pad-all P h (suc n) (x ∷ xs) p = (p .0, pad-all P h n xs (p .1))
+
   -- what stands before is kept
   pub pad-after : (a b : List A) (n : ℕ) → pad d (length a + n) (a ++ b) ≡ a ++ pad d n b
   pad-after [] b n = rw zero-add

@@ -5,8 +5,10 @@ use Prim.Native.Nat.{ℕ, zero, suc, _+_, _*_, _<_}
 use native.Mathlib.Nat.{zero-mul, suc-mul}
 use native.Mathlib.Omega.{arith}
 use borrow.Rule.Slice.PartMut.{putMid, midOf}
-use lib.ListN.{length, set, drop, take, getD, length-append}
+use lib.ListN.{length, set, drop, take, getD, replicate, length-append, replicate-append-replicate}
 use lib.Seq.{take-at, drop-at, split-at, set-split}
+use Rattle.lists.proofs.Bytes.{Bytes, bytes-append, bytes-zeros}
+use Rattle.lists.proofs.Every.{All}
 use Rattle.lists.proofs.Seqs.{cut}
 use Rattle.slots.specs.Slots.{flat, Slots}
 
@@ -23,6 +25,11 @@ pub flat-append : (xs ys : List (List ℕ)) → flat (xs ++ ys) ≡ flat xs ++ f
 flat-append [] ys = refl
 flat-append (x ∷ xs) ys = ap (λ (l : List ℕ). x ++ l) (flat-append xs ys) ∙ sym (append-assoc x (flat xs) (flat ys))
 
+-- slots of bytes are bytes
+pub flat-bytes : (xs : List (List ℕ)) → All Bytes xs → Bytes (flat xs)
+flat-bytes [] p = bytes-zeros 0
+flat-bytes (x ∷ xs) p = bytes-append x (flat xs) (p .0) (flat-bytes xs (p .1))
+
 -- n slots of w bytes are n * w bytes
 pub slots-length : (w : ℕ) (xs : List (List ℕ)) → Slots w xs → length (flat xs) ≡ length xs * w
 slots-length w [] q = sym (zero-mul w)
@@ -34,6 +41,16 @@ slots-length w (x ∷ xs) q = omega (arith, length-append x (flat xs), slots-len
 abbrev pub sum : List ℕ → ℕ
 sum [] = 0
 sum (x ∷ xs) = x + sum xs
+
+-- all parts together
+pub flat-length : (xs : List (List ℕ)) → length (flat xs) ≡ sum (map length xs)
+flat-length [] = refl
+flat-length (x ∷ xs) = length-append x (flat xs) ∙ ap (λ (n : ℕ). length x + n) (flat-length xs)
+
+-- parts of zeros are zeros
+pub flat-zeros : (ws : List ℕ) → flat (map (λ w. replicate w 0) ws) ≡ replicate (sum ws) 0
+flat-zeros [] = refl
+flat-zeros (w ∷ ws) = ap (λ (l : List ℕ). replicate w 0 ++ l) (flat-zeros ws) ∙ replicate-append-replicate w (sum ws) 0
 
 -- the widths of the first k parts
 flat-take : (xs : List (List ℕ)) (k : ℕ) → length (flat (take k xs)) ≡ sum (take k (map length xs))

@@ -8,12 +8,13 @@ use native.Mathlib.Nat.{not-suc-le-zero, le-of-suc-le-suc, suc-mul, zero-mul, ad
 use native.Mathlib.Omega.{arith}
 use borrow.Rule.Slice.PartMut.{putMid, midOf, mid-len}
 use lib.ListN.{length, set, take, drop, getD, replicate, length-set, length-map, length-replicate, replicate-append-replicate}
-use Rattle.lists.proofs.Every.{All, all-get, all-made, all-set}
+use Rattle.lists.proofs.Bytes.{Bytes, bytes-zeros}
+use Rattle.lists.proofs.Every.{All, all-get, all-made, all-map, all-set}
 use Rattle.lists.proofs.Seqs.{map-set, getD-map}
 use Rattle.slots.specs.Slots.{flat, pad, slot, places, front, Present, Slots, unless, indexOf, putAt, zeros?, Placed}
 use Rattle.slots.proofs.Pads.{pad-length, pad-nil, pad-after}
 use Rattle.slots.proofs.Runs.{copy-whole, zeros-all}
-use Rattle.slots.proofs.Parts.{sum, getD-length, parts-get, parts-put, slots-length}
+use Rattle.slots.proofs.Parts.{sum, flat-bytes, getD-length, parts-get, parts-put, slots-length}
 
 -- ---- slots, read and changed
 
@@ -146,6 +147,14 @@ places-nil w f zero = rw zero-mul
 places-nil w f (suc n) =
     let s : suc n * w ≡ w + n * w = suc-mul n w ∙ add-comm (n * w) w in
     (rw (places-nil w f n, s) (replicate-append-replicate w (n * w) 0))
+
+-- a table of entries that are bytes is bytes
+pub places-bytes : {A : Type 0} (P : A → Type 0) (w : ℕ) (f : A → List ℕ) → ((a : A) → P a → Bytes (f a)) → (os : List (Option A)) → All (Present P) os → Bytes (places w f os)
+places-bytes {A = A} P w f h os p = flat-bytes (map (slot w f) os) (all-map (Present P) Bytes (slot w f) go os p)
+  where
+    go : (o : Option A) → Present P o → Bytes (slot w f o)
+    go none q = bytes-zeros w
+    go (some a) q = h a q
 
 -- what the entries of a list table are, its places hold
 pub all-front : {A : Type 0} (P : A → Type 0) (n : ℕ) (xs : List A) → All P xs → All (Present P) (front n xs)

@@ -8,12 +8,16 @@ use lib.ListN.{length}
 use Rattle.lists.proofs.Every.{All}
 use Rattle.writing.specs.Fields.{Field, widths, each}
 use Rattle.writing.proofs.Ends.{Ends}
+use Rattle.writing.specs.Settings.{Entry, unicode16}
+use Rattle.wire.specs.Entries.{EntryIs, EntryAt}
 use Rattle.wire.specs.Places.{PartAt}
-use Rattle.wire.specs.Settings.{EntriesAre}
-use Rattle.wire.specs.declared.settings.Entries.{Entries}
+use Rattle.wire.specs.declared.entries.EntryPlace.{EntryPlace}
+use Rattle.wire.specs.declared.entries.EntryRead.{EntryRead}
+use Rattle.wire.specs.declared.entries.EntryRead.the-variants.{Entry as AnEntry, NoEntry}
 use Rattle.wire.proofs.Parts.{part-split}
 use Rattle.wire.proofs.Walk.{one-part}
 use Rattle.tables.specs.Apply.{in-turn, and-then}
+use Rattle.tables.specs.Changes.{Changed}
 
 -- Starts es: es are the entries of the setting; Stands es rest p: of these, rest are left at place p; Is t s: the bytes s are the table t, s₀ those at the start
 module _ {A T : Type 0} (Starts : List A → Type 0) (Stands : List A → List A → ℕ → Type 0) (In : A → Type 0) (step : A → T → Option T) (Is : T → List ℕ → Type 0) (s₀ : List ℕ) where
@@ -97,34 +101,80 @@ module _ {A T : Type 0} (Starts : List A → Type 0) (Stands : List A → List A
       go x [] e = (x .table, sym (x .same) ∙ ap (λ (r : List A). in-turn step r (x .table)) e, x .is)
       go x (b ∷ more) e = absurd (omega (arith, x .counted, ap length e))
 
--- ---- entries that say where they end and are whole bytes: Starts and Stands of line contacts, quick texts and status texts
+-- ---- entries that say where they end and are whole bytes, as line contacts, quick texts and status texts do
 
-module _ {A : Type 0} (f : A → List Field) (ends : Ends f) (wide : (a : A) → (n : ℕ) × (widths (f a) ≡ 8 * n)) (m : List ℕ) (p : Entries) where
-  abbrev pub Starting : List A → Type 0
-  Starting es = EntriesAre (each f) m p es
-
+module _ {A : Type 0} (f : A → List Field) (m : List ℕ) where
+  -- those that are left stand at the place, up to some end
   abbrev pub Standing : List A → List A → ℕ → Type 0
-  Standing es rest at = PartAt (each f rest) m at (p .next)
+  Standing es rest at = (end : ℕ) × PartAt (each f rest) m at end
 
-  -- at the start all are left
-  pub all-left : (es : List A) → Starting es → (length es ≡ p .count) × Standing es es (p .start)
-  all-left es h = (h .counted, h .stands)
+  -- so many stand at the place
+  abbrev pub Starting : ℕ → ℕ → List A → Type 0
+  Starting at count es = (length es ≡ count) × Standing es es at
 
-  -- the first that is left stands next
-  pub first-stands : (at : ℕ) (b : A) (more : List A) → PartAt (each f (b ∷ more)) m at (p .next) → (q : ℕ) × PartAt (f b) m at q × PartAt (each f more) m q (p .next)
-  first-stands at b more x =
-      let (n, e) = wide b in
-      let (y, z) = part-split (f b) (each f more) m at n (p .next) e x in
-      (at + n, y, z)
+  module _ (wide : (a : A) → (n : ℕ) × (widths (f a) ≡ 8 * n)) (at : ℕ) where
+    -- the first that is left stands next
+    first-stands : (es : List A) (b : A) (more : List A) → Standing es (b ∷ more) at → (q : ℕ) × PartAt (f b) m at q × Standing es more q
+    first-stands es b more (end, x) =
+        let (n, e) = wide b in
+        let (y, z) = part-split (f b) (each f more) m at n end e x in
+        (at + n, y, (end, z))
 
-  -- where an entry stands next it is that one
-  pub next-entry : (at q : ℕ) (a : A) → PartAt (f a) m at q → (es : List A) → Starting es → (b : A) (more : List A) → Standing es (b ∷ more) at → (b ≡ a) × Standing es more q
-  next-entry at q a x es h b more y =
-      let (r, z, w) = first-stands at b more y in
-      let (e, d) = one-part f ends a b m at q r x z in
-      (sym e, subst⁻¹ (λ (k : ℕ). PartAt (each f more) m k (p .next)) d w)
+    -- where an entry stands next it is that one
+    next-entry : Ends f → (a : A) (q : ℕ) → PartAt (f a) m at q → (es : List A) (b : A) (more : List A) → Standing es (b ∷ more) at → (b ≡ a) × Standing es more q
+    next-entry ends a q x es b more y =
+        let (r, z, w) = first-stands es b more y in
+        let (e, d) = one-part f ends a b m at q r x z in
+        (sym e, subst⁻¹ (Standing es more) d w)
 
-  -- where none does none is left
-  pub no-entry : (In : A → Type 0) (at : ℕ) → ((a : A) (q : ℕ) → In a → PartAt (f a) m at q → ⊥)
-      → (es : List A) → Starting es → (b : A) (more : List A) → In b → Standing es (b ∷ more) at → ⊥
-  no-entry In at never es h b more i y = let (r, z, w) = first-stands at b more y in never b r i z
+-- a loop over count entries that stand at `at` has come to p with left of them left, and made s of s₀
+pub record Applying {A T : Type 0} (f : A → List Field) (ends : Ends f) (wide : (a : A) → (n : ℕ) × (widths (f a) ≡ 8 * n)) (In : A → Type 0)
+    (step : A → T → Option T) (Is : T → List ℕ → Type 0) (m s₀ : List ℕ) (at count p left : ℕ) (s : List ℕ) : Type 0 where
+  pub going : Going (Starting f m at count) (Standing f m) In step Is s₀ p left s
+
+module _ {A T : Type 0} {f : A → List Field} {ends : Ends f} {wide : (a : A) → (n : ℕ) × (widths (f a) ≡ 8 * n)} {In : A → Type 0} {step : A → T → Option T}
+    {Is : T → List ℕ → Type 0} {m s₀ : List ℕ} where
+  -- it begins
+  pub applying-start : {at count : ℕ} → Applying f ends wide In step Is m s₀ at count at count s₀
+  applying-start {at} {count} = record { going = going-start (Starting f m at count) (Standing f m) In step Is s₀ at count (λ es h. h) }
+
+  module _ {at count p left : ℕ} {s : List ℕ} (g : Applying f ends wide In step Is m s₀ at count p left s) where
+    module _ (l : 0 < left) (a : A) (q : ℕ) (x : PartAt (f a) m p q) where
+      -- the entry a, which stands next, has been applied
+      pub applying-next : (t : List ℕ) → (In a → Changed Is (step a) s t) → Applying f ends wide In step Is m s₀ at count q (left - 1) t
+      applying-next t applied = record {
+        going = going-next (Starting f m at count) (Standing f m) In step Is s₀ p q left s a l (λ es h. next-entry f m wide p ends a q x es) (g .going) t
+            (λ now is i. applied i now is);
+      }
+
+      -- it had no room, so the setting has none
+      pub applying-full : (In a → (now : T) → Is now s → step a now ≡ none) → (es : List A) (start : T) → Starting f m at count es → All In es → Is start s₀ → in-turn step es start ≡ none
+      applying-full full =
+          going-full (Starting f m at count) (Standing f m) In step Is s₀ p q left s a l (λ es h. next-entry f m wide p ends a q x es) (g .going)
+          (λ now is i. full i now is)
+
+    -- where none that is in range stands next, none is left
+    pub applying-stuck : 0 < left → ((a : A) (q : ℕ) → In a → PartAt (f a) m p q → ⊥) → (es : List A) (start : T) → Starting f m at count es → All In es → Is start s₀ → ⊥
+    applying-stuck l never =
+        going-stuck (Starting f m at count) (Standing f m) In step Is s₀ p left s l
+        (λ es h b more i y. let (r, z, w) = first-stands f m wide p es b more y in never b r i z) (g .going)
+
+    -- all have been applied
+    pub applying-end : left ≤ 0 → (es : List A) (start : T) → Starting f m at count es → All In es → Is start s₀ → (u : T) × (in-turn step es start ≡ some u) × Is u s
+    applying-end l = going-end (Starting f m at count) (Standing f m) In step Is s₀ p left s l (g .going)
+
+-- ---- entries that were read as an index and a text, of a table that has room for all
+
+module _ {T : Type 0} {f : Entry → List Field} {ends : Ends f} {wide : (e : Entry) → (n : ℕ) × (widths (f e) ≡ 8 * n)} {In : Entry → Type 0} {step : Entry → T → Option T}
+    {Is : T → List ℕ → Type 0} {m s₀ : List ℕ} {at count p left : ℕ} {s : List ℕ} (g : Applying f ends wide In step Is m s₀ at count p left s)
+    (InRead : Entry → Type 0) {r : EntryRead} (read : EntryAt unicode16 f InRead m p r) (l : 0 < left) where
+  -- the entry that was read has been applied
+  pub entry-applied : (a : EntryPlace) (q : ℕ) (t : List ℕ) → r ≡ AnEntry a q
+      → ((e : Entry) → EntryIs unicode16 m a e → PartAt (f e) m p q → In e → Changed Is (step e) s t) → Applying f ends wide In step Is m s₀ at count q (left - 1) t
+  entry-applied a q t e applied =
+      let (x, i, is, z) = subst (EntryAt unicode16 f InRead m p) e read in
+      applying-next g l x q z t (λ j. applied x is z j)
+
+  -- none was, so none was left
+  pub entry-missing : ((e : Entry) → In e → InRead e) → r ≡ NoEntry → (es : List Entry) (start : T) → Starting f m at count es → All In es → Is start s₀ → ⊥
+  entry-missing in-read e = applying-stuck g l (λ x q i y. subst (EntryAt unicode16 f InRead m p) e read x q (in-read x i) y)

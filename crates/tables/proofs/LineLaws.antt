@@ -35,7 +35,7 @@ use Rattle.tables.specs.Layout.{line-flags, digit-bytes, text-bytes, lin
 use Rattle.tables.specs.Lists.{Tried, DigitsPut, LineSlot, LineTable, LinePut, LineDropped, LinesApplied}
 use Rattle.tables.specs.Tables.{Line}
 use Rattle.tables.proofs.DigitLaws.{kept-same, kept-shown}
-use Rattle.tables.proofs.EntryWalk.{Starting, Standing, next-entry, no-entry}
+use Rattle.tables.proofs.EntryPlaces.{Starting, Standing, next-entry, no-entry}
 use Rattle.tables.proofs.ListLaws.{tried-room, tried-full, Trying, Applied, trying-start, trying-stuck, trying-next, trying-full, trying-end, wiped}
 use Rattle.tables.proofs.TextLaws.{text-out, text-padded}
 

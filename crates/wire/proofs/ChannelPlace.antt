@@ -1,28 +1,22 @@
 -- The channel in a place of a list: where its 12 bits stand. Assumes nothing.
-use Prim.Native.Nat.{ℕ, zero, suc, _+_, _-_, _*_, _/_, _%_, _^_, _≤_, _<_}
-use mathlib.Core.Path.{_≡_, refl, sym, ap, _∙_, subst}
+use Prim.Native.Nat.{ℕ, zero, suc, _+_, _-_, _*_, _/_, _%_, _≤_, _<_}
+use mathlib.Core.Path.{_≡_, refl, sym, _∙_, subst}
 use mathlib.Core.List.{List, [], _∷_}
 use native.Mathlib.Omega.{arith}
 use lib.ListN.{length, getD, drop, take}
 use Rattle.lists.proofs.Bytes.{Bytes}
 use Rattle.wire.specs.Places.{PartAt, be}
 use Rattle.wire.specs.Entries.{channel-list}
-use Rattle.wire.proofs.Heads.{be-turn, be-small}
-use Rattle.wire.proofs.ChannelWalk.{Pair, Single, pair-out, single-out}
+use Rattle.wire.proofs.Heads.{be-turn, be-small, three-bytes}
+use Rattle.wire.proofs.ChannelWalk.{pair-out, single-out}
 
 -- two bytes of three, the first two and the last two
 two-of-three : (m : List ℕ) (p : ℕ) → Bytes m → p + 3 ≤ length m
     → (be 0 (take 3 (drop p m)) / 4096 ≡ be 0 (take 2 (drop p m)) / 16) × (be 0 (take 3 (drop p m)) % 4096 ≡ be 0 (take 2 (drop (p + 1) m)) % 4096)
 two-of-three m p h r =
-    let a = be-turn m p 0 (omega arith) in
-    let b = be-turn m p 1 (omega arith) in
-    let c = be-turn m p 2 (omega arith) in
-    let d = be-turn m (p + 1) 0 (omega arith) in
-    let e = be-turn m (p + 1) 1 (omega arith) in
-    let x : getD m (p + 1 + 0) 0 ≡ getD m (p + 1) 0 = ap (λ i. getD m i 0) (omega arith) in
-    let y : getD m (p + 1 + 1) 0 ≡ getD m (p + 2) 0 = ap (λ i. getD m i 0) (omega arith) in
-    let s = h (p + 1) in
-    let t = h (p + 2) in
+    let a = three-bytes m p r in
+    let b = be-turn m p 2 (omega arith) in
+    let s = h (p + 2) in
     (omega arith, omega arith)
 
 -- twice j, by which a list loses two at a time

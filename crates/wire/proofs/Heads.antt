@@ -1,5 +1,5 @@
 -- Fields of fixed width at a place of a message: one number, big-endian, of which each field is a cut. Assumes nothing.
-use Prim.Native.Nat.{ℕ, zero, suc, _+_, _-_, _*_, _/_, _%_, _^_, _≤_, _<_}
+use Prim.Native.Nat.{ℕ, suc, _+_, _-_, _*_, _/_, _%_, _^_, _≤_, _<_}
 use mathlib.Core.Path.{_≡_, refl, sym, ap, ap₂, _∙_, subst, subst⁻¹}
 use mathlib.Core.List.{List, [], _∷_, _++_, append-assoc, append-nil}
 use native.Mathlib.Nat.{mod-eq-of-lt, add-zero, zero-add, lt-of-lt-of-le}
@@ -20,11 +20,12 @@ abbrev pub Cut : List Field → ℕ → Type 0
 Cut [] N = Unit {0}
 Cut (f ∷ fs) N = Holds f (N / 2 ^ widths fs % 2 ^ width f) × Cut fs N
 
-cut-out : (fs : List Field) (N : ℕ) → Shows fs (bits (widths fs) N ++ []) → Cut fs N
+-- fields that are written as one number are its cuts, and the other way round
+pub cut-out : (fs : List Field) (N : ℕ) → Shows fs (bits (widths fs) N ++ []) → Cut fs N
 cut-out [] N s = tt
 cut-out (f ∷ fs) N s = let (p, r) = peel f fs (widths fs) N [] s in (p, cut-out fs N r)
 
-cut-in : (fs : List Field) (N : ℕ) → Cut fs N → Shows fs (bits (widths fs) N ++ [])
+pub cut-in : (fs : List Field) (N : ℕ) → Cut fs N → Shows fs (bits (widths fs) N ++ [])
 cut-in [] N c = refl
 cut-in (f ∷ fs) N c = put f fs (widths fs) N [] (c .0) (cut-in fs N (c .1))
 
@@ -110,3 +111,16 @@ be-small m from k h r =
     let lx : length (take k l) ≡ k = length-take-le k l (omega (arith, length-drop from m)) in
     let hx : Bytes (take k l) = bytes-left (take k l) (drop k l) (bytes-at m from h (take k l ++ drop k l) (sym (take-append-drop k l))) in
     subst (λ (j : ℕ). be 0 (take k l) < 2 ^ j) (let e : 0 + 8 * length (take k l) ≡ 8 * k = omega arith in e) (be-small-from (take k l) 0 0 (omega arith) hx)
+
+-- three bytes are the first before the other two
+pub three-bytes : (m : List ℕ) (p : ℕ) → p + 3 ≤ length m → be 0 (take 3 (drop p m)) ≡ getD m p 0 * 65536 + be 0 (take 2 (drop (p + 1) m))
+three-bytes m p r =
+    let a = be-turn m p 0 (omega arith) in
+    let b = be-turn m p 1 (omega arith) in
+    let c = be-turn m p 2 (omega arith) in
+    let d = be-turn m (p + 1) 0 (omega arith) in
+    let e = be-turn m (p + 1) 1 (omega arith) in
+    let w : getD m (p + 0) 0 ≡ getD m p 0 = ap (λ i. getD m i 0) (omega arith) in
+    let x : getD m (p + 1 + 0) 0 ≡ getD m (p + 1) 0 = ap (λ i. getD m i 0) (omega arith) in
+    let y : getD m (p + 1 + 1) 0 ≡ getD m (p + 2) 0 = ap (λ i. getD m i 0) (omega arith) in
+    omega arith

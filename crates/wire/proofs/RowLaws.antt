@@ -1,8 +1,7 @@
 -- The ten rows, and what they say of settings in range. Assumes nothing.
 use Prim.Native.Nat.{ℕ, zero, suc, _+_, _≤_, _<_}
-use mathlib.Core.Path.{_≡_, refl, sym, ap, _∙_}
+use mathlib.Core.Path.{_≡_, refl, sym}
 use mathlib.Core.List.{List, [], _∷_}
-use mathlib.Core.Option.{Option, none, some}
 use native.Mathlib.Omega.{arith}
 use lib.ListN.{length, getD}
 use Rattle.writing.specs.declared.Kind.{Kind}
@@ -57,3 +56,17 @@ pub no-code : {code : ℕ} → (code ≡ 1 → ⊥) → (code ≡ 2 → ⊥) →
 no-code a b c Add e = a (sym e)
 no-code a b c Delete e = b (sym e)
 no-code a b c Replace e = c (sym e)
+
+-- a type byte is one of the ten
+pub one-of-ten : {b : ℕ} → (b ≡ 0xCA → ⊥) → (b ≡ 0xCB → ⊥) → (b ≡ 0xCC → ⊥) → (b ≡ 0xCD → ⊥) → (b ≡ 0xCE → ⊥) → (b ≡ 0xCF → ⊥) → (b ≡ 0xD0 → ⊥)
+    → (b ≡ 0xD1 → ⊥) → (b ≡ 0xD2 → ⊥) → (b ≡ 0xFF → ⊥) → (k : Kind) → b ≡ type-byte k → ⊥
+one-of-ten n1 n2 n3 n4 n5 n6 n7 n8 n9 n10 Lines e = n1 e
+one-of-ten n1 n2 n3 n4 n5 n6 n7 n8 n9 n10 Key e = n2 e
+one-of-ten n1 n2 n3 n4 n5 n6 n7 n8 n9 n10 QuickTexts e = n3 e
+one-of-ten n1 n2 n3 n4 n5 n6 n7 n8 n9 n10 Home e = n4 e
+one-of-ten n1 n2 n3 n4 n5 n6 n7 n8 n9 n10 Channels e = n5 e
+one-of-ten n1 n2 n3 n4 n5 n6 n7 n8 n9 n10 System e = n6 e
+one-of-ten n1 n2 n3 n4 n5 n6 n7 n8 n9 n10 StatusTexts e = n7 e
+one-of-ten n1 n2 n3 n4 n5 n6 n7 n8 n9 n10 Group e = n8 e
+one-of-ten n1 n2 n3 n4 n5 n6 n7 n8 n9 n10 Individual e = n9 e
+one-of-ten n1 n2 n3 n4 n5 n6 n7 n8 n9 n10 Last e = n10 e

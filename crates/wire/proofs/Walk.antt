@@ -1,32 +1,41 @@
 -- Walking along a list that is written in a message, piece after piece. Assumes nothing.
-use Prim.Native.Nat.{ℕ, zero, suc, _+_, _-_, _*_, _≤_, _<_}
+use Prim.Native.Nat.{ℕ, suc, _+_, _-_, _*_, _≤_, _<_}
 use mathlib.Core.Path.{_≡_, refl, sym, ap, _∙_, subst, subst⁻¹}
 use mathlib.Core.List.{List, [], _∷_, _++_, append-assoc, append-nil}
 use native.Mathlib.Omega.{arith}
-use lib.ListN.{length, drop, length-append}
-use Rattle.lists.proofs.Every.{All, all-append, all-right, all-left}
+use lib.ListN.{length, length-append}
+use Rattle.lists.proofs.Every.{All, all-append, all-right}
 use Rattle.writing.specs.Fields.{bitsOf, Field, Shows, widths, each}
 use Rattle.writing.proofs.Bits.{bitsOf-append, length-bitsOf}
 use Rattle.writing.proofs.Ends.{Agree, Ends, all-read}
 use Rattle.wire.specs.Places.{PartAt}
-use Rattle.wire.specs.Entries.{Stand, WalkAt}
+use Rattle.wire.specs.Entries.{WalkAt}
 use Rattle.wire.specs.declared.entries.Walk.the-variants.{To, Stopped}
 use Rattle.wire.proofs.Parts.{part-join, part-split, nothing}
+
+module _ (fs gs : List Field) (m : List ℕ) (from p q : ℕ) (x : PartAt fs m from p) (y : PartAt gs m from q) where
+  -- fields that stand at one place start the same bits
+  pub agree-at : Agree (fs ++ []) (gs ++ []) (bitsOf (x .rest)) (bitsOf (y .rest))
+  agree-at = record {
+    one = bitsOf (x .bytes);
+    two = bitsOf (y .bytes);
+    left = subst⁻¹ (λ (l : List Field). Shows l (bitsOf (x .bytes))) (append-nil fs) (x .written);
+    right = subst⁻¹ (λ (l : List Field). Shows l (bitsOf (y .bytes))) (append-nil gs) (y .written);
+    same = sym (bitsOf-append (x .bytes) (x .rest)) ∙ ap bitsOf (sym (x .split) ∙ y .split) ∙ bitsOf-append (y .bytes) (y .rest);
+  }
+
+  -- they end at one place where the same bits are left
+  pub ends-at : bitsOf (x .rest) ≡ bitsOf (y .rest) → p ≡ q
+  ends-at e =
+      let n : length (bitsOf (x .rest)) ≡ length (bitsOf (y .rest)) = ap length e in
+      let l : length (x .bytes ++ x .rest) ≡ length (y .bytes ++ y .rest) = ap length (sym (x .split) ∙ y .split) in
+      omega (arith, x .ends, y .ends, length-bitsOf (x .rest), length-bitsOf (y .rest), length-append (x .bytes) (x .rest), length-append (y .bytes) (y .rest))
 
 -- what says where it ends stands at one place in one way
 pub one-part : {A : Type 0} (f : A → List Field) → Ends f → (a b : A) (m : List ℕ) (from p q : ℕ) → PartAt (f a) m from p → PartAt (f b) m from q → (a ≡ b) × (p ≡ q)
 one-part f k a b m from p q x y =
-    let g : Agree (f a ++ []) (f b ++ []) (bitsOf (x .rest)) (bitsOf (y .rest)) = record {
-      one = bitsOf (x .bytes);
-      two = bitsOf (y .bytes);
-      left = subst⁻¹ (λ (l : List Field). Shows l (bitsOf (x .bytes))) (append-nil (f a)) (x .written);
-      right = subst⁻¹ (λ (l : List Field). Shows l (bitsOf (y .bytes))) (append-nil (f b)) (y .written);
-      same = sym (bitsOf-append (x .bytes) (x .rest)) ∙ ap bitsOf (sym (x .split) ∙ y .split) ∙ bitsOf-append (y .bytes) (y .rest);
-    } in
-    let (e, z) = k .ends a b g in
-    let n : length (bitsOf (x .rest)) ≡ length (bitsOf (y .rest)) = ap length (all-read z) in
-    let l : length (x .bytes ++ x .rest) ≡ length (y .bytes ++ y .rest) = ap length (sym (x .split) ∙ y .split) in
-    (e, omega (arith, x .ends, y .ends, length-bitsOf (x .rest), length-bitsOf (y .rest), length-append (x .bytes) (x .rest), length-append (y .bytes) (y .rest)))
+    let (e, z) = k .ends a b (agree-at (f a) (f b) m from p q x y) in
+    (e, ends-at (f a) (f b) m from p q x y (all-read z))
 
 -- `done` stands from `at` up to p: what stands from p on makes a whole with it, and every whole of the right length starts with it
 pub record Walked {A : Type 0} (L : List A → List Field) (Long : List A → Type 0) (m : List ℕ) (at p : ℕ) (done : List A) : Type 0 where

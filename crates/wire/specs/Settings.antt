@@ -1,27 +1,29 @@
--- What a setting that was read means, and what reading its fields answers.
-use Prim.Native.Nat.{ℕ, _+_}
+-- What a setting that was read means, and what reading a setting or its fields answers.
+use Prim.Native.Nat.{ℕ, _+_, _≤_, _<_}
 use mathlib.Core.Path.{_≡_}
 use mathlib.Core.Bool.{Bool, true, false}
 use mathlib.Core.Logic.{_≢_}
 use mathlib.Core.List.{List, [], _∷_, map}
-use lib.ListN.{length}
+use lib.ListN.{length, getD}
 use Rattle.writing.specs.declared.Kind.{Kind}
 use Rattle.writing.specs.declared.Operation.{Operation}
 use Rattle.writing.specs.declared.Operation.the-variants.{Add, Delete, Replace}
 use Rattle.writing.specs.declared.KeyTarget.{KeyTarget}
 use Rattle.writing.specs.Fields.{Field, val, each}
-use Rattle.writing.specs.Ranges.{text-limits, InRange, InAddress, InSlot, InTarget}
-use Rattle.writing.specs.Settings.{Setting, unicode16, Contact, Entry, Hash, lines, key, quick-texts, home, channels, system, status-texts, group, individual, last, kind}
-use Rattle.writing.specs.Writing.{contact, quick-text, status-text, body, current, to-group, key-address}
+use Rattle.writing.specs.Ranges.{text-limits, HashSize, InRange, InAddress, InSlot, InTarget}
+use Rattle.writing.specs.Settings.{Setting, unicode16, Contact, Entry, lines, key, quick-texts, home, channels, system, status-texts, group, individual, last, kind}
+use Rattle.writing.specs.Writing.{contact, quick-text, status-text, type-byte, body, current, to-group, key-address}
 use Rattle.wire.specs.Entries.{channel-list}
 use Rattle.wire.specs.Parts.{TextIs}
-use Rattle.wire.specs.Places.{PartAt}
+use Rattle.wire.specs.Places.{PartAt, StandsAt}
 use Rattle.wire.specs.declared.texts.TextPlace.{TextPlace}
 use Rattle.wire.specs.declared.settings.Entries.{Entries}
 use Rattle.wire.specs.declared.settings.Setting.{Setting as Read}
 use Rattle.wire.specs.declared.settings.Setting.the-variants.{Lines, Key, QuickTexts, Home, Channels, System, StatusTexts, Group, Individual, Last}
 use Rattle.wire.specs.declared.settings.BodyRead.{BodyRead}
 use Rattle.wire.specs.declared.settings.BodyRead.the-variants.{Body, NoBody}
+use Rattle.wire.specs.declared.reader.SettingRead.{SettingRead}
+use Rattle.wire.specs.declared.reader.SettingRead.the-variants.{Taken, Missing, Unknown, Field as BadField}
 
 -- these entries stand at this place, in the form of a list
 pub record EntriesAre {A : Type 0} (form : List A → List Field) (m : List ℕ) (p : Entries) (es : List A) : Type 0 where
@@ -43,12 +45,25 @@ Meant m (System x) s = s ≡ system x
 Meant m (StatusTexts o p) s = (es : List Entry) × (s ≡ status-texts o es) × EntriesAre (each (status-text unicode16)) m p es
 Meant m (Group o f p) s = (us : List ℕ) × (s ≡ group o f (record { index = p .index; address = p .address; text = us })) × TextOf m (p .text) us
 Meant m (Individual o f p) s = (us : List ℕ) × (s ≡ individual o f (record { index = p .index; address = p .address; text = us })) × TextOf m (p .text) us
-Meant m (Last f p) s = (v : List ℕ) × (s ≡ last f (record { code = p .code; value = v })) × PartAt (map (val 8) v) m (p .start) (p .start + length v)
+Meant m (Last f p) s = (v : List ℕ) × (s ≡ last f (record { code = p .code; value = v })) × PartAt (map (val 8) v) m (p .start) (p .start + length v) × HashSize (p .code) (length v)
 
 -- the fields after DataLength of a setting in range of this kind stand at p, or none do
 abbrev pub BodyAt : Kind → ℕ → List ℕ → ℕ → BodyRead → Type 0
 BodyAt k left m p (Body r next) = (s : Setting) × (kind s ≡ k) × Meant m r s × InRange text-limits left s × PartAt (body unicode16 s) m p next
 BodyAt k left m p NoBody = (s : Setting) (next : ℕ) → kind s ≡ k → InRange text-limits left s → PartAt (body unicode16 s) m p next → ⊥
+
+-- what reading the setting at `at` answers, where so many settings are still counted after it
+abbrev pub SettingAt : ℕ → List ℕ → ℕ → SettingRead → Type 0
+-- the setting in range that stands there, up to `next`
+SettingAt left m at (Taken r next) = (s : Setting) × Meant m r s × InRange text-limits left s × StandsAt unicode16 m at next s
+-- "a missing type byte is 4"
+SettingAt left m at Missing = length m ≤ at
+-- 3: "type not among the ten"
+SettingAt left m at Unknown = (at < length m) × ((k : Kind) → type-byte k ≡ getD m at 0 → ⊥)
+-- 4: the type is among the ten, and no setting in range stands there: "bad field, length or count"
+SettingAt left m at BadField =
+    (at < length m) × (k : Kind) × (type-byte k ≡ getD m at 0)
+    × ((s : Setting) (next : ℕ) → InRange text-limits left s → StandsAt unicode16 m at next s → ⊥)
 
 -- how many units a quick text has at least
 abbrev pub LeastIs : Operation → ℕ → Type 0

@@ -51,7 +51,7 @@ fn group_refused(operation: Operation, attribute: u8, address: u32) -> bool
             address_refused(address)
         }
         Operation::Delete => false,
-        Operation::Replace => true,
+        Operation::Replace => true, // 11 in D1
     }
 }
 
@@ -61,7 +61,7 @@ fn individual_refused(operation: Operation, address: u32) -> bool
     match operation {
         Operation::Add => address_refused(address),
         Operation::Delete => false,
-        Operation::Replace => true,
+        Operation::Replace => true, // 11 in D2
     }
 }
 

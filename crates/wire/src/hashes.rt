@@ -13,7 +13,7 @@ pub enum HashRead {
     NoHash,
 }
 
-// How many bytes a hash value of this code has; no other code has any.
+// How many bytes a hash value of this code has; 0 for a code out of range.
 pub fn hash_size(code: u8) -> usize
     ensures { λ r. ⌜ SizeOf code r ⌝ }
 {
@@ -35,5 +35,6 @@ pub fn read_hash(m: &[u8], at: usize, code: u8) -> HashRead
     if remaining(m, at) < size {
         return HashRead::NoHash;
     }
-    HashRead::Hash(HashPlace { code, start: at }, at + size)
+    let next = at + size;
+    HashRead::Hash(HashPlace { code, start: at }, next)
 }

@@ -1,7 +1,7 @@
 use borrow.Author.Needs.{needs}
 use native.Mathlib.Omega.{arith}
 use Prim.Native.Nat.{_/_, _%_}
-use mathlib.Core.Path.{_≡_, sym, subst}
+use mathlib.Core.Path.{sym, subst}
 use Rattle.writing.specs.Ranges.{InChannel}
 use Rattle.wire.specs.Entries.{OutOfRange}
 use Rattle.wire.proofs.ChannelWalk.{ChannelsPassed, no-channel-yet, no-pair, pair-passed, channels-end, no-last, last-ends}
@@ -72,7 +72,7 @@ number-requires-2 c κs = search needs
 returns-6 : tie.Need-returns-6 Inv-loop μ-loop
 returns-6 c =
     let n = c .before .number2 in
-    no-last _ _ _ _ _ (λ i. (c .before .before .before .before .before .before .before .shared-slice-known .given i) .fits) (c .before .before .before .before .before .before .loop .inv) (omega arith) (λ r f i. c .if6 .taken (subst (λ x. x % 16 ≡ 15) (sym (n .ensures)) f))
+    no-last _ _ _ _ _ (λ i. (c .before .before .before .before .before .before .before .shared-slice-known .given i) .fits) (c .before .before .before .before .before .before .loop .inv) (omega arith) (λ r f i. omega arith)
 
 out-of-range-requires-3 : tie.Need-out-of-range-requires-3 Inv-loop μ-loop
 out-of-range-requires-3 c κs = search needs
@@ -90,7 +90,7 @@ returns-8 : tie.Need-returns-8 Inv-loop μ-loop
 returns-8 c =
     let n = c .before .before .before .number2 in
     let i = subst (OutOfRange (n .result / 16)) (c .if7 .left) (c .before .out-of-range3 .ensures) in
-    last-ends _ _ _ _ _ (λ i. (c .before .before .before .before .before .before .before .before .before .shared-slice-known .given i) .fits) (c .before .before .before .before .before .before .before .before .loop .inv) (omega arith) (omega arith) (subst (λ x. x % 16 ≡ 15) (n .ensures) (c .before .before .if6 .left)) (subst (λ x. InChannel (x / 16)) (n .ensures) i)
+    last-ends _ _ _ _ _ (λ i. (c .before .before .before .before .before .before .before .before .before .shared-slice-known .given i) .fits) (c .before .before .before .before .before .before .before .before .loop .inv) (omega arith) (omega arith) (omega arith) (subst (λ x. InChannel (x / 16)) (n .ensures) i)
 
 pub walk-channels-spec : {M : Type 1} → statement M
 walk-channels-spec =

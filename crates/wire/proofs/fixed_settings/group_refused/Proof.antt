@@ -1,4 +1,5 @@
 use borrow.Author.Needs.{needs}
+use native.Mathlib.Omega.{arith}
 use Rattle.wire.proofs.BodyLaws.{group-add}
 use Rattle.wire.proofs.fixed_settings.group_refused.Statement.{statement}
 use Rattle.wire.proofs.fixed_settings.group_refused.Tie as tie
@@ -7,7 +8,7 @@ enum-told : tie.Need-enum-told
 enum-told c = search needs
 
 returns : tie.Need-returns
-returns c = rw (c .before .enum-told .given .1) (λ i. i .0 (c .if1 .taken))
+returns c = rw (c .before .enum-told .given .1) (λ i. i .0 (omega arith))
 
 address-refused-requires : tie.Need-address-refused-requires
 address-refused-requires c κs = search needs
@@ -19,7 +20,7 @@ enum-told-3 : tie.Need-enum-told-3
 enum-told-3 c = search needs
 
 returns-2 : tie.Need-returns-2
-returns-2 c = rw (c .before .before .enum-told .given .1) (group-add _ _ (c .address-refused .result) (c .before .if1 .left) (c .address-refused .ensures))
+returns-2 c = rw (c .before .before .enum-told .given .1) (group-add _ _ (c .address-refused .result) (omega arith) (c .address-refused .ensures))
 
 returns-3 : tie.Need-returns-3
 returns-3 c = rw (c .enum-told2 .given .1) tt

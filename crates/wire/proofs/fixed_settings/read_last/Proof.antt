@@ -6,7 +6,7 @@ use lib.ListN.{length}
 use Rattle.wire.proofs.BodyLaws.{last-head, no-room, no-body, the-body, flag-bit, not-last}
 use Rattle.writing.specs.Ranges.{HashSize}
 use Rattle.writing.specs.Fields.{val}
-use mathlib.Core.List.{List, map}
+use mathlib.Core.List.{map}
 use Rattle.wire.specs.Places.{PartAt}
 use Rattle.wire.specs.Hashes.{HashAt}
 use Rattle.wire.proofs.HashLaws.{bytes-out}
@@ -16,7 +16,7 @@ use Rattle.wire.proofs.fixed_settings.read_last.Statement.{statement}
 use Rattle.wire.proofs.fixed_settings.read_last.Tie as tie
 
 returns : tie.Need-returns
-returns c = not-last _ _ _ (c .if1 .taken)
+returns c = not-last _ _ _ (omega arith)
 
 remaining-requires : tie.Need-remaining-requires
 remaining-requires c κs = search needs
@@ -58,11 +58,12 @@ returns-4 c =
     let z = subst (HashAt (c .before .before .before .before .before .before .before .before .before .before .before .args .m .now) (c .before .before .before .before .before .before .before .before .before .before .before .args .p + 1) (c .before .before .before .before .before .before .number .result % 64)) (c .before .before .before .value .given .1) (c .before .before .before .before .before .read-hash .ensures) in
     let v = z .0 in
     let place = c .before .before .before .value .given .0 .0 in
+    let size = subst (λ n. HashSize n (length v)) (sym (z .2)) (z .3) in
     let ends = bytes-out (c .before .before .before .before .before .before .before .before .before .before .before .args .m .now) (c .before .before .before .before .before .before .before .before .before .before .before .args .p + 1) (λ i. (c .before .before .before .before .before .before .before .before .before .before .shared-slice-known .given i) .fits) v _ (z .4) in
     the-body KLast last-head _ (c .before .before .before .before .before .before .before .before .before .before .before .args .m .now) (c .before .before .before .before .before .before .before .before .before .before .before .args .p) (λ i. (c .before .before .before .before .before .before .before .before .before .before .shared-slice-known .given i) .fits) (c .before .before .before .before .before .before .number .ensures) ((record { reboot = c .before .flag .result; reply = c .flag2 .result }), record { code = place .code; value = v }) (Last (record { reboot = c .before .flag .result; reply = c .flag2 .result }) place) (c .before .before .before .value .given .0 .1 .0) (omega arith)
     (flag-bit (c .before .before .before .before .before .before .number .result / 128) (c .before .flag .result) (c .before .flag .ensures), (flag-bit (c .before .before .before .before .before .before .number .result / 64) (c .flag2 .result) (c .flag2 .ensures), (omega (arith, z .2), tt)))
-    (subst (λ n. HashSize n (length v)) (sym (z .2)) (z .3), omega arith) (z .4)
-    (v, refl, subst (λ n. PartAt (map (val 8) v) (c .before .before .before .before .before .before .before .before .before .before .before .args .m .now) n (n + length v)) (sym (z .1)) (subst (PartAt (map (val 8) v) (c .before .before .before .before .before .before .before .before .before .before .before .args .m .now) (c .before .before .before .before .before .before .before .before .before .before .before .args .p + 1)) (ends .1) (z .4)))
+    (size, omega arith) (z .4)
+    (v, refl, subst (λ n. PartAt (map (val 8) v) (c .before .before .before .before .before .before .before .before .before .before .before .args .m .now) n (n + length v)) (sym (z .1)) (subst (PartAt (map (val 8) v) (c .before .before .before .before .before .before .before .before .before .before .before .args .m .now) (c .before .before .before .before .before .before .before .before .before .before .before .args .p + 1)) (ends .1) (z .4)), size)
 
 pub read-last-spec : {M : Type 1} → statement M
 read-last-spec =

@@ -17,12 +17,12 @@ remaining-requires c κs = search needs
 returns-2 : tie.Need-returns-2
 returns-2 c = no-value (c .before .before .before .before .before .args .m .now) _ (λ i. (c .before .before .before .before .shared-slice-known .given i) .fits) _ _ (c .before .before .hash-size .ensures) (omega arith) (omega arith)
 
-add-t6 : tie.Need-add-t6
-add-t6 c = search needs
+add-next : tie.Need-add-next
+add-next c = search needs
 
 returns-3 : tie.Need-returns-3
 returns-3 c = the-value (c .before .before .before .before .before .args .m .now) _ (λ i. (c .before .before .before .before .shared-slice-known .given i) .fits) _ _ (c .before .before .hash-size .ensures) (omega arith) (omega arith)
 
 pub read-hash-spec : {M : Type 1} → statement M
 read-hash-spec =
-    tie.close (tie.spec returns hash-size-requires remaining-requires returns-2 add-t6 returns-3)
+    tie.close (tie.spec returns hash-size-requires remaining-requires returns-2 add-next returns-3)

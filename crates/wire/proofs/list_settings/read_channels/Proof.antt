@@ -52,15 +52,15 @@ enum-told-2 c = search needs
 returns-3 : tie.Need-returns-3
 returns-3 c =
     λ ops left.
-    let stop = subst (ChannelsAt (c .before .before .before .before .before .before .before .before .before .before .before .args .m .now) (c .before .before .before .before .before .before .before .before .before .before .before .args .p + 2) (c .before .before .before .before .before .before .before .number .result % 1024)) (c .enum-told2 .given .1) (c .before .before .walk-channels .ensures) in
+    let stop = subst (ChannelsAt (c .before .before .before .before .before .before .before .before .before .before .before .args .m .now) (c .before .before .before .before .before .before .before .before .before .before .before .args .p + 2) _) (c .enum-told2 .given .1) (c .before .before .walk-channels .ensures) in
     no-body KChannels channels-head left (c .before .before .before .before .before .before .before .before .before .before .before .args .m .now) (c .before .before .before .before .before .before .before .before .before .before .before .args .p) (λ i. (c .before .before .before .before .before .before .before .before .before .before .shared-slice-known .given i) .fits) (c .before .before .before .before .before .before .before .number .ensures) (λ x next k i t. stop (x .1) next (record { counted = omega (arith, k .1 .1 .0); in-range = i; stands = t }))
 
 returns-4 : tie.Need-returns-4
 returns-4 c =
     λ ops left.
-    let z = subst (ChannelsAt (c .before .before .before .before .before .before .before .before .before .before .before .before .args .m .now) (c .before .before .before .before .before .before .before .before .before .before .before .before .args .p + 2) (c .before .before .before .before .before .before .before .before .number .result % 1024)) (c .before .walked .given .1) (c .before .before .before .walk-channels .ensures) in
+    let z = subst (ChannelsAt (c .before .before .before .before .before .before .before .before .before .before .before .before .args .m .now) (c .before .before .before .before .before .before .before .before .before .before .before .before .args .p + 2) _) (c .before .walked .given .1) (c .before .before .before .walk-channels .ensures) in
     let told = subst (OperationIs (c .before .before .before .before .before .before .before .before .number .result / 16384 % 4) (c .before .before .before .before .before .before .before .before .before .before .before .before .args .operations)) (c .before .before .before .before .before .o .given .1) (c .before .before .before .before .before .before .before .operation-of .ensures) in
-    the-body KChannels channels-head left (c .before .before .before .before .before .before .before .before .before .before .before .before .args .m .now) (c .before .before .before .before .before .before .before .before .before .before .before .before .args .p) (λ i. (c .before .before .before .before .before .before .before .before .before .before .before .shared-slice-known .given i) .fits) (c .before .before .before .before .before .before .before .before .number .ensures) ((c .before .before .before .before .before .o .given .0 .0), z .0) (Channels (c .before .before .before .before .before .o .given .0 .0) (record { start = c .before .before .before .before .before .before .before .before .before .before .before .before .args .p + 2; count = c .before .before .before .before .before .before .before .before .number .result % 1024; next = c .before .walked .given .0 .0 })) (c .before .walked .given .0 .0) (omega arith)
+    the-body KChannels channels-head left (c .before .before .before .before .before .before .before .before .before .before .before .before .args .m .now) (c .before .before .before .before .before .before .before .before .before .before .before .before .args .p) (λ i. (c .before .before .before .before .before .before .before .before .before .before .before .shared-slice-known .given i) .fits) (c .before .before .before .before .before .before .before .before .number .ensures) ((c .before .before .before .before .before .o .given .0 .0), z .0) (Channels (c .before .before .before .before .before .o .given .0 .0) (record { start = c .before .before .before .before .before .before .before .before .before .before .before .before .args .p + 2; count = _; next = c .before .walked .given .0 .0 })) (c .before .walked .given .0 .0) (omega arith)
     (sym (told .0), (tt, (omega (arith, z .1 .counted), tt))) (z .1 .in-range) (z .1 .stands) (z .0, refl, record { counted = z .1 .counted; stands = z .1 .stands })
 
 pub read-channels-spec : {M : Type 1} → statement M

@@ -1,0 +1,32 @@
+-- What taking a message answers, in document 01's numbers and values: "Numbers returned".
+use Prim.Native.Nat.{ℕ}
+use mathlib.Core.Bool.{Bool, false}
+use Rattle.station.specs.declared.answers.Refusal.{Refusal}
+use Rattle.station.specs.declared.answers.Refusal.the-variants.{ReplyBuffer, NotAStore, MessageSize, Carrier, MessageType}
+use Rattle.station.specs.declared.answers.Answer.{Answer}
+use Rattle.station.specs.declared.answers.Answer.the-variants.{Untouched, Replied}
+
+-- "The answer also says send, reboot and reply length"
+pub record Said : Type 0 where
+  pub number : ℕ
+  pub failed : ℕ
+  pub send : Bool
+  pub reboot : Bool
+  pub length : ℕ
+
+-- the numbers of the refusals that touch nothing
+abbrev pub refusal : Refusal → ℕ
+refusal ReplyBuffer = 10
+refusal NotAStore = 11
+refusal MessageSize = 12
+refusal Carrier = 13
+refusal MessageType = 14
+
+-- "for 10 to 14: ID 0, no, no, length 0"
+abbrev pub refused-with : ℕ → Said
+refused-with n = record { number = n; failed = 0; send = false; reboot = false; length = 0 }
+
+-- each case's number and values
+abbrev pub said : Answer → Said
+said (Untouched r) = refused-with (refusal r)
+said (Replied r) = record { number = r .result; failed = r .failed; send = r .send; reboot = r .reboot; length = r .length }

@@ -1,0 +1,5 @@
+pub mod Answers
+pub mod Judge
+pub mod Queries
+pub mod Replies
+pub mod Taking

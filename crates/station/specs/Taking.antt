@@ -1,0 +1,132 @@
+-- What taking a message answers and leaves, for every message, store and reply buffer: document 01, "Numbers returned" and its order.
+use Prim.Native.Nat.{ℕ, _+_, _<_}
+use mathlib.Core.Path.{_≡_}
+use mathlib.Core.Logic.{_≢_, _⊎_}
+use mathlib.Core.Bool.{Bool, true, false}
+use mathlib.Core.List.{List, [], _∷_}
+use mathlib.Core.Option.{Option, none, some}
+use lib.ListN.{length, drop}
+use Rattle.lists.proofs.Bytes.{Bytes}
+use Rattle.lists.proofs.Ladder.{Ladder, rung, foot, Answers}
+use Rattle.writing.specs.declared.Kind.{Kind}
+use Rattle.writing.specs.declared.LastFlags.{LastFlags}
+use Rattle.writing.specs.Carrier.{Query}
+use Rattle.writing.specs.Ranges.{text-limits, InRange}
+use Rattle.writing.specs.Settings.{Setting, Hash, unicode16, lines, key, quick-texts, home, channels, system, status-texts, group, individual, last}
+use Rattle.writing.specs.Writing.{Written, type-byte}
+use Rattle.wire.specs.Message.{MessageIs}
+use Rattle.wire.specs.declared.carrier.Message.{Message}
+use Rattle.wire.specs.declared.carrier.Message.the-variants.{Size, Carrier, «Type» as OtherType, Version, NoRequest, Request, NoQuery, Query as AQuery}
+use Rattle.tables.specs.declared.limits.Limits.{Limits}
+use Rattle.tables.specs.Allowed.{Allowed}
+use Rattle.tables.specs.Apply.{apply}
+use Rattle.tables.specs.Layout.{layout, IsStore}
+use Rattle.tables.specs.Tables.{Tables, no-hash, with-hash}
+use Rattle.station.specs.Answers.{Said, refused-with}
+use Rattle.station.specs.Judge as Judge
+use Rattle.station.specs.Judge.{Outcome, kept, refused}
+use Rattle.station.specs.Replies.{reply-bytes, written-over}
+
+-- ---- a request's settings
+
+-- these bytes are a writing of the setting, reserved bits aside
+abbrev pub WrittenIn : Setting → List ℕ → Type 0
+WrittenIn s bs = Written unicode16 s bs × Bytes bs
+
+-- a type byte is one of the ten
+abbrev pub Known : ℕ → Type 0
+Known b = (k : Kind) × (type-byte k ≡ b)
+
+-- what a request of so many settings in these bytes comes to, from these tables
+abbrev pub Judged : Limits → ℕ → Tables → List ℕ → Outcome Setting Tables → Type 0
+Judged m = Judge.Judged Setting Tables WrittenIn (InRange text-limits) (apply m) Known
+
+-- "After each taken request the hash kept is that request's own; with code 0 or no FF, none"
+abbrev pub forget : Tables → Tables
+forget t = with-hash t no-hash
+
+-- ---- FF's bits
+
+abbrev pub flags-of : Setting → Option LastFlags
+flags-of (lines o f es) = none
+flags-of (key t f) = none
+flags-of (quick-texts o es) = none
+flags-of (home h) = none
+flags-of (channels o ns) = none
+flags-of (system s) = none
+flags-of (status-texts o es) = none
+flags-of (group o f s) = none
+flags-of (individual o f s) = none
+flags-of (last f h) = some f
+
+abbrev pub or-else : {A : Type 0} → Option A → A → A
+or-else none b = b
+or-else (some a) b = a
+
+-- FF's reboot and reply bits, no and no without FF
+abbrev pub last-flags : List Setting → LastFlags
+last-flags [] = record { reboot = false; reply = false }
+last-flags (s ∷ l) = or-else (flags-of s) (last-flags l)
+
+-- ---- what is left behind
+
+-- the answer, and the store and the reply buffer afterwards
+pub record After : Type 0 where
+  pub answer : Said
+  pub store : List ℕ
+  pub reply : List ℕ
+
+module _ (m : Limits) (message store reply : List ℕ) where
+  -- "10 to 17 touch no byte of any buffer"
+  abbrev pub stays : ℕ → After
+  stays n = record { answer = refused-with n; store = store; reply = reply }
+
+  -- a reply that carries this hash
+  abbrev pub replies : (number failed : ℕ) → Bool → Bool → Hash → List ℕ → After
+  replies number failed send reboot h after = record {
+    answer = record { number = number; failed = failed; send = send; reboot = reboot; length = 10 + length (h .value) };
+    store = after;
+    reply = written-over (reply-bytes number failed h) reply;
+  }
+
+  -- "1, 2, 3 and 4 carry code 0"; "Send: yes for 1 to 5"; "Reboot: FF's bit of a taken request"
+  abbrev pub turned-down : (number failed : ℕ) → After
+  turned-down number failed = replies number failed true false no-hash store
+
+  -- a request: "for a taken request as FF's reply bit says"; "A reply carries the hash kept afterwards"
+  abbrev pub settled : Outcome Setting Tables → After
+  settled (kept l u) = replies 0 0 (last-flags l .reply) (last-flags l .reboot) (u .hash) (layout m u)
+  settled (refused number failed) = turned-down number failed
+
+  -- a result query: it matches the hash kept, or "code 0, nothing kept, or code or value differs"
+  abbrev pub Asked : Hash → Hash → After → Type 0
+  Asked h k a =
+      ((h .code ≢ 0) × (h ≡ k) × (a ≡ replies 0 0 true false k store))
+      ⊎ ((h .code ≢ 0 → h ≡ k → ⊥) × (a ≡ replies 5 0 true false k store))
+
+  -- what each kind of message comes to, from the tables of the store
+  abbrev pub Settles : Tables → Message → After → Type 0
+  Settles t Size a = a ≡ stays 12
+  Settles t Carrier a = a ≡ stays 13
+  Settles t OtherType a = a ≡ stays 14
+  Settles t Version a = a ≡ turned-down 1 0
+  Settles t NoRequest a = a ≡ turned-down 4 0
+  Settles t NoQuery a = a ≡ turned-down 4 0
+  Settles t (AQuery p) a = (h : Hash) × Query h message × Asked h (t .hash) a
+  Settles t (Request count at) a = (o : Outcome Setting Tables) × Judged m count (forget t) (drop at message) o × (a ≡ settled o)
+
+  -- a message to a store: what it is says what it comes to
+  pub record Handled (a : After) : Type 0 where
+    pub tables : Tables
+    pub allowed : Allowed m tables
+    pub bytes : store ≡ layout m tables
+    pub kind : Message
+    pub is : MessageIs (m .message) message kind
+    pub settles : Settles tables kind a
+
+  -- "Order for a message: 10, 11, 12, 13, 14, 1; then .."
+  abbrev pub taken : Ladder After
+  taken =
+      rung (length reply < 20) (stays 10)
+      (rung (IsStore m store → ⊥) (stays 11)
+      (foot Handled))

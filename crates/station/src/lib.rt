@@ -1,0 +1,4 @@
+// Takes requests and answers result queries.
+pub mod answers;
+mod queries;
+mod replies;

@@ -1,0 +1,33 @@
+// Compares the hash of a result query with the one kept.
+use slots::bytes::same;
+use wire::hashes::HashPlace;
+use wire::hashes::hash_size;
+ghost use Prim.Native.Nat.{_≤_};
+ghost use mathlib.Core.Path.{_≡_};
+ghost use lib.ListN.{length};
+ghost use Rattle.station.specs.Queries.{HashSame};
+
+// Whether the hash at a place of the message is the one kept in these 11 bytes, and not of code 0.
+pub(crate) fn same_hash(m: &[u8], place: HashPlace, hash: &[u8]) -> bool
+    requires { ⌜ length (now hash) ≡ 11 ⌝ }
+    ensures { λ r. ⌜ HashSame (now (m .entry)) place (now (hash .entry)) r ⌝ }
+{
+    let code = place.code;
+    let start = place.start;
+    if code == 0 {
+        return false;
+    }
+    if code != hash[0] {
+        return false;
+    }
+    let size = hash_size(code);
+    if m.len() < start {
+        return false;
+    }
+    if m.len() - start < size {
+        return false;
+    }
+    let end = start + size;
+    let last = 1 + size;
+    same(&m[start..end], &hash[1..last])
+}

@@ -1,0 +1,35 @@
+// Writes a reply.
+use slots::bytes::copy;
+use wire::carrier::START;
+use wire::hashes::hash_size;
+ghost use Prim.Native.Nat.{_≤_};
+ghost use mathlib.Core.Path.{_≡_};
+ghost use lib.ListN.{length};
+ghost use Rattle.station.specs.Replies.{ReplyWritten};
+
+// The reply with this result and failed ID that carries the hash kept in these 11 bytes; its length.
+pub(crate) fn write_reply(reply: &mut [u8], result: u8, failed: u8, hash: &[u8]) -> u8
+    requires { ⌜ (20 ≤ length (now reply)) × (length (now hash) ≡ 11) ⌝ }
+    ensures { λ r. ⌜ ReplyWritten result failed (now (hash .entry)) (now (reply .entry)) (now (reply .exit)) r ⌝ }
+{
+    let code = hash[0];
+    let size = hash_size(code);
+    let length = (size % 16) as u8;
+    let head = [
+        START[0],
+        START[1],
+        0,
+        6 + length,
+        8,
+        0,
+        9,
+        result,
+        failed,
+        code,
+    ];
+    copy(&mut reply[0..10], &head);
+    let end = 10 + size;
+    let last = 1 + size;
+    copy(&mut reply[10..end], &hash[1..last]);
+    10 + length
+}

@@ -1,0 +1,119 @@
+-- The bytes of tables: every part has its width, the parts are bytes, and equal bytes are equal tables. Assumes nothing.
+use Prim.Native.Nat.{ℕ, _*_, _-_, _≤_}
+use mathlib.Core.Path.{_≡_, refl, sym, ap, _∙_}
+use mathlib.Core.Bool.{false}
+use mathlib.Core.List.{List, [], _∷_, _++_, map}
+use mathlib.Core.Option.{Option}
+use native.Mathlib.Omega.{arith}
+use lib.ListN.{length, getD, length-replicate}
+use Rattle.lists.proofs.Bytes.{Bytes, bytes-zeros}
+use Rattle.lists.proofs.Every.{All}
+use Rattle.slots.specs.Slots.{places, front, u16, zeros?, Present}
+use Rattle.slots.proofs.Codes.{Code, places-one, list-one}
+use Rattle.slots.proofs.Parts.{sum, flat-bytes, flat-length, parts-one}
+use Rattle.slots.proofs.Tables.{all-front, front-length, places-bytes, places-length}
+use Rattle.writing.specs.Ranges.{InChannel}
+use Rattle.tables.specs.declared.limits.Limits.{Limits}
+use Rattle.tables.specs.Allowed.{Allowed, QuickOk, StatusOk, GroupOk, IndividualOk, LineOk}
+use Rattle.tables.specs.Layout.{parts, part-widths, used-size, layout, Roomy, quick-bytes, status-bytes, group-bytes, individual-bytes, line-bytes, quick-width, status-width, member-width, channel-width, line-width}
+use Rattle.tables.specs.Tables.{Tables}
+use Rattle.tables.proofs.EntryBytes.{quick-are-bytes, status-are-bytes, group-are-bytes, individual-are-bytes, channel-are-bytes, line-are-bytes, hash-are-bytes, key-are-bytes, home-are-bytes, system-are-bytes}
+use Rattle.tables.proofs.EntryCodes.{quick-code, quick-shown, status-code, status-shown, group-code, group-shown, individual-code, individual-shown, channel-code, channel-shown, line-code, line-shown}
+use Rattle.tables.proofs.FixedCodes.{hash-code, key-code, home-code, system-code}
+
+-- ---- widths
+
+-- an indexed table of n places
+table-wide : {A : Type 0} {P : A → Type 0} {w : ℕ} {f : A → List ℕ} → Code P w f → (os : List (Option A)) (n : ℕ) → length os ≡ n → length (places w f os) ≡ n * w
+table-wide {w = w} {f = f} k os n e = places-length w f (k .long) os ∙ ap (λ (i : ℕ). i * w) e
+
+-- PARTS-WIDE: every part has its width
+pub parts-wide : (m : Limits) (t : Tables) → Allowed m t → map length (parts m t) ≡ part-widths m ++ ((m .size - used-size m) ∷ [])
+parts-wide m t ok =
+    let a = hash-code .long (t .hash) in
+    let b = table-wide quick-code (t .quick) 64 (ok .quick .0) in
+    let c = table-wide status-code (t .status) 96 (ok .status .0) in
+    let d = table-wide group-code (t .groups) 16 (ok .groups .0) in
+    let e = table-wide individual-code (t .individuals) 16 (ok .individuals .0) in
+    let f = table-wide channel-code (front (m .channels) (t .channels)) (m .channels) (front-length (m .channels) (t .channels)) in
+    let g = table-wide line-code (front (m .lines) (t .lines)) (m .lines) (front-length (m .lines) (t .lines)) in
+    let h = length-replicate {A = ℕ} (m .size - used-size m) 0 in
+    (λ i. a i ∷ 4 ∷ 4 ∷ 3 ∷ b i ∷ c i ∷ d i ∷ e i ∷ f i ∷ g i ∷ h i ∷ [])
+
+-- LAYOUT-LENGTH: where the tables fit, their bytes fill the store
+pub layout-length : (m : Limits) (t : Tables) → Roomy m → Allowed m t → length (layout m t) ≡ m .size
+unfolding layout
+layout-length m t r ok = omega (arith, flat-length (parts m t), ap sum (parts-wide m t ok))
+
+-- ---- bytes
+
+-- LAYOUT-BYTES: they are bytes
+pub layout-bytes : (m : Limits) (t : Tables) → Allowed m t → Bytes (layout m t)
+unfolding layout
+layout-bytes m t ok =
+    flat-bytes (parts m t) (
+      hash-are-bytes (t .hash) (ok .hash),
+      (
+        key-are-bytes (t .key) (ok .key),
+        (
+          home-are-bytes (t .home) (ok .home),
+          (
+            system-are-bytes (t .system) (ok .system),
+            (
+              places-bytes QuickOk quick-width quick-bytes quick-are-bytes (t .quick) (ok .quick .1),
+              (
+                places-bytes StatusOk status-width status-bytes status-are-bytes (t .status) (ok .status .1),
+                (
+                  places-bytes GroupOk member-width group-bytes group-are-bytes (t .groups) (ok .groups .1),
+                  (
+                    places-bytes IndividualOk member-width individual-bytes individual-are-bytes (t .individuals) (ok .individuals .1),
+                    (
+                      places-bytes InChannel channel-width u16 channel-are-bytes (front (m .channels) (t .channels)) (all-front InChannel (m .channels) (t .channels) (ok .channels .1)),
+                      (
+                        places-bytes LineOk line-width line-bytes line-are-bytes (front (m .lines) (t .lines)) (all-front LineOk (m .lines) (t .lines) (ok .lines .1)),
+                        (
+                          bytes-zeros (m .size - used-size m),
+                          tt,
+                        ),
+                      ),
+                    ),
+                  ),
+                ),
+              ),
+            ),
+          ),
+        ),
+      ),
+    )
+
+-- ---- equal bytes are equal tables
+
+-- an indexed table
+table-one : {A : Type 0} {P : A → Type 0} {w : ℕ} {f : A → List ℕ} → Code P w f → ((a : A) → P a → zeros? (f a) ≡ false) → {n : ℕ} {os ps : List (Option A)}
+    → (length os ≡ n) × All (Present P) os → (length ps ≡ n) × All (Present P) ps → places w f os ≡ places w f ps → os ≡ ps
+table-one {P = P} {w = w} {f = f} k z {n} {os} {ps} p q e =
+    places-one P w f k z n (places w f os) os ps (record { many = p .0; each = p .1; bytes = refl }) (record { many = q .0; each = q .1; bytes = e })
+
+-- a list table
+front-table-one : {A : Type 0} {P : A → Type 0} {w : ℕ} {f : A → List ℕ} → Code P w f → ((a : A) → P a → zeros? (f a) ≡ false) → {n : ℕ} {xs ys : List A}
+    → (length xs ≤ n) × All P xs → (length ys ≤ n) × All P ys → places w f (front n xs) ≡ places w f (front n ys) → xs ≡ ys
+front-table-one {P = P} {w = w} {f = f} k z {n} {xs} {ys} p q e =
+    list-one P w f k z n (places w f (front n xs)) xs ys (record { few = p .0; each = p .1; bytes = refl }) (record { few = q .0; each = q .1; bytes = e })
+
+-- LAYOUT-ONE: allowed tables that have the same bytes are the same
+pub layout-one : (m : Limits) (t u : Tables) → Allowed m t → Allowed m u → layout m t ≡ layout m u → t ≡ u
+unfolding layout
+layout-one m t u p q e =
+    let r : parts m t ≡ parts m u = parts-one (parts m t) (parts m u) (parts-wide m t p ∙ sym (parts-wide m u q)) e in
+    let at : (k : ℕ) → getD (parts m t) k [] ≡ getD (parts m u) k [] = λ k. ap (λ (l : List (List ℕ)). getD l k []) r in
+    let a = hash-code .one (t .hash) (u .hash) (p .hash) (q .hash) (at 0) in
+    let b = key-code .one (t .key) (u .key) (p .key) (q .key) (at 1) in
+    let c = home-code .one (t .home) (u .home) (p .home) (q .home) (at 2) in
+    let d = system-code .one (t .system) (u .system) (p .system) (q .system) (at 3) in
+    let f = table-one quick-code quick-shown (p .quick) (q .quick) (at 4) in
+    let g = table-one status-code status-shown (p .status) (q .status) (at 5) in
+    let h = table-one group-code group-shown (p .groups) (q .groups) (at 6) in
+    let j = table-one individual-code individual-shown (p .individuals) (q .individuals) (at 7) in
+    let k = front-table-one channel-code channel-shown (p .channels) (q .channels) (at 8) in
+    let l = front-table-one line-code line-shown (p .lines) (q .lines) (at 9) in
+    (λ i. record { hash = a i; key = b i; home = c i; system = d i; quick = f i; status = g i; groups = h i; individuals = j i; channels = k i; lines = l i })

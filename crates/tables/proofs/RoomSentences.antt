@@ -1,0 +1,196 @@
+-- The sentences of document 01 on room, on entries in order, and on what a setting leaves alone. Assumes nothing.
+use Prim.Native.Nat.{ℕ, _≤_, _<_}
+use mathlib.Core.Path.{_≡_, refl, ap, _∙_, subst}
+use mathlib.Core.Logic.{_≢_, _↔_, _⊎_, inl, inr}
+use mathlib.Core.Bool.{Bool, true, false, cond, true≢false}
+use mathlib.Core.List.{List, [], _∷_, _++_}
+use mathlib.Core.Option.{Option, none, some, Option·some-ne-none}
+use native.Mathlib.Omega.{arith}
+use borrow.Author.Tests.{eq-eqb, le-ltb, ltb-false}
+use lib.Dec.{eqb, ltb}
+use lib.ListN.{length, replicate}
+use Rattle.slots.specs.Slots.{indexOf, putAt, Present}
+use Rattle.slots.proofs.Changes.{index-absent, index-end, unless-fewer}
+use Rattle.slots.proofs.Tables.{index-le}
+use Rattle.writing.specs.declared.Kind.{Kind}
+use Rattle.writing.specs.declared.Kind.the-variants.{Lines, Key, QuickTexts, Home, Channels, System, StatusTexts, Group, Individual, Last}
+use Rattle.writing.specs.declared.Operation.{Operation}
+use Rattle.writing.specs.declared.Operation.the-variants.{Add, Delete, Replace}
+use Rattle.writing.specs.Settings.{Text, Number, Entry, Setting, lines, key, quick-texts, home, channels, system, status-texts, group, individual, last, kind}
+use Rattle.tables.specs.declared.limits.Limits.{Limits}
+use Rattle.tables.specs.Apply.{and-then, in-turn, start-from, has-number, put-line, drop-line, lines-after, quick-step, quick-after, status-step, status-after, put-channel, drop-channel, channels-after, with-room, apply}
+use Rattle.tables.specs.Limits.{handheld, quick-places, status-places}
+use Rattle.tables.specs.Tables.{Line, Tables, with-hash, with-key, with-home, with-system, with-quick, with-status, with-groups, with-individuals, with-channels, with-lines}
+use Rattle.tables.proofs.Sentences.{Without, key-is-digits, says-without, without-says}
+
+-- ---- entries in order
+
+-- an entry that has no room, after those that had
+pub record Stuck {A T : Type 0} (step : A → T → Option T) (es : List A) (t : T) : Type 0 where
+  pub done : List A
+  pub entry : A
+  pub rest : List A
+  pub split : es ≡ done ++ entry ∷ rest
+  pub table : T
+  pub came : in-turn step done t ≡ some table
+  pub full : step entry table ≡ none
+
+module _ {A T : Type 0} (step : A → T → Option T) where
+  -- "each entry in order": the first ones, and then the others
+  pub turn-append : (a b : List A) (t : T) → in-turn step (a ++ b) t ≡ and-then (in-turn step a t) (in-turn step b)
+  turn-append [] b t = refl
+  turn-append (x ∷ a) b t = go (λ u. turn-append a b u) (step x t)
+    where
+      go : ((u : T) → in-turn step (a ++ b) u ≡ and-then (in-turn step a u) (in-turn step b)) → (o : Option T) → and-then o (in-turn step (a ++ b)) ≡ and-then (and-then o (in-turn step a)) (in-turn step b)
+      go r none = refl
+      go r (some u) = r u
+
+  -- no room is no room at some entry
+  turn-none : (es : List A) (t : T) → in-turn step es t ≡ none → Stuck step es t
+  turn-none [] t e = absurd (Option·some-ne-none t e)
+  turn-none (x ∷ es) t e = go (λ u. turn-none es u) (step x t) refl e
+    where
+      go : ((u : T) → in-turn step es u ≡ none → Stuck step es u) → (o : Option T) → step x t ≡ o → and-then o (in-turn step es) ≡ none → Stuck step (x ∷ es) t
+      go r none h q = record { done = []; entry = x; rest = es; split = refl; table = t; came = refl; full = h }
+      go r (some u) h q =
+          let s = r u q in
+          record {
+            done = x ∷ s .done;
+            entry = s .entry;
+            rest = s .rest;
+            split = ap (λ (l : List A). x ∷ l) (s .split);
+            table = s .table;
+            came = ap (λ (o : Option T). and-then o (in-turn step (s .done))) h ∙ s .came;
+            full = s .full;
+          }
+
+  -- NO-ROOM: "A setting has no room when, at some entry," the entry has none in the table as it is then
+  pub no-room : (es : List A) (t : T) → (in-turn step es t ≡ none) ↔ Stuck step es t
+  no-room es t = (
+    turn-none es t,
+    λ s. ap (λ (l : List A). in-turn step l t) (s .split) ∙ turn-append (s .done) (s .entry ∷ s .rest) t
+        ∙ ap (λ (o : Option T). and-then o (in-turn step (s .entry ∷ s .rest))) (s .came)
+        ∙ ap (λ (o : Option T). and-then o (in-turn step (s .rest))) (s .full),
+  )
+
+-- ---- "the table is then full and the entry needs a new place"
+
+-- "Room: 32 line contacts, 64 channels"
+pub room-is : (handheld .lines ≡ 32) × (handheld .channels ≡ 64)
+room-is = (refl, refl)
+
+-- what is done where a test passes is not done where it does not
+cond-none : {A : Type 0} (b : Bool) (a : A) → (cond b (some a) none ≡ none) ↔ (b ≡ false)
+cond-none true a = (λ e. absurd (Option·some-ne-none a e), λ e. absurd (true≢false e))
+cond-none false a = (λ e. refl, λ e. refl)
+
+-- a line has no room where the list is full and no line has its number
+pub line-no-room : (room : ℕ) (l : Line) (ls : List Line) → length ls ≤ room → (put-line room l ls ≡ none) ↔ ((length ls ≡ room) × Without (l .number) ls)
+line-no-room room l ls h = (
+  λ e.
+      let k : room ≤ indexOf (has-number (l .number)) ls = ltb-false _ _ (cond-none (ltb (indexOf (has-number (l .number)) ls) room) (putAt (indexOf (has-number (l .number)) ls) l ls) .0 e) in
+      let i : indexOf (has-number (l .number)) ls ≡ length ls = omega (arith, index-le (has-number (l .number)) ls) in
+      (omega arith, says-without (l .number) ls (index-end (has-number (l .number)) ls i)),
+  λ p.
+      let i : indexOf (has-number (l .number)) ls ≡ length ls = index-absent (has-number (l .number)) ls (without-says (l .number) ls (p .1)) in
+      cond-none (ltb (indexOf (has-number (l .number)) ls) room) (putAt (indexOf (has-number (l .number)) ls) l ls) .1
+      (le-ltb (indexOf (has-number (l .number)) ls) room (omega (arith, p .0))),
+)
+
+-- a channel has no room where the list is full
+pub channel-no-room : (room n : ℕ) (cs : List ℕ) → length cs ≤ room → (put-channel room n cs ≡ none) ↔ (length cs ≡ room)
+channel-no-room room n cs h = (
+  λ e. let k : room ≤ length cs = ltb-false _ _ (cond-none (ltb (length cs) room) (cs ++ (n ∷ [])) .0 e) in omega arith,
+  λ e. cond-none (ltb (length cs) room) (cs ++ (n ∷ [])) .1 (le-ltb (length cs) room (omega arith)),
+)
+
+-- ---- "Room freed earlier in the same message is used."
+
+-- after a line was deleted, any line has room
+pub line-freed : (room : ℕ) (d : Number) (before : List Line) (x : Line) (after : List Line) → x .number ≡ d → length (before ++ x ∷ after) ≤ room → (l : Line) → put-line room l (drop-line d (before ++ x ∷ after)) ≢ none
+line-freed room d before x after n h l e =
+    let s : length (drop-line d (before ++ x ∷ after)) < length (before ++ x ∷ after) = unless-fewer (has-number d) before x after (key-is-digits d x .1 n) in
+    let p = line-no-room room l (drop-line d (before ++ x ∷ after)) (omega arith) .0 e in
+    omega (arith, p .0)
+
+-- after a channel was deleted, any channel has room
+pub channel-freed : (room d : ℕ) (before after : List ℕ) → length (before ++ d ∷ after) ≤ room → (n : ℕ) → put-channel room n (drop-channel d (before ++ d ∷ after)) ≢ none
+channel-freed room d before after h n e =
+    let s : length (drop-channel d (before ++ d ∷ after)) < length (before ++ d ∷ after) = unless-fewer (λ c. eqb c d) before d after (eq-eqb d d refl) in
+    let p = channel-no-room room n (drop-channel d (before ++ d ∷ after)) (omega arith) .0 e in
+    omega (arith, p)
+
+-- ---- only lines and channels can have no room
+
+-- a quick text has its place
+quick-has-room : (o : Operation) (e : Entry) (qs : List (Option Text)) → quick-step o e qs ≢ none
+quick-has-room Add e qs h = Option·some-ne-none _ h
+quick-has-room Delete e qs h = Option·some-ne-none _ h
+quick-has-room Replace e qs h = Option·some-ne-none _ h
+
+-- a status text has its place
+status-has-room : (o : Operation) (e : Entry) (ss : List (Option Text)) → status-step o e ss ≢ none
+status-has-room Add e ss h = Option·some-ne-none _ h
+status-has-room Delete e ss h = Option·some-ne-none _ h
+status-has-room Replace e ss h = Option·some-ne-none _ h
+
+-- where each entry has room, all have
+all-have-room : {A T : Type 0} (step : A → T → Option T) → ((a : A) (t : T) → step a t ≢ none) → (es : List A) (t : T) → in-turn step es t ≢ none
+all-have-room step h es t e = let s = turn-none step es t e in h (s .entry) (s .table) (s .full)
+
+-- a change where there is room
+room-none : {A B : Type 0} (f : A → B) (o : Option A) → with-room f o ≡ none → o ≡ none
+room-none f none e = refl
+room-none f (some a) e = absurd (Option·some-ne-none (f a) e)
+
+-- a setting that has no room is one of lines or of channels
+pub no-room-kinds : (m : Limits) (s : Setting) (t : Tables) → apply m s t ≡ none → (kind s ≡ Lines) ⊎ (kind s ≡ Channels)
+no-room-kinds m (lines o f es) t e = inl refl
+no-room-kinds m (key target f) t e = absurd (Option·some-ne-none _ e)
+no-room-kinds m (quick-texts o es) t e =
+    absurd (all-have-room (quick-step o) (quick-has-room o) es (start-from o (replicate quick-places none) (t .quick)) (room-none (with-quick t) (quick-after o es (t .quick)) e))
+no-room-kinds m (home h) t e = absurd (Option·some-ne-none _ e)
+no-room-kinds m (channels o ns) t e = inr refl
+no-room-kinds m (system s) t e = absurd (Option·some-ne-none _ e)
+no-room-kinds m (status-texts o es) t e =
+    absurd (all-have-room (status-step o) (status-has-room o) es (start-from o (replicate status-places none) (t .status)) (room-none (with-status t) (status-after o es (t .status)) e))
+no-room-kinds m (group o f s) t e = absurd (Option·some-ne-none _ e)
+no-room-kinds m (individual o f s) t e = absurd (Option·some-ne-none _ e)
+no-room-kinds m (last f h) t e = absurd (Option·some-ne-none _ e)
+
+-- ---- a setting changes its own table and no other
+
+-- t with the table of one kind as u has it
+abbrev pub with-own : Kind → Tables → Tables → Tables
+with-own Lines t u = with-lines t (u .lines)
+with-own Key t u = with-key t (u .key)
+with-own QuickTexts t u = with-quick t (u .quick)
+with-own Home t u = with-home t (u .home)
+with-own Channels t u = with-channels t (u .channels)
+with-own System t u = with-system t (u .system)
+with-own StatusTexts t u = with-status t (u .status)
+with-own Group t u = with-groups t (u .groups)
+with-own Individual t u = with-individuals t (u .individuals)
+with-own Last t u = with-hash t (u .hash)
+
+-- what a change of one table makes where there is room
+room-own : {A : Type 0} (k : Kind) (t : Tables) (with-it : A → Tables) → ((a : A) → with-it a ≡ with-own k t (with-it a)) → (o : Option A) → Present (λ u. u ≡ with-own k t u) (with-room with-it o)
+room-own k t with-it h none = tt
+room-own k t with-it h (some a) = h a
+
+-- one case for each kind
+own-kept : (m : Limits) (s : Setting) (t : Tables) → Present (λ u. u ≡ with-own (kind s) t u) (apply m s t)
+own-kept m (lines o f es) t = room-own Lines t (with-lines t) (λ x. refl) (lines-after (m .lines) o f es (t .lines))
+own-kept m (key target f) t = refl
+own-kept m (quick-texts o es) t = room-own QuickTexts t (with-quick t) (λ x. refl) (quick-after o es (t .quick))
+own-kept m (home h) t = refl
+own-kept m (channels o ns) t = room-own Channels t (with-channels t) (λ x. refl) (channels-after (m .channels) o ns (t .channels))
+own-kept m (system s) t = refl
+own-kept m (status-texts o es) t = room-own StatusTexts t (with-status t) (λ x. refl) (status-after o es (t .status))
+own-kept m (group o f s) t = refl
+own-kept m (individual o f s) t = refl
+own-kept m (last f h) t = refl
+
+-- OWN-TABLE: what a setting leaves is the tables before, with its own table changed
+pub own-table : (m : Limits) (s : Setting) (t u : Tables) → apply m s t ≡ some u → u ≡ with-own (kind s) t u
+own-table m s t u e = subst (Present (λ v. v ≡ with-own (kind s) t v)) e (own-kept m s t)

@@ -1,0 +1,284 @@
+-- The sentences of document 01, "What each operation does", each as a law of the definitions. Assumes nothing.
+use Prim.Native.Nat.{ℕ, _-_, _≤_, _<_}
+use mathlib.Core.Path.{_≡_, refl, sym, ap, _∙_}
+use mathlib.Core.Logic.{_≢_, _↔_, _⊎_, inl, inr}
+use mathlib.Core.Bool.{Bool, true, false, true≢false}
+use mathlib.Core.List.{List, [], _∷_, _++_}
+use mathlib.Core.Option.{Option, none, some}
+use native.Mathlib.Omega.{arith}
+use borrow.Author.Tests.{eq-eqb, lt-ltb, ne-eqb, eqb-false}
+use lib.Dec.{eqb}
+use lib.ListN.{length, getD, set, replicate, length-append, length-set}
+use lib.Seq.{getD-set-same, getD-set-other, set-getD}
+use Rattle.lists.proofs.Every.{All, all-right, all-turn}
+use Rattle.slots.specs.Slots.{indexOf, putAt, same?}
+use Rattle.slots.proofs.Changes.{index-absent, index-found, put-found, unless-absent, unless-append, unless-found, unless-gone}
+use Rattle.slots.proofs.Runs.{same-are, same-not, same-refl}
+use Rattle.slots.proofs.Tables.{put-end}
+use Rattle.writing.specs.declared.GroupFlags.{GroupFlags}
+use Rattle.writing.specs.declared.HomeNumbers.{HomeNumbers}
+use Rattle.writing.specs.declared.IndividualFlags.{IndividualFlags}
+use Rattle.writing.specs.declared.KeyFlags.{KeyFlags}
+use Rattle.writing.specs.declared.KeyTarget.{KeyTarget}
+use Rattle.writing.specs.declared.LastFlags.{LastFlags}
+use Rattle.writing.specs.declared.LineFlags.{LineFlags}
+use Rattle.writing.specs.declared.Operation.{Operation}
+use Rattle.writing.specs.declared.Operation.the-variants.{Add, Delete, Replace}
+use Rattle.writing.specs.declared.SystemCode.{SystemCode}
+use Rattle.plan.specs.declared.numbers.GroupAddress.{GroupAddress}
+use Rattle.plan.specs.declared.numbers.IndividualAddress.{IndividualAddress}
+use Rattle.writing.specs.Settings.{Text, Number, Contact, Entry, Slot, Hash, lines, key, quick-texts, home, channels, system, status-texts, group, individual, last}
+use Rattle.tables.specs.declared.limits.Limits.{Limits}
+use Rattle.tables.specs.Allowed.{Distinct}
+use Rattle.tables.specs.Apply.{start-from, has-number, put-line, line-of, line-step, lines-after, quick-step, quick-after, status-step, status-after, drop-channel, channel-step, channels-after, apply}
+use Rattle.tables.specs.Limits.{quick-places, status-places}
+use Rattle.tables.specs.Tables.{Line, Tables, with-hash, with-key, with-home, with-system, with-quick, with-status, with-groups, with-individuals, with-channels, with-lines}
+
+-- ---- "Line contacts: the key is the digits."
+
+-- a line has the number that its digits are
+pub key-is-digits : (d : Number) (l : Line) → (has-number d l ≡ true) ↔ (l .number ≡ d)
+key-is-digits d l = (λ e. same-are (l .number) d e, λ e. ap (λ (n : Number). same? n d) e ∙ same-refl d)
+
+-- no line has the number d
+abbrev pub Without : Number → List Line → Type 0
+Without d ls = All (λ l. l .number ≢ d) ls
+
+-- so the test says no of each
+pub without-says : (d : Number) (ls : List Line) → Without d ls → All (λ l. has-number d l ≡ false) ls
+without-says d ls h = all-turn (λ l. l .number ≢ d) (λ l. has-number d l ≡ false) (λ l n. same-not (l .number) d n) ls h
+
+-- and where it says no, no line has the number
+pub says-without : (d : Number) (ls : List Line) → All (λ l. has-number d l ≡ false) ls → Without d ls
+says-without d ls h = all-turn (λ l. has-number d l ≡ false) (λ l. l .number ≢ d) (λ l n e. true≢false (sym (key-is-digits d l .1 e) ∙ n)) ls h
+
+-- the first line with the number d, and what stands before and after it
+pub record Known (d : Number) (ls : List Line) : Type 0 where
+  pub before : List Line
+  pub line : Line
+  pub after : List Line
+  pub split : ls ≡ before ++ line ∷ after
+  pub is : line .number ≡ d
+  pub first : Without d before
+
+-- a number is known or new
+pub known-or-new : (d : Number) (ls : List Line) → Known d ls ⊎ Without d ls
+known-or-new d [] = inr tt
+known-or-new d (l ∷ ls) = go (has-number d l) refl (known-or-new d ls)
+  where
+    go : (b : Bool) → has-number d l ≡ b → Known d ls ⊎ Without d ls → Known d (l ∷ ls) ⊎ Without d (l ∷ ls)
+    go true h r = inl (record { before = []; line = l; after = ls; split = refl; is = key-is-digits d l .0 h; first = tt })
+    go false h (inl k) =
+        inl (record {
+          before = l ∷ k .before;
+          line = k .line;
+          after = k .after;
+          split = ap (λ (x : List Line). l ∷ x) (k .split);
+          is = k .is;
+          first = (λ e. true≢false (sym (key-is-digits d l .1 e) ∙ h), k .first);
+        })
+    go false h (inr k) = inr (λ e. true≢false (sym (key-is-digits d l .1 e) ∙ h), k)
+
+-- in allowed lines no other line has a line's number
+pub others-without : (before : List Line) (l : Line) (after : List Line) → Distinct (before ++ l ∷ after) → Without (l .number) before × Without (l .number) after
+others-without [] l after d = (tt, d .0)
+others-without (x ∷ xs) l after d =
+    let r = others-without xs l after (d .1) in
+    (((λ e. all-right (λ y. y .number ≢ x .number) xs (l ∷ after) (d .0) .0 (sym e)), r .0), r .1)
+
+-- a line goes where its number is found, if that is inside the room
+put-at : (room : ℕ) (l : Line) (ls : List Line) (k : ℕ) → indexOf (has-number (l .number)) ls ≡ k → k < room → put-line room l ls ≡ some (putAt k l ls)
+put-at room l ls k e h = rw (e, lt-ltb k room h)
+
+module _ (room : ℕ) (f : LineFlags) (e : Contact) where
+  -- "Add puts a new key at the end"
+  pub line-add-new : (ls : List Line) → Without (e .number) ls → length ls < room → line-step room Add f e ls ≡ some (ls ++ (line-of f e ∷ []))
+  line-add-new ls h r =
+      put-at room (line-of f e) ls (length ls) (index-absent (has-number (e .number)) ls (without-says (e .number) ls h)) r
+      ∙ ap some (put-end ls (line-of f e))
+
+  -- "and overwrites a known one in its place, flags included"; the others stay, and a full list has room for it
+  pub line-add-known : (before : List Line) (l : Line) (after : List Line) → Without (e .number) before → l .number ≡ e .number → length (before ++ l ∷ after) ≤ room → line-step room Add f e (before ++ l ∷ after) ≡ some (before ++ line-of f e ∷ after)
+  line-add-known before l after h n r =
+      put-at room (line-of f e) (before ++ l ∷ after) (length before)
+      (index-found (has-number (e .number)) before l after (without-says (e .number) before h) (key-is-digits (e .number) l .1 n))
+      (omega (arith, length-append before (l ∷ after)))
+      ∙ ap some (put-found before l after (line-of f e))
+
+  -- "Delete closes the gap": the others keep their order
+  pub line-delete : (before : List Line) (l : Line) (after : List Line) → Without (e .number) before → l .number ≡ e .number → Without (e .number) after → line-step room Delete f e (before ++ l ∷ after) ≡ some (before ++ after)
+  line-delete before l after h n k =
+      ap some (unless-found (has-number (e .number)) before l after (without-says (e .number) before h) (key-is-digits (e .number) l .1 n) (without-says (e .number) after k))
+
+  -- "Deleting what isn't there does nothing"
+  pub line-delete-absent : (ls : List Line) → Without (e .number) ls → line-step room Delete f e ls ≡ some ls
+  line-delete-absent ls h = ap some (unless-absent (has-number (e .number)) ls (without-says (e .number) ls h))
+
+-- ---- a place of an indexed table
+
+-- ps is os with o in place k
+pub record Changed {A : Type 0} (os : List (Option A)) (k : ℕ) (o : Option A) (ps : List (Option A)) : Type 0 where
+  pub there : getD ps k none ≡ o
+  pub others : (j : ℕ) → j ≢ k → getD ps j none ≡ getD os j none
+  pub many : length ps ≡ length os
+
+-- what is put in a place stands there, and the other places are as before
+pub place-changed : {A : Type 0} (os : List (Option A)) (k : ℕ) (o : Option A) → k < length os → Changed os k o (set os k o)
+place-changed os k o h = record { there = getD-set-same os k o none h; others = λ j n. getD-set-other os k j o none n; many = length-set os k o }
+
+-- an empty place that is emptied is as before
+place-empty : {A : Type 0} (os : List (Option A)) (k : ℕ) → getD os k none ≡ none → set os k none ≡ os
+place-empty os k h = ap (set os k) (sym h) ∙ set-getD os k none
+
+-- ---- "Quick texts: add to an index that has a text does nothing."
+
+module _ (e : Entry) (qs : List (Option Text)) where
+  -- the table is as before
+  pub quick-add-used : (us : Text) → getD qs (e .index) none ≡ some us → quick-step Add e qs ≡ some qs
+  quick-add-used us h = rw h (ap some (ap (set qs (e .index)) (sym h) ∙ set-getD qs (e .index) none))
+
+  -- an add to a free index puts the text there
+  pub quick-add-free : getD qs (e .index) none ≡ none → quick-step Add e qs ≡ some (set qs (e .index) (some (e .text)))
+  quick-add-free h = rw h
+
+  -- a delete empties the index, whatever text is sent
+  pub quick-delete : quick-step Delete e qs ≡ some (set qs (e .index) none)
+  quick-delete = refl
+
+  -- "Deleting what isn't there does nothing"
+  pub quick-delete-absent : getD qs (e .index) none ≡ none → quick-step Delete e qs ≡ some qs
+  quick-delete-absent h = ap some (place-empty qs (e .index) h)
+
+-- ---- "Status texts and slots: add overwrites."
+
+module _ (e : Entry) (ss : List (Option Text)) where
+  -- whatever was there
+  pub status-add : status-step Add e ss ≡ some (set ss (e .index - 32) (some (e .text)))
+  status-add = refl
+
+  -- a delete empties the code's place, whatever text is sent
+  pub status-delete : status-step Delete e ss ≡ some (set ss (e .index - 32) none)
+  status-delete = refl
+
+  -- "Deleting what isn't there does nothing"
+  pub status-delete-absent : getD ss (e .index - 32) none ≡ none → status-step Delete e ss ≡ some ss
+  status-delete-absent h = ap some (place-empty ss (e .index - 32) h)
+
+-- a group slot
+module _ (m : Limits) (f : GroupFlags) (s : Slot GroupAddress) (t : Tables) where
+  -- whatever was there
+  pub group-add : apply m (group Add f s) t ≡ some (with-groups t (set (t .groups) (s .index) (some (record { flags = f; address = s .address; text = s .text }))))
+  group-add = refl
+
+  -- "In a D1 or D2 delete only the index counts"
+  pub group-delete : apply m (group Delete f s) t ≡ some (with-groups t (set (t .groups) (s .index) none))
+  group-delete = refl
+
+  -- "Deleting what isn't there does nothing"
+  pub group-delete-absent : getD (t .groups) (s .index) none ≡ none → apply m (group Delete f s) t ≡ some t
+  group-delete-absent h = ap (λ x. some (with-groups t x)) (place-empty (t .groups) (s .index) h)
+
+-- an individual slot
+module _ (m : Limits) (f : IndividualFlags) (s : Slot IndividualAddress) (t : Tables) where
+  -- whatever was there
+  pub individual-add : apply m (individual Add f s) t ≡ some (with-individuals t (set (t .individuals) (s .index) (some (record { flags = f; address = s .address; text = s .text }))))
+  individual-add = refl
+
+  -- "In a D1 or D2 delete only the index counts"
+  pub individual-delete : apply m (individual Delete f s) t ≡ some (with-individuals t (set (t .individuals) (s .index) none))
+  individual-delete = refl
+
+  -- "Deleting what isn't there does nothing"
+  pub individual-delete-absent : getD (t .individuals) (s .index) none ≡ none → apply m (individual Delete f s) t ≡ some t
+  individual-delete-absent h = ap (λ x. some (with-individuals t x)) (place-empty (t .individuals) (s .index) h)
+
+-- ---- "Channels: add always appends, so repeats are kept; delete removes every match."
+
+module _ (room n : ℕ) where
+  -- add appends, whether or not the channel is there already
+  pub channel-add : (cs : List ℕ) → length cs < room → channel-step room Add n cs ≡ some (cs ++ (n ∷ []))
+  channel-add cs h = rw (lt-ltb (length cs) room h)
+
+  -- delete removes every match
+  pub channel-delete-all : (cs : List ℕ) → All (λ c. c ≢ n) (drop-channel n cs)
+  channel-delete-all cs = all-turn (λ c. eqb c n ≡ false) (λ c. c ≢ n) (λ c h. eqb-false c n h) (drop-channel n cs) (unless-gone (λ c. eqb c n) cs)
+
+  -- a match between others is gone, wherever it stands
+  pub channel-delete-match : (before after : List ℕ) → drop-channel n (before ++ n ∷ after) ≡ drop-channel n before ++ drop-channel n after
+  channel-delete-match before after =
+      let s : drop-channel n (n ∷ after) ≡ drop-channel n after = rw (eq-eqb n n refl) in
+      unless-append (λ c. eqb c n) before (n ∷ after) ∙ ap (λ (l : List ℕ). drop-channel n before ++ l) s
+
+  -- and every other channel stays where it stands
+  pub channel-delete-other : (before : List ℕ) (c : ℕ) (after : List ℕ) → c ≢ n → drop-channel n (before ++ c ∷ after) ≡ drop-channel n before ++ c ∷ drop-channel n after
+  channel-delete-other before c after h =
+      let s : drop-channel n (c ∷ after) ≡ c ∷ drop-channel n after = rw (ne-eqb c n h) in
+      unless-append (λ c. eqb c n) before (c ∷ after) ∙ ap (λ (l : List ℕ). drop-channel n before ++ l) s
+
+  -- "Deleting what isn't there does nothing"
+  pub channel-delete-absent : (cs : List ℕ) → All (λ c. c ≢ n) cs → channel-step room Delete n cs ≡ some cs
+  channel-delete-absent cs h = ap some (unless-absent (λ c. eqb c n) cs (all-turn (λ c. c ≢ n) (λ c. eqb c n ≡ false) (λ c q. ne-eqb c n q) cs h))
+
+-- ---- "Replace empties the table, then adds each entry in order."
+
+-- line contacts: what was there before does not matter
+pub lines-replace : (room : ℕ) (f : LineFlags) (es : List Contact) (ls : List Line) → lines-after room Replace f es ls ≡ lines-after room Add f es []
+lines-replace room f es ls = refl
+
+-- quick texts
+pub quick-replace : (es : List Entry) (qs : List (Option Text)) → quick-after Replace es qs ≡ quick-after Add es (replicate quick-places none)
+quick-replace es qs = refl
+
+-- status texts
+pub status-replace : (es : List Entry) (ss : List (Option Text)) → status-after Replace es ss ≡ status-after Add es (replicate status-places none)
+status-replace es ss = refl
+
+-- channels
+pub channels-replace : (room : ℕ) (ns cs : List ℕ) → channels-after room Replace ns cs ≡ channels-after room Add ns []
+channels-replace room ns cs = refl
+
+-- ---- "Count 0 is allowed."
+
+-- an add or a delete with no entries changes nothing, and a replace empties the table
+module _ (m : Limits) (t : Tables) where
+  -- line contacts
+  pub lines-count-0 : (o : Operation) (f : LineFlags) → apply m (lines o f []) t ≡ some (start-from o (with-lines t []) t)
+  lines-count-0 Add f = refl
+  lines-count-0 Delete f = refl
+  lines-count-0 Replace f = refl
+
+  -- quick texts
+  pub quick-count-0 : (o : Operation) → apply m (quick-texts o []) t ≡ some (start-from o (with-quick t (replicate quick-places none)) t)
+  quick-count-0 Add = refl
+  quick-count-0 Delete = refl
+  quick-count-0 Replace = refl
+
+  -- status texts
+  pub status-count-0 : (o : Operation) → apply m (status-texts o []) t ≡ some (start-from o (with-status t (replicate status-places none)) t)
+  status-count-0 Add = refl
+  status-count-0 Delete = refl
+  status-count-0 Replace = refl
+
+  -- channels
+  pub channels-count-0 : (o : Operation) → apply m (channels o []) t ≡ some (start-from o (with-channels t []) t)
+  channels-count-0 Add = refl
+  channels-count-0 Delete = refl
+  channels-count-0 Replace = refl
+
+  -- ---- "CB, CD and CF overwrite."
+
+  -- the emergency key
+  pub key-overwrites : (target : KeyTarget) (f : KeyFlags) → apply m (key target f) t ≡ some (with-key t (record { target = target; flags = f }))
+  key-overwrites target f = refl
+
+  -- the home numbers
+  pub home-overwrites : (h : HomeNumbers) → apply m (home h) t ≡ some (with-home t h)
+  home-overwrites h = refl
+
+  -- the system code
+  pub system-overwrites : (s : SystemCode) → apply m (system s) t ≡ some (with-system t s)
+  system-overwrites s = refl
+
+  -- "After each taken request the hash kept is that request's own": FF's hash is kept
+  pub hash-kept : (f : LastFlags) (h : Hash) → apply m (last f h) t ≡ some (with-hash t h)
+  hash-kept f h = refl

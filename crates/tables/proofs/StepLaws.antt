@@ -1,0 +1,176 @@
+-- What each operation leaves of a table is allowed, entry by entry. Assumes nothing.
+use Prim.Native.Nat.{ℕ, suc, _-_, _≤_, _<_}
+use mathlib.Core.Path.{_≡_, refl, sym, ap, _∙_}
+use mathlib.Core.Logic.{_≢_}
+use mathlib.Core.Bool.{Bool, true, false, cond, true≢false}
+use mathlib.Core.List.{List, [], _∷_, _++_}
+use mathlib.Core.Option.{Option, none, some}
+use native.Mathlib.Omega.{arith}
+use borrow.Author.Tests.{ltb-true}
+use lib.Dec.{eqb, ltb}
+use lib.ListN.{length, getD, set, length-append, length-set, replicate}
+use Rattle.lists.proofs.Every.{All, all-append, all-get, all-set, all-turn}
+use Rattle.slots.specs.Slots.{unless, indexOf, putAt, same?, Present}
+use Rattle.slots.proofs.Runs.{same-are, same-refl}
+use Rattle.slots.proofs.Tables.{put-all, put-short, unless-all, unless-short}
+use Rattle.writing.specs.declared.LineFlags.{LineFlags}
+use Rattle.writing.specs.declared.Operation.{Operation}
+use Rattle.writing.specs.declared.Operation.the-variants.{Add, Delete, Replace}
+use Rattle.writing.specs.Ranges.{InChannel}
+use Rattle.writing.specs.Settings.{Text, Number, Contact, Entry}
+use Rattle.tables.specs.Allowed.{QuickOk, StatusOk, LineOk, Distinct}
+use Rattle.tables.specs.Apply.{and-then, in-turn, start-from, has-number, put-line, drop-line, line-of, line-step, lines-after, if-absent, quick-step, quick-after, status-step, status-after, put-channel, channel-step, channels-after}
+use Rattle.tables.specs.Limits.{quick-places, status-places}
+use Rattle.tables.specs.Tables.{Line}
+use Rattle.tables.proofs.FitsLaws.{QuickFit}
+use Rattle.tables.proofs.FreshLaws.{empty-table}
+
+-- ---- tables that are allowed
+
+-- an indexed table of n places
+abbrev pub PlacesOk : {A : Type 0} → (A → Type 0) → ℕ → List (Option A) → Type 0
+PlacesOk P n os = (length os ≡ n) × All (Present P) os
+
+-- a list table with room for n
+abbrev pub ListOk : {A : Type 0} → (A → Type 0) → ℕ → List A → Type 0
+ListOk P n ls = (length ls ≤ n) × All P ls
+
+-- lines with room for n, no two of one number
+abbrev pub LinesOk : ℕ → List Line → Type 0
+LinesOk n ls = ListOk LineOk n ls × Distinct ls
+
+-- ---- one place
+
+-- what is put in a place, or nothing
+pub place-keeps : {A : Type 0} (P : A → Type 0) (n k : ℕ) (o : Option A) (os : List (Option A)) → Present P o → PlacesOk P n os → PlacesOk P n (set os k o)
+place-keeps P n k o os p i = (length-set os k o ∙ i .0, all-set (Present P) os k o p (i .1))
+
+-- ---- entries in turn
+
+module _ {A T : Type 0} (I : T → Type 0) (Q : A → Type 0) (step : A → T → Option T) (keeps : (a : A) (t : T) → Q a → I t → Present I (step a t)) where
+  -- what each entry keeps, all entries in turn keep
+  pub turn-keeps : (xs : List A) (t : T) → All Q xs → I t → Present I (in-turn step xs t)
+  turn-keeps [] t q i = i
+  turn-keeps (a ∷ xs) t q i = go (λ u p. turn-keeps xs u (q .1) p) (step a t) (keeps a t (q .0) i)
+    where
+      go : ((u : T) → I u → Present I (in-turn step xs u)) → (o : Option T) → Present I o → Present I (and-then o (in-turn step xs))
+      go r none p = tt
+      go r (some u) p = r u p
+
+-- a replace starts from the empty table
+pub start-keeps : {T : Type 0} (I : T → Type 0) (o : Operation) (empty t : T) → I empty → I t → I (start-from o empty t)
+start-keeps I Add empty t e i = i
+start-keeps I Delete empty t e i = i
+start-keeps I Replace empty t e i = e
+
+-- ---- line contacts
+
+-- a line put in place of the one with its number, or at the end, leaves no two of one number
+put-distinct : (l : Line) (ls : List Line) → Distinct ls → Distinct (putAt (indexOf (has-number (l .number)) ls) l ls)
+put-distinct l [] d = (tt, tt)
+put-distinct l (x ∷ xs) d = go (same? (x .number) (l .number)) refl (put-distinct l xs (d .1))
+  where
+    go : (b : Bool) → same? (x .number) (l .number) ≡ b → Distinct (putAt (indexOf (has-number (l .number)) xs) l xs) → Distinct (putAt (cond b 0 (suc (indexOf (has-number (l .number)) xs))) l (x ∷ xs))
+    go true e r = (all-turn (λ y. y .number ≢ x .number) (λ y. y .number ≢ l .number) (λ y n q. n (q ∙ sym (same-are (x .number) (l .number) e))) xs (d .0), d .1)
+    go false e r = (
+      put-all (λ y. y .number ≢ x .number) (indexOf (has-number (l .number)) xs) l xs
+          (λ q. true≢false (sym (same-refl (l .number)) ∙ ap (λ (n : Number). same? n (l .number)) q ∙ e)) (d .0),
+      r,
+    )
+
+-- lines taken out leave no two of one number
+unless-distinct : (p : Line → Bool) (ls : List Line) → Distinct ls → Distinct (unless p ls)
+unless-distinct p [] d = tt
+unless-distinct p (x ∷ xs) d = go (p x) (unless-distinct p xs (d .1))
+  where
+    go : (b : Bool) → Distinct (unless p xs) → Distinct (cond b (unless p xs) (x ∷ unless p xs))
+    go true r = r
+    go false r = (unless-all (λ y. y .number ≢ x .number) p xs (d .0), r)
+
+-- a line is added where there is room
+pub put-line-keeps : (room : ℕ) (l : Line) (ls : List Line) → LineOk l → LinesOk room ls → Present (LinesOk room) (put-line room l ls)
+put-line-keeps room l ls h i = go (ltb (indexOf (has-number (l .number)) ls) room) refl
+  where
+    go : (b : Bool) → ltb (indexOf (has-number (l .number)) ls) room ≡ b → Present (LinesOk room) (cond b (some (putAt (indexOf (has-number (l .number)) ls) l ls)) none)
+    go true e = (
+      (put-short (indexOf (has-number (l .number)) ls) room l ls (ltb-true _ _ e) (i .0 .0), put-all LineOk (indexOf (has-number (l .number)) ls) l ls h (i .0 .1)),
+      put-distinct l ls (i .1),
+    )
+    go false e = tt
+
+-- a line is taken out
+pub drop-line-keeps : (room : ℕ) (d : Number) (ls : List Line) → LinesOk room ls → LinesOk room (drop-line d ls)
+drop-line-keeps room d ls i = ((omega (arith, unless-short (has-number d) ls, i .0 .0), unless-all LineOk (has-number d) ls (i .0 .1)), unless-distinct (has-number d) ls (i .1))
+
+-- one entry of a setting
+pub line-step-keeps : (room : ℕ) (o : Operation) (f : LineFlags) (e : Contact) (ls : List Line) → LineOk (line-of f e) → LinesOk room ls → Present (LinesOk room) (line-step room o f e ls)
+line-step-keeps room Add f e ls h i = put-line-keeps room (line-of f e) ls h i
+line-step-keeps room Delete f e ls h i = drop-line-keeps room (e .number) ls i
+line-step-keeps room Replace f e ls h i = put-line-keeps room (line-of f e) ls h i
+
+-- a whole setting
+pub lines-after-keeps : (room : ℕ) (o : Operation) (f : LineFlags) (es : List Contact) (ls : List Line) → All (λ e. LineOk (line-of f e)) es → LinesOk room ls → Present (LinesOk room) (lines-after room o f es ls)
+lines-after-keeps room o f es ls h i =
+    turn-keeps (LinesOk room) (λ e. LineOk (line-of f e)) (line-step room o f) (line-step-keeps room o f) es (start-from o [] ls) h
+    (start-keeps (LinesOk room) o [] ls ((omega arith, tt), tt) i)
+
+-- ---- quick texts
+
+-- an add puts a quick text where there is none
+if-absent-keeps : (o : Option Text) (us : Text) → Present QuickOk o → QuickOk us → Present QuickOk (if-absent o us)
+if-absent-keeps none us p q = q
+if-absent-keeps (some vs) us p q = p
+
+-- an add
+quick-put-keeps : (e : Entry) (qs : List (Option Text)) → (e .index < quick-places) × QuickOk (e .text) → PlacesOk QuickOk quick-places qs → PlacesOk QuickOk quick-places (set qs (e .index) (if-absent (getD qs (e .index) none) (e .text)))
+quick-put-keeps e qs h i =
+    place-keeps QuickOk quick-places (e .index) (if-absent (getD qs (e .index) none) (e .text)) qs
+    (if-absent-keeps (getD qs (e .index) none) (e .text) (all-get (Present QuickOk) qs (e .index) none (i .1) (omega (arith, i .0, h .0))) (h .1)) i
+
+-- one entry of a setting
+pub quick-step-keeps : (o : Operation) (e : Entry) (qs : List (Option Text)) → QuickFit o e → PlacesOk QuickOk quick-places qs → Present (PlacesOk QuickOk quick-places) (quick-step o e qs)
+quick-step-keeps Add e qs h i = quick-put-keeps e qs h i
+quick-step-keeps Delete e qs h i = place-keeps QuickOk quick-places (e .index) none qs tt i
+quick-step-keeps Replace e qs h i = quick-put-keeps e qs h i
+
+-- a whole setting
+pub quick-after-keeps : (o : Operation) (es : List Entry) (qs : List (Option Text)) → All (QuickFit o) es → PlacesOk QuickOk quick-places qs → Present (PlacesOk QuickOk quick-places) (quick-after o es qs)
+quick-after-keeps o es qs h i =
+    turn-keeps (PlacesOk QuickOk quick-places) (QuickFit o) (quick-step o) (quick-step-keeps o) es (start-from o (replicate quick-places none) qs) h
+    (start-keeps (PlacesOk QuickOk quick-places) o (replicate quick-places none) qs (empty-table QuickOk quick-places) i)
+
+-- ---- status texts
+
+-- one entry of a setting
+pub status-step-keeps : (o : Operation) (e : Entry) (ss : List (Option Text)) → StatusOk (e .text) → PlacesOk StatusOk status-places ss → Present (PlacesOk StatusOk status-places) (status-step o e ss)
+status-step-keeps Add e ss h i = place-keeps StatusOk status-places (e .index - 32) (some (e .text)) ss h i
+status-step-keeps Delete e ss h i = place-keeps StatusOk status-places (e .index - 32) none ss tt i
+status-step-keeps Replace e ss h i = place-keeps StatusOk status-places (e .index - 32) (some (e .text)) ss h i
+
+-- a whole setting
+pub status-after-keeps : (o : Operation) (es : List Entry) (ss : List (Option Text)) → All (λ e. StatusOk (e .text)) es → PlacesOk StatusOk status-places ss → Present (PlacesOk StatusOk status-places) (status-after o es ss)
+status-after-keeps o es ss h i =
+    turn-keeps (PlacesOk StatusOk status-places) (λ e. StatusOk (e .text)) (status-step o) (status-step-keeps o) es (start-from o (replicate status-places none) ss) h
+    (start-keeps (PlacesOk StatusOk status-places) o (replicate status-places none) ss (empty-table StatusOk status-places) i)
+
+-- ---- channels
+
+-- a channel is added where there is room
+pub put-channel-keeps : (room n : ℕ) (cs : List ℕ) → InChannel n → ListOk InChannel room cs → Present (ListOk InChannel room) (put-channel room n cs)
+put-channel-keeps room n cs h i = go (ltb (length cs) room) refl
+  where
+    go : (b : Bool) → ltb (length cs) room ≡ b → Present (ListOk InChannel room) (cond b (some (cs ++ (n ∷ []))) none)
+    go true e = (omega (arith, ltb-true (length cs) room e, length-append cs (n ∷ [])), all-append InChannel cs (n ∷ []) (i .1) (h, tt))
+    go false e = tt
+
+-- one entry of a setting
+pub channel-step-keeps : (room : ℕ) (o : Operation) (n : ℕ) (cs : List ℕ) → InChannel n → ListOk InChannel room cs → Present (ListOk InChannel room) (channel-step room o n cs)
+channel-step-keeps room Add n cs h i = put-channel-keeps room n cs h i
+channel-step-keeps room Delete n cs h i = (omega (arith, unless-short (λ c. eqb c n) cs, i .0), unless-all InChannel (λ c. eqb c n) cs (i .1))
+channel-step-keeps room Replace n cs h i = put-channel-keeps room n cs h i
+
+-- a whole setting
+pub channels-after-keeps : (room : ℕ) (o : Operation) (ns cs : List ℕ) → All InChannel ns → ListOk InChannel room cs → Present (ListOk InChannel room) (channels-after room o ns cs)
+channels-after-keeps room o ns cs h i =
+    turn-keeps (ListOk InChannel room) InChannel (channel-step room o) (channel-step-keeps room o) ns (start-from o [] cs) h
+    (start-keeps (ListOk InChannel room) o [] cs (omega arith, tt) i)

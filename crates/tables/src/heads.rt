@@ -1,0 +1,26 @@
+// Heads of slots and of the emergency key: a byte of flags, and an address.
+ghost use mathlib.Core.Path.{_≡_};
+ghost use mathlib.Core.List.{_∷_};
+ghost use Prim.Native.Nat.{_≤_, _<_};
+ghost use lib.ListN.{length};
+ghost use Rattle.slots.specs.Slots.{u24};
+ghost use Rattle.writing.specs.Writing.{bit};
+
+// A flag as a number.
+pub(crate) fn bit_of(b: bool) -> u8
+    ensures { λ r. ⌜ (r ≡ bit b) × (r ≤ 1) ⌝ }
+{
+    if b { 1 } else { 0 }
+}
+
+// The flags, and the address as three bytes, highest first.
+pub(crate) fn head_of(flags: u8, address: u32) -> [u8; 4]
+    ensures { λ r. ⌜ (length r ≡ 4) × (address < 16777216 → r ≡ flags ∷ u24 address) ⌝ }
+{
+    [
+        flags,
+        (address / 65536 % 256) as u8,
+        (address / 256 % 256) as u8,
+        (address % 256) as u8,
+    ]
+}
