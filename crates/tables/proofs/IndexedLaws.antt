@@ -1,5 +1,5 @@
 -- Indexed tables: a place changed as its slot is, and a table emptied to be replaced. Assumes nothing.
-use Prim.Native.Nat.{ℕ, _+_, _-_, _*_, _<_}
+use Prim.Native.Nat.{ℕ, _+_, _-_, _*_, _≤_, _<_}
 use mathlib.Core.Path.{_≡_, ap, sym, _∙_, subst, subst⁻¹}
 use mathlib.Core.List.{List, []}
 use mathlib.Core.Option.{Option, none}
@@ -11,7 +11,17 @@ use Rattle.slots.specs.Slots.{slot, Present, Placed}
 use Rattle.slots.proofs.Tables.{place-read, place-written, places-length, places-nil, all-front, front-nil}
 use Rattle.writing.specs.declared.Operation.{Operation}
 use Rattle.writing.specs.declared.Operation.the-variants.{Add, Delete, Replace}
-use Rattle.tables.specs.Apply.{start-from}
+use Rattle.writing.specs.Fields.{Field, widths, each}
+use Rattle.writing.specs.Settings.{Entry, unicode16}
+use Rattle.writing.proofs.Ends.{Ends}
+use Rattle.wire.specs.Entries.{EntryAt}
+use Rattle.wire.specs.Settings.{EntriesAre}
+use Rattle.wire.specs.declared.entries.EntryRead.{EntryRead}
+use Rattle.wire.specs.declared.entries.EntryRead.the-variants.{NoEntry}
+use Rattle.wire.specs.declared.settings.Entries.{Entries}
+use Rattle.tables.specs.Apply.{in-turn, start-from}
+use Rattle.tables.specs.Changes.{Changed}
+use Rattle.tables.proofs.EntryWalk.{Applying, applying-end, entry-missing}
 
 module _ {A : Type 0} (P : A → Type 0) (w : ℕ) (f : A → List ℕ) (long : (a : A) → length (f a) ≡ w) (n : ℕ) (os : List (Option A)) (s : List ℕ) (t : Placed P w f n os s) where
   -- place k, changed as its slot is
@@ -35,3 +45,19 @@ module _ {A : Type 0} (P : A → Type 0) (w : ℕ) (f : A → List ℕ) (long : 
   place-started Add y e = subst⁻¹ (Placed P w f n os) e t
   place-started Delete y e = subst⁻¹ (Placed P w f n os) e t
   place-started Replace y e = subst⁻¹ (Placed P w f n (replicate n none)) e place-emptied
+
+-- ---- a loop that applies entries to an indexed table, which was emptied where it is to be replaced
+
+module _ {A : Type 0} (P : A → Type 0) (w : ℕ) (code : A → List ℕ) (long : (a : A) → length (code a) ≡ w) (n : ℕ) {f : Entry → List Field} {ends : Ends f}
+    {wide : (e : Entry) → (n : ℕ) × (widths (f e) ≡ 8 * n)} {In : Entry → Type 0} {step : Entry → List (Option A) → Option (List (Option A))} {m s₀ : List ℕ} (entries : Entries)
+    {p left : ℕ} {s : List ℕ} (g : Applying f ends wide In step (Placed P w code n) m s₀ (entries .start) (entries .count) p left s) (o : Operation) (was : List ℕ)
+    (started : s₀ ≡ start-from o (replicate (length was) 0) was) (es : List Entry) (h : EntriesAre (each f) m entries es) (i : All In es) where
+  -- all have been applied
+  pub placed-done : left ≤ 0 → Changed (Placed P w code n) (λ os. in-turn step es (start-from o (replicate n none) os)) was s
+  placed-done l os is = applying-end g l es _ (h .counted, (entries .next, h .stands)) i (place-started P w code long n os was is o s₀ started)
+
+  -- none could be read where one is left, so they are not the setting's, and nothing was promised
+  pub placed-missing : (InRead : Entry → Type 0) → ((e : Entry) → In e → InRead e) → {r : EntryRead} → EntryAt unicode16 f InRead m p r → r ≡ NoEntry → 0 < left
+      → (t : List ℕ) → Changed (Placed P w code n) (λ os. in-turn step es (start-from o (replicate n none) os)) was t
+  placed-missing InRead in-read read e l t os is =
+      absurd (entry-missing g InRead read l in-read e es _ (h .counted, (entries .next, h .stands)) i (place-started P w code long n os was is o s₀ started))

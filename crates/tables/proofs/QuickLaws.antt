@@ -31,8 +31,8 @@ use Rattle.tables.specs.Apply.{start-from, quick-step}
 use Rattle.tables.specs.Changes.{TextPut, QuickSlot, QuickStep, QuickIfAbsent, QuickApplied, QuicksAre, quick-slot}
 use Rattle.tables.specs.Layout.{quick-bytes, quick-width}
 use Rattle.tables.specs.Limits.{quick-places}
-use Rattle.tables.proofs.EntryWalk.{Applying, applying-end, entry-applied, entry-missing}
-use Rattle.tables.proofs.IndexedLaws.{place-changed, place-started}
+use Rattle.tables.proofs.EntryWalk.{Applying, entry-applied}
+use Rattle.tables.proofs.IndexedLaws.{place-changed, placed-done, placed-missing}
 use Rattle.tables.proofs.TextLaws.{Unit16, text-out, text-long, text-shown}
 
 -- a quick text's bytes are as many as its slot has
@@ -141,13 +141,10 @@ module _ (m : List ℕ) (o : Operation) (s₀ : List ℕ) (entries : Entries) (p
 
   -- s₀ is what the table was, emptied where it is to be replaced
   module _ (was : List ℕ) (started : s₀ ≡ start-from o (replicate (length was) 0) was) where
-    -- none was left, so none of the promises is asked for
+    -- none could be read where one is left
     pub quick-missing : {r : EntryRead} (t : List ℕ) → 0 < left → QuickAt unicode16 text-limits 0 m p r → r ≡ NoEntry → QuickApplied m o entries was t
-    quick-missing t l read e es h i qs is =
-        absurd (entry-missing g (QuickFrom text-limits 0) read l (quick-from o) e es _ (h .counted, (entries .next, h .stands)) i
-        (place-started QuickOk quick-width quick-bytes quick-long quick-places qs was is o s₀ started))
+    quick-missing t l read e es h i = placed-missing QuickOk quick-width quick-bytes quick-long quick-places entries g o was started es h i (QuickFrom text-limits 0) (quick-from o) read e l t
 
     -- all have been applied
     pub quick-done : left ≤ 0 → QuickApplied m o entries was s
-    quick-done l es h i qs is =
-        applying-end g l es _ (h .counted, (entries .next, h .stands)) i (place-started QuickOk quick-width quick-bytes quick-long quick-places qs was is o s₀ started)
+    quick-done l es h i = placed-done QuickOk quick-width quick-bytes quick-long quick-places entries g o was started es h i l

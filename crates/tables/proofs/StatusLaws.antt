@@ -23,8 +23,8 @@ use Rattle.tables.specs.Apply.{start-from, slot-after, status-step}
 use Rattle.tables.specs.Changes.{PlaceSet, StatusStep, StatusApplied, StatusesAre}
 use Rattle.tables.specs.Layout.{status-bytes, status-width}
 use Rattle.tables.specs.Limits.{status-places}
-use Rattle.tables.proofs.EntryWalk.{Applying, applying-end, entry-applied, entry-missing}
-use Rattle.tables.proofs.IndexedLaws.{place-started}
+use Rattle.tables.proofs.EntryWalk.{Applying, entry-applied}
+use Rattle.tables.proofs.IndexedLaws.{placed-done, placed-missing}
 use Rattle.tables.proofs.OverwriteLaws.{Made, place-overwritten, present-after}
 use Rattle.tables.proofs.TextLaws.{text-out, text-long}
 
@@ -73,13 +73,10 @@ module _ (m : List ℕ) (o : Operation) (s₀ : List ℕ) (entries : Entries) (p
 
   -- s₀ is what the table was, emptied where it is to be replaced
   module _ (was : List ℕ) (started : s₀ ≡ start-from o (replicate (length was) 0) was) where
-    -- none was left, so none of the promises is asked for
+    -- none could be read where one is left
     pub status-missing : {r : EntryRead} (t : List ℕ) → 0 < left → StatusAt unicode16 text-limits m p r → r ≡ NoEntry → StatusApplied m o entries was t
-    status-missing t l read e es h i ss is =
-        absurd (entry-missing g (InStatus text-limits) read l (λ x j. j) e es _ (h .counted, (entries .next, h .stands)) i
-        (place-started StatusOk status-width status-bytes status-long status-places ss was is o s₀ started))
+    status-missing t l read e es h i = placed-missing StatusOk status-width status-bytes status-long status-places entries g o was started es h i (InStatus text-limits) (λ x j. j) read e l t
 
     -- all have been applied
     pub status-done : left ≤ 0 → StatusApplied m o entries was s
-    status-done l es h i ss is =
-        applying-end g l es _ (h .counted, (entries .next, h .stands)) i (place-started StatusOk status-width status-bytes status-long status-places ss was is o s₀ started)
+    status-done l es h i = placed-done StatusOk status-width status-bytes status-long status-places entries g o was started es h i l
