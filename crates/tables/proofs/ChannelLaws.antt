@@ -11,9 +11,10 @@ use borrow.Rule.Slice.PartMut.{putMid, midOf}
 use lib.Dec.{eqb}
 use lib.ListN.{length, take, drop, getD, replicate}
 use lib.Seq.{drop-cons}
+use Rattle.lists.proofs.Every.{All}
 use Rattle.slots.specs.Slots.{u16, zeros?, Found, Removed}
 use Rattle.slots.proofs.Keys.{Keyed, key-removed, used-room, used-full, used-put}
-use Rattle.slots.proofs.Numbers.{u16-shown, u16-same}
+use Rattle.slots.proofs.Numbers.{u16-same}
 use Rattle.slots.proofs.Tables.{slot-copied}
 use Rattle.writing.specs.declared.Operation.{Operation}
 use Rattle.writing.specs.declared.Operation.the-variants.{Add, Delete, Replace}
@@ -22,13 +23,11 @@ use Rattle.wire.specs.declared.settings.Entries.{Entries}
 use Rattle.wire.specs.Places.{PartAt}
 use Rattle.wire.specs.Entries.{channel-list}
 use Rattle.wire.specs.Settings.{EntriesAre}
-use Rattle.tables.specs.Apply.{channel-step}
-use Rattle.tables.specs.Lists.{ChannelTable, ChannelApplied, ChannelsApplied}
-use Rattle.tables.proofs.ListLaws.{tried-room, tried-full, Trying, Applied, trying-start, trying-next, trying-full, trying-end, wiped}
-
--- a channel is not 0, so its bytes are not zeros
-channel-shown : (c : ℕ) → InChannel c → zeros? (u16 c) ≡ false
-channel-shown c h = u16-shown c (λ e. omega (arith, h .0))
+use Rattle.tables.specs.Apply.{in-turn, channel-step}
+use Rattle.tables.specs.Lists.{Tried, ChannelTable, ChannelApplied, ChannelsApplied}
+use Rattle.tables.proofs.EntryCodes.{channel-shown}
+use Rattle.tables.proofs.EntryWalk.{Going, going-start, going-next, going-full, going-end}
+use Rattle.tables.proofs.ListLaws.{tried-room, tried-full, wiped}
 
 -- a channel's two bytes are its key
 channel-keyed : Keyed InChannel 2 u16 0 2 u16
@@ -70,21 +69,23 @@ abbrev pub ChannelIs : List ℕ → Entries → ℕ → ℕ → Type 0
 ChannelIs m p i x = (es : List ℕ) (next : ℕ) → PartAt (channel-list es) m (p .start) next → i < length es → x ≡ getD es i 0
 
 module _ (o : Operation) (m : List ℕ) (p : Entries) (s : List ℕ) where
-  -- on a part that was s, the channels from place i on are left, and it is now t
+  -- on a part that was s, whatever its places, the channels from place i on are left, and it is now t
   abbrev pub ChannelsLeft : ℕ → List ℕ → Type 0
-  ChannelsLeft i t = Trying (EntriesAre channel-list m p) FromPlace InChannel (λ n. channel-step n o) ChannelTable s i (p .count - i) t
+  ChannelsLeft i t = (n : ℕ) → Going (EntriesAre channel-list m p) FromPlace InChannel (channel-step n o) (ChannelTable n) s i (p .count - i) t
 
-  -- all channels are applied in turn
+  -- what all channels in turn answer
   abbrev pub ChannelsDone : List ℕ → Bool → Type 0
-  ChannelsDone = Applied (EntriesAre channel-list m p) FromPlace InChannel (λ n. channel-step n o) ChannelTable s
+  ChannelsDone t r = (n : ℕ) (cs ns : List ℕ) → ChannelTable n cs s → EntriesAre channel-list m p ns → All InChannel ns → Tried (ChannelTable n) (in-turn (channel-step n o) ns cs) t r
 
   -- at the start all are left
   pub channels-start : ChannelsLeft 0 s
-  channels-start = trying-start (EntriesAre channel-list m p) FromPlace InChannel (λ n. channel-step n o) ChannelTable s 0 (p .count - 0) (λ ns e. (omega (arith, e .counted), refl))
+  channels-start n = going-start (EntriesAre channel-list m p) FromPlace InChannel (channel-step n o) (ChannelTable n) s 0 (p .count - 0) (λ ns e. (omega (arith, e .counted), refl))
 
   -- at the end none is left
   pub channels-end : (i : ℕ) (t : List ℕ) → p .count ≤ i → ChannelsLeft i t → ChannelsDone t true
-  channels-end i t h = trying-end (EntriesAre channel-list m p) FromPlace InChannel (λ n. channel-step n o) ChannelTable s i (p .count - i) t (omega arith)
+  channels-end i t h g n cs ns l e q =
+      let (u, d, k) = going-end (EntriesAre channel-list m p) FromPlace InChannel (channel-step n o) (ChannelTable n) s i (p .count - i) t (omega arith) (g n) ns cs e q l in
+      tried-room (ChannelTable n) u d k
 
   module _ (i x : ℕ) (t u : List ℕ) (r : Bool) (h : i < p .count) (g : ChannelsLeft i t) (is : ChannelIs m p i x) (turn : ChannelApplied o x t u r) where
     -- the channel in place i is the next
@@ -96,14 +97,18 @@ module _ (o : Operation) (m : List ℕ) (p : Entries) (s : List ℕ) where
 
     -- it had room
     pub channels-on : r ≡ true → ChannelsLeft (i + 1) u
-    channels-on e =
+    channels-on e n =
         let k : p .count - i - 1 ≡ p .count - (i + 1) = omega arith in
-        subst (λ (left : ℕ). Trying (EntriesAre channel-list m p) FromPlace InChannel (λ n. channel-step n o) ChannelTable s (i + 1) left u) k
-        (trying-next (EntriesAre channel-list m p) FromPlace InChannel (λ n. channel-step n o) ChannelTable s i (i + 1) (p .count - i) t u x (omega arith) next g r turn e)
+        subst (λ (left : ℕ). Going (EntriesAre channel-list m p) FromPlace InChannel (channel-step n o) (ChannelTable n) s (i + 1) left u) k
+        (going-next (EntriesAre channel-list m p) FromPlace InChannel (channel-step n o) (ChannelTable n) s i (i + 1) (p .count - i) t x (omega arith) next (g n) u
+        (λ cs l q. turn n cs l q .room e))
 
     -- it had none
     pub channels-stop : r ≡ false → ChannelsDone u false
-    channels-stop e = trying-full (EntriesAre channel-list m p) FromPlace InChannel (λ n. channel-step n o) ChannelTable s i (i + 1) (p .count - i) t u x (omega arith) next g r turn e u
+    channels-stop e n cs ns l d q =
+        tried-full (ChannelTable n)
+        (going-full (EntriesAre channel-list m p) FromPlace InChannel (channel-step n o) (ChannelTable n) s i (i + 1) (p .count - i) t x (omega arith) next (g n)
+        (λ cs l q. turn n cs l q .full e) ns cs d q l)
 
 -- ---- replacing
 

@@ -1,16 +1,14 @@
 -- A number's digits in a message, and as they are kept. Assumes nothing.
 use mathlib.Core.Path.{_≡_, refl, sym, ap, _∙_, subst}
-use mathlib.Core.Bool.{Bool, _&&_, false}
 use mathlib.Core.List.{List, [], _∷_, _++_, map, append-nil}
 use Prim.Native.Nat.{ℕ, zero, suc, _+_, _-_, _/_, _%_, _≤_, _<_}
 use native.Mathlib.Nat.{not-suc-le-zero, le-of-suc-le-suc}
 use native.Mathlib.Omega.{arith}
-use lib.Dec.{eqb, eqb·zero-suc, eqb·suc-zero, eqb·suc-suc}
 use lib.ListN.{length, take, drop, getD, set, List·getD-eq-default, length-map, drop-of-length-le}
 use lib.Seq.{take-all}
 use Rattle.lists.proofs.Bytes.{Bytes}
 use Rattle.lists.proofs.Seqs.{getD-map}
-use Rattle.slots.specs.Slots.{pad, same?, zeros?}
+use Rattle.slots.specs.Slots.{pad}
 use Rattle.slots.proofs.Pads.{pad-length}
 use Rattle.slots.proofs.Runs.{copy-more}
 use Rattle.writing.specs.Fields.{val, item}
@@ -106,21 +104,3 @@ module _ (m : List ℕ) (p : NumberPlace) (s : List ℕ) (i : ℕ) (t : List ℕ
       let x : List ℕ = pad 0 (length s) (map suc ds) in
       let n : length x ≡ length s = pad-length 0 (length s) (map suc ds) in
       g ds next is ∙ (rw (take-all i x (omega arith), drop-of-length-le s {i = i} l, append-nil))
-
--- ---- digits as a key
-
--- digits as they are kept compare as the digits do
-pub kept-same : (n : ℕ) (xs ys : Number) → length xs ≤ n → length ys ≤ n → same? (pad 0 n (map suc xs)) (pad 0 n (map suc ys)) ≡ same? xs ys
-kept-same zero [] [] h k = refl
-kept-same zero [] (y ∷ ys) h k = absurd (not-suc-le-zero k)
-kept-same zero (x ∷ xs) ys h k = absurd (not-suc-le-zero h)
-kept-same (suc n) [] [] h k = kept-same n [] [] (omega arith) (omega arith)
-kept-same (suc n) [] (y ∷ ys) h k = rw (eqb·zero-suc y)
-kept-same (suc n) (x ∷ xs) [] h k = rw (eqb·suc-zero x)
-kept-same (suc n) (x ∷ xs) (y ∷ ys) h k = rw (eqb·suc-suc x y) (ap (λ (b : Bool). eqb x y && b) (kept-same n xs ys (le-of-suc-le-suc h) (le-of-suc-le-suc k)))
-
--- a number has a digit, so its digits as they are kept are not zeros
-pub kept-shown : (n : ℕ) (ds : Number) → 1 ≤ length ds → 1 ≤ n → zeros? (pad 0 n (map suc ds)) ≡ false
-kept-shown zero ds h k = absurd (not-suc-le-zero k)
-kept-shown (suc n) [] h k = absurd (not-suc-le-zero h)
-kept-shown (suc n) (d ∷ ds) h k = rw (eqb·suc-zero d)

@@ -3,7 +3,6 @@ pub mod ChannelLaws
 pub mod DigitLaws
 pub mod EntryBytes
 pub mod EntryCodes
-pub mod EntryPlaces
 pub mod EntryWalk
 pub mod FitsLaws
 pub mod FixedCodes

@@ -1,30 +1,23 @@
 // The bytes of a line contact's slot: its flags, its digits, each one more than itself, and its text.
+use super::heads::bit_of;
 use super::texts::put_text;
 use wire::entries::ContactPlace;
 use wire::numbers::NumberPlace;
 use writing::LineFlags;
 ghost use mathlib.Core.Path.{_≡_};
-ghost use Prim.Native.Nat.{_+_, _≤_, _<_};
+ghost use Prim.Native.Nat.{_+_, _<_};
 ghost use lib.ListN.{getD};
-ghost use Rattle.writing.specs.Writing.{bit};
 ghost use Rattle.tables.specs.Layout.{line-flags};
 ghost use Rattle.tables.specs.Lists.{DigitIs, DigitKept, DigitsPut, LineSlot};
-
-// A flag as a number.
-fn one_if(flag: bool) -> u8
-    ensures { λ r. ⌜ (r ≡ bit flag) × (r ≤ 1) ⌝ }
-{
-    if flag { 1 } else { 0 }
-}
 
 // The flags of a line in one byte.
 fn line_flag_byte(flags: LineFlags) -> u8
     ensures { λ r. ⌜ (flags .priority < 4 → r ≡ line-flags flags) ⌝ }
 {
-    let encryption = one_if(flags.encryption);
-    let emergency = one_if(flags.emergency);
-    let pabx = one_if(flags.pabx);
-    encryption * 16 + emergency * 8 + flags.priority % 4 * 2 + pabx
+    bit_of(flags.encryption) * 16
+        + bit_of(flags.emergency) * 8
+        + flags.priority % 4 * 2
+        + bit_of(flags.pabx)
 }
 
 // The byte k places after start, or 0 past the end.
