@@ -1,7 +1,13 @@
+pub mod CheckLaws
 pub mod EntryBytes
+pub mod EntryChecks
 pub mod EntryCodes
 pub mod FixedCodes
 pub mod Frames
 pub mod FreshLaws
+pub mod FrontLaws
 pub mod LayoutLaws
+pub mod NumberChecks
+pub mod TableChecks
+pub mod TextChecks
 pub mod TextCodes

@@ -1,2 +1,4 @@
 // The tables of a set in lent bytes: what each setting does to them.
+mod checks_entries;
+mod checks_tables;
 pub mod limits;
