@@ -2,6 +2,7 @@ pub mod CheckLaws
 pub mod EntryBytes
 pub mod EntryChecks
 pub mod EntryCodes
+pub mod FixedChecks
 pub mod FixedCodes
 pub mod Frames
 pub mod FreshLaws

@@ -1,4 +1,5 @@
 // The tables of a set in lent bytes: what each setting does to them.
 mod checks_entries;
+mod checks_fixed;
 mod checks_tables;
 pub mod limits;
