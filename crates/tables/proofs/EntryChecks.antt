@@ -81,8 +81,8 @@ quick-first (u ∷ us) p = (λ z. omega arith, λ h. u16-shown u (p .units .0 .0
 pub quick-is : (s : List ℕ) → ((zeros? (midOf 0 2 s) ≡ false) × EntryOf (TextOk 23) (text-bytes 23) s) ↔ EntryOf QuickOk quick-bytes s
 quick-is s = (
   λ x.
-  let t = x .1 in
-  record { entry = t .entry; holds = record { some-unit = quick-first (t .entry) (t .holds) .0 (ap (λ (l : List ℕ). zeros? (take 2 l)) (sym (t .bytes)) ∙ x .0); text = t .holds }; bytes = t .bytes },
+      let t = x .1 in
+      record { entry = t .entry; holds = record { some-unit = quick-first (t .entry) (t .holds) .0 (ap (λ (l : List ℕ). zeros? (take 2 l)) (sym (t .bytes)) ∙ x .0); text = t .holds }; bytes = t .bytes },
   λ q. (
     ap (λ (l : List ℕ). zeros? (take 2 l)) (q .bytes) ∙ quick-first (q .entry) (q .holds .text) .1 (q .holds .some-unit),
     record { entry = q .entry; holds = q .holds .text; bytes = q .bytes },

@@ -55,17 +55,17 @@ record SizeIs (code k : ℕ) : Type 0 where
 hash-tail : (x : ℕ) (v : List ℕ) (k : ℕ) → length v ≡ 10 → Bytes v → SizeIs x k → (zeros? (drop k v) ≡ true) ↔ EntryOf HashOk hash-bytes (x ∷ v)
 hash-tail x v k l b q = (
   λ z.
-  let m : length (take k v) ≡ k = length-take-le k v (omega (arith, q .few)) in
-  record {
-    entry = record { code = x; value = take k v };
-    holds = record { size = subst (HashSize x) (sym m) (q .size); bytes = bytes-all (take k v) (bytes-take k v b) };
-    bytes = ap (λ (w : List ℕ). x ∷ w) (pad-cut 10 k v l (q .few) z);
-  },
+      let m : length (take k v) ≡ k = length-take-le k v (omega (arith, q .few)) in
+      record {
+        entry = record { code = x; value = take k v };
+        holds = record { size = subst (HashSize x) (sym m) (q .size); bytes = bytes-all (take k v) (bytes-take k v b) };
+        bytes = ap (λ (w : List ℕ). x ∷ w) (pad-cut 10 k v l (q .few) z);
+      },
   λ e.
-  let h = e .entry in
-  let c : x ≡ h .code = head-eq-of-cons-eq (e .bytes) in
-  let m : length (h .value) ≡ k = q .only (length (h .value)) (subst (λ (i : ℕ). HashSize i (length (h .value))) (sym c) (e .holds .size)) in
-  ap (λ (i : ℕ). zeros? (drop i v)) (sym m) ∙ ap (λ (w : List ℕ). zeros? (drop (length (h .value)) w)) (tail-eq-of-cons-eq (e .bytes)) ∙ pad-rest 10 (h .value) (omega (arith, q .few)),
+      let h = e .entry in
+      let c : x ≡ h .code = head-eq-of-cons-eq (e .bytes) in
+      let m : length (h .value) ≡ k = q .only (length (h .value)) (subst (λ (i : ℕ). HashSize i (length (h .value))) (sym c) (e .holds .size)) in
+      ap (λ (i : ℕ). zeros? (drop i v)) (sym m) ∙ ap (λ (w : List ℕ). zeros? (drop (length (h .value)) w)) (tail-eq-of-cons-eq (e .bytes)) ∙ pad-rest 10 (h .value) (omega (arith, q .few)),
 )
 
 -- "The hash value has 0, 4 or 10 bytes for codes 0, 1, 2"

@@ -1,4 +1,5 @@
 pub mod CheckLaws
+pub mod DistinctLaws
 pub mod EntryBytes
 pub mod EntryChecks
 pub mod EntryCodes
@@ -9,6 +10,7 @@ pub mod FreshLaws
 pub mod FrontLaws
 pub mod LayoutLaws
 pub mod NumberChecks
+pub mod StoreChecks
 pub mod TableChecks
 pub mod TextChecks
 pub mod TextCodes

@@ -1,10 +1,11 @@
 -- What the checks of a store's bytes decide, part by part.
-use Prim.Native.Nat.{ℕ, _*_, _≤_}
+use Prim.Native.Nat.{ℕ, _≤_}
 use mathlib.Core.Path.{_≡_}
 use mathlib.Core.List.{List, _++_}
+use mathlib.Core.Option.{Option}
 use lib.ListN.{length}
 use Rattle.lists.proofs.Every.{All}
-use Rattle.slots.specs.Slots.{EntryOf, PlacesOf, ListOf, places, front, u16}
+use Rattle.slots.specs.Slots.{EntryOf, Present, places, front, u16}
 use Rattle.writing.specs.Ranges.{InChannel}
 use Rattle.writing.specs.Settings.{Text}
 use Rattle.tables.specs.declared.checks_tables.Table.{Table}
@@ -65,9 +66,44 @@ width-in Lines = line-width
 
 -- ---- the parts of a store
 
+-- an indexed table with n places
+abbrev pub PlacesOk : {A : Type 0} → (A → Type 0) → ℕ → List (Option A) → Type 0
+PlacesOk P n os = (length os ≡ n) × All (Present P) os
+
+-- a list table with at most n entries
+abbrev pub ListOk : {A : Type 0} → (A → Type 0) → ℕ → List A → Type 0
+ListOk P n xs = (length xs ≤ n) × All P xs
+
+-- the key calls where it may
 abbrev pub KeyOk : Key → Type 0
 KeyOk k = TargetOk (k .target)
+
+-- at most n lines, each with a number of its own
+abbrev pub LinesOk : ℕ → List Line → Type 0
+LinesOk n ls = ListOk LineOk n ls × Distinct ls
 
 -- the bytes are a hash, a key, home numbers and a system code
 abbrev pub FixedOf : List ℕ → Type 0
 FixedOf s = EntryOf (Both HashOk (Both KeyOk (Both HomeOk SystemOk))) (joined hash-bytes (joined key-bytes (joined home-bytes system-bytes))) s
+
+-- the bytes are quick texts, status texts, groups and individuals
+abbrev pub IndexedOf : List ℕ → Type 0
+IndexedOf s =
+    EntryOf (Both (PlacesOk QuickOk quick-places) (Both (PlacesOk StatusOk status-places) (Both (PlacesOk GroupOk slot-places) (PlacesOk IndividualOk slot-places))))
+    (joined (places quick-width quick-bytes) (joined (places status-width status-bytes) (joined (places member-width group-bytes) (places member-width individual-bytes)))) s
+
+-- the bytes are channels in n places
+abbrev pub ChannelsOf : ℕ → List ℕ → Type 0
+ChannelsOf n s = EntryOf (ListOk InChannel n) (λ cs. places channel-width u16 (front n cs)) s
+
+-- the bytes are lines in n places
+abbrev pub LinesOf : ℕ → List ℕ → Type 0
+LinesOf n s = EntryOf (LinesOk n) (λ ls. places line-width line-bytes (front n ls)) s
+
+-- ---- a store
+
+-- "A store is exactly the bytes of tables and a kept hash that these rules allow": they fill it, and have room in it
+pub record StoreOf (m : Limits) (bytes : List ℕ) : Type 0 where
+  pub size : length bytes ≡ m .size
+  pub roomy : Roomy m
+  pub store : IsStore m bytes

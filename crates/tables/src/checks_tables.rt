@@ -1,4 +1,4 @@
-// Whether bytes are a table, slot by slot, and whether no two lines have one number.
+// Whether bytes are a table, slot by slot.
 use super::checks_entries::channel_ok;
 use super::checks_entries::group_ok;
 use super::checks_entries::individual_ok;
@@ -6,19 +6,14 @@ use super::checks_entries::line_ok;
 use super::checks_entries::quick_ok;
 use super::checks_entries::status_ok;
 use slots::bytes::is_zeros;
-use slots::slots::place_of;
 use slots::slots::used;
 ghost use mathlib.Core.Path.{_≡_};
 ghost use mathlib.Core.Bool.{true};
 ghost use mathlib.Core.Logic.{_↔_};
-ghost use mathlib.Core.List.{List};
 ghost use Prim.Native.Nat.{ℕ, _*_};
 ghost use lib.ListN.{length};
-ghost use Rattle.slots.specs.Slots.{EntryOf, SlotOf, PlacesOf, ListOf, Listed};
-ghost use Rattle.tables.specs.Tables.{Line};
-ghost use Rattle.tables.specs.Allowed.{LineOk, Distinct};
-ghost use Rattle.tables.specs.Layout.{line-width, line-bytes};
-ghost use Rattle.tables.specs.Checks.{EntryIn, OkIn, width-in, bytes-in};
+ghost use Rattle.slots.specs.Slots.{EntryOf, PlacesOf, ListOf};
+ghost use Rattle.tables.specs.Checks.{OkIn, width-in, bytes-in, IndexedOf};
 
 // The tables that are made of slots.
 pub(crate) enum Table {
@@ -76,7 +71,7 @@ fn places_ok(t: Table, s: &[u8]) -> bool
 }
 
 // Whether entries' slots are followed by empty ones only.
-fn list_ok(t: Table, s: &[u8]) -> bool
+pub(crate) fn list_ok(t: Table, s: &[u8]) -> bool
     ensures { λ r. ⌜ ((n : ℕ) → length (now (s .entry)) ≡ n * width-in t → (r ≡ true) ↔ ListOf (OkIn t) (width-in t) (bytes-in t) n (now (s .entry))) ⌝ }
 {
     if !places_ok(t, s) {
@@ -84,4 +79,21 @@ fn list_ok(t: Table, s: &[u8]) -> bool
     }
     let end = used(s, width(t));
     is_zeros(&s[end..])
+}
+
+// The four indexed tables.
+pub(crate) fn indexed_ok(s: &[u8]) -> bool
+    requires { ⌜ length (now s) ≡ 7264 ⌝ }
+    ensures { λ r. ⌜ (r ≡ true) ↔ IndexedOf (now (s .entry)) ⌝ }
+{
+    if !places_ok(Table::QuickTexts, &s[0..2944]) {
+        return false;
+    }
+    if !places_ok(Table::StatusTexts, &s[2944..6112]) {
+        return false;
+    }
+    if !places_ok(Table::Groups, &s[6112..6688]) {
+        return false;
+    }
+    places_ok(Table::Individuals, &s[6688..7264])
 }

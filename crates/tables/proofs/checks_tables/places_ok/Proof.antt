@@ -67,17 +67,23 @@ loop-less : tie.Need-loop-less Inv-loop μ-loop
 loop-less c = omega (arith, wide-in (c .before .before .before .before .before .before .before .before .before .before .args .t))
 
 loop-again : tie.Need-loop-again Inv-loop μ-loop
-loop-again c =
-    (omega arith, c .before .before .before .before .before .before .before .before .width .ensures, pass-entry (c .before .before .before .before .before .before .before .before .before .before .args .t) (c .before .before .before .before .before .before .before .before .before .before .args .s .now) (c .before .before .before .before .before .before .before .loop .at) (c .before .before .before .before .before .before .before .before .width .result) (c .before .before .before .before .before .before .before .before .width .ensures) (c .before .before .before .before .before .before .before .loop .inv .2) (omega arith)
-    (was-said (c .before .entry-ok .result) (c .before .entry-ok .ensures) (c .if2 .left)))
+loop-again c = (
+  omega arith,
+  c .before .before .before .before .before .before .before .before .width .ensures,
+  pass-entry (c .before .before .before .before .before .before .before .before .before .before .args .t) (c .before .before .before .before .before .before .before .before .before .before .args .s .now) (c .before .before .before .before .before .before .before .loop .at) (c .before .before .before .before .before .before .before .before .width .result) (c .before .before .before .before .before .before .before .before .width .ensures) (c .before .before .before .before .before .before .before .loop .inv .2) (omega arith)
+      (was-said (c .before .entry-ok .result) (c .before .entry-ok .ensures) (c .if2 .left)),
+)
 
 loop-less-2 : tie.Need-loop-less-2 Inv-loop μ-loop
 loop-less-2 c = omega (arith, wide-in (c .before .before .before .before .before .before .before .args .t))
 
 loop-again-2 : tie.Need-loop-again-2 Inv-loop μ-loop
-loop-again-2 c =
-    (omega arith, c .before .before .before .before .before .width .ensures, pass-empty (c .before .before .before .before .before .before .before .args .t) (c .before .before .before .before .before .before .before .args .s .now) (c .before .before .before .before .loop .at) (c .before .before .before .before .before .width .result) (c .before .before .before .before .before .width .ensures) (c .before .before .before .before .loop .inv .2) (omega arith)
-    (sym (c .before .is-zeros .ensures) ∙ not-false (c .before .is-zeros .result) (c .if1 .left)))
+loop-again-2 c = (
+  omega arith,
+  c .before .before .before .before .before .width .ensures,
+  pass-empty (c .before .before .before .before .before .before .before .args .t) (c .before .before .before .before .before .before .before .args .s .now) (c .before .before .before .before .loop .at) (c .before .before .before .before .before .width .result) (c .before .before .before .before .before .width .ensures) (c .before .before .before .before .loop .inv .2) (omega arith)
+      (sym (c .before .is-zeros .ensures) ∙ not-false (c .before .is-zeros .result) (c .if1 .left)),
+)
 
 returns-2 : tie.Need-returns-2 Inv-loop μ-loop
 returns-2 c = λ n l. granted (pass-end (c .before .before .before .before .args .t) (c .before .before .before .before .args .s .now) (c .before .loop .at) (c .before .before .width .result) (c .before .before .width .ensures) (c .before .loop .inv .2) (omega arith) n l)
