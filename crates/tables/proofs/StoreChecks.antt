@@ -8,7 +8,7 @@ use Prim.Native.Nat.{ℕ, _+_, _*_, _-_, _/_, _≤_, _<_}
 use native.Mathlib.Omega.{arith}
 use borrow.Rule.Slice.PartMut.{midOf}
 use lib.Dec.{leb}
-use lib.ListN.{length, drop, replicate, length-append, length-drop}
+use lib.ListN.{length, drop, replicate, set, length-append, length-drop}
 use Rattle.slots.specs.Slots.{places, front, zeros?, u16, EntryOf, PlacesOf, ListOf, Listed}
 use Rattle.slots.proofs.Runs.{zeros-all, zeros-are}
 use Rattle.slots.proofs.Tables.{front-length, places-length}
@@ -20,10 +20,11 @@ use Rattle.tables.specs.declared.limits.Limits.{Limits}
 use Rattle.tables.specs.Allowed.{QuickOk, StatusOk, GroupOk, IndividualOk, LineOk, HashOk, HomeOk, SystemOk, Distinct, Allowed}
 use Rattle.tables.specs.Checks.{Both, joined, PlacesOk, ListOk, KeyOk, LinesOk, FixedOf, IndexedOf, ChannelsOf, LinesOf}
 use Rattle.tables.specs.Layout.{quick-bytes, status-bytes, group-bytes, individual-bytes, line-bytes, hash-bytes, key-bytes, home-bytes, system-bytes, used-size, layout, Roomy, IsStore}
-use Rattle.tables.specs.Tables.{Line, GroupMember, IndividualMember, Key, Tables}
+use Rattle.tables.specs.Tables.{Line, GroupMember, IndividualMember, Key, Tables, fresh}
 use Rattle.tables.proofs.CheckLaws.{turned, leb-is, Same, entry-same, parts-are, last-is, rest-is}
 use Rattle.tables.proofs.EntryCodes.{quick-code, status-code, group-code, individual-code, channel-code, line-code}
 use Rattle.tables.proofs.FixedCodes.{hash-code, key-code, home-code, system-code}
+use Rattle.tables.proofs.FreshLaws.{fresh-layout}
 
 -- ---- how long the parts are
 
@@ -248,3 +249,9 @@ pub room-is : (m : Limits) → 7286 ≤ m .size → m .channels ≤ (m .size - 7
 room-is m h k =
     let n = (m .size - 7286 - m .channels * 2) / 51 in
     turned (leb (m .lines) n) (leb-is (m .lines) n) (λ (e : m .lines ≤ (m .size - 7286 - m .channels * 2) / 51). omega arith) (λ (r : Roomy m). omega arith)
+
+-- ---- starting
+
+-- zeros of a store's size, with current 1, are a fresh store
+pub fresh-made : (m : Limits) (s t : List ℕ) → Roomy m → length s ≡ m .size → t ≡ replicate (length s) 0 → set t 11 16 ≡ layout m fresh
+fresh-made m s t r l e = ap (λ (u : List ℕ). set u 11 16) (e ∙ ap (λ (i : ℕ). replicate i 0) l) ∙ sym (fresh-layout m r)

@@ -5,3 +5,4 @@ mod checks_fixed;
 mod checks_lists;
 mod checks_tables;
 pub mod limits;
+pub mod start;
