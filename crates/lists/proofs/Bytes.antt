@@ -32,6 +32,11 @@ all-bytes [] p i = omega arith
 all-bytes (x ∷ l) p zero = p .0
 all-bytes (x ∷ l) p (suc i) = all-bytes l (p .1) i
 
+-- and bytes are below 256
+pub bytes-all : (l : List ℕ) → Bytes l → All (_< 256) l
+bytes-all [] b = tt
+bytes-all (x ∷ l) b = (b 0, bytes-all l (λ i. b (suc i)))
+
 -- zeros are bytes
 pub bytes-zeros : (n : ℕ) → Bytes (replicate n 0)
 bytes-zeros n = all-bytes (replicate n 0) (all-replicate (_< 256) n 0 (omega arith))

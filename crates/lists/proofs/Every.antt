@@ -1,10 +1,13 @@
 -- Lists of which every element has a property. Assumes nothing.
 use mathlib.Core.Bool.{Bool, true, false, _&&_}
+use mathlib.Core.Logic.{_↔_, Iff·rfl}
 use mathlib.Core.List.{List, [], _∷_, _++_, map}
-use Prim.Native.Nat.{ℕ, zero, suc, _<_}
+use Prim.Native.Nat.{ℕ, zero, suc, _+_, _<_}
 use native.Mathlib.Nat.{not-suc-le-zero, le-of-suc-le-suc}
+use native.Mathlib.Numerals.{add-one}
 use lib.Dec.{T}
-use lib.ListN.{getD, length, set, take, replicate}
+use lib.ListN.{getD, drop, length, set, take, replicate}
+use lib.Seq.{drop-cons}
 
 -- every element of the list has P
 abbrev pub All : {A : Type 0} → (A → Type 0) → List A → Type 0
@@ -87,3 +90,7 @@ all? f (x ∷ xs) = f x && all? f xs
 pub all-passed : {A : Type 0} (f : A → Bool) (P : A → Type 0) → ((x : A) → T (f x) → P x) → (xs : List A) → T (all? f xs) → All P xs
 all-passed f P shown [] t = tt
 all-passed f P shown (x ∷ xs) t = let (p, q) = both (f x) (all? f xs) t in (shown x p, all-passed f P shown xs q)
+
+-- what stands from place i on is the element there and what stands behind it
+pub all-from : {A : Type 0} (P : A → Type 0) (xs : List A) (i : ℕ) (d : A) → i < length xs → (P (getD xs i d) × All P (drop (i + 1) xs)) ↔ All P (drop i xs)
+all-from P xs i d h = rw (add-one, drop-cons xs i d) Iff·rfl

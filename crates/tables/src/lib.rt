@@ -1,5 +1,10 @@
 // The tables of a set in lent bytes: what each setting does to them.
 pub mod channels;
+pub mod checks;
+mod checks_entries;
+mod checks_fixed;
+mod checks_lists;
+mod checks_tables;
 pub mod fixed;
 mod heads;
 pub mod limits;
@@ -9,6 +14,7 @@ pub mod members;
 mod overwriting;
 pub mod quick;
 mod replacing;
+pub mod start;
 pub mod status;
 pub mod store;
 pub mod texts;

@@ -1,0 +1,25 @@
+// Starting a store.
+use super::checks::roomy;
+use super::limits::Limits;
+use slots::bytes::wipe;
+ghost use Rattle.tables.specs.Checks.{StartedAs};
+
+pub enum Started {
+    Fresh,
+    WrongSize,
+}
+
+// Any bytes of the limits' size become a fresh store. Other bytes stay, and so do all where the tables have no room.
+pub fn start(store: &mut [u8], limits: Limits) -> Started
+    ensures { λ r. ⌜ StartedAs limits (now (store .entry)) (now (store .exit)) r ⌝ }
+{
+    if store.len() != limits.size {
+        return Started::WrongSize;
+    }
+    if !roomy(limits) {
+        return Started::WrongSize;
+    }
+    wipe(store);
+    store[11] = 16;
+    Started::Fresh
+}
