@@ -32,7 +32,7 @@ use Rattle.tables.specs.Apply.{apply, with-room, slot-after, lines-after
 use Rattle.tables.specs.Changes.{QuicksAre, QuickApplied, StatusesAre, StatusApplied, GroupsAre, GroupApplied, group-member, IndividualsAre, IndividualApplied, individual-member, KeyPut, SystemPut, HashPut}
 use Rattle.tables.specs.Layout.{layout, used-size, key-address, key-bytes, home-bytes, system-bytes, hash-bytes, channel-width, line-width}
 use Rattle.tables.specs.Lists.{Tried, ChannelTable, ChannelsApplied, LineTable, LinesApplied}
-use Rattle.tables.specs.Store.{StoreOf, Applied}
+use Rattle.tables.specs.Store.{Holds, Applied}
 use Rattle.tables.specs.Tables.{Tables, Key as KeyOf, with-hash, with-key, with-home, with-system, with-quick, with-status, with-groups, with-individuals, with-channels, with-lines}
 use Rattle.tables.proofs.AllowedLaws.{apply-allowed}
 use Rattle.tables.proofs.FitsLaws.{fits-key, fits-system, fits-group, fits-individual}
@@ -43,7 +43,7 @@ use Rattle.tables.proofs.ListLaws.{tried-room}
 -- ---- a part put back
 
 -- what was tried on a part was tried on the store
-joined : (l : Limits) (was : Tables) (left : ℕ) (x : Setting) → Allowed l was → InRange text-limits left x → Fits unicode16 x → {T : Type 0} (Is : T → List ℕ → Type 0) (o : Option T) (w : T → Tables) (y t : List ℕ) (k : Bool) → apply l x was ≡ with-room w o → ((u : T) → Is u y → t ≡ layout l (w u)) → Tried Is o y k → Tried (StoreOf l) (apply l x was) t k
+joined : (l : Limits) (was : Tables) (left : ℕ) (x : Setting) → Allowed l was → InRange text-limits left x → Fits unicode16 x → {T : Type 0} (Is : T → List ℕ → Type 0) (o : Option T) (w : T → Tables) (y t : List ℕ) (k : Bool) → apply l x was ≡ with-room w o → ((u : T) → Is u y → t ≡ layout l (w u)) → Tried Is o y k → Tried (Holds l) (apply l x was) t k
 joined l was left x ok r p Is o w y t k e back h = record {
   room = λ q.
       let (u, c, i) = h .room q in
@@ -53,7 +53,7 @@ joined l was left x ok r p Is o w y t k e back h = record {
 }
 
 -- a fixed part has its length
-wide : (l : Limits) (was : Tables) (s : List ℕ) → used-size l ≤ l .size → StoreOf l was s → (a n : ℕ) → a + n ≤ 7286 → length (midOf a n s) ≡ n
+wide : (l : Limits) (was : Tables) (s : List ℕ) → used-size l ≤ l .size → Holds l was s → (a n : ℕ) → a + n ≤ 7286 → length (midOf a n s) ≡ n
 wide l was s room is a n h =
     let e : length s ≡ l .size = ap length (is .1) ∙ layout-length l was room (is .0) in
     let k : a + n - a ≡ n = omega arith in
@@ -146,9 +146,9 @@ module _ (l : Limits) (m s y : List ℕ) where
 
   -- ---- no store of these limits
 
-  -- a store has room for its tables
-  pub store-small : (r : Read) (t : List ℕ) (k : Bool) → (used-size l ≤ length s → ⊥) → Applied l m r s t k
-  store-small r t k h was x left room is q i p = absurd (h (omega (arith, room, ap length (is .1) ∙ layout-length l was room (is .0))))
+  -- a store has the limits' size, and room for its tables
+  pub no-store : (r : Read) (t : List ℕ) (k : Bool) → (used-size l ≤ l .size → length s ≡ l .size → ⊥) → Applied l m r s t k
+  no-store r t k h was x left room is q i p = absurd (h room (ap length (is .1) ∙ layout-length l was room (is .0)))
 
 -- ---- the setting by its case
 

@@ -16,11 +16,11 @@ use Rattle.tables.specs.Lists.{Tried}
 use Rattle.tables.specs.Tables.{Tables}
 
 -- the bytes are the store of these tables
-abbrev pub StoreOf : Limits → Tables → List ℕ → Type 0
-StoreOf l t s = Allowed l t × (s ≡ layout l t)
+abbrev pub Holds : Limits → Tables → List ℕ → Type 0
+Holds l t s = Allowed l t × (s ≡ layout l t)
 
 -- what applying a setting that was read answers, on a store that was s and becomes t
 abbrev pub Applied : Limits → List ℕ → Read → List ℕ → List ℕ → Bool → Type 0
 Applied l m r s t k =
-    (was : Tables) (set : Setting) (left : ℕ) → Roomy l → StoreOf l was s → Meant m r set → InRange text-limits left set → Fits unicode16 set
-    → Tried (StoreOf l) (apply l set was) t k
+    (was : Tables) (set : Setting) (left : ℕ) → Roomy l → Holds l was s → Meant m r set → InRange text-limits left set → Fits unicode16 set
+    → Tried (Holds l) (apply l set was) t k

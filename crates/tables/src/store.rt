@@ -1,5 +1,6 @@
 // The whole store: a setting that was read is applied to its part.
 use super::channels::apply_channels;
+use super::checks::roomy;
 use super::fixed::put_hash;
 use super::fixed::put_home;
 use super::fixed::put_key;
@@ -11,31 +12,16 @@ use super::members::apply_individual;
 use super::quick::apply_quick;
 use super::status::apply_status;
 use wire::settings::Setting;
-ghost use mathlib.Core.Path.{_≡_};
-ghost use mathlib.Core.Bool.{true, false};
-ghost use Prim.Native.Nat.{_≤_};
-ghost use Rattle.tables.specs.Layout.{used-size};
 ghost use Rattle.tables.specs.Store.{Applied};
 
-// Whether so many bytes are too few for the tables.
-fn cramped(limits: Limits, bytes: usize) -> bool
-    ensures { λ r. ⌜ (r ≡ true → used-size limits ≤ bytes → ⊥) × (r ≡ false → used-size limits ≤ bytes) ⌝ }
-{
-    if bytes < 7286 {
-        return true;
-    }
-    let left = bytes - 7286;
-    if left / 2 < limits.channels {
-        return true;
-    }
-    (left - limits.channels * 2) / 51 < limits.lines
-}
-
-// Whether there was room; a store too small for its tables is left as it was.
+// Whether there was room. Bytes that are no store of these limits may be left as they were.
 pub fn apply(store: &mut [u8], limits: Limits, m: &[u8], setting: Setting) -> bool
     ensures { λ r. ⌜ Applied limits (now (m .entry)) setting (now (store .entry)) (now (store .exit)) r ⌝ }
 {
-    if cramped(limits, store.len()) {
+    if store.len() != limits.size {
+        return false;
+    }
+    if !roomy(limits) {
         return false;
     }
     let lines = 7286 + limits.channels * 2;
