@@ -33,3 +33,4 @@ pub mod TableChecks
 pub mod TextChecks
 pub mod TextCodes
 pub mod TextLaws
+pub mod Theorems

@@ -19,25 +19,12 @@ use Rattle.writing.specs.declared.Operation.the-variants.{Add, Delete, Replace}
 use Rattle.writing.specs.Ranges.{InChannel}
 use Rattle.writing.specs.Settings.{Text, Number, Contact, Entry}
 use Rattle.tables.specs.Allowed.{QuickOk, StatusOk, LineOk, Distinct}
+use Rattle.tables.specs.Checks.{PlacesOk, ListOk, LinesOk}
 use Rattle.tables.specs.Apply.{and-then, in-turn, start-from, has-number, put-line, drop-line, line-of, line-step, lines-after, if-absent, quick-step, quick-after, status-step, status-after, put-channel, channel-step, channels-after}
 use Rattle.tables.specs.Limits.{quick-places, status-places}
 use Rattle.tables.specs.Tables.{Line}
 use Rattle.tables.proofs.FitsLaws.{QuickFit}
 use Rattle.tables.proofs.FreshLaws.{empty-table}
-
--- ---- tables that are allowed
-
--- an indexed table of n places
-abbrev pub PlacesOk : {A : Type 0} → (A → Type 0) → ℕ → List (Option A) → Type 0
-PlacesOk P n os = (length os ≡ n) × All (Present P) os
-
--- a list table with room for n
-abbrev pub ListOk : {A : Type 0} → (A → Type 0) → ℕ → List A → Type 0
-ListOk P n ls = (length ls ≤ n) × All P ls
-
--- lines with room for n, no two of one number
-abbrev pub LinesOk : ℕ → List Line → Type 0
-LinesOk n ls = ListOk LineOk n ls × Distinct ls
 
 -- ---- one place
 
