@@ -3,7 +3,7 @@ use mathlib.Core.Path.{_≡_, refl, sym, ap, ap₂, _∙_, subst}
 use mathlib.Core.Bool.{Bool, true, false, not, true≢false, false≢true}
 use mathlib.Core.Logic.{_↔_, _≢_}
 use mathlib.Core.List.{List, [], _∷_, _++_}
-use Prim.Native.Nat.{ℕ, zero, suc, _+_, _≤_, _<_}
+use Prim.Native.Nat.{ℕ, _+_, _≤_, _<_}
 use native.Mathlib.Omega.{arith}
 use borrow.Author.Tests.{eqb-false, leb-true, le-leb, ne-eqb, not-true, not-false}
 use borrow.Rule.Slice.PartMut.{midOf}
@@ -51,6 +51,7 @@ ne-is a b = (λ e. eqb-false a b (not-true (eqb a b) e), λ h. ap not (ne-eqb a 
 
 -- ---- an entry seen as another
 
+-- where each entry of one kind is one of another kind with the same bytes
 pub entry-turn : {A B : Type 0} (P : A → Type 0) (Q : B → Type 0) (f : A → List ℕ) (g : B → List ℕ) (h : A → B) → ((a : A) → P a → Q (h a)) → ((a : A) → P a → f a ≡ g (h a)) → (s : List ℕ) → EntryOf P f s → EntryOf Q g s
 entry-turn P Q f g h p e s x = record { entry = h (x .entry); holds = p (x .entry) (x .holds); bytes = x .bytes ∙ e (x .entry) (x .holds) }
 
@@ -67,12 +68,13 @@ module _ {A B : Type 0} (P : A → Type 0) (Q : B → Type 0) (f : A → List �
       }
 
   module _ (long : (x : A) → P x → length (f x) ≡ k) (z : EntryOf (Both P Q) (joined f g) (drop a s)) where
-    -- and it is cut again
+    -- the entry is cut off
     pub entry-first : EntryOf P f (midOf a k s)
     entry-first =
         let l = long (z .entry .0) (z .holds .0) in
         record { entry = z .entry .0; holds = z .holds .0; bytes = ap (take k) (z .bytes) ∙ take-at (f (z .entry .0)) (g (z .entry .1)) k l }
 
+    -- and what stands behind it is left
     pub entry-second : EntryOf Q g (drop (a + k) s)
     entry-second =
         let l = long (z .entry .0) (z .holds .0) in

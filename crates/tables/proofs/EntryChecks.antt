@@ -1,7 +1,7 @@
 -- The entries of the tables: which bytes are theirs, field by field. Assumes nothing.
 use mathlib.Core.Path.{_≡_, refl, sym, ap, _∙_, subst}
-use mathlib.Core.Bool.{Bool, true, false, not, true≢false}
-use mathlib.Core.Logic.{_↔_, _≢_, Iff·trans, Iff·and}
+use mathlib.Core.Bool.{true, false, not, true≢false}
+use mathlib.Core.Logic.{_↔_, Iff·rfl, Iff·trans, Iff·and}
 use mathlib.Core.List.{List, [], _∷_, _++_, map}
 use Prim.Native.Nat.{ℕ, suc, _+_, _*_, _%_, _≤_, _<_}
 use native.Mathlib.Omega.{arith}
@@ -17,7 +17,8 @@ use Rattle.writing.specs.Settings.{Text}
 use Rattle.tables.specs.Allowed.{TextOk, QuickOk, StatusOk, AddressOk, LineOk, GroupOk, IndividualOk}
 use Rattle.tables.specs.Checks.{Both, joined}
 use Rattle.tables.specs.Layout.{text-bytes, quick-bytes, status-bytes, digit-bytes, line-flags, line-bytes, group-flags, group-bytes, individual-flags, individual-bytes}
-use Rattle.tables.proofs.CheckLaws.{turned, leb-is, ne-is, Same, entry-same, parts-are, last-is, byte-is}
+use Rattle.tables.specs.Tables.{Member}
+use Rattle.tables.proofs.CheckLaws.{turned, leb-is, ne-is, entry-same, parts-are, last-is, byte-is}
 use Rattle.tables.proofs.NumberChecks.{two-is, three-is, Flags, flags-are, line-flag, group-flag, individual-flag}
 
 -- ---- a byte of flags before an entry
@@ -98,7 +99,7 @@ there = record { of = λ b. tt; good = λ b r. tt; is = λ b r. sym r; back = λ
 -- a status text is 1 and a text
 pub status-is : (s : List ℕ) → length s ≡ 33 → ((getD s 0 0 ≡ 1) × EntryOf (TextOk 16) (text-bytes 16) (midOf 1 32 s)) ↔ EntryOf StatusOk status-bytes s
 status-is s l =
-    Iff·trans (Iff·and (λ x. x, λ x. x) (last-is (TextOk 16) (text-bytes 16) 1 32 s (omega arith)))
+    Iff·trans (Iff·and Iff·rfl (last-is (TextOk 16) (text-bytes 16) 1 32 s (omega arith)))
     (Iff·trans (byte-then (λ f. Unit {0}) (λ f. 1) (λ b. b ≡ 1) there (TextOk 16) (text-bytes 16) s (omega arith))
     (entry-same (Both (λ f. Unit {0}) (TextOk 16)) (joined (λ f. 1 ∷ []) (text-bytes 16)) StatusOk status-bytes
     (record { to = λ x. x .1; back = λ us. (tt, us); good = λ x p. p .1; back-good = λ us p. (tt, p); bytes = λ x p. refl; back-bytes = λ us p. refl }) s))
@@ -108,46 +109,46 @@ status-is s l =
 -- an address and a text
 pub member-is : (s : List ℕ) → length s ≡ 35 → (EntryOf AddressOk u24 (midOf 0 3 s) × EntryOf (TextOk 16) (text-bytes 16) (midOf 3 32 s)) ↔ EntryOf (Both AddressOk (TextOk 16)) (joined u24 (text-bytes 16)) s
 member-is s l =
-    Iff·trans (Iff·and (λ x. x, λ x. x) (last-is (TextOk 16) (text-bytes 16) 3 32 s (omega arith)))
+    Iff·trans (Iff·and Iff·rfl (last-is (TextOk 16) (text-bytes 16) 3 32 s (omega arith)))
     (parts-are AddressOk (TextOk 16) u24 (text-bytes 16) 0 3 s (λ a p. refl))
+
+module _ {F A : Type 0} (P : F → Type 0) (byte : F → ℕ) (R : ℕ → Type 0) (k : Flags P byte R) (address : ℕ → A) (number : A → ℕ) (same : (n : ℕ) → number (address n) ≡ n) where
+  -- a slot is a byte of flags, an address and a text, whatever the kind of the flags and the address
+  slot-is : (Q : Member F A → Type 0) → ((f : F) (n : ℕ) (us : Text) → P f → AddressOk n → TextOk 16 us → Q (record { flags = f; address = address n; text = us })) → ((g : Member F A) → Q g → P (g .flags) × (AddressOk (number (g .address)) × TextOk 16 (g .text))) → (s : List ℕ) → length s ≡ 36 → (R (getD s 0 0) × EntryOf (Both AddressOk (TextOk 16)) (joined u24 (text-bytes 16)) (midOf 1 35 s)) ↔ EntryOf Q (λ g. byte (g .flags) ∷ u24 (number (g .address)) ++ text-bytes 16 (g .text)) s
+  slot-is Q good back s l =
+      Iff·trans (Iff·and Iff·rfl (last-is (Both AddressOk (TextOk 16)) (joined u24 (text-bytes 16)) 1 35 s (omega arith)))
+      (Iff·trans (byte-then P byte R k (Both AddressOk (TextOk 16)) (joined u24 (text-bytes 16)) s (omega arith))
+      (entry-same (Both P (Both AddressOk (TextOk 16))) (joined (λ f. byte f ∷ []) (joined u24 (text-bytes 16))) Q (λ g. byte (g .flags) ∷ u24 (number (g .address)) ++ text-bytes 16 (g .text))
+      (record {
+        to = λ x. record { flags = x .0; address = address (x .1 .0); text = x .1 .1 };
+        back = λ g. (g .flags, (number (g .address), g .text));
+        good = λ x p. good (x .0) (x .1 .0) (x .1 .1) (p .0) (p .1 .0) (p .1 .1);
+        back-good = back;
+        bytes = λ x p. ap (λ (n : ℕ). byte (x .0) ∷ u24 n ++ text-bytes 16 (x .1 .1)) (sym (same (x .1 .0)));
+        back-bytes = λ g p. refl;
+      }) s))
 
 -- a group is flags and a member
 pub group-is : (s : List ℕ) → length s ≡ 36 → (((64 ≤ getD s 0 0) × (getD s 0 0 < 256)) × EntryOf (Both AddressOk (TextOk 16)) (joined u24 (text-bytes 16)) (midOf 1 35 s)) ↔ EntryOf GroupOk group-bytes s
-group-is s l =
-    Iff·trans (Iff·and (λ x. x, λ x. x) (last-is (Both AddressOk (TextOk 16)) (joined u24 (text-bytes 16)) 1 35 s (omega arith)))
-    (Iff·trans (byte-then _ group-flags _ group-flag (Both AddressOk (TextOk 16)) (joined u24 (text-bytes 16)) s (omega arith))
-    (entry-same (Both _ (Both AddressOk (TextOk 16))) (joined (λ f. group-flags f ∷ []) (joined u24 (text-bytes 16))) GroupOk group-bytes
-    (record {
-      to = λ x. record { flags = x .0; address = record { 0 = x .1 .0 }; text = x .1 .1 };
-      back = λ m. (m .flags, (m .address .0, m .text));
-      good = λ x p. record { attribute = p .0 .0; priority = p .0 .1; address = p .1 .0; text = p .1 .1 };
-      back-good = λ m p. ((p .attribute, p .priority), (p .address, p .text));
-      bytes = λ x p. refl;
-      back-bytes = λ m p. refl;
-    }) s))
+group-is =
+    slot-is _ group-flags _ group-flag (λ n. record { 0 = n }) (λ a. a .0) (λ n. refl) GroupOk
+    (λ f n us p a t. record { attribute = p .0; priority = p .1; address = a; text = t })
+    (λ g p. ((p .attribute, p .priority), (p .address, p .text)))
 
 -- and so is an individual
 pub individual-is : (s : List ℕ) → length s ≡ 36 → ((getD s 0 0 < 16) × EntryOf (Both AddressOk (TextOk 16)) (joined u24 (text-bytes 16)) (midOf 1 35 s)) ↔ EntryOf IndividualOk individual-bytes s
-individual-is s l =
-    Iff·trans (Iff·and (λ x. x, λ x. x) (last-is (Both AddressOk (TextOk 16)) (joined u24 (text-bytes 16)) 1 35 s (omega arith)))
-    (Iff·trans (byte-then _ individual-flags _ individual-flag (Both AddressOk (TextOk 16)) (joined u24 (text-bytes 16)) s (omega arith))
-    (entry-same (Both _ (Both AddressOk (TextOk 16))) (joined (λ f. individual-flags f ∷ []) (joined u24 (text-bytes 16))) IndividualOk individual-bytes
-    (record {
-      to = λ x. record { flags = x .0; address = record { 0 = x .1 .0 }; text = x .1 .1 };
-      back = λ m. (m .flags, (m .address .0, m .text));
-      good = λ x p. record { priority = p .0; address = p .1 .0; text = p .1 .1 };
-      back-good = λ m p. (p .priority, (p .address, p .text));
-      bytes = λ x p. refl;
-      back-bytes = λ m p. refl;
-    }) s))
+individual-is =
+    slot-is _ individual-flags _ individual-flag (λ n. record { 0 = n }) (λ a. a .0) (λ n. refl) IndividualOk
+    (λ f n us p a t. record { priority = p; address = a; text = t })
+    (λ g p. (p .priority, (p .address, p .text)))
 
 -- ---- line contacts
 
 -- a line is flags, digits and a text
 pub line-is : (s : List ℕ) → length s ≡ 51 → ((getD s 0 0 < 32) × (EntryOf InNumber digit-bytes (midOf 1 18 s) × EntryOf (TextOk 16) (text-bytes 16) (midOf 19 32 s))) ↔ EntryOf LineOk line-bytes s
 line-is s l =
-    Iff·trans (Iff·and (λ x. x, λ x. x)
-    (Iff·trans (Iff·and (λ x. x, λ x. x) (last-is (TextOk 16) (text-bytes 16) 19 32 s (omega arith)))
+    Iff·trans (Iff·and Iff·rfl
+    (Iff·trans (Iff·and Iff·rfl (last-is (TextOk 16) (text-bytes 16) 19 32 s (omega arith)))
     (parts-are InNumber (TextOk 16) digit-bytes (text-bytes 16) 1 18 s (λ ds p. pad-length 0 18 (map suc ds)))))
     (Iff·trans (byte-then _ line-flags _ line-flag (Both InNumber (TextOk 16)) (joined digit-bytes (text-bytes 16)) s (omega arith))
     (entry-same (Both _ (Both InNumber (TextOk 16))) (joined (λ f. line-flags f ∷ []) (joined digit-bytes (text-bytes 16))) LineOk line-bytes

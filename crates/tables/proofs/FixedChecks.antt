@@ -9,7 +9,7 @@ use borrow.Rule.Slice.PartMut.{midOf}
 use lib.Dec.{eqb, leb}
 use lib.ListN.{length, take, drop, getD, replicate, length-drop, take-append-drop}
 use lib.Seq.{take-all, drop-at, length-take-le}
-use Rattle.lists.proofs.Bytes.{Bytes, bytes-all, bytes-drop, bytes-take}
+use Rattle.lists.proofs.Bytes.{Bytes, bytes-all, bytes-take}
 use Rattle.slots.specs.Slots.{pad, zeros?, u16, u24, EntryOf}
 use Rattle.slots.proofs.Pads.{pad-is}
 use Rattle.slots.proofs.Runs.{zeros-all, zeros-are}
@@ -25,7 +25,7 @@ use Rattle.tables.specs.Tables.{Key}
 use Rattle.tables.proofs.CheckLaws.{turned, leb-is, ne-is, entry-same, parts-are, last-is, rest-is, byte-is}
 use Rattle.tables.proofs.EntryCodes.{bit-small}
 use Rattle.tables.proofs.FixedCodes.{hash-code, key-code, home-code}
-use Rattle.tables.proofs.NumberChecks.{Flags, flags-are, odd, odd-is, bit-off, bit-top, cut-off, pair-is}
+use Rattle.tables.proofs.NumberChecks.{Flags, flags-are, odd, odd-is, bit-off, cut-off, pair-is}
 
 -- ---- the hash
 
@@ -68,19 +68,21 @@ hash-tail x v k l b q = (
       ap (λ (i : ℕ). zeros? (drop i v)) (sym m) ∙ ap (λ (w : List ℕ). zeros? (drop (length (h .value)) w)) (tail-eq-of-cons-eq (e .bytes)) ∙ pad-rest 10 (h .value) (omega (arith, q .few)),
 )
 
--- "The hash value has 0, 4 or 10 bytes for codes 0, 1, 2"
+-- "The hash value has 0 .. bytes for code 0"
 size-0 : SizeIs 0 0
 size-0 = record { size = no-hash; only = λ m h. go m h; few = omega arith }
   where
     go : (m : ℕ) → HashSize 0 m → m ≡ 0
     go m no-hash = refl
 
+-- 4 for code 1
 size-1 : SizeIs 1 4
 size-1 = record { size = hash-4; only = λ m h. go m h; few = omega arith }
   where
     go : (m : ℕ) → HashSize 1 m → m ≡ 4
     go m hash-4 = refl
 
+-- and 10 for code 2
 size-2 : SizeIs 2 10
 size-2 = record { size = hash-10; only = λ m h. go m h; few = omega arith }
   where
@@ -234,10 +236,11 @@ FieldsOk x = (x .0 ≤ 8) × (x .1 .0 < 3)
 abbrev fields-byte : Fields → ℕ
 fields-byte x = x .0 * 8 + x .1 .0 * 2 + bit (x .1 .1)
 
--- a byte is theirs where both are in range
+-- a byte's high bits and the two below the lowest show that both are in range
 abbrev FieldsIn : ℕ → Type 0
 FieldsIn b = (b / 8 ≤ 8) × (b / 2 % 4 ≢ 3)
 
+-- so every such byte is theirs
 system-flag : Flags FieldsOk fields-byte FieldsIn
 system-flag =
     record {

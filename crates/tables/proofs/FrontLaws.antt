@@ -1,19 +1,22 @@
 -- A list table is a table of places of which the empty ones stand at the end: where the first empty slot starts, zeros begin. Assumes nothing.
 use mathlib.Core.Path.{_≡_, refl, sym, ap, _∙_, subst}
-use mathlib.Core.Bool.{Bool, true, false, cond, true≢false}
+use mathlib.Core.Bool.{true, false}
 use mathlib.Core.Logic.{_↔_}
 use mathlib.Core.Option.{Option, none, some}
 use mathlib.Core.List.{List, [], _∷_, _++_, map}
 use Prim.Native.Nat.{ℕ, zero, suc, _+_, _*_, _-_, _≤_, _<_}
 use native.Mathlib.Nat.{not-suc-le-zero, le-of-suc-le-suc, zero-mul}
-use native.Mathlib.Omega.{arith}
-use lib.ListN.{length, take, drop, replicate}
+use lib.ListN.{length, drop}
 use lib.Seq.{take-at, drop-at, drop-append-add}
 use Rattle.lists.proofs.Every.{All}
 use Rattle.slots.specs.Slots.{slot, places, front, zeros?, bytesBefore, Present, PlacesOf, ListOf, Found}
 use Rattle.slots.proofs.Runs.{zeros-all}
-use Rattle.slots.proofs.Tables.{all-front, front-length, front-nil, places-length, places-nil, slot-long, table-slots}
+use Rattle.slots.proofs.Tables.{all-front, front-length, front-nil, places-length, places-nil, table-slots}
 use Rattle.slots.proofs.Walks.{list-none, list-cons}
+
+-- a list table is a table of places
+pub list-places : {A : Type 0} (P : A → Type 0) (w : ℕ) (f : A → List ℕ) (n : ℕ) (s : List ℕ) → ListOf P w f n s → PlacesOf P w f n s
+list-places P w f n s t = record { entries = front n (t .entries); placed = record { many = front-length n (t .entries); each = all-front P n (t .entries) (t .listed .each); bytes = t .listed .bytes } }
 
 -- how many bytes stand before the first empty place
 abbrev before : {A : Type 0} → ℕ → (A → List ℕ) → List (Option A) → ℕ
@@ -71,7 +74,5 @@ module _ {A : Type 0} (P : A → Type 0) (w : ℕ) (f : A → List ℕ) (long : 
         from t =
             let ls = t .entries in
             let e : s ≡ places w f (front n ls) = t .listed .bytes in
-            let y = front-kept n ls (t .listed .few) (t .listed .each) in (
-              record { entries = front n ls; placed = record { many = front-length n ls; each = all-front P n ls (t .listed .each); bytes = e } },
-              rw (at-places (front n ls) e, e) y,
-            )
+            let y = front-kept n ls (t .listed .few) (t .listed .each) in
+            (list-places P w f n s t, rw (at-places (front n ls) e, e) y)

@@ -14,9 +14,6 @@ use Rattle.lists.proofs.Bytes.{Bytes, bytes-drop, bytes-take}
 use Rattle.slots.specs.Slots.{u16, u24, EntryOf}
 use Rattle.slots.proofs.Numbers.{u16-of, u16-one, u24-of, u24-one}
 use Rattle.wire.proofs.BodyLaws.{flag-bit}
-use Rattle.writing.specs.declared.LineFlags.{LineFlags}
-use Rattle.writing.specs.declared.GroupFlags.{GroupFlags}
-use Rattle.writing.specs.declared.IndividualFlags.{IndividualFlags}
 use Rattle.writing.specs.Writing.{bit}
 use Rattle.tables.specs.Layout.{line-flags, group-flags, individual-flags}
 use Rattle.tables.proofs.EntryCodes.{bit-small}
@@ -45,9 +42,11 @@ number-is f one P s n e = (
   λ x. subst P (one (x .entry) n (sym (x .bytes) ∙ e)) (x .holds),
 )
 
+-- two bytes are an entry where the number that they make may be one
 pub two-is : (P : ℕ → Type 0) (s : List ℕ) → length s ≡ 2 → Bytes s → P (getD s 0 0 * 256 + getD s 1 0) ↔ EntryOf P u16 s
 two-is P s l b = number-is u16 u16-one P s _ (two-are s l b)
 
+-- and three
 pub three-is : (P : ℕ → Type 0) (s : List ℕ) → length s ≡ 3 → Bytes s → P (getD s 0 0 * 65536 + (getD s 1 0 * 256 + getD s 2 0)) ↔ EntryOf P u24 s
 three-is P s l b = number-is u24 u24-one P s _ (three-are s l b)
 

@@ -1,10 +1,10 @@
 -- A store, part by part: which bytes are one. Assumes nothing.
-use mathlib.Core.Path.{_≡_, refl, sym, ap, ap₂, _∙_, subst}
+use mathlib.Core.Path.{_≡_, sym, ap, ap₂, _∙_, subst}
 use mathlib.Core.Bool.{Bool, true}
 use mathlib.Core.Logic.{_↔_, Iff·rfl, Iff·trans, Iff·and}
 use mathlib.Core.Option.{Option}
-use mathlib.Core.List.{List, [], _∷_, _++_, append-assoc, append-nil}
-use Prim.Native.Nat.{ℕ, _+_, _*_, _-_, _/_, _≤_, _<_}
+use mathlib.Core.List.{List, [], _++_, append-assoc, append-nil}
+use Prim.Native.Nat.{ℕ, _+_, _*_, _-_, _/_, _≤_}
 use native.Mathlib.Omega.{arith}
 use borrow.Rule.Slice.PartMut.{midOf}
 use lib.Dec.{leb}
@@ -104,9 +104,11 @@ regroup a b c d e f g h i j k = simp (append-assoc, append-nil)
 abbrev Fixed : Type 0
 Fixed = Hash × (Key × (HomeNumbers × SystemCode))
 
+-- as the rules allow them
 abbrev FixedOk : Fixed → Type 0
 FixedOk = Both HashOk (Both KeyOk (Both HomeOk SystemOk))
 
+-- their bytes
 abbrev fixed-bytes : Fixed → List ℕ
 fixed-bytes = joined hash-bytes (joined key-bytes (joined home-bytes system-bytes))
 
@@ -121,9 +123,11 @@ fixed-long x p =
 abbrev Indexed : Type 0
 Indexed = List (Option Text) × (List (Option Text) × (List (Option GroupMember) × List (Option IndividualMember)))
 
+-- as the rules allow them
 abbrev IndexedOk : Indexed → Type 0
 IndexedOk = Both (PlacesOk QuickOk 64) (Both (PlacesOk StatusOk 96) (Both (PlacesOk GroupOk 16) (PlacesOk IndividualOk 16)))
 
+-- their bytes
 abbrev indexed-bytes : Indexed → List ℕ
 indexed-bytes = joined (places 46 quick-bytes) (joined (places 33 status-bytes) (joined (places 36 group-bytes) (places 36 individual-bytes)))
 
@@ -143,18 +147,23 @@ module _ (m : Limits) where
   abbrev Rest : Type 0
   Rest = List ℕ × (List Line × Unit {0})
 
+  -- as the rules allow them
   abbrev RestOk : Rest → Type 0
   RestOk = Both (ListOk InChannel (m .channels)) (Both (LinesOk (m .lines)) (λ u. Unit {0}))
 
+  -- the channels' bytes
   abbrev channels-bytes : List ℕ → List ℕ
   channels-bytes cs = places 2 u16 (front (m .channels) cs)
 
+  -- the lines' bytes
   abbrev lines-bytes : List Line → List ℕ
   lines-bytes ls = places 51 line-bytes (front (m .lines) ls)
 
+  -- the bytes that no table uses
   abbrev spare-bytes : Unit {0} → List ℕ
   spare-bytes u = replicate (m .size - used-size m) 0
 
+  -- all of them
   abbrev rest-bytes : Rest → List ℕ
   rest-bytes = joined channels-bytes (joined lines-bytes spare-bytes)
 

@@ -8,9 +8,9 @@ use Prim.Native.Nat.{ℕ, _+_, _*_, _-_, _≤_, _<_}
 use native.Mathlib.Omega.{arith}
 use borrow.Rule.Slice.PartMut.{midOf}
 use lib.ListN.{length, drop, replicate}
-use Rattle.slots.specs.Slots.{slot, front, zeros?, Present, EntryOf, SlotOf, PlacesOf, ListOf, Found}
+use Rattle.slots.specs.Slots.{slot, zeros?, Present, EntryOf, SlotOf, PlacesOf, ListOf, Found}
 use Rattle.slots.proofs.Runs.{zeros-all, zeros-are}
-use Rattle.slots.proofs.Tables.{all-front, front-length, slot-wide}
+use Rattle.slots.proofs.Tables.{slot-wide}
 use Rattle.slots.proofs.Walks.{Left, places-more, places-stop, places-end}
 use Rattle.tables.specs.declared.checks_tables.Table.{Table}
 use Rattle.tables.specs.declared.checks_tables.Table.the-variants.{QuickTexts, StatusTexts, Groups, Individuals, Channels, Lines}
@@ -97,7 +97,3 @@ list-is t n s w r e found p b k =
     let f = front-is (OkIn t) (width-in t) (bytes-in t) (long-in t) (shown-in t) (wide-in t) n s r (subst (λ (v : ℕ). Found (0 < v) zeros? v s r) e found) in
     let z : b ≡ zeros? (drop r s) = k ∙ ap zeros? (rest-is s r (length s - r) (omega arith)) in
     (λ y. f .0 (p, sym z ∙ y), λ x. z ∙ f .1 x .1)
-
--- and has all its slots
-pub list-places : (t : Table) (n : ℕ) (s : List ℕ) → ListOf (OkIn t) (width-in t) (bytes-in t) n s → PlacesOf (OkIn t) (width-in t) (bytes-in t) n s
-list-places t n s x = record { entries = front n (x .entries); placed = record { many = front-length n (x .entries); each = all-front (OkIn t) n (x .entries) (x .listed .each); bytes = x .listed .bytes } }

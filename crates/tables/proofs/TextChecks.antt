@@ -1,29 +1,29 @@
 -- Texts and digits: which bytes are theirs. Assumes nothing.
-use mathlib.Core.Path.{_≡_, refl, sym, ap, ap₂, _∙_, subst}
+use mathlib.Core.Path.{_≡_, refl, sym, ap, _∙_, subst}
 use mathlib.Core.Bool.{Bool, true, false, _&&_, true≢false}
 use mathlib.Core.Logic.{_↔_, _≢_}
 use mathlib.Core.Option.{Option, none, some}
-use mathlib.Core.List.{List, [], _∷_, _++_, map, head-eq-of-cons-eq}
-use Prim.Native.Nat.{ℕ, zero, suc, _+_, _*_, _-_, _%_, _^_, _≤_, _<_}
-use native.Mathlib.Nat.{suc-mul, mul-one}
+use mathlib.Core.List.{List, [], _∷_, map, head-eq-of-cons-eq}
+use Prim.Native.Nat.{ℕ, zero, suc, _+_, _*_, _-_, _≤_, _<_}
+use native.Mathlib.Nat.{suc-mul}
 use native.Mathlib.Omega.{arith}
 use borrow.Author.Tests.{ne-eqb}
 use borrow.Rule.Slice.PartMut.{midOf}
-use lib.ListN.{length, take, drop, getD, replicate, length-drop, length-map}
-use lib.Seq.{take-all, length-take-le}
+use lib.ListN.{length, take, drop, getD, length-drop}
+use lib.Seq.{length-take-le}
 use Rattle.lists.proofs.Bytes.{Bytes, bytes-take, bytes-drop}
 use Rattle.lists.proofs.Every.{All}
 use Rattle.slots.specs.Slots.{flat, pad, slot, places, front, zeros?, u16, Present, EntryOf, SlotOf, PlacesOf, ListOf, Found}
 use Rattle.slots.proofs.Numbers.{u16-of, u16-shown}
-use Rattle.slots.proofs.Runs.{zeros-are, zeros-all}
-use Rattle.slots.proofs.Tables.{all-front, flat-pad, front-bytes, front-length}
+use Rattle.slots.proofs.Runs.{zeros-are}
+use Rattle.slots.proofs.Tables.{flat-pad, front-bytes}
 use Rattle.slots.proofs.Walks.{places-none, places-cons, places-uncons}
 use Rattle.writing.specs.Ranges.{InNumber}
 use Rattle.writing.specs.Settings.{Text, Number}
 use Rattle.tables.specs.Allowed.{TextOk}
 use Rattle.tables.specs.Layout.{text-bytes, digit-bytes}
 use Rattle.tables.proofs.CheckLaws.{rest-is}
-use Rattle.tables.proofs.FrontLaws.{front-is}
+use Rattle.tables.proofs.FrontLaws.{front-is, list-places}
 
 -- ---- slots that any bytes are
 
@@ -61,6 +61,7 @@ unit-slot (h ∷ k ∷ []) l b = go (zeros? (h ∷ k ∷ [])) refl
 text-list : (n : ℕ) (us : Text) → text-bytes n us ≡ places 2 u16 (front n us)
 text-list n us = flat-pad 2 u16 (λ u. refl) 0 refl n us ∙ sym (front-bytes 2 u16 (λ u. refl) n us)
 
+-- and such a list is a text
 text-units : (n : ℕ) (s : List ℕ) → ListOf UnitOk 2 u16 n s ↔ EntryOf (TextOk n) (text-bytes n) s
 text-units n s = (
   λ t. record { entry = t .entries; holds = record { short = t .listed .few; units = t .listed .each }; bytes = t .listed .bytes ∙ sym (text-list n (t .entries)) },
@@ -115,6 +116,7 @@ digits-flat (d ∷ ds) = ap (λ (l : List ℕ). suc d ∷ l) (digits-flat ds)
 digit-list : (ds : Number) → digit-bytes ds ≡ places 1 digit-byte (front 18 ds)
 digit-list ds = ap (pad 0 18) (sym (digits-flat ds)) ∙ sym (front-bytes 1 digit-byte (λ d. refl) 18 ds)
 
+-- so its bytes are a list table
 number-digits : (s : List ℕ) → EntryOf InNumber digit-bytes s → ListOf (_≤ 9) 1 digit-byte 18 s
 number-digits s x = record { entries = x .entry; listed = record { few = x .holds .1; each = x .holds .2; bytes = x .bytes ∙ digit-list (x .entry) } }
 
@@ -149,7 +151,4 @@ module _ (s : List ℕ) (r : ℕ) (l : length s ≡ 18) (found : Found (0 < 1) z
 
 -- a number's bytes are up to 10
 pub digits-ten : (s : List ℕ) → length s ≡ 18 → EntryOf InNumber digit-bytes s → All (λ x. x ≤ 10) s
-digits-ten s l x =
-    let t = number-digits s x in
-    let p : PlacesOf (_≤ 9) 1 digit-byte 18 s = record { entries = front 18 (t .entries); placed = record { many = front-length 18 (t .entries); each = all-front (_≤ 9) 18 (t .entries) (t .listed .each); bytes = t .listed .bytes } } in
-    places-ten s (subst (λ (n : ℕ). PlacesOf (_≤ 9) 1 digit-byte n s) (sym l) p)
+digits-ten s l x = places-ten s (subst (λ (n : ℕ). PlacesOf (_≤ 9) 1 digit-byte n s) (sym l) (list-places (_≤ 9) 1 digit-byte 18 s (number-digits s x)))

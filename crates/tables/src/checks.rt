@@ -13,7 +13,7 @@ ghost use Rattle.tables.specs.Layout.{Roomy, IsStore};
 ghost use Rattle.tables.specs.Checks.{StoreOf};
 
 // Whether the tables have room in a store of the limits' size.
-pub fn roomy(limits: Limits) -> bool
+pub(crate) fn roomy(limits: Limits) -> bool
     ensures { λ r. ⌜ (r ≡ true) ↔ Roomy limits ⌝ }
 {
     if limits.size < 7286 {
@@ -26,7 +26,7 @@ pub fn roomy(limits: Limits) -> bool
     limits.lines <= (room - limits.channels * 2) / 51
 }
 
-// Whether each part of bytes of the limits' size is what it has to be.
+// Whether each part of bytes of the limits' size is what it has to be: docs/STORE.md says where they stand.
 fn parts_ok(store: &[u8], limits: Limits) -> bool
     requires { ⌜ Roomy limits × (length (now store) ≡ limits .size) ⌝ }
     ensures { λ r. ⌜ (r ≡ true) ↔ IsStore limits (now (store .entry)) ⌝ }

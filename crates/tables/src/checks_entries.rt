@@ -24,8 +24,8 @@ pub(crate) fn pair(high: u8, low: u8) -> u32
 pub(crate) fn text_ok(s: &[u8]) -> bool
     ensures { λ r. ⌜ ((n : ℕ) → length (now (s .entry)) ≡ n * 2 → (r ≡ true) ↔ EntryOf (TextOk n) (text-bytes n) (now (s .entry))) ⌝ }
 {
-    let end = used(s, 2);
-    is_zeros(&s[end..])
+    let units = used(s, 2);
+    is_zeros(&s[units..])
 }
 
 // Whether every byte is at most 10.
@@ -53,8 +53,8 @@ fn digits_ok(s: &[u8]) -> bool
     if !at_most_ten(s) {
         return false;
     }
-    let end = used(s, 1);
-    is_zeros(&s[end..])
+    let digits = used(s, 1);
+    is_zeros(&s[digits..])
 }
 
 // Whether three bytes are an address in range.

@@ -3,7 +3,7 @@ use native.Mathlib.Omega.{arith}
 use Prim.Native.Nat.{_+_, _*_}
 use mathlib.Core.Path.{sym, _∙_}
 use Rattle.slots.proofs.Tables.{slot-wide}
-use Rattle.tables.proofs.CheckLaws.{refused, not-said, was-said, turned}
+use Rattle.tables.proofs.CheckLaws.{refused, not-said, was-said}
 use Rattle.tables.proofs.StoreChecks.{store-is}
 use Rattle.tables.proofs.checks.parts_ok.Statement.{statement}
 use Rattle.tables.proofs.checks.parts_ok.Tie as tie

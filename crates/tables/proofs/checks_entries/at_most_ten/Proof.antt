@@ -5,7 +5,6 @@ use lib.ListN.{length, drop}
 use mathlib.Core.Logic.{_↔_}
 use Rattle.lists.proofs.Every.{All, all-from}
 use lib.ListN.{drop-of-length-le}
-use mathlib.Core.Logic.{Iff·trans, Iff·rfl}
 use Rattle.tables.proofs.CheckLaws.{refused, granted}
 use Rattle.lists.proofs.Every.{All}
 use Rattle.tables.proofs.checks_entries.at_most_ten.Statement.{statement}

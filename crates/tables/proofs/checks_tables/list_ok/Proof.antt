@@ -1,6 +1,8 @@
 use borrow.Author.Needs.{needs}
 use Rattle.tables.proofs.CheckLaws.{refused, not-said, was-said}
-use Rattle.tables.proofs.TableChecks.{list-is, list-places}
+use Rattle.tables.proofs.TableChecks.{list-is}
+use Rattle.tables.specs.Checks.{OkIn, width-in, bytes-in}
+use Rattle.tables.proofs.FrontLaws.{list-places}
 use Rattle.tables.proofs.checks_tables.list_ok.Statement.{statement}
 use Rattle.tables.proofs.checks_tables.list_ok.Tie as tie
 
@@ -8,7 +10,7 @@ places-ok-requires : tie.Need-places-ok-requires
 places-ok-requires c κs = search needs
 
 returns : tie.Need-returns
-returns c = λ n l. refused (λ x. not-said (c .before .places-ok .result) (c .before .places-ok .ensures n l) (c .if1 .taken) (list-places (c .before .before .before .args .t) n (c .before .before .before .args .s .now) x))
+returns c = λ n l. refused (λ x. not-said (c .before .places-ok .result) (c .before .places-ok .ensures n l) (c .if1 .taken) (list-places (OkIn (c .before .before .before .args .t)) (width-in (c .before .before .before .args .t)) (bytes-in (c .before .before .before .args .t)) n (c .before .before .before .args .s .now) x))
 
 width-requires : tie.Need-width-requires
 width-requires c κs = search needs
