@@ -12,7 +12,7 @@ pub record Said : Type 0 where
   pub failed : ℕ
   pub send : Bool
   pub reboot : Bool
-  pub length : ℕ
+  pub reply-length : ℕ
 
 -- the numbers of the refusals that touch nothing
 abbrev pub refusal : Refusal → ℕ
@@ -24,9 +24,9 @@ refusal MessageType = 14
 
 -- "for 10 to 14: ID 0, no, no, length 0"
 abbrev pub refused-with : ℕ → Said
-refused-with n = record { number = n; failed = 0; send = false; reboot = false; length = 0 }
+refused-with n = record { number = n; failed = 0; send = false; reboot = false; reply-length = 0 }
 
 -- each case's number and values
 abbrev pub said : Answer → Said
 said (Untouched r) = refused-with (refusal r)
-said (Replied r) = record { number = r .result; failed = r .failed; send = r .send; reboot = r .reboot; length = r .length }
+said (Replied r) = record { number = r .result; failed = r .failed; send = r .send; reboot = r .reboot; reply-length = r .length }

@@ -84,7 +84,7 @@ module _ (m : Limits) (message store reply : List ℕ) where
   -- a reply that carries this hash
   abbrev pub replies : (number failed : ℕ) → Bool → Bool → Hash → List ℕ → After
   replies number failed send reboot h after = record {
-    answer = record { number = number; failed = failed; send = send; reboot = reboot; length = 10 + length (h .value) };
+    answer = record { number = number; failed = failed; send = send; reboot = reboot; reply-length = 10 + length (h .value) };
     store = after;
     reply = written-over (reply-bytes number failed h) reply;
   }

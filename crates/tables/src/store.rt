@@ -27,36 +27,20 @@ pub fn apply(store: &mut [u8], limits: Limits, m: &[u8], setting: Setting) -> bo
     let lines = 7286 + limits.channels * 2;
     let end = lines + limits.lines * 51;
     match setting {
-        Setting::Lines(operation, flags, entries) => {
-            return apply_lines(&mut store[lines..end], m, operation, flags, entries);
+        Setting::Lines(op, flags, list) => {
+            return apply_lines(&mut store[lines..end], m, op, flags, list);
         }
-        Setting::Channels(operation, entries) => {
-            return apply_channels(&mut store[7286..lines], m, operation, entries);
+        Setting::Channels(op, list) => {
+            return apply_channels(&mut store[7286..lines], m, op, list);
         }
         Setting::Key(target, flags) => put_key(&mut store[11..15], target, flags),
-        Setting::QuickTexts(operation, entries) => apply_quick(
-            &mut store[22..2966],
-            m,
-            operation,
-            entries,
-        ),
+        Setting::QuickTexts(op, list) => apply_quick(&mut store[22..2966], m, op, list),
         Setting::Home(numbers) => put_home(&mut store[15..19], numbers),
         Setting::System(code) => put_system(&mut store[19..22], code),
-        Setting::StatusTexts(operation, entries) => apply_status(
-            &mut store[2966..6134],
-            m,
-            operation,
-            entries,
-        ),
-        Setting::Group(operation, flags, place) => apply_group(
-            &mut store[6134..6710],
-            m,
-            operation,
-            flags,
-            place,
-        ),
-        Setting::Individual(operation, flags, place) => {
-            apply_individual(&mut store[6710..7286], m, operation, flags, place)
+        Setting::StatusTexts(op, list) => apply_status(&mut store[2966..6134], m, op, list),
+        Setting::Group(op, flags, slot) => apply_group(&mut store[6134..6710], m, op, flags, slot),
+        Setting::Individual(op, flags, slot) => {
+            apply_individual(&mut store[6710..7286], m, op, flags, slot)
         }
         Setting::Last(_, hash) => put_hash(&mut store[0..11], m, hash),
     }
