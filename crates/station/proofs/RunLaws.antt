@@ -19,23 +19,15 @@ use Rattle.wire.proofs.Parts.{bytes-left}
 use Rattle.tables.specs.declared.limits.Limits.{Limits}
 use Rattle.tables.specs.Apply.{apply}
 use Rattle.tables.specs.Tables.{Tables}
-use Rattle.station.specs.Judge as J
 use Rattle.station.specs.Judge.{Outcome, kept, refused, done, step, missing, unknown, field, room, taken, over, fault}
-use Rattle.station.specs.Taking.{WrittenIn, Known, Judged, flags-of, or-else, last-flags}
+use Rattle.station.specs.Taking.{WrittenIn, Known, Runs, Fault, Judged, flags-of, or-else, last-flags}
 
 module _ (lim : Limits) where
-  -- the notions of specs/Judge.antt for a set's settings and tables
-  abbrev pub Runs : ℕ → Tables → List ℕ → List Setting → Tables → List ℕ → Type 0
-  Runs = J.Runs Setting Tables WrittenIn (InRange text-limits) (apply lim) Known
-
-  abbrev pub Fault : ℕ → Tables → List ℕ → ℕ → Type 0
-  Fault = J.Fault Setting Tables WrittenIn (InRange text-limits) (apply lim) Known
-
   -- one setting more at the end
-  pub one-more : (left : ℕ) (s : Setting) (w r : List ℕ) {n : ℕ} {t u u′ : Tables} {bs rest : List ℕ} {l : List Setting} → Runs n t bs l u rest
-      → length l + suc left ≡ n → rest ≡ w ++ r → WrittenIn s w → InRange text-limits left s → apply lim s u ≡ some u′ → Runs n t bs (l ++ (s ∷ [])) u′ r
+  pub one-more : (left : ℕ) (s : Setting) (w r : List ℕ) {n : ℕ} {t u u′ : Tables} {bs rest : List ℕ} {l : List Setting} → Runs lim n t bs l u rest
+      → length l + suc left ≡ n → rest ≡ w ++ r → WrittenIn s w → InRange text-limits left s → apply lim s u ≡ some u′ → Runs lim n t bs (l ++ (s ∷ [])) u′ r
   one-more left s w r {n} {t} {u′ = u′} {bs = bs} done e p x i a =
-      subst (λ (k : ℕ). Runs k t bs (s ∷ []) u′ r) (let z : suc left ≡ n = omega arith in z) (step {w = w} {s = s} p x i a done)
+      subst (λ (k : ℕ). Runs lim k t bs (s ∷ []) u′ r) (let z : suc left ≡ n = omega arith in z) (step {w = w} {s = s} p x i a done)
   one-more left s w r (step {w = v} {s = y} p x i a q) e p′ x′ i′ a′ = step {w = v} {s = y} p x i a (one-more left s w r q (omega arith) p′ x′ i′ a′)
 
   -- a setting that is not the last one counted is no FF
@@ -52,7 +44,7 @@ module _ (lim : Limits) where
   not-ff (last f h) n i l = absurd (omega (arith, i .1))
 
   -- so the flags of a run are those of its last setting
-  pub flags-end : {n : ℕ} {t u : Tables} {bs rest : List ℕ} {l : List Setting} → Runs n t bs l u rest → length l < n → (s : Setting)
+  pub flags-end : {n : ℕ} {t u : Tables} {bs rest : List ℕ} {l : List Setting} → Runs lim n t bs l u rest → length l < n → (s : Setting)
       → last-flags (l ++ (s ∷ [])) ≡ or-else (flags-of s) (last-flags [])
   flags-end done h s = refl
   flags-end (step {n} {s = x} {l = l} p w i a q) h s =
@@ -77,22 +69,22 @@ module _ (lim : Limits) where
     stands-at s w r e (x, _) = record { bytes = w; rest = r; split = e; ends = refl; written = x }
 
     -- no byte is left: 4
-    pub at-end : SettingAt left m p Missing → Fault left u (drop p m) 4
-    at-end h = subst (λ (l : List ℕ). Fault left u l 4) (sym (drop-of-length-le m h)) missing
+    pub at-end : SettingAt left m p Missing → Fault lim left u (drop p m) 4
+    at-end h = subst (λ (l : List ℕ). Fault lim left u l 4) (sym (drop-of-length-le m h)) missing
 
     -- the type is none of the ten: 3
-    pub at-unknown : SettingAt left m p Unknown → Fault left u (drop p m) 3
+    pub at-unknown : SettingAt left m p Unknown → Fault lim left u (drop p m) 3
     at-unknown (h, never) =
-        subst (λ (l : List ℕ). Fault left u l 3) (sym (drop-cons m p 0 h)) (unknown (λ k. never (k .0) (k .1)))
+        subst (λ (l : List ℕ). Fault lim left u l 3) (sym (drop-cons m p 0 h)) (unknown (λ k. never (k .0) (k .1)))
 
     -- no setting in range is written there: 4
-    pub at-field : SettingAt left m p BadField → Fault left u (drop p m) 4
+    pub at-field : SettingAt left m p BadField → Fault lim left u (drop p m) 4
     at-field (h, k, e, never) =
-        subst (λ (l : List ℕ). Fault left u l 4) (sym (drop-cons m p 0 h))
+        subst (λ (l : List ℕ). Fault lim left u l 4) (sym (drop-cons m p 0 h))
         (field (k, e) (λ s w r q x i. never s (p + length w) i (stands-at s w r (drop-cons m p 0 h ∙ q) x)))
 
     -- the setting that stands there has no room: 2
-    pub at-full : (s : Setting) (next : ℕ) → p < length m → InRange text-limits left s → StandsAt unicode16 m p next s → apply lim s u ≡ none → Fault left u (drop p m) 2
+    pub at-full : (s : Setting) (next : ℕ) → p < length m → InRange text-limits left s → StandsAt unicode16 m p next s → apply lim s u ≡ none → Fault lim left u (drop p m) 2
     at-full s next h i x a =
         let (w, e, q) = stands-in s next x in
-        subst (λ (l : List ℕ). Fault left u l 2) (sym (drop-cons m p 0 h)) (room {w = w} {s = s} (drop next m) (sym (drop-cons m p 0 h) ∙ e) q i a)
+        subst (λ (l : List ℕ). Fault lim left u l 2) (sym (drop-cons m p 0 h)) (room {w = w} {s = s} (drop next m) (sym (drop-cons m p 0 h) ∙ e) q i a)

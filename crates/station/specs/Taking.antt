@@ -20,7 +20,8 @@ use Rattle.wire.specs.declared.carrier.Message.the-variants.{Size, Carrier, «T
 use Rattle.tables.specs.declared.limits.Limits.{Limits}
 use Rattle.tables.specs.Allowed.{Allowed}
 use Rattle.tables.specs.Apply.{apply}
-use Rattle.tables.specs.Layout.{layout, IsStore}
+use Rattle.tables.specs.Layout.{layout}
+use Rattle.tables.specs.Store.{StoreOf}
 use Rattle.tables.specs.Tables.{Tables, no-hash, with-hash}
 use Rattle.station.specs.Answers.{Said, refused-with}
 use Rattle.station.specs.Judge as Judge
@@ -36,6 +37,14 @@ WrittenIn s bs = Written unicode16 s bs × Bytes bs
 -- a type byte is one of the ten
 abbrev pub Known : ℕ → Type 0
 Known b = (k : Kind) × (type-byte k ≡ b)
+
+-- these settings stand at the start of the bytes, in range and with room in turn
+abbrev pub Runs : Limits → ℕ → Tables → List ℕ → List Setting → Tables → List ℕ → Type 0
+Runs m = Judge.Runs Setting Tables WrittenIn (InRange text-limits) (apply m) Known
+
+-- what is at fault where the next setting should stand
+abbrev pub Fault : Limits → ℕ → Tables → List ℕ → ℕ → Type 0
+Fault m = Judge.Fault Setting Tables WrittenIn (InRange text-limits) (apply m) Known
 
 -- what a request of so many settings in these bytes comes to, from these tables
 abbrev pub Judged : Limits → ℕ → Tables → List ℕ → Outcome Setting Tables → Type 0
@@ -128,5 +137,5 @@ module _ (m : Limits) (message store reply : List ℕ) where
   abbrev pub taken : Ladder After
   taken =
       rung (length reply < 20) (stays 10)
-      (rung (IsStore m store → ⊥) (stays 11)
+      (rung (StoreOf m store → ⊥) (stays 11)
       (foot Handled))

@@ -14,10 +14,9 @@ use Rattle.tables.specs.declared.limits.Limits.{Limits}
 use Rattle.tables.specs.declared.start.Started.{Started}
 use Rattle.tables.specs.declared.start.Started.the-variants.{Fresh, WrongSize}
 use Rattle.tables.specs.Apply.{apply}
-use Rattle.tables.specs.Checks.{StoreOf, StartedAs}
 use Rattle.tables.specs.Layout.{layout, Roomy}
 use Rattle.tables.specs.Lists.{Tried}
-use Rattle.tables.specs.Store.{Holds, Applied}
+use Rattle.tables.specs.Store.{StoreOf, StartedAs, Holds, Applied}
 use Rattle.tables.specs.Tables.{Tables}
 
 -- START-DETERMINED: one answer, and one content of the bytes

@@ -1,4 +1,4 @@
--- What the checks of a store's bytes decide, part by part.
+-- What the checks of a store's bytes decide, part by part: inner steps, no promise cites these.
 use Prim.Native.Nat.{ℕ, _≤_}
 use mathlib.Core.Path.{_≡_}
 use mathlib.Core.List.{List, _++_}
@@ -10,13 +10,10 @@ use Rattle.writing.specs.Ranges.{InChannel}
 use Rattle.writing.specs.Settings.{Text}
 use Rattle.tables.specs.declared.checks_tables.Table.{Table}
 use Rattle.tables.specs.declared.checks_tables.Table.the-variants.{QuickTexts, StatusTexts, Groups, Individuals, Channels, Lines}
-use Rattle.tables.specs.declared.limits.Limits.{Limits}
-use Rattle.tables.specs.declared.start.Started.{Started}
-use Rattle.tables.specs.declared.start.Started.the-variants.{Fresh, WrongSize}
 use Rattle.tables.specs.Limits.{quick-places, status-places, slot-places}
-use Rattle.tables.specs.Tables.{Line, GroupMember, IndividualMember, Key, fresh}
+use Rattle.tables.specs.Tables.{Line, GroupMember, IndividualMember, Key}
 use Rattle.tables.specs.Allowed.{QuickOk, StatusOk, GroupOk, IndividualOk, LineOk, HashOk, HomeOk, SystemOk, TargetOk, Distinct}
-use Rattle.tables.specs.Layout.{quick-bytes, status-bytes, group-bytes, individual-bytes, line-bytes, hash-bytes, key-bytes, home-bytes, system-bytes, quick-width, status-width, member-width, channel-width, line-width, layout, Roomy, IsStore}
+use Rattle.tables.specs.Layout.{quick-bytes, status-bytes, group-bytes, individual-bytes, line-bytes, hash-bytes, key-bytes, home-bytes, system-bytes, quick-width, status-width, member-width, channel-width, line-width}
 
 -- ---- two entries, one after the other
 
@@ -101,16 +98,3 @@ ChannelsOf n s = EntryOf (ListOk InChannel n) (λ cs. places channel-width u16 (
 -- the bytes are lines in n places
 abbrev pub LinesOf : ℕ → List ℕ → Type 0
 LinesOf n s = EntryOf (LinesOk n) (λ ls. places line-width line-bytes (front n ls)) s
-
--- ---- a store
-
--- "A store is exactly the bytes of tables and a kept hash that these rules allow": they fill it, and have room in it
-pub record StoreOf (m : Limits) (bytes : List ℕ) : Type 0 where
-  pub size : length bytes ≡ m .size
-  pub roomy : Roomy m
-  pub store : IsStore m bytes
-
--- "Starting a store: any 12,288 bytes become fresh, another length is 11", and touches nothing
-abbrev pub StartedAs : Limits → List ℕ → List ℕ → Started → Type 0
-StartedAs m before after Fresh = (length before ≡ m .size) × Roomy m × (after ≡ layout m fresh)
-StartedAs m before after WrongSize = (length before ≡ m .size → Roomy m → ⊥) × (after ≡ before)

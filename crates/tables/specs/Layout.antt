@@ -127,7 +127,7 @@ layout m t = flat (parts m t)
 abbrev pub Roomy : Limits → Type 0
 Roomy m = used-size m ≤ m .size
 
--- "A store is exactly the bytes of tables and a kept hash that these rules allow"
+-- the bytes are those of tables that the rules allow; that they fill the store is said by StoreOf
 pub record IsStore (m : Limits) (bytes : List ℕ) : Type 0 where
   pub tables : Tables
   pub allowed : Allowed m tables

@@ -1,19 +1,37 @@
--- What applying a setting to a whole store answers.
+-- The whole store: which bytes are one, and what starting one and applying a setting to one answer.
 use Prim.Native.Nat.{ℕ}
 use mathlib.Core.Path.{_≡_}
 use mathlib.Core.Bool.{Bool}
 use mathlib.Core.List.{List}
+use lib.ListN.{length}
 use Rattle.writing.specs.Canonical.{Fits}
 use Rattle.writing.specs.Ranges.{text-limits, InRange}
 use Rattle.writing.specs.Settings.{Setting, unicode16}
 use Rattle.wire.specs.declared.settings.Setting.{Setting as Read}
 use Rattle.wire.specs.Settings.{Meant}
 use Rattle.tables.specs.declared.limits.Limits.{Limits}
+use Rattle.tables.specs.declared.start.Started.{Started}
+use Rattle.tables.specs.declared.start.Started.the-variants.{Fresh, WrongSize}
 use Rattle.tables.specs.Allowed.{Allowed}
 use Rattle.tables.specs.Apply.{apply}
-use Rattle.tables.specs.Layout.{layout, Roomy}
+use Rattle.tables.specs.Layout.{layout, Roomy, IsStore}
 use Rattle.tables.specs.Lists.{Tried}
-use Rattle.tables.specs.Tables.{Tables}
+use Rattle.tables.specs.Tables.{Tables, fresh}
+
+-- ---- which bytes are a store, and starting one
+
+-- "A store is exactly the bytes of tables and a kept hash that these rules allow": they fill it, and have room in it
+pub record StoreOf (m : Limits) (bytes : List ℕ) : Type 0 where
+  pub size : length bytes ≡ m .size
+  pub roomy : Roomy m
+  pub store : IsStore m bytes
+
+-- "Starting a store: any 12,288 bytes become fresh, another length is 11", and touches nothing
+abbrev pub StartedAs : Limits → List ℕ → List ℕ → Started → Type 0
+StartedAs m before after Fresh = (length before ≡ m .size) × Roomy m × (after ≡ layout m fresh)
+StartedAs m before after WrongSize = (length before ≡ m .size → Roomy m → ⊥) × (after ≡ before)
+
+-- ---- a setting
 
 -- the bytes are the store of these tables
 abbrev pub Holds : Limits → Tables → List ℕ → Type 0

@@ -10,7 +10,7 @@ ghost use mathlib.Core.Bool.{true};
 ghost use mathlib.Core.Logic.{_↔_};
 ghost use lib.ListN.{length};
 ghost use Rattle.tables.specs.Layout.{Roomy, IsStore};
-ghost use Rattle.tables.specs.Checks.{StoreOf};
+ghost use Rattle.tables.specs.Store.{StoreOf};
 
 // Whether the tables have room in a store of the limits' size.
 pub(crate) fn roomy(limits: Limits) -> bool

@@ -2,7 +2,7 @@
 use super::checks::roomy;
 use super::limits::Limits;
 use slots::bytes::wipe;
-ghost use Rattle.tables.specs.Checks.{StartedAs};
+ghost use Rattle.tables.specs.Store.{StartedAs};
 
 pub enum Started {
     Fresh,
