@@ -1,0 +1,2 @@
+// Writes a set's settings out again, part by part.
+pub mod parts;
