@@ -2,4 +2,5 @@ pub mod JudgeLaws
 pub mod ReplyLaws
 pub mod QueryLaws
 pub mod RunLaws
+pub mod Steps
 pub mod Determined

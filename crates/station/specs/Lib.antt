@@ -2,4 +2,5 @@ pub mod Answers
 pub mod Judge
 pub mod Queries
 pub mod Replies
+pub mod Running
 pub mod Taking

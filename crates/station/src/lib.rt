@@ -2,3 +2,4 @@
 pub mod answers;
 mod queries;
 mod replies;
+mod run;
