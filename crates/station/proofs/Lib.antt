@@ -3,4 +3,5 @@ pub mod ReplyLaws
 pub mod QueryLaws
 pub mod RunLaws
 pub mod Steps
+pub mod TakeLaws
 pub mod Determined

@@ -1,26 +1,24 @@
 -- Settings taken in turn: one more at the end, and what is at fault where the next should stand. Assumes nothing.
-use Prim.Native.Nat.{ℕ, zero, suc, _+_, _-_, _≤_, _<_}
+use Prim.Native.Nat.{ℕ, suc, _+_, _<_}
 use mathlib.Core.Path.{_≡_, refl, sym, ap, _∙_, subst}
-use mathlib.Core.List.{List, [], _∷_, _++_, append-nil, nil≢cons}
-use mathlib.Core.Bool.{Bool, true, false}
+use mathlib.Core.List.{List, [], _∷_, _++_}
 use mathlib.Core.Option.{Option, none, some}
 use native.Mathlib.Omega.{arith}
-use lib.ListN.{length, getD, drop, length-append, length-drop, drop-of-length-le}
+use lib.ListN.{length, drop, drop-of-length-le}
 use lib.Seq.{drop-cons, drop-drop, drop-at}
 use Rattle.lists.proofs.Bytes.{Bytes, bytes-drop}
 use Rattle.writing.specs.declared.LastFlags.{LastFlags}
 use Rattle.writing.specs.Ranges.{text-limits, InRange}
 use Rattle.writing.specs.Settings.{Setting, unicode16, lines, key, quick-texts, home, channels, system, status-texts, group, individual, last}
-use Rattle.writing.specs.Writing.{Written}
-use Rattle.wire.specs.Places.{PartAt, StandsAt}
+use Rattle.wire.specs.Places.{StandsAt}
 use Rattle.wire.specs.Settings.{SettingAt}
 use Rattle.wire.specs.declared.reader.SettingRead.the-variants.{Missing, Unknown, Field as BadField}
 use Rattle.wire.proofs.Parts.{bytes-left}
 use Rattle.tables.specs.declared.limits.Limits.{Limits}
 use Rattle.tables.specs.Apply.{apply}
 use Rattle.tables.specs.Tables.{Tables}
-use Rattle.station.specs.Judge.{Outcome, kept, refused, done, step, missing, unknown, field, room, taken, over, fault}
-use Rattle.station.specs.Taking.{WrittenIn, Known, Runs, Fault, Judged, flags-of, or-else, last-flags}
+use Rattle.station.specs.Judge.{done, step, missing, unknown, field, room, taken, fault}
+use Rattle.station.specs.Taking.{WrittenIn, Runs, Fault, flags-of, or-else, last-flags}
 
 module _ (lim : Limits) where
   -- one setting more at the end

@@ -1,5 +1,5 @@
 -- One setting of a request after another, as the code takes them on its working copy. Assumes nothing.
-use Prim.Native.Nat.{ℕ, zero, suc, _+_, _-_, _≤_, _<_}
+use Prim.Native.Nat.{ℕ, suc, _+_, _-_, _≤_, _<_}
 use mathlib.Core.Path.{_≡_, refl, sym, ap, _∙_, subst}
 use mathlib.Core.List.{List, [], _∷_, _++_}
 use mathlib.Core.Bool.{Bool, true, false}
@@ -12,27 +12,23 @@ use lib.Seq.{drop-cons}
 use Rattle.lists.proofs.Bytes.{Bytes}
 use Rattle.writing.specs.declared.LastFlags.{LastFlags}
 use Rattle.writing.specs.Canonical.{Fits}
-use Rattle.writing.specs.Ranges.{text-limits, InRange}
 use Rattle.writing.specs.Settings.{Setting, unicode16}
 use Rattle.writing.proofs.CanonicalLaws.{has-writing}
 use Rattle.writing.proofs.Whole.{length-written}
 use Rattle.wire.specs.declared.hashes.HashPlace.{HashPlace}
-use Rattle.wire.specs.declared.reader.SettingRead.the-variants.{Taken, Missing, Unknown, Field as BadField}
+use Rattle.wire.specs.declared.reader.SettingRead.the-variants.{Taken}
 use Rattle.wire.specs.declared.settings.Setting.{Setting as Read}
 use Rattle.wire.proofs.settings.Setting.{the-type}
 use Rattle.wire.specs.declared.settings.Setting.the-variants.{Lines, Key, QuickTexts, Home, Channels, System, StatusTexts, Group, Individual, Last}
 use Rattle.wire.specs.Places.{StandsAt}
-use Rattle.wire.specs.Settings.{Meant, SettingAt}
+use Rattle.wire.specs.Settings.{SettingAt}
 use Rattle.tables.specs.declared.limits.Limits.{Limits}
-use Rattle.tables.specs.Layout.{Roomy}
-use Rattle.tables.specs.Lists.{Tried}
 use Rattle.tables.specs.Store.{Holds, Applied}
 use Rattle.tables.specs.Tables.{Tables}
 use Rattle.station.specs.declared.run.Step.the-variants.{Next, Fault as StepFault}
-use Rattle.station.specs.declared.run.Run.the-variants.{Good, Fault as RunFault}
-use Rattle.station.specs.Judge.{done, taken, over, fault, kept, refused}
-use Rattle.station.specs.Running.{FlagsAre, Stepped, StepIs, Ran, RunIs}
-use Rattle.station.specs.Taking.{WrittenIn, Runs, Fault, Judged, flags-of, or-else, last-flags}
+use Rattle.station.specs.Judge.{done, taken, over, fault, refused}
+use Rattle.station.specs.Running.{FlagsAre, Stepped, StepIs, Ran}
+use Rattle.station.specs.Taking.{Runs, Fault, Judged, flags-of, or-else, last-flags}
 use Rattle.station.proofs.RunLaws.{one-more, flags-end, stands-in, at-full}
 
 -- ---- FF's bits of a setting that was read

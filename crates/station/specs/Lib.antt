@@ -1,4 +1,6 @@
 pub mod Answers
+pub mod Handheld
+pub mod Handling
 pub mod Judge
 pub mod Queries
 pub mod Replies

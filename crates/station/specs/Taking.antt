@@ -7,7 +7,7 @@ use mathlib.Core.List.{List, [], _∷_}
 use mathlib.Core.Option.{Option, none, some}
 use lib.ListN.{length, drop}
 use Rattle.lists.proofs.Bytes.{Bytes}
-use Rattle.lists.proofs.Ladder.{Ladder, rung, foot, Answers}
+use Rattle.lists.proofs.Ladder.{Ladder, rung, foot}
 use Rattle.writing.specs.declared.Kind.{Kind}
 use Rattle.writing.specs.declared.LastFlags.{LastFlags}
 use Rattle.writing.specs.Carrier.{Query}
@@ -23,7 +23,8 @@ use Rattle.tables.specs.Apply.{apply}
 use Rattle.tables.specs.Layout.{layout}
 use Rattle.tables.specs.Store.{StoreOf}
 use Rattle.tables.specs.Tables.{Tables, no-hash, with-hash}
-use Rattle.station.specs.Answers.{Said, refused-with}
+use Rattle.station.specs.declared.answers.Answer.{Answer}
+use Rattle.station.specs.Answers.{Said, said, refused-with}
 use Rattle.station.specs.Judge as Judge
 use Rattle.station.specs.Judge.{Outcome, kept, refused}
 use Rattle.station.specs.Replies.{reply-bytes, written-over}
@@ -84,6 +85,10 @@ pub record After : Type 0 where
   pub answer : Said
   pub store : List ℕ
   pub reply : List ℕ
+
+-- an answer of the code, with the bytes that it left
+abbrev pub leaves : Answer → List ℕ → List ℕ → After
+leaves a store reply = record { answer = said a; store = store; reply = reply }
 
 module _ (m : Limits) (message store reply : List ℕ) where
   -- "10 to 17 touch no byte of any buffer"

@@ -1,5 +1,7 @@
 // Takes requests and answers result queries.
 pub mod answers;
+pub mod handheld;
 mod queries;
 mod replies;
 mod run;
+mod take;

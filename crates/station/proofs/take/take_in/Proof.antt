@@ -1,0 +1,203 @@
+use borrow.Author.Needs.{needs}
+use Prim.Native.Nat.{_≤_}
+use mathlib.Core.Path.{_≡_, refl, subst}
+use native.Mathlib.Omega.{arith}
+use lib.ListN.{length}
+use mathlib.Core.Logic.{inl, inr}
+use Rattle.wire.specs.Message.{MessageIs}
+use Rattle.wire.specs.declared.carrier.Message.the-variants.{Size, Carrier, «Type» as OtherType, Version, NoRequest, Request, NoQuery, Query as AQuery}
+use Rattle.tables.specs.Layout.{used-size}
+use Rattle.tables.proofs.CheckLaws.{not-said, was-said}
+use Rattle.station.proofs.TakeLaws.{handled}
+use Rattle.station.proofs.take.take_in.Statement.{statement}
+use Rattle.station.proofs.take.take_in.Tie as tie
+
+returns : tie.Need-returns
+returns c =
+    inl (c .if1 .taken, refl)
+
+is-store-requires : tie.Need-is-store-requires
+is-store-requires c κs = search needs
+
+same-length : tie.Need-same-length
+same-length c = search needs
+
+returns-2 : tie.Need-returns-2
+returns-2 c =
+    inr ((λ h. omega (arith, c .before .before .before .if1 .left)), inl (not-said (c .before .is-store .result) (c .before .is-store .ensures) (c .if2 .taken), refl))
+
+read-message-requires : tie.Need-read-message-requires
+read-message-requires c κs = search needs
+
+enum-told : tie.Need-enum-told
+enum-told c = search needs
+
+enum-told-2 : tie.Need-enum-told-2
+enum-told-2 c = search needs
+
+enum-told-3 : tie.Need-enum-told-3
+enum-told-3 c = search needs
+
+enum-told-4 : tie.Need-enum-told-4
+enum-told-4 c = search needs
+
+turn-down-requires : tie.Need-turn-down-requires
+turn-down-requires c κs = search needs
+
+enum-told-5 : tie.Need-enum-told-5
+enum-told-5 c = search needs
+
+turn-down-requires-2 : tie.Need-turn-down-requires-2
+turn-down-requires-2 c κs = search needs
+
+enum-told-6 : tie.Need-enum-told-6
+enum-told-6 c = search needs
+
+turn-down-requires-3 : tie.Need-turn-down-requires-3
+turn-down-requires-3 c κs = search needs
+
+enum-known-message : tie.Need-enum-known-message
+enum-known-message c = search needs
+
+answer-query-requires : tie.Need-answer-query-requires
+answer-query-requires c κs =
+    let s = was-said (c .before .before .before .before .before .before .before .is-store .result) (c .before .before .before .before .before .before .before .is-store .ensures) (c .before .before .before .before .before .before .if2 .left) in
+    let e : length (c .before .before .before .before .before .before .before .before .before .before .before .before .before .before .args .store .now) ≡ c .before .before .before .before .before .before .before .before .before .before .before .before .before .before .args .limits .size = s .size in
+    let r : used-size (c .before .before .before .before .before .before .before .before .before .before .before .before .before .before .args .limits) ≤ c .before .before .before .before .before .before .before .before .before .before .before .before .before .before .args .limits .size = s .roomy in
+    (c .before .before .before .before .before .before .before .before .before .if1 .left, omega arith)
+
+enum-known-message-2 : tie.Need-enum-known-message-2
+enum-known-message-2 c = search needs
+
+take-request-requires : tie.Need-take-request-requires
+take-request-requires c κs =
+    let s = was-said (c .before .before .before .before .before .before .before .before .is-store .result) (c .before .before .before .before .before .before .before .before .is-store .ensures) (c .before .before .before .before .before .before .before .if2 .left) in
+    (c .before .before .before .before .before .before .before .before .before .before .if1 .left, s, c .before .before .before .before .before .before .before .before .before .before .before .before .before .before .before .pre)
+
+same-length-2 : tie.Need-same-length-2
+same-length-2 c = search needs
+
+returns-3 : tie.Need-returns-3
+returns-3 c =
+    let a = c .before .before .before .before .before .before .before .before .before .before .before .args in
+    handled (a .limits) (a .m .now) (a .store .now) (a .reply .now) Size _ (c .before .before .before .before .before .before .if1 .left) (was-said (c .before .before .before .before .is-store .result) (c .before .before .before .before .is-store .ensures) (c .before .before .before .if2 .left)) (subst (MessageIs (a .limits .message) (a .m .now)) (c .enum-told .given .1) (c .before .before .read-message .ensures)) (λ t h. refl)
+
+same-length-3 : tie.Need-same-length-3
+same-length-3 c = search needs
+
+returns-4 : tie.Need-returns-4
+returns-4 c =
+    let a = c .before .before .before .before .before .before .before .before .before .before .before .args in
+    handled (a .limits) (a .m .now) (a .store .now) (a .reply .now) Carrier _ (c .before .before .before .before .before .before .if1 .left) (was-said (c .before .before .before .before .is-store .result) (c .before .before .before .before .is-store .ensures) (c .before .before .before .if2 .left)) (subst (MessageIs (a .limits .message) (a .m .now)) (c .enum-told2 .given .1) (c .before .before .read-message .ensures)) (λ t h. refl)
+
+same-length-4 : tie.Need-same-length-4
+same-length-4 c = search needs
+
+returns-5 : tie.Need-returns-5
+returns-5 c =
+    let a = c .before .before .before .before .before .before .before .before .before .before .before .args in
+    handled (a .limits) (a .m .now) (a .store .now) (a .reply .now) OtherType _ (c .before .before .before .before .before .before .if1 .left) (was-said (c .before .before .before .before .is-store .result) (c .before .before .before .before .is-store .ensures) (c .before .before .before .if2 .left)) (subst (MessageIs (a .limits .message) (a .m .now)) (c .enum-told3 .given .1) (c .before .before .read-message .ensures)) (λ t h. refl)
+
+same-length-5 : tie.Need-same-length-5
+same-length-5 c = search needs
+
+same-length-6 : tie.Need-same-length-6
+same-length-6 c = search needs
+
+returns-6 : tie.Need-returns-6
+returns-6 c =
+    let a = c .before .before .before .before .before .before .before .before .before .before .before .before .before .before .before .args in
+    handled (a .limits) (a .m .now) (a .store .now) (a .reply .now) Version _ (c .before .before .before .before .before .before .before .before .before .before .if1 .left) (was-said (c .before .before .before .before .before .before .before .before .is-store .result) (c .before .before .before .before .before .before .before .before .is-store .ensures) (c .before .before .before .before .before .before .before .if2 .left)) (subst (MessageIs (a .limits .message) (a .m .now)) (c .before .before .before .before .enum-told4 .given .1) (c .before .before .before .before .before .before .read-message .ensures)) (λ t h. c .before .before .turn-down .ensures (a .limits) (a .m .now) (a .store .now))
+
+same-length-7 : tie.Need-same-length-7
+same-length-7 c = search needs
+
+same-length-8 : tie.Need-same-length-8
+same-length-8 c = search needs
+
+returns-7 : tie.Need-returns-7
+returns-7 c =
+    let a = c .before .before .before .before .before .before .before .before .before .before .before .before .before .before .before .args in
+    handled (a .limits) (a .m .now) (a .store .now) (a .reply .now) NoRequest _ (c .before .before .before .before .before .before .before .before .before .before .if1 .left) (was-said (c .before .before .before .before .before .before .before .before .is-store .result) (c .before .before .before .before .before .before .before .before .is-store .ensures) (c .before .before .before .before .before .before .before .if2 .left)) (subst (MessageIs (a .limits .message) (a .m .now)) (c .before .before .before .before .enum-told5 .given .1) (c .before .before .before .before .before .before .read-message .ensures)) (λ t h. c .before .before .turn-down2 .ensures (a .limits) (a .m .now) (a .store .now))
+
+same-length-9 : tie.Need-same-length-9
+same-length-9 c = search needs
+
+same-length-10 : tie.Need-same-length-10
+same-length-10 c = search needs
+
+returns-8 : tie.Need-returns-8
+returns-8 c =
+    let a = c .before .before .before .before .before .before .before .before .before .before .before .before .before .before .before .args in
+    handled (a .limits) (a .m .now) (a .store .now) (a .reply .now) NoQuery _ (c .before .before .before .before .before .before .before .before .before .before .if1 .left) (was-said (c .before .before .before .before .before .before .before .before .is-store .result) (c .before .before .before .before .before .before .before .before .is-store .ensures) (c .before .before .before .before .before .before .before .if2 .left)) (subst (MessageIs (a .limits .message) (a .m .now)) (c .before .before .before .before .enum-told6 .given .1) (c .before .before .before .before .before .before .read-message .ensures)) (λ t h. c .before .before .turn-down3 .ensures (a .limits) (a .m .now) (a .store .now))
+
+same-length-11 : tie.Need-same-length-11
+same-length-11 c = search needs
+
+same-length-12 : tie.Need-same-length-12
+same-length-12 c = search needs
+
+returns-9 : tie.Need-returns-9
+returns-9 c =
+    let a = c .before .before .before .before .before .before .before .before .before .before .before .before .before .before .before .before .before .args in
+    let q = subst (MessageIs (a .limits .message) (a .m .now)) (c .before .before .before .before .before .before .message .given .1) (c .before .before .before .before .before .before .before .before .read-message .ensures) in
+    handled (a .limits) (a .m .now) (a .store .now) (a .reply .now) (AQuery (c .before .before .before .before .before .before .message .given .0 .0)) _ (c .before .before .before .before .before .before .before .before .before .before .before .before .if1 .left) (was-said (c .before .before .before .before .before .before .before .before .before .before .is-store .result) (c .before .before .before .before .before .before .before .before .before .before .is-store .ensures) (c .before .before .before .before .before .before .before .before .before .if2 .left)) q (λ t h. c .before .before .answer-query .ensures (a .limits) t h q)
+
+same-length-13 : tie.Need-same-length-13
+same-length-13 c = search needs
+
+same-length-14 : tie.Need-same-length-14
+same-length-14 c = search needs
+
+same-length-15 : tie.Need-same-length-15
+same-length-15 c = search needs
+
+returns-10 : tie.Need-returns-10
+returns-10 c =
+    let a = c .before .before .before .before .before .before .before .before .before .before .before .before .before .before .before .before .before .before .before .before .before .before .args in
+    handled (a .limits) (a .m .now) (a .store .now) (a .reply .now) (Request (c .before .before .before .before .before .before .before .before .before .before .before .message2 .given .0 .0) (c .before .before .before .before .before .before .before .before .before .before .before .message2 .given .0 .1 .0)) _ (c .before .before .before .before .before .before .before .before .before .before .before .before .before .before .before .before .before .if1 .left) (was-said (c .before .before .before .before .before .before .before .before .before .before .before .before .before .before .before .is-store .result) (c .before .before .before .before .before .before .before .before .before .before .before .before .before .before .before .is-store .ensures) (c .before .before .before .before .before .before .before .before .before .before .before .before .before .before .if2 .left)) (subst (MessageIs (a .limits .message) (a .m .now)) (c .before .before .before .before .before .before .before .before .before .before .before .message2 .given .1) (c .before .before .before .before .before .before .before .before .before .before .before .before .before .read-message .ensures)) (λ t h. c .before .before .before .before .before .before .take-request .ensures t h)
+
+pub take-in-spec : {M : Type 1} → statement M
+take-in-spec =
+    tie.close
+    (tie.spec
+    returns
+    is-store-requires
+    same-length
+    returns-2
+    read-message-requires
+    enum-told
+    enum-told-2
+    enum-told-3
+    enum-told-4
+    turn-down-requires
+    enum-told-5
+    turn-down-requires-2
+    enum-told-6
+    turn-down-requires-3
+    enum-known-message
+    answer-query-requires
+    enum-known-message-2
+    take-request-requires
+    same-length-2
+    returns-3
+    same-length-3
+    returns-4
+    same-length-4
+    returns-5
+    same-length-5
+    same-length-6
+    returns-6
+    same-length-7
+    same-length-8
+    returns-7
+    same-length-9
+    same-length-10
+    returns-8
+    same-length-11
+    same-length-12
+    returns-9
+    same-length-13
+    same-length-14
+    same-length-15
+    returns-10)

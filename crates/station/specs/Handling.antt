@@ -1,0 +1,28 @@
+-- How a message is handled, step by step. No promise cites these.
+use Prim.Native.Nat.{ℕ}
+use mathlib.Core.Path.{_≡_}
+use mathlib.Core.List.{List}
+use Rattle.wire.specs.Message.{MessageIs}
+use Rattle.wire.specs.declared.hashes.HashPlace.{HashPlace}
+use Rattle.wire.specs.declared.carrier.Message.the-variants.{Request, Query as AQuery}
+use Rattle.tables.specs.declared.limits.Limits.{Limits}
+use Rattle.tables.specs.Store.{Holds}
+use Rattle.tables.specs.Tables.{Tables}
+use Rattle.station.specs.declared.answers.Answer.{Answer}
+use Rattle.station.specs.Taking.{leaves, turned-down, Settles}
+
+-- a message that was turned down with this number and failed ID
+abbrev pub TurnedDown : (number failed : ℕ) → List ℕ → List ℕ → Answer → Type 0
+TurnedDown number failed reply after a =
+    (m : Limits) (message store : List ℕ) → leaves a store after ≡ turned-down m message store reply number failed
+
+-- a result query that was answered
+abbrev pub Queried : List ℕ → HashPlace → List ℕ → List ℕ → List ℕ → Answer → Type 0
+Queried message place store reply after a =
+    (m : Limits) (t : Tables) → Holds m t store → MessageIs (m .message) message (AQuery place)
+    → Settles m message store reply t (AQuery place) (leaves a store after)
+
+-- a request that was judged
+abbrev pub Requested : Limits → List ℕ → (count at : ℕ) → List ℕ → List ℕ → List ℕ → List ℕ → Answer → Type 0
+Requested m message count at store store-after reply reply-after a =
+    (t : Tables) → Holds m t store → Settles m message store reply t (Request count at) (leaves a store-after reply-after)

@@ -1,0 +1,33 @@
+// The calls of the handheld, which owns the working copy.
+use super::answers::Answer;
+use super::take::take_in;
+use tables::limits::Limits;
+use tables::start::Started;
+use tables::start::start as start_store;
+ghost use Rattle.lists.proofs.Ladder.{Answers};
+ghost use Rattle.tables.specs.Store.{StartedAs};
+ghost use Rattle.station.specs.Handheld.{handheld};
+ghost use Rattle.station.specs.Taking.{leaves, taken};
+
+// Room for 32 lines and 64 channels, messages of up to 4,096 bytes, a store of 12,288.
+pub const HANDHELD: Limits = Limits {
+    lines: 32,
+    channels: 64,
+    message: 4096,
+    size: 12288,
+};
+
+// Makes any 12,288 bytes a fresh store.
+pub fn start(store: &mut [u8]) -> Started
+    ensures { λ r. ⌜ StartedAs handheld (now (store .entry)) (now (store .exit)) r ⌝ }
+{
+    start_store(store, HANDHELD)
+}
+
+// Takes a message: the reply is written for 0 to 5, and only a taken request changes the store.
+pub fn take(message: &[u8], store: &mut [u8], reply: &mut [u8]) -> Answer
+    ensures { λ r. ⌜ Answers (taken handheld (now (message .entry)) (now (store .entry)) (now (reply .entry))) (leaves r (now (store .exit)) (now (reply .exit))) ⌝ }
+{
+    let mut work = [0u8; 12288];
+    take_in(message, store, reply, HANDHELD, &mut work)
+}

@@ -1,0 +1,120 @@
+// A message to a store: a request is taken whole or not at all, a result query is answered, and the reply is written.
+use super::answers::Answer;
+use super::answers::Refusal;
+use super::answers::Reply;
+use super::queries::same_hash;
+use super::replies::write_reply;
+use super::run::Run;
+use super::run::take_settings;
+use slots::bytes::copy;
+use tables::checks::is_store;
+use tables::fixed::clear_hash;
+use tables::limits::Limits;
+use wire::carrier::Message;
+use wire::carrier::read_message;
+use wire::hashes::HashPlace;
+ghost use Prim.Native.Nat.{_≤_};
+ghost use mathlib.Core.Path.{_≡_};
+ghost use lib.ListN.{length};
+ghost use Rattle.lists.proofs.Ladder.{Answers};
+ghost use Rattle.tables.specs.Store.{StoreOf};
+ghost use Rattle.station.specs.Handling.{TurnedDown, Queried, Requested};
+ghost use Rattle.station.specs.Taking.{leaves, taken};
+
+// The reply of 1 to 4, which carries no hash.
+fn turn_down(reply: &mut [u8], number: u8, failed: u8) -> Answer
+    requires { ⌜ 20 ≤ length (now reply) ⌝ }
+    ensures { λ r. ⌜ TurnedDown number failed (now (reply .entry)) (now (reply .exit)) r ⌝ }
+{
+    let none = [0u8; 11];
+    let length = write_reply(reply, number, failed, &none);
+    Answer::Replied(Reply {
+        result: number,
+        failed: failed,
+        send: true,
+        reboot: false,
+        length: length,
+    })
+}
+
+// A result query: 0 where the hash asked for is the one kept, and 5 otherwise.
+fn answer_query(m: &[u8], place: HashPlace, store: &[u8], reply: &mut [u8]) -> Answer
+    requires { ⌜ (20 ≤ length (now reply)) × (11 ≤ length (now store)) ⌝ }
+    ensures { λ r. ⌜ Queried (now (m .entry)) place (now (store .entry)) (now (reply .entry)) (now (reply .exit)) r ⌝ }
+{
+    let result = if same_hash(m, place, &store[0..11]) {
+        0
+    } else {
+        5
+    };
+    let length = write_reply(reply, result, 0, &store[0..11]);
+    Answer::Replied(Reply {
+        result: result,
+        failed: 0,
+        send: true,
+        reboot: false,
+        length: length,
+    })
+}
+
+// A request, judged and applied on a working copy that is copied back only when all is good.
+fn take_request(
+    m: &[u8],
+    count: u8,
+    at: usize,
+    store: &mut [u8],
+    reply: &mut [u8],
+    limits: Limits,
+    work: &mut [u8],
+) -> Answer
+    requires { ⌜ (20 ≤ length (now reply)) × StoreOf limits (now store) × (length (now work) ≡ limits .size) ⌝ }
+    ensures { λ r. ⌜ Requested limits (now (m .entry)) count at (now (store .entry)) (now (store .exit)) (now (reply .entry)) (now (reply .exit)) r ⌝ }
+{
+    copy(work, store);
+    clear_hash(&mut work[0..11]);
+    let run = take_settings(work, limits, m, at, count);
+    match run {
+        Run::Fault(number, failed) => turn_down(reply, number, failed),
+        Run::Good(flags) => {
+            copy(store, work);
+            let length = write_reply(reply, 0, 0, &store[0..11]);
+            Answer::Replied(Reply {
+                result: 0,
+                failed: 0,
+                send: flags.reply,
+                reboot: flags.reboot,
+                length: length,
+            })
+        }
+    }
+}
+
+// A message to a set with these limits, which lends as many bytes to work in as a store has.
+pub(crate) fn take_in(
+    m: &[u8],
+    store: &mut [u8],
+    reply: &mut [u8],
+    limits: Limits,
+    work: &mut [u8],
+) -> Answer
+    requires { ⌜ length (now work) ≡ limits .size ⌝ }
+    ensures { λ r. ⌜ Answers (taken limits (now (m .entry)) (now (store .entry)) (now (reply .entry))) (leaves r (now (store .exit)) (now (reply .exit))) ⌝ }
+{
+    if reply.len() < 20 {
+        return Answer::Untouched(Refusal::ReplyBuffer);
+    }
+    if !is_store(store, limits) {
+        return Answer::Untouched(Refusal::NotAStore);
+    }
+    let message = read_message(m, limits.message);
+    match message {
+        Message::Size => Answer::Untouched(Refusal::MessageSize),
+        Message::Carrier => Answer::Untouched(Refusal::Carrier),
+        Message::Type => Answer::Untouched(Refusal::MessageType),
+        Message::Version => turn_down(reply, 1, 0),
+        Message::NoRequest => turn_down(reply, 4, 0),
+        Message::NoQuery => turn_down(reply, 4, 0),
+        Message::Query(place) => answer_query(m, place, store, reply),
+        Message::Request(count, at) => take_request(m, count, at, store, reply, limits, work),
+    }
+}
