@@ -29,11 +29,11 @@ bytes-all [] b = tt
 bytes-all (x ∷ l) b = (b 0, bytes-all l (λ i. b (suc i)))
 
 -- no setting's writing starts another's
-one-writing : (s s′ : Setting) (w w′ r r′ : List ℕ) → WrittenIn s w → WrittenIn s′ w′ → w ++ r ≡ w′ ++ r′ → (s ≡ s′) × (w ≡ w′)
+pub one-writing : (s s′ : Setting) (w w′ r r′ : List ℕ) → WrittenIn s w → WrittenIn s′ w′ → w ++ r ≡ w′ ++ r′ → (s ≡ s′) × (w ≡ w′)
 one-writing s s′ w w′ r r′ (x, _) (y, _) e = unique unicode16 s s′ w w′ r r′ x y e
 
 -- a writing starts with a type byte
-type-first : (s : Setting) (w : List ℕ) → WrittenIn s w → (b : ℕ) × (v : List ℕ) × (w ≡ b ∷ v) × Known b
+pub type-first : (s : Setting) (w : List ℕ) → WrittenIn s w → (b : ℕ) × (v : List ℕ) × (w ≡ b ∷ v) × Known b
 type-first s w (x, y) = let (b, v, e, k) = headed unicode16 s w (bytes-all w y) x in (b, v, e, (kind s, sym k))
 
 -- a request comes to one thing

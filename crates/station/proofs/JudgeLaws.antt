@@ -1,6 +1,7 @@
 -- A request comes to one thing only, where no setting's writing starts another's. Over any settings, tables and writing. Assumes nothing.
 use mathlib.Core.Path.{_≡_, refl, sym, ap, ap₂, _∙_, subst, subst₂}
 use mathlib.Core.List.{List, [], _∷_, _++_}
+use mathlib.Core.Logic.{_⊎_, inl, inr}
 use mathlib.Core.Option.{Option, none, some}
 use Prim.Native.Nat.{ℕ, zero, suc, _+_, _-_, _≤_, _<_}
 use native.Mathlib.Omega.{arith}
@@ -123,3 +124,50 @@ module _ (Setting Tables : Type 0)
               let x : length l′ < length l → ⊥ = λ h. stuck f′ (det q′ q .1 left′ e′ h) in
               let y : length l < length l′ → ⊥ = λ h. stuck f (det q q′ .1 left e h) in
               omega arith
+
+      -- k settings, in range and with room in turn, stand at the start
+      abbrev pub Stands : ℕ → Tables → List ℕ → ℕ → Type 0
+      Stands n t bs k = (l : List Setting) × (u : Tables) × (rest : List ℕ) × (length l ≡ k) × Runs n t bs l u rest
+
+      -- what each outcome says: all stand and nothing is left, all stand and bytes are left over, or the first at fault
+      abbrev pub Says : ℕ → Tables → List ℕ → Outcome Setting Tables → Type 0
+      Says n t bs (kept l u) = (length l ≡ n) × Runs n t bs l u []
+      Says n t bs (refused number failed) =
+          ((failed ≡ 0) × (number ≡ 4) × (l : List Setting) × (u : Tables) × (b : ℕ) × (rest : List ℕ) × (length l ≡ n) × Runs n t bs l u (b ∷ rest))
+          ⊎ ((1 ≤ failed) × (failed ≤ n) × ((k : ℕ) → k < failed → Stands n t bs k) × (Stands n t bs failed → ⊥)
+          × (l : List Setting) × (u : Tables) × (rest : List ℕ) × (length l + 1 ≡ failed) × Runs n t bs l u rest × Fault (n - failed) u rest number)
+
+      -- where so many stand, fewer do
+      fewer : {n : ℕ} {t u : Tables} {bs rest : List ℕ} {l : List Setting} → Runs n t bs l u rest → (k : ℕ) → k ≤ length l → Stands n t bs k
+      fewer q zero h = ([], _, _, refl, done)
+      fewer done (suc k) h = absurd (omega arith)
+      fewer (step {s} p w i a q) (suc k) h =
+          let (l, u, rest, e, r) = fewer q k (omega arith) in
+          (s ∷ l, u, rest, ap suc e, step {s = s} p w i a r)
+
+      -- FIRST FAULT: a refusal names the least k for which no k settings stand at the start, or 0 where all stand and bytes are left over
+      pub judged-says : {n : ℕ} {t : Tables} {bs : List ℕ} {o : Outcome Setting Tables} → Judged n t bs o → Says n t bs o
+      judged-says (taken e q) = (e, q)
+      judged-says (over {l} {u} {b} {rest} e q) = inl (refl, refl, l, u, b, rest, e, q)
+      judged-says {n} (fault {l} {u} {rest} left {number} e q f) =
+          let never : Stands _ _ _ (length l + 1) → ⊥
+          = λ x. let y : length (x .0) ≡ length l + 1 = x .3 in stuck f (det q (x .4) .1 left e (omega arith)) in
+          let z : left ≡ n - (length l + 1) = omega arith in
+          inr (omega arith, omega arith, (λ k h. fewer q k (omega arith)), never, l, u, rest, refl, q, subst (λ (k : ℕ). Fault k u rest number) z f)
+
+      -- no fault has number 0
+      fault-number : {left number : ℕ} {t : Tables} {bs : List ℕ} → Fault left t bs number → 0 < number
+      fault-number missing = omega arith
+      fault-number (unknown x) = omega arith
+      fault-number (field k x) = omega arith
+      fault-number (room r p w i a) = omega arith
+
+      abbrev pub NotZero : Outcome Setting Tables → Type 0
+      NotZero (kept l u) = Unit {0}
+      NotZero (refused number failed) = 0 < number
+
+      -- nor has a refusal
+      pub refused-number : {n : ℕ} {t : Tables} {bs : List ℕ} {o : Outcome Setting Tables} → Judged n t bs o → NotZero o
+      refused-number (taken e q) = tt
+      refused-number (over e q) = omega arith
+      refused-number (fault left e q f) = fault-number f

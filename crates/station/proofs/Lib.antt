@@ -4,4 +4,6 @@ pub mod QueryLaws
 pub mod RunLaws
 pub mod Steps
 pub mod TakeLaws
+pub mod Demand
 pub mod Determined
+pub mod Theorems

@@ -7,7 +7,6 @@ use native.Mathlib.Omega.{arith}
 use lib.ListN.{length, drop, drop-of-length-le}
 use lib.Seq.{drop-cons, drop-drop, drop-at}
 use Rattle.lists.proofs.Bytes.{Bytes, bytes-drop}
-use Rattle.writing.specs.declared.LastFlags.{LastFlags}
 use Rattle.writing.specs.Ranges.{text-limits, InRange}
 use Rattle.writing.specs.Settings.{Setting, unicode16, lines, key, quick-texts, home, channels, system, status-texts, group, individual, last}
 use Rattle.wire.specs.Places.{StandsAt}
@@ -18,7 +17,7 @@ use Rattle.tables.specs.declared.limits.Limits.{Limits}
 use Rattle.tables.specs.Apply.{apply}
 use Rattle.tables.specs.Tables.{Tables}
 use Rattle.station.specs.Judge.{done, step, missing, unknown, field, room, taken, fault}
-use Rattle.station.specs.Taking.{WrittenIn, Runs, Fault, flags-of, or-else, last-flags}
+use Rattle.station.specs.Taking.{WrittenIn, Runs, Fault, item-of, or-else, LastItem, last-item}
 
 module _ (lim : Limits) where
   -- one setting more at the end
@@ -29,7 +28,7 @@ module _ (lim : Limits) where
   one-more left s w r (step {w = v} {s = y} p x i a q) e p′ x′ i′ a′ = step {w = v} {s = y} p x i a (one-more left s w r q (omega arith) p′ x′ i′ a′)
 
   -- a setting that is not the last one counted is no FF
-  not-ff : (s : Setting) (n : ℕ) → InRange text-limits n s → 0 < n → flags-of s ≡ none
+  pub not-ff : (s : Setting) (n : ℕ) → InRange text-limits n s → 0 < n → item-of s ≡ none
   not-ff (lines o f es) n i l = refl
   not-ff (key t f) n i l = refl
   not-ff (quick-texts o es) n i l = refl
@@ -41,12 +40,12 @@ module _ (lim : Limits) where
   not-ff (individual o f x) n i l = refl
   not-ff (last f h) n i l = absurd (omega (arith, i .1))
 
-  -- so the flags of a run are those of its last setting
-  pub flags-end : {n : ℕ} {t u : Tables} {bs rest : List ℕ} {l : List Setting} → Runs lim n t bs l u rest → length l < n → (s : Setting)
-      → last-flags (l ++ (s ∷ [])) ≡ or-else (flags-of s) (last-flags [])
-  flags-end done h s = refl
-  flags-end (step {n} {s = x} {l = l} p w i a q) h s =
-      ap (λ (f : Option LastFlags). or-else f (last-flags (l ++ (s ∷ [])))) (not-ff x n i (omega arith)) ∙ flags-end q (omega arith) s
+  -- so the FF of a run is that of its last setting
+  pub item-end : {n : ℕ} {t u : Tables} {bs rest : List ℕ} {l : List Setting} → Runs lim n t bs l u rest → length l < n → (s : Setting)
+      → last-item (l ++ (s ∷ [])) ≡ or-else (item-of s) (last-item [])
+  item-end done h s = refl
+  item-end (step {n} {s = x} {l = l} p w i a q) h s =
+      ap (λ (f : Option LastItem). or-else f (last-item (l ++ (s ∷ [])))) (not-ff x n i (omega arith)) ∙ item-end q (omega arith) s
 
   -- ---- where the next setting should stand, in a message of bytes
 

@@ -3,7 +3,7 @@ use Prim.Native.Nat.{ℕ, suc, _+_, _-_, _≤_, _<_}
 use mathlib.Core.Path.{_≡_, refl, sym, ap, _∙_, subst}
 use mathlib.Core.List.{List, [], _∷_, _++_}
 use mathlib.Core.Bool.{Bool, true, false}
-use mathlib.Core.Option.{none}
+use mathlib.Core.Option.{Option, none}
 use native.Mathlib.Omega.{arith}
 use denote.Enum.Declared.{tagOf}
 use types.Run.{OneOf, miss}
@@ -28,19 +28,19 @@ use Rattle.tables.specs.Tables.{Tables}
 use Rattle.station.specs.declared.run.Step.the-variants.{Next, Fault as StepFault}
 use Rattle.station.specs.Judge.{done, taken, over, fault, refused}
 use Rattle.station.specs.Running.{FlagsAre, Stepped, StepIs, Ran}
-use Rattle.station.specs.Taking.{Runs, Fault, Judged, flags-of, or-else, last-flags}
-use Rattle.station.proofs.RunLaws.{one-more, flags-end, stands-in, at-full}
+use Rattle.station.specs.Taking.{Runs, Fault, Judged, item-of, or-else, LastItem, last-item}
+use Rattle.station.proofs.RunLaws.{one-more, item-end, stands-in, at-full}
 
 -- ---- FF's bits of a setting that was read
 
 -- another setting than FF says no and no
-said-none : {s t : Setting} → s ≡ t → flags-of t ≡ none → last-flags [] ≡ or-else (flags-of s) (last-flags [])
-said-none e n = sym (ap (λ x. or-else (flags-of x) (last-flags [])) e ∙ ap (λ x. or-else x (last-flags [])) n)
+said-none : {s t : Setting} → s ≡ t → item-of t ≡ none → last-item [] .flags ≡ or-else (item-of s) (last-item []) .flags
+said-none e n = sym (ap (λ x. or-else (item-of x) (last-item []) .flags) e ∙ ap (λ (x : Option LastItem). or-else x (last-item []) .flags) n)
 
 pub flags-last : (f : LastFlags) (p : HashPlace) → FlagsAre (Last f p) f
-flags-last f p m s (v, e, _, _) = sym (ap (λ x. or-else (flags-of x) (last-flags [])) e)
+flags-last f p m s (v, e, _, _) = sym (ap (λ x. or-else (item-of x) (last-item []) .flags) e)
 
-pub flags-none : (r : Read) → OneOf (0 ∷ 1 ∷ 2 ∷ 3 ∷ 4 ∷ 5 ∷ 6 ∷ 7 ∷ 8 ∷ []) (tagOf the-type r) → FlagsAre r (last-flags [])
+pub flags-none : (r : Read) → OneOf (0 ∷ 1 ∷ 2 ∷ 3 ∷ 4 ∷ 5 ∷ 6 ∷ 7 ∷ 8 ∷ []) (tagOf the-type r) → FlagsAre r (last-item [] .flags)
 flags-none (Lines o f p) k m s (es, e, _) = said-none e refl
 flags-none (Key t f) k m s e = said-none e refl
 flags-none (QuickTexts o p) k m s (es, e, _) = said-none e refl
@@ -88,9 +88,9 @@ module _ (lim : Limits) (m : List ℕ) where
       pub counted : length settings ≡ n
       pub runs : Runs lim count was (drop at m) settings tables (drop p m)
       pub holds : Holds lim tables work
-      pub flags : f ≡ last-flags settings
+      pub flags : f ≡ last-item settings .flags
 
-    pub along-start : (work : List ℕ) → Holds lim was work → Along work at 0 (last-flags [])
+    pub along-start : (work : List ℕ) → Holds lim was work → Along work at 0 (last-item [] .flags)
     along-start work h = record { settings = []; tables = was; counted = refl; runs = done; holds = h; flags = refl }
 
     module _ (work : List ℕ) (p n : ℕ) (f : LastFlags) (l : Along work p n f) where
@@ -106,7 +106,7 @@ module _ (lim : Limits) (m : List ℕ) where
             counted = k;
             runs = one-more lim (count - n - 1) (z .setting) w (drop next m) (l .runs) (omega arith) e q (z .range) (z .applied);
             holds = z .holds;
-            flags = z .flags ∙ sym (flags-end lim (l .runs) (omega arith) (z .setting));
+            flags = z .flags ∙ sym (ap (λ (x : LastItem). x .flags) (item-end lim (l .runs) (omega arith) (z .setting)));
           }
 
       -- the next is at fault

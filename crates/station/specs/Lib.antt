@@ -1,5 +1,5 @@
 pub mod Answers
-pub mod Handheld
+pub mod Demands
 pub mod Handling
 pub mod Judge
 pub mod Queries

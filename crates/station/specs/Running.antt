@@ -20,11 +20,11 @@ use Rattle.station.specs.declared.run.Step.the-variants.{Next, Fault as 
 use Rattle.station.specs.declared.run.Run.{Run}
 use Rattle.station.specs.declared.run.Run.the-variants.{Good, Fault as RunFault}
 use Rattle.station.specs.Judge.{kept, refused}
-use Rattle.station.specs.Taking.{Fault, Judged, flags-of, or-else, last-flags}
+use Rattle.station.specs.Taking.{Fault, Judged, item-of, or-else, last-item}
 
 -- FF's bits of a setting that was read
 abbrev pub FlagsAre : Read → LastFlags → Type 0
-FlagsAre r f = (m : List ℕ) (s : Setting) → Meant m r s → f ≡ or-else (flags-of s) (last-flags [])
+FlagsAre r f = (m : List ℕ) (s : Setting) → Meant m r s → f ≡ or-else (item-of s) (last-item []) .flags
 
 -- a setting in range that stands at a place and had room
 pub record Stepped (lim : Limits) (left : ℕ) (m : List ℕ) (at next : ℕ) (was : Tables) (after : List ℕ) (f : LastFlags) : Type 0 where
@@ -34,7 +34,7 @@ pub record Stepped (lim : Limits) (left : ℕ) (m : List ℕ) (at next : ℕ) (w
   pub stands : StandsAt unicode16 m at next setting
   pub applied : apply lim setting was ≡ some tables
   pub holds : Holds lim tables after
-  pub flags : f ≡ or-else (flags-of setting) (last-flags [])
+  pub flags : f ≡ or-else (item-of setting) (last-item []) .flags
 
 -- what taking the setting at a place answers, on a copy that was s and becomes t
 abbrev pub StepIs : Limits → ℕ → List ℕ → ℕ → List ℕ → List ℕ → Step → Type 0
@@ -47,7 +47,7 @@ pub record Ran (lim : Limits) (count : ℕ) (m : List ℕ) (at : ℕ) (was : Tab
   pub tables : Tables
   pub judged : Judged lim count was (drop at m) (kept settings tables)
   pub holds : Holds lim tables after
-  pub flags : f ≡ last-flags settings
+  pub flags : f ≡ last-item settings .flags
 
 -- what taking the settings from a place on answers, on a copy that was s and becomes t
 abbrev pub RunIs : Limits → ℕ → List ℕ → ℕ → List ℕ → List ℕ → Run → Type 0

@@ -55,28 +55,33 @@ Judged m = Judge.Judged Setting Tables WrittenIn (InRange text-limits) (apply m)
 abbrev pub forget : Tables → Tables
 forget t = with-hash t no-hash
 
--- ---- FF's bits
+-- ---- FF, the last item
 
-abbrev pub flags-of : Setting → Option LastFlags
-flags-of (lines o f es) = none
-flags-of (key t f) = none
-flags-of (quick-texts o es) = none
-flags-of (home h) = none
-flags-of (channels o ns) = none
-flags-of (system s) = none
-flags-of (status-texts o es) = none
-flags-of (group o f s) = none
-flags-of (individual o f s) = none
-flags-of (last f h) = some f
+-- its reboot and reply bits, and its hash
+pub record LastItem : Type 0 where
+  pub flags : LastFlags
+  pub hash : Hash
+
+abbrev pub item-of : Setting → Option LastItem
+item-of (lines o f es) = none
+item-of (key t f) = none
+item-of (quick-texts o es) = none
+item-of (home h) = none
+item-of (channels o ns) = none
+item-of (system s) = none
+item-of (status-texts o es) = none
+item-of (group o f s) = none
+item-of (individual o f s) = none
+item-of (last f h) = some (record { flags = f; hash = h })
 
 abbrev pub or-else : {A : Type 0} → Option A → A → A
 or-else none b = b
 or-else (some a) b = a
 
--- FF's reboot and reply bits, no and no without FF
-abbrev pub last-flags : List Setting → LastFlags
-last-flags [] = record { reboot = false; reply = false }
-last-flags (s ∷ l) = or-else (flags-of s) (last-flags l)
+-- the FF of a request's settings; without one: no, no, and no hash
+abbrev pub last-item : List Setting → LastItem
+last-item [] = record { flags = record { reboot = false; reply = false }; hash = no-hash }
+last-item (s ∷ l) = or-else (item-of s) (last-item l)
 
 -- ---- what is left behind
 
@@ -109,7 +114,7 @@ module _ (m : Limits) (message store reply : List ℕ) where
 
   -- a request: "for a taken request as FF's reply bit says"; "A reply carries the hash kept afterwards"
   abbrev pub settled : Outcome Setting Tables → After
-  settled (kept l u) = replies 0 0 (last-flags l .reply) (last-flags l .reboot) (u .hash) (layout m u)
+  settled (kept l u) = replies 0 0 (last-item l .flags .reply) (last-item l .flags .reboot) (u .hash) (layout m u)
   settled (refused number failed) = turned-down number failed
 
   -- a result query: it matches the hash kept, or "code 0, nothing kept, or code or value differs"

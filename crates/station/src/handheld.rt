@@ -6,7 +6,7 @@ use tables::start::Started;
 use tables::start::start as start_store;
 ghost use Rattle.lists.proofs.Ladder.{Answers};
 ghost use Rattle.tables.specs.Store.{StartedAs};
-ghost use Rattle.station.specs.Handheld.{handheld};
+ghost use Rattle.tables.specs.Limits.{handheld};
 ghost use Rattle.station.specs.Taking.{leaves, taken};
 
 // Room for 32 lines and 64 channels, messages of up to 4,096 bytes, a store of 12,288.
