@@ -1,3 +1,4 @@
 pub mod Readable
 pub mod Fitting
 pub mod PartRuns
+pub mod Requests
