@@ -2,3 +2,4 @@ pub mod Readable
 pub mod Fitting
 pub mod PartRuns
 pub mod Requests
+pub mod Restored
