@@ -3,3 +3,4 @@ pub mod Fitting
 pub mod PartRuns
 pub mod Requests
 pub mod Restored
+pub mod ExportedBytes

@@ -15,10 +15,10 @@ use Rattle.wire.specs.declared.carrier.Message.the-variants.{Request}
 use Rattle.tables.specs.declared.limits.Limits.{Limits}
 use Rattle.tables.specs.Allowed.{Allowed}
 use Rattle.tables.specs.Layout.{layout, Roomy}
-use Rattle.tables.specs.Store.{StoreOf, Holds}
+use Rattle.tables.specs.Store.{Holds}
 use Rattle.tables.specs.Tables.{Tables, no-hash, with-key, with-home}
 use Rattle.tables.proofs.AllowedLaws.{key-allowed, home-allowed, system-allowed, quick-allowed, status-allowed, groups-allowed, individuals-allowed, channels-allowed, lines-allowed, forget-allowed}
-use Rattle.tables.proofs.LayoutLaws.{layout-length, layout-one}
+use Rattle.tables.proofs.LayoutLaws.{layout-one}
 use Rattle.station.specs.Judge.{kept, taken as all-taken}
 use Rattle.station.specs.Taking.{forget, flags-of, or-else, last-flags, After, replies, settled, Handled, taken}
 use Rattle.station.proofs.Determined.{taken-determined}
@@ -26,6 +26,7 @@ use Rattle.export.specs.declared.parts.Part.{Part}
 use Rattle.export.specs.declared.parts.Part.the-variants.{Lines, Fixed, QuickTexts, Channels, StatusTexts, Groups, Individuals}
 use Rattle.export.specs.Exported.{exported, request-bytes}
 use Rattle.export.specs.Restored.{with-part, SameTables, seven, requests, TakenInTurn, Exportable}
+use Rattle.export.proofs.ExportedBytes.{holds-store}
 use Rattle.export.proofs.Fitting.{exported-readable}
 use Rattle.export.proofs.PartRuns.{part-runs}
 use Rattle.export.proofs.Requests.{exported-is}
@@ -62,14 +63,6 @@ part-allowed m Individuals t u ok old = individuals-allowed m u old (t .individu
 
 module _ (m : Limits) (x : Exportable m) (room : Roomy m) (t : Tables) (ok : Allowed m t) where
   module _ (u : Tables) (store : List ℕ) (holds : Holds m u store) (reply : List ℕ) (long : 20 ≤ length reply) (p : Part) where
-    -- the bytes are a store
-    is-store : StoreOf m store
-    is-store = record {
-      size = ap length (holds .1) ∙ layout-length m u room (holds .0);
-      roomy = room;
-      store = record { tables = u; allowed = holds .0; bytes-are = holds .1 };
-    }
-
     -- what taking the part's request leaves
     abbrev after-part : After
     after-part = replies m (request-bytes (exported p t)) store reply 0 0 false false no-hash (layout m (with-part p t (forget u)))
@@ -93,7 +86,7 @@ module _ (m : Limits) (x : Exportable m) (room : Roomy m) (t : Tables) (ok : All
 
     -- the contract of taking allows it
     pub part-answers : Answers (taken m (request-bytes (exported p t)) store reply) after-part
-    part-answers = inr (λ h. omega arith, inr (λ n. n is-store, handled-part))
+    part-answers = inr (λ h. omega arith, inr (λ n. n (holds-store m u store room holds), handled-part))
 
     -- EXPORTED TAKEN: and nothing else: the request is taken, asks for no reply, and leaves the set's tables with those of the part
     pub exported-taken : (a : After) → Answers (taken m (request-bytes (exported p t)) store reply) a
@@ -127,7 +120,7 @@ module _ (m : Limits) (x : Exportable m) (room : Roomy m) (t : Tables) (ok : All
   same-tables u v store after holds h now =
       ap forget (layout-one m v (forget t) (now .0) (forget-allowed m t ok) (sym (now .1) ∙ restored u store after holds h))
 
-  -- and they can be taken in turn, with any reply buffers that are long enough
+  -- and they can be taken in turn, with any reply buffer that is long enough
   parts-takable : (reply : List ℕ) → 20 ≤ length reply → (ps : List Part) (u : Tables) (store : List ℕ) → Holds m u store → TakenInTurn m (requests t ps) store (layout m (with-parts ps u))
   parts-takable reply long [] u store holds = sym (holds .1)
   parts-takable reply long (p ∷ ps) u store holds = (
