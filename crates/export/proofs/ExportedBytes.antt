@@ -1,0 +1,67 @@
+-- EXPORTED BYTES: what exporting a part leaves at the start of its buffer is that part's request, and nothing else is allowed. Assumes nothing.
+use Prim.Native.Nat.{ℕ, _-_, _≤_}
+use mathlib.Core.Path.{_≡_, refl, sym, ap, _∙_}
+use mathlib.Core.Logic.{inl, inr}
+use mathlib.Core.List.{List}
+use native.Mathlib.Omega.{arith}
+use lib.ListN.{length, getD, take, drop}
+use lib.Seq.{take-append-seam}
+use Rattle.lists.proofs.Ladder.{Answers, one-answer}
+use Rattle.tables.specs.declared.limits.Limits.{Limits}
+use Rattle.tables.specs.Layout.{Roomy}
+use Rattle.tables.specs.Store.{StoreOf, Holds}
+use Rattle.tables.specs.Tables.{Tables}
+use Rattle.tables.proofs.LayoutLaws.{layout-length, layout-one}
+use Rattle.export.specs.declared.parts.Part.{Part}
+use Rattle.export.specs.declared.parts.Part.the-variants.{Lines, Fixed, QuickTexts, Channels, StatusTexts, Groups, Individuals}
+use Rattle.export.specs.Exported.{part-number, exported, request-bytes}
+use Rattle.export.specs.Exporting.{After, writes, Exports, exporting}
+use Rattle.export.specs.Restored.{seven}
+
+-- bytes that hold allowed tables, where these have room, are a store
+pub holds-store : (m : Limits) (t : Tables) (store : List ℕ) → Roomy m → Holds m t store → StoreOf m store
+holds-store m t store room holds = record {
+  size = ap length (holds .1) ∙ layout-length m t room (holds .0);
+  roomy = room;
+  store = record { tables = t; allowed = holds .0; bytes-are = holds .1 };
+}
+
+-- a part stands in its place among the seven
+in-place : (p : Part) → getD seven (part-number p - 1) Lines ≡ p
+in-place Lines = refl
+in-place Fixed = refl
+in-place QuickTexts = refl
+in-place Channels = refl
+in-place StatusTexts = refl
+in-place Groups = refl
+in-place Individuals = refl
+
+-- so a number has one part
+part-one : (p q : Part) → part-number p ≡ part-number q → p ≡ q
+part-one p q e = sym (in-place p) ∙ ap (λ (k : ℕ). getD seven (k - 1) Lines) e ∙ in-place q
+
+module _ (m : Limits) (part : ℕ) (store buffer : List ℕ) where
+  -- the foot of exporting allows one outcome
+  exports-one : (t : Tables) (p : Part) → Holds m t store → part-number p ≡ part → (a : After) → Exports m part store buffer a
+      → a ≡ writes m part store buffer (request-bytes (exported p t))
+  exports-one t p holds n a x =
+      let e : x .tables ≡ t = layout-one m (x .tables) t (x .holds .0) (holds .0) (sym (x .holds .1) ∙ holds .1) in
+      let w : x .which ≡ p = part-one (x .which) p (x .numbered ∙ sym n) in
+      x .after ∙ (λ i. writes m part store buffer (request-bytes (exported (w i) (e i))))
+
+  -- DETERMINED: the contract of exporting allows one answer and one buffer
+  pub exporting-determined : (a b : After) → Answers (exporting m part store buffer) a → Answers (exporting m part store buffer) b → a ≡ b
+  exporting-determined a b p q =
+      one-answer (exporting m part store buffer) (λ y z k l. exports-one (l .tables) (l .which) (l .holds) (l .numbered) y k ∙ sym (l .after)) a b p q
+
+  -- EXPORTED BYTES: from a store, into a buffer of a message's size, a part's number gives its request
+  pub exported-bytes : (t : Tables) (p : Part) → Roomy m → Holds m t store → part-number p ≡ part → m .message ≤ length buffer
+      → (a : After) → Answers (exporting m part store buffer) a
+      → (a .answer .number ≡ 0) × (take (a .answer .request-length) (a .buffer) ≡ request-bytes (exported p t))
+  exported-bytes t p room holds n size a (inl h) = absurd (omega (arith, h .0))
+  exported-bytes t p room holds n size a (inr (_, inl h)) = absurd (h .0 (holds-store m t store room holds))
+  exported-bytes t p room holds n size a (inr (_, inr (_, inl h))) = absurd (h .0 p n)
+  exported-bytes t p room holds n size a (inr (_, inr (_, inr (_, x)))) =
+      let bytes : List ℕ = request-bytes (exported p t) in
+      let e : a ≡ writes m part store buffer bytes = exports-one t p holds n a x in
+      (ap (λ (y : After). y .answer .number) e, ap (λ (y : After). take (y .answer .request-length) (y .buffer)) e ∙ take-append-seam bytes (drop (length bytes) buffer))

@@ -1,0 +1,91 @@
+-- REQUESTS: an exported part's bytes have a limit, and are a request of its settings for every set. Assumes nothing.
+use Prim.Native.Nat.{ℕ, _+_, _≤_}
+use mathlib.Core.Path.{_≡_, refl}
+use mathlib.Core.Logic.{inr}
+use mathlib.Core.List.{List}
+use native.Mathlib.Omega.{arith}
+use lib.ListN.{length, drop}
+use Rattle.writing.specs.Canonical.{plain, canonical-all}
+use Rattle.writing.specs.Carrier.{carrier, Carries, coding-type}
+use Rattle.writing.specs.Settings.{Setting, unicode16}
+use Rattle.writing.specs.Writing.{request-head}
+use Rattle.writing.proofs.CanonicalLaws.{plain-shows}
+use Rattle.wire.specs.declared.carrier.Message.the-variants.{Request}
+use Rattle.wire.specs.Message.{Counted, MessageIs}
+use Rattle.tables.specs.declared.limits.Limits.{Limits}
+use Rattle.tables.specs.Allowed.{Allowed}
+use Rattle.tables.specs.Limits.{handheld}
+use Rattle.tables.specs.Tables.{Tables}
+use Rattle.export.specs.declared.parts.Part.{Part}
+use Rattle.export.specs.declared.parts.Part.the-variants.{Lines, Fixed, QuickTexts, Channels, StatusTexts, Groups, Individuals}
+use Rattle.export.specs.Exported.{exported, data-bytes, request-bytes}
+use Rattle.export.specs.Restored.{longest, Exportable}
+use Rattle.export.proofs.Fitting.{exported-readable, exported-count}
+
+-- ---- a request of any settings
+
+-- 8 bytes stand before them
+pub request-length : (ss : List Setting) → length (request-bytes ss) ≡ 8 + length (canonical-all unicode16 ss)
+request-length ss = omega arith
+
+-- and they follow
+pub request-rest : (ss : List Setting) → drop 8 (request-bytes ss) ≡ canonical-all unicode16 ss
+request-rest ss = refl
+
+-- 1 to 255 settings are a request, where its length is inside the limit and has 16 bits
+pub request-is : (most : ℕ) (ss : List Setting) → 1 ≤ length ss → length ss ≤ 255 → length (request-bytes ss) ≤ most → length (request-bytes ss) ≤ 65535
+    → MessageIs most (request-bytes ss) (Request (length ss) 8)
+request-is most ss some few in-size short =
+    let k : Carries (coding-type unicode16) (data-bytes ss) (request-bytes ss) = record {
+      stated = 2 + length (data-bytes ss);
+      header = plain (carrier (2 + length (data-bytes ss)) (coding-type unicode16));
+      whole = refl;
+      fields = plain-shows (carrier (2 + length (data-bytes ss)) 7) 4 refl (omega arith, (omega arith, (tt, (omega arith, tt))));
+      length-field = inr refl;
+    } in
+    let c : Counted (length ss) (drop 8 (request-bytes ss)) (data-bytes ss) = record {
+      head = plain (request-head (length ss));
+      parts = refl;
+      says = plain-shows (request-head (length ss)) 2 refl (omega arith, (omega arith, (omega arith, tt)));
+      some-setting = some;
+    } in
+    (omega arith, data-bytes ss, k, c, refl)
+
+-- ---- the parts
+
+-- limits that let every part be one request keep its length within 16 bits
+longest-small : (m : Limits) → Exportable m → (p : Part) → longest m p ≤ 65535
+longest-small m x Lines = omega (arith, x .lines)
+longest-small m x Fixed = omega arith
+longest-small m x QuickTexts = omega arith
+longest-small m x Channels = omega (arith, x .channels)
+longest-small m x StatusTexts = omega arith
+longest-small m x Groups = omega arith
+longest-small m x Individuals = omega arith
+
+module _ (m : Limits) (x : Exportable m) (t : Tables) (ok : Allowed m t) (p : Part) where
+  -- BOUND: no part of allowed tables is longer
+  pub exported-length : length (request-bytes (exported p t)) ≤ longest m p
+  exported-length = omega (arith, request-length (exported p t), exported-readable m x t ok p .small)
+
+  -- EXPORTED IS: a part's bytes are a request of as many settings
+  pub exported-is : MessageIs (m .message) (request-bytes (exported p t)) (Request (length (exported p t)) 8)
+  exported-is =
+      let (some, few) = exported-count m x t ok p in
+      let b : length (request-bytes (exported p t)) ≤ longest m p = exported-length in
+      request-is (m .message) (exported p t) some few (omega (arith, x .message p)) (omega (arith, longest-small m x p))
+
+-- ---- the handheld's limits
+
+handheld-message : (p : Part) → longest handheld p ≤ 4096
+handheld-message Lines = omega arith
+handheld-message Fixed = omega arith
+handheld-message QuickTexts = omega arith
+handheld-message Channels = omega arith
+handheld-message StatusTexts = omega arith
+handheld-message Groups = omega arith
+handheld-message Individuals = omega arith
+
+-- HANDHELD: every part of a handheld's tables is one request
+pub handheld-exportable : Exportable handheld
+handheld-exportable = record { lines = omega arith; channels = omega arith; message = handheld-message }
