@@ -15,7 +15,7 @@ use Rattle.writing.specs.Settings.{Text, Entry, Slot, Setting, group, individua
 use Rattle.tables.specs.declared.limits.Limits.{Limits}
 use Rattle.tables.specs.Allowed.{Allowed, QuickOk, StatusOk, LineOk, GroupOk, IndividualOk}
 use Rattle.tables.specs.Tables.{Member, Tables}
-use Rattle.station.specs.Taking.{flags-of}
+use Rattle.station.specs.Taking.{item-of}
 use Rattle.export.specs.declared.parts.Part.{Part}
 use Rattle.export.specs.declared.parts.Part.the-variants.{Lines, Fixed, QuickTexts, Channels, StatusTexts, Groups, Individuals}
 use Rattle.export.specs.Exported.{line-add, entries, quick-add, no-group-flags, no-individual-flags, slots, exported}
@@ -28,7 +28,7 @@ use Rattle.export.proofs.Readable.{Readable, QuickEntry, StatusEntry, l
 pub record AllReadable (most : ℕ) (ss : List Setting) : Type 0 where
   pub fits : All (Fits unicode16) ss
   pub ranged : All (λ s. (left : ℕ) → InRange text-limits left s) ss
-  pub no-last : All (λ s. flags-of s ≡ none) ss
+  pub no-last : All (λ s. item-of s ≡ none) ss
   pub small : length (canonical-all unicode16 ss) ≤ most
 
 none-left : (most : ℕ) → AllReadable most []

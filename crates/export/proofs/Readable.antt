@@ -27,14 +27,14 @@ use Rattle.writing.proofs.CanonicalLaws.{canonical-length}
 use Rattle.writing.proofs.Whole.{text-widths}
 use Rattle.tables.specs.Allowed.{TextOk, QuickOk, LineOk, GroupOk, IndividualOk, TargetOk, HomeOk, SystemOk}
 use Rattle.tables.specs.Tables.{Line, GroupMember, IndividualMember}
-use Rattle.station.specs.Taking.{flags-of}
+use Rattle.station.specs.Taking.{item-of}
 use Rattle.export.specs.Exported.{no-line-flags, line-add, quick-add, no-group-flags, no-individual-flags}
 
 -- a setting that has a writing of at most so many bytes, is in range wherever it stands, and is no FF
 pub record Readable (most : ℕ) (s : Setting) : Type 0 where
   pub fits : Fits unicode16 s
   pub ranged : (left : ℕ) → InRange text-limits left s
-  pub no-last : flags-of s ≡ none
+  pub no-last : item-of s ≡ none
   pub small : length (canonical unicode16 s) ≤ most
 
 -- a type byte is a byte
@@ -51,7 +51,7 @@ type-fits Individual = omega arith
 type-fits Last = omega arith
 
 -- what a setting says fits where its fields after DataLength do, and are not too long
-readable : (s : Setting) (most : ℕ) → All FitsField (body unicode16 s) → ((left : ℕ) → InRange text-limits left s) → flags-of s ≡ none
+readable : (s : Setting) (most : ℕ) → All FitsField (body unicode16 s) → ((left : ℕ) → InRange text-limits left s) → item-of s ≡ none
     → widths (body unicode16 s) / 8 + 3 ≤ most → most ≤ 65536 → Readable most s
 readable s most p r n h k =
     record { fits = (type-fits (kind s), (omega arith, p)); ranged = r; no-last = n; small = omega (arith, canonical-length unicode16 s) }

@@ -9,7 +9,6 @@ use native.Mathlib.Omega.{arith}
 use lib.ListN.{length}
 use Rattle.lists.proofs.Every.{All}
 use Rattle.lists.proofs.Ladder.{Answers}
-use Rattle.writing.specs.declared.LastFlags.{LastFlags}
 use Rattle.writing.specs.Settings.{Setting}
 use Rattle.wire.specs.declared.carrier.Message.the-variants.{Request}
 use Rattle.tables.specs.declared.limits.Limits.{Limits}
@@ -20,7 +19,7 @@ use Rattle.tables.specs.Tables.{Tables, no-hash, with-key, with-home}
 use Rattle.tables.proofs.AllowedLaws.{key-allowed, home-allowed, system-allowed, quick-allowed, status-allowed, groups-allowed, individuals-allowed, channels-allowed, lines-allowed, forget-allowed}
 use Rattle.tables.proofs.LayoutLaws.{layout-one}
 use Rattle.station.specs.Judge.{kept, taken as all-taken}
-use Rattle.station.specs.Taking.{forget, flags-of, or-else, last-flags, After, replies, settled, Handled, taken}
+use Rattle.station.specs.Taking.{forget, item-of, or-else, LastItem, last-item, After, replies, settled, Handled, taken}
 use Rattle.station.proofs.Determined.{taken-determined}
 use Rattle.export.specs.declared.parts.Part.{Part}
 use Rattle.export.specs.declared.parts.Part.the-variants.{Lines, Fixed, QuickTexts, Channels, StatusTexts, Groups, Individuals}
@@ -34,9 +33,9 @@ use Rattle.export.proofs.Requests.{exported-is}
 -- ---- one part
 
 -- settings without FF ask for no reply and no reboot
-no-flags : (ss : List Setting) → All (λ s. flags-of s ≡ none) ss → last-flags ss ≡ record { reboot = false; reply = false }
+no-flags : (ss : List Setting) → All (λ s. item-of s ≡ none) ss → last-item ss ≡ last-item []
 no-flags [] h = refl
-no-flags (s ∷ ss) h = ap (λ (o : Option LastFlags). or-else o (last-flags ss)) (h .0) ∙ no-flags ss (h .1)
+no-flags (s ∷ ss) h = ap (λ (o : Option LastItem). or-else o (last-item ss)) (h .0) ∙ no-flags ss (h .1)
 
 -- no part changes the hash
 part-hash : (p : Part) (t u : Tables) → with-part p t u .hash ≡ u .hash
@@ -70,9 +69,9 @@ module _ (m : Limits) (x : Exportable m) (room : Roomy m) (t : Tables) (ok : All
     -- it is what the settings come to
     settled-part : after-part ≡ settled m (request-bytes (exported p t)) store reply (kept (exported p t) (with-part p t (forget u)))
     settled-part =
-        let f : last-flags (exported p t) ≡ record { reboot = false; reply = false } = no-flags (exported p t) (exported-readable m x t ok p .no-last) in
+        let f : last-item (exported p t) ≡ last-item [] = no-flags (exported p t) (exported-readable m x t ok p .no-last) in
         let h : with-part p t (forget u) .hash ≡ no-hash = part-hash p t (forget u) in
-        sym (λ i. replies m (request-bytes (exported p t)) store reply 0 0 (f i .reply) (f i .reboot) (h i) (layout m (with-part p t (forget u))))
+        sym (λ i. replies m (request-bytes (exported p t)) store reply 0 0 (f i .flags .reply) (f i .flags .reboot) (h i) (layout m (with-part p t (forget u))))
 
     handled-part : Handled m (request-bytes (exported p t)) store reply after-part
     handled-part = record {
