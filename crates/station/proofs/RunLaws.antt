@@ -12,10 +12,10 @@ use Rattle.writing.specs.declared.LastFlags.{LastFlags}
 use Rattle.writing.specs.Ranges.{text-limits, InRange}
 use Rattle.writing.specs.Settings.{Setting, unicode16, lines, key, quick-texts, home, channels, system, status-texts, group, individual, last}
 use Rattle.writing.specs.Writing.{Written}
-use Rattle.wire.specs.Places.{PartAt, StandsAt}
+use Rattle.fields.specs.Places.{PartAt, StandsAt}
 use Rattle.wire.specs.Settings.{SettingAt}
 use Rattle.wire.specs.declared.reader.SettingRead.the-variants.{Missing, Unknown, Field as BadField}
-use Rattle.wire.proofs.Parts.{bytes-left}
+use Rattle.fields.proofs.Parts.{bytes-left}
 use Rattle.tables.specs.declared.limits.Limits.{Limits}
 use Rattle.tables.specs.Apply.{apply}
 use Rattle.tables.specs.Tables.{Tables}

@@ -20,8 +20,8 @@ use Rattle.writing.specs.declared.Operation.{Operation}
 use Rattle.writing.specs.declared.Operation.the-variants.{Add, Delete, Replace}
 use Rattle.writing.specs.Ranges.{InChannel}
 use Rattle.wire.specs.declared.settings.Entries.{Entries}
-use Rattle.wire.specs.Places.{PartAt}
-use Rattle.wire.specs.Entries.{channel-list}
+use Rattle.fields.specs.Places.{PartAt}
+use Rattle.fields.specs.Entries.{channel-list}
 use Rattle.wire.specs.Settings.{EntriesAre}
 use Rattle.tables.specs.Apply.{in-turn, channel-step}
 use Rattle.tables.specs.Lists.{Tried, ChannelTable, ChannelApplied, ChannelsApplied}

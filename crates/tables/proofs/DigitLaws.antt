@@ -14,10 +14,10 @@ use Rattle.slots.proofs.Runs.{copy-more}
 use Rattle.writing.specs.Fields.{val, item}
 use Rattle.writing.specs.Settings.{Number}
 use Rattle.writing.specs.Writing.{number}
-use Rattle.wire.specs.declared.numbers.NumberPlace.{NumberPlace}
-use Rattle.wire.specs.Parts.{NumberIs}
-use Rattle.wire.specs.Places.{PartAt, be}
-use Rattle.wire.proofs.Heads.{head-out, be-turn}
+use Rattle.fields.specs.declared.numbers.NumberPlace.{NumberPlace}
+use Rattle.fields.specs.Parts.{NumberIs}
+use Rattle.fields.specs.Places.{PartAt, be}
+use Rattle.fields.proofs.Heads.{head-out, be-turn}
 use Rattle.tables.specs.Lists.{DigitIs, DigitKept, DigitsPut}
 
 -- ---- where a digit stands

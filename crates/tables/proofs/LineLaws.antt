@@ -24,11 +24,11 @@ use Rattle.writing.specs.Settings.{Contact, unicode16}
 use Rattle.writing.specs.Writing.{contact}
 use Rattle.writing.proofs.Unique.{contact-ends}
 use Rattle.writing.proofs.Whole.{contact-whole}
-use Rattle.wire.specs.declared.entries.ContactPlace.{ContactPlace}
-use Rattle.wire.specs.declared.entries.ContactRead.{ContactRead}
-use Rattle.wire.specs.declared.entries.ContactRead.the-variants.{Contact as AContact, NoContact}
+use Rattle.fields.specs.declared.entries.ContactPlace.{ContactPlace}
+use Rattle.fields.specs.declared.entries.ContactRead.{ContactRead}
+use Rattle.fields.specs.declared.entries.ContactRead.the-variants.{Contact as AContact, NoContact}
 use Rattle.wire.specs.declared.settings.Entries.{Entries}
-use Rattle.wire.specs.Entries.{ContactIs, ContactAt}
+use Rattle.fields.specs.Entries.{ContactIs, ContactAt}
 use Rattle.wire.specs.Settings.{EntriesAre}
 use Rattle.tables.specs.Allowed.{LineOk}
 use Rattle.tables.specs.Apply.{in-turn, has-number, line-of, line-step}

@@ -20,7 +20,7 @@ use Rattle.writing.specs.declared.Operation.{Operation}
 use Rattle.writing.specs.Canonical.{Fits}
 use Rattle.writing.specs.Ranges.{text-limits, InRange}
 use Rattle.writing.specs.Settings.{Setting, Hash, unicode16}
-use Rattle.wire.specs.declared.hashes.HashPlace.{HashPlace}
+use Rattle.fields.specs.declared.hashes.HashPlace.{HashPlace}
 use Rattle.wire.specs.declared.settings.Entries.{Entries}
 use Rattle.wire.specs.declared.settings.GroupPlace.{GroupPlace}
 use Rattle.wire.specs.declared.settings.IndividualPlace.{IndividualPlace}

@@ -1,9 +1,9 @@
 // What a setting does to the table of channels, which is a part of a store.
+use fields::channels::channel_at;
 use slots::bytes::copy;
 use slots::bytes::wipe;
 use slots::slots::remove_all;
 use slots::slots::used;
-use wire::channels::channel_at;
 use wire::settings::Entries;
 use writing::Operation;
 ghost use mathlib.Core.Path.{_≡_};

@@ -1,8 +1,8 @@
 // The bytes of a line contact's slot: its flags, its digits, each one more than itself, and its text.
 use super::heads::bit_of;
 use super::texts::put_text;
-use wire::entries::ContactPlace;
-use wire::numbers::NumberPlace;
+use fields::entries::ContactPlace;
+use fields::numbers::NumberPlace;
 use writing::LineFlags;
 ghost use mathlib.Core.Path.{_≡_};
 ghost use Prim.Native.Nat.{_+_, _<_};

@@ -1,11 +1,11 @@
 // What a setting does to the table of line contacts, which is a part of a store.
 use super::line_slots::line_slot;
+use fields::entries::ContactRead;
+use fields::entries::read_contact;
 use slots::bytes::copy;
 use slots::bytes::wipe;
 use slots::slots::place_of;
 use slots::slots::remove_all;
-use wire::entries::ContactRead;
-use wire::entries::read_contact;
 use wire::settings::Entries;
 use writing::LineFlags;
 use writing::Operation;
