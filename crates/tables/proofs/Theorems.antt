@@ -2,7 +2,6 @@
 use Prim.Native.Nat.{ℕ}
 use mathlib.Core.Path.{_≡_, refl, sym, ap, _∙_}
 use mathlib.Core.Bool.{Bool, true, false, true≢false}
-use mathlib.Core.Logic.{_↔_}
 use mathlib.Core.List.{List}
 use mathlib.Core.Option.{Option, none, some, Option·some-injective, Option·none-ne-some}
 use Rattle.writing.specs.Canonical.{Fits}
@@ -16,7 +15,7 @@ use Rattle.tables.specs.declared.start.Started.the-variants.{Fresh, Wron
 use Rattle.tables.specs.Apply.{apply}
 use Rattle.tables.specs.Layout.{layout, Roomy}
 use Rattle.tables.specs.Lists.{Tried}
-use Rattle.tables.specs.Store.{StoreOf, StartedAs, Holds, Applied}
+use Rattle.tables.specs.Store.{StartedAs, Holds, Applied}
 use Rattle.tables.specs.Tables.{Tables}
 
 -- START-DETERMINED: one answer, and one content of the bytes
@@ -25,13 +24,6 @@ start-determined m s t u Fresh Fresh p q = (refl, p .2 ∙ sym (q .2))
 start-determined m s t u Fresh WrongSize p q = absurd (q .0 (p .0) (p .1))
 start-determined m s t u WrongSize Fresh p q = absurd (p .0 (q .0) (q .1))
 start-determined m s t u WrongSize WrongSize p q = (refl, p .1 ∙ sym (q .1))
-
--- IS-STORE-DETERMINED: one answer
-pub is-store-determined : (m : Limits) (s : List ℕ) (a b : Bool) → (a ≡ true) ↔ StoreOf m s → (b ≡ true) ↔ StoreOf m s → a ≡ b
-is-store-determined m s true true p q = refl
-is-store-determined m s true false p q = absurd (true≢false (sym (q .1 (p .0 refl))))
-is-store-determined m s false true p q = absurd (true≢false (sym (p .1 (q .0 refl))))
-is-store-determined m s false false p q = refl
 
 -- two tries at one change: one answer, and where there was room one content
 tried-determined : (m : Limits) (o : Option Tables) (t u : List ℕ) (a b : Bool) → Tried (Holds m) o t a → Tried (Holds m) o u b → (a ≡ b) × (a ≡ true → t ≡ u)

@@ -1,11 +1,11 @@
 // The whole store: a setting that was read is applied to its part.
 use super::channels::apply_channels;
-use super::checks::roomy;
 use super::fixed::put_hash;
 use super::fixed::put_home;
 use super::fixed::put_key;
 use super::fixed::put_system;
 use super::limits::Limits;
+use super::limits::roomy;
 use super::lines::apply_lines;
 use super::members::apply_group;
 use super::members::apply_individual;

@@ -6,7 +6,7 @@ use mathlib.Core.Bool.{true}
 use lib.ListN.{length}
 use Rattle.wire.specs.declared.settings.Setting.the-variants.{Lines, Key, QuickTexts, Home, Channels, System, StatusTexts, Group, Individual, Last}
 use Rattle.tables.specs.Layout.{used-size}
-use Rattle.tables.proofs.CheckLaws.{not-said, was-said}
+use Rattle.tables.proofs.AnswerLaws.{not-said, was-said}
 use Rattle.tables.proofs.StoreLaws.{as-read, no-store, store-key, store-home, store-system, store-hash, store-quick, store-status, store-group, store-individual, store-channels, store-lines}
 use Rattle.tables.proofs.store.apply.Statement.{statement}
 use Rattle.tables.proofs.store.apply.Tie as tie
