@@ -4,10 +4,10 @@ use mathlib.Core.Bool.{Bool, true}
 use mathlib.Core.Logic.{_↔_, Iff·rfl, Iff·trans, Iff·and}
 use mathlib.Core.Option.{Option}
 use mathlib.Core.List.{List, [], _++_, append-assoc, append-nil}
-use Prim.Native.Nat.{ℕ, _+_, _*_, _-_, _/_, _≤_}
+use Prim.Native.Nat.{ℕ, _+_, _*_, _-_}
 use native.Mathlib.Omega.{arith}
 use borrow.Rule.Slice.PartMut.{midOf}
-use lib.ListN.{length, drop, replicate, set, length-append, length-drop}
+use lib.ListN.{length, drop, replicate, length-append, length-drop}
 use Rattle.slots.specs.Slots.{places, front, zeros?, u16, EntryOf, PlacesOf, ListOf, Listed}
 use Rattle.slots.proofs.Runs.{zeros-all, zeros-are}
 use Rattle.slots.proofs.Tables.{front-length, places-length}
@@ -19,7 +19,7 @@ use Rattle.tables.specs.declared.limits.Limits.{Limits}
 use Rattle.tables.specs.Allowed.{QuickOk, StatusOk, GroupOk, IndividualOk, LineOk, HashOk, HomeOk, SystemOk, Distinct, Allowed, PlacesOk, ListOk, LinesOk}
 use Rattle.checks.specs.Checks.{Both, joined, KeyOk, FixedOf, IndexedOf, ChannelsOf, LinesOf}
 use Rattle.tables.specs.Layout.{quick-bytes, status-bytes, group-bytes, individual-bytes, line-bytes, hash-bytes, key-bytes, home-bytes, system-bytes, used-size, layout, Roomy, IsStore}
-use Rattle.tables.specs.Tables.{Line, GroupMember, IndividualMember, Key, Tables, fresh}
+use Rattle.tables.specs.Tables.{Line, GroupMember, IndividualMember, Key, Tables}
 use Rattle.checks.proofs.CheckLaws.{Same, entry-same, parts-are, last-is, rest-is}
 use Rattle.tables.proofs.EntryCodes.{quick-code, status-code, group-code, individual-code, channel-code, line-code}
 use Rattle.tables.proofs.FixedCodes.{hash-code, key-code, home-code, system-code}

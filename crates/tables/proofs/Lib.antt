@@ -1,7 +1,5 @@
 pub mod AllowedLaws
 pub mod AnswerLaws
-pub mod ChannelLaws
-pub mod DigitLaws
 pub mod EntryBytes
 pub mod EntryCodes
 pub mod EntryWalk
@@ -13,7 +11,6 @@ pub mod FreshLaws
 pub mod HeadLaws
 pub mod IndexedLaws
 pub mod LayoutLaws
-pub mod LineLaws
 pub mod ListLaws
 pub mod MemberLaws
 pub mod OverwriteLaws
@@ -23,7 +20,6 @@ pub mod Sentences
 pub mod StartLaws
 pub mod StatusLaws
 pub mod StepLaws
-pub mod StoreLaws
 pub mod TextCodes
 pub mod TextLaws
 pub mod Theorems
