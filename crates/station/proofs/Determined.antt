@@ -12,9 +12,9 @@ use Rattle.writing.specs.Ranges.{text-limits, InRange}
 use Rattle.writing.specs.Settings.{Setting, Hash, unicode16, kind}
 use Rattle.writing.proofs.Unique.{unique}
 use Rattle.writing.proofs.Whole.{headed}
-use Rattle.wire.specs.declared.carrier.Message.{Message}
-use Rattle.wire.specs.declared.carrier.Message.the-variants.{Size, Carrier, «Type» as OtherType, Version, NoRequest, Request, NoQuery, Query as AQuery}
-use Rattle.wire.proofs.MessageOne.{message-determined, query-hash}
+use Rattle.carrier.specs.declared.carrier.Message.{Message}
+use Rattle.carrier.specs.declared.carrier.Message.the-variants.{Size, Carrier, «Type» as OtherType, Version, NoRequest, Request, NoQuery, Query as AQuery}
+use Rattle.carrier.proofs.MessageOne.{message-determined, query-hash}
 use Rattle.tables.specs.declared.limits.Limits.{Limits}
 use Rattle.tables.specs.Apply.{apply}
 use Rattle.tables.specs.Tables.{Tables}

@@ -13,10 +13,10 @@ use Rattle.slots.proofs.Runs.{same-are, same-refl}
 use Rattle.writing.specs.Fields.{val}
 use Rattle.writing.specs.Ranges.{HashSize}
 use Rattle.writing.specs.Settings.{Hash}
-use Rattle.wire.specs.Hashes.{SizeOf}
-use Rattle.wire.specs.Places.{PartAt}
-use Rattle.wire.specs.declared.hashes.HashPlace.{HashPlace}
-use Rattle.wire.proofs.HashLaws.{bytes-out, one-size, small-code}
+use Rattle.fields.specs.Hashes.{SizeOf}
+use Rattle.fields.specs.Places.{PartAt}
+use Rattle.fields.specs.declared.hashes.HashPlace.{HashPlace}
+use Rattle.fields.proofs.HashLaws.{bytes-out, one-size, small-code}
 use Rattle.tables.specs.Allowed.{HashOk}
 use Rattle.tables.specs.Layout.{hash-bytes}
 use Rattle.station.specs.Queries.{SameAs, HashSame}

@@ -18,8 +18,8 @@ use Rattle.writing.specs.Ranges.{HashSize, no-hash, hash-4, hash-10}
 use Rattle.writing.specs.Settings.{Hash}
 use Rattle.writing.proofs.Bits.{widths-map}
 use Rattle.writing.proofs.CanonicalLaws.{plain-append, plain-shows, plain-bytes}
-use Rattle.wire.specs.Hashes.{SizeOf}
-use Rattle.wire.proofs.HashLaws.{shown-bytes, one-size, small-size, small-code}
+use Rattle.fields.specs.Hashes.{SizeOf}
+use Rattle.fields.proofs.HashLaws.{shown-bytes, one-size, small-size, small-code}
 use Rattle.tables.specs.Allowed.{HashOk}
 use Rattle.tables.specs.Layout.{hash-bytes}
 use Rattle.station.specs.Replies.{reply-bytes, written-over}

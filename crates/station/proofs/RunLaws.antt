@@ -12,7 +12,7 @@ use Rattle.writing.specs.Settings.{Setting, unicode16, lines, key, quick-texts,
 use Rattle.wire.specs.Places.{StandsAt}
 use Rattle.wire.specs.Settings.{SettingAt}
 use Rattle.wire.specs.declared.reader.SettingRead.the-variants.{Missing, Unknown, Field as BadField}
-use Rattle.wire.proofs.Parts.{bytes-left}
+use Rattle.fields.proofs.Parts.{bytes-left}
 use Rattle.tables.specs.declared.limits.Limits.{Limits}
 use Rattle.tables.specs.Apply.{apply}
 use Rattle.tables.specs.Tables.{Tables}

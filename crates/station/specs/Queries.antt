@@ -8,8 +8,8 @@ use lib.ListN.{length}
 use Rattle.writing.specs.Fields.{val}
 use Rattle.writing.specs.Ranges.{HashSize}
 use Rattle.writing.specs.Settings.{Hash}
-use Rattle.wire.specs.Places.{PartAt}
-use Rattle.wire.specs.declared.hashes.HashPlace.{HashPlace}
+use Rattle.fields.specs.Places.{PartAt}
+use Rattle.fields.specs.declared.hashes.HashPlace.{HashPlace}
 use Rattle.tables.specs.Allowed.{HashOk}
 use Rattle.tables.specs.Layout.{hash-bytes}
 

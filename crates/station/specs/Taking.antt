@@ -14,9 +14,9 @@ use Rattle.writing.specs.Carrier.{Query}
 use Rattle.writing.specs.Ranges.{text-limits, InRange}
 use Rattle.writing.specs.Settings.{Setting, Hash, unicode16, lines, key, quick-texts, home, channels, system, status-texts, group, individual, last}
 use Rattle.writing.specs.Writing.{Written, type-byte}
-use Rattle.wire.specs.Message.{MessageIs}
-use Rattle.wire.specs.declared.carrier.Message.{Message}
-use Rattle.wire.specs.declared.carrier.Message.the-variants.{Size, Carrier, «Type» as OtherType, Version, NoRequest, Request, NoQuery, Query as AQuery}
+use Rattle.carrier.specs.Message.{MessageIs}
+use Rattle.carrier.specs.declared.carrier.Message.{Message}
+use Rattle.carrier.specs.declared.carrier.Message.the-variants.{Size, Carrier, «Type» as OtherType, Version, NoRequest, Request, NoQuery, Query as AQuery}
 use Rattle.tables.specs.declared.limits.Limits.{Limits}
 use Rattle.tables.specs.Allowed.{Allowed}
 use Rattle.tables.specs.Apply.{apply}

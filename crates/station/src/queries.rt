@@ -1,7 +1,7 @@
 // Compares the hash of a result query with the one kept.
+use fields::hashes::HashPlace;
+use fields::hashes::hash_size;
 use slots::bytes::same;
-use wire::hashes::HashPlace;
-use wire::hashes::hash_size;
 ghost use Prim.Native.Nat.{_≤_};
 ghost use mathlib.Core.Path.{_≡_};
 ghost use lib.ListN.{length};

@@ -1,7 +1,7 @@
 // Writes a reply.
+use carrier::carrier::START;
+use fields::hashes::hash_size;
 use slots::bytes::copy;
-use wire::carrier::START;
-use wire::hashes::hash_size;
 ghost use Prim.Native.Nat.{_≤_};
 ghost use mathlib.Core.Path.{_≡_};
 ghost use lib.ListN.{length};

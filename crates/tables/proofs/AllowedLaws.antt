@@ -10,8 +10,7 @@ use Rattle.writing.specs.Canonical.{Fits}
 use Rattle.writing.specs.Ranges.{text-limits, InRange, InChannel, no-hash as hash-0}
 use Rattle.writing.specs.Settings.{Text, Hash, Setting, lines, key, quick-texts, home, channels, system, status-texts, group, individual, last, unicode16}
 use Rattle.tables.specs.declared.limits.Limits.{Limits}
-use Rattle.tables.specs.Allowed.{Allowed, HashOk, TargetOk, HomeOk, SystemOk, QuickOk, StatusOk, GroupOk, IndividualOk}
-use Rattle.tables.specs.Checks.{PlacesOk, ListOk, LinesOk}
+use Rattle.tables.specs.Allowed.{Allowed, HashOk, TargetOk, HomeOk, SystemOk, QuickOk, StatusOk, GroupOk, IndividualOk, PlacesOk, ListOk, LinesOk}
 use Rattle.tables.specs.Apply.{apply, with-room, slot-after, lines-after, quick-after, status-after, channels-after}
 use Rattle.tables.specs.Limits.{quick-places, status-places, slot-places}
 use Rattle.tables.specs.Tables.{Line, GroupMember, IndividualMember, Key, Tables, no-hash, with-hash, with-key, with-home, with-system, with-quick, with-status, with-groups, with-individuals, with-channels, with-lines}

@@ -17,9 +17,9 @@ use Rattle.writing.specs.declared.KeyTarget.the-variants.{Current, ToGroup, ToI
 use Rattle.writing.specs.declared.SystemCode.{SystemCode}
 use Rattle.writing.specs.Ranges.{HashSize, no-hash as no-hash-size, hash-4, hash-10}
 use Rattle.writing.specs.Writing.{bit, current, to-group}
-use Rattle.wire.specs.Hashes.{SizeOf}
-use Rattle.wire.specs.declared.hashes.HashPlace.{HashPlace}
-use Rattle.wire.proofs.HashLaws.{one-size, small-code, bytes-out}
+use Rattle.fields.specs.Hashes.{SizeOf}
+use Rattle.fields.specs.declared.hashes.HashPlace.{HashPlace}
+use Rattle.fields.proofs.HashLaws.{one-size, small-code, bytes-out}
 use Rattle.tables.specs.Changes.{KeyPut, SystemPut, HashPut}
 use Rattle.tables.specs.Layout.{key-address, hash-bytes}
 use Rattle.tables.specs.Tables.{no-hash}

@@ -14,10 +14,10 @@ use Rattle.writing.specs.declared.Operation.the-variants.{Add, Delete, Replace}
 use Rattle.writing.specs.Fields.{Field, widths, each}
 use Rattle.writing.specs.Settings.{Entry, unicode16}
 use Rattle.writing.proofs.Ends.{Ends}
-use Rattle.wire.specs.Entries.{EntryAt}
+use Rattle.fields.specs.Entries.{EntryAt}
 use Rattle.wire.specs.Settings.{EntriesAre}
-use Rattle.wire.specs.declared.entries.EntryRead.{EntryRead}
-use Rattle.wire.specs.declared.entries.EntryRead.the-variants.{NoEntry}
+use Rattle.fields.specs.declared.entries.EntryRead.{EntryRead}
+use Rattle.fields.specs.declared.entries.EntryRead.the-variants.{NoEntry}
 use Rattle.wire.specs.declared.settings.Entries.{Entries}
 use Rattle.tables.specs.Apply.{in-turn, start-from}
 use Rattle.tables.specs.Changes.{Changed}

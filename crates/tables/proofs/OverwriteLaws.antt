@@ -14,8 +14,8 @@ use Rattle.slots.proofs.Tables.{slot-wide, place-fits, place-written}
 use Rattle.writing.specs.declared.Operation.{Operation}
 use Rattle.writing.specs.declared.Operation.the-variants.{Add, Delete, Replace}
 use Rattle.writing.specs.Settings.{Text, unicode16}
-use Rattle.wire.specs.Parts.{TextIs}
-use Rattle.wire.specs.declared.texts.TextPlace.{TextPlace}
+use Rattle.fields.specs.Parts.{TextIs}
+use Rattle.fields.specs.declared.texts.TextPlace.{TextPlace}
 use Rattle.tables.specs.Apply.{slot-after}
 use Rattle.tables.specs.Changes.{TextPut, SlotPut, SlotSet, PlaceSet}
 use Rattle.tables.specs.Layout.{text-bytes}

@@ -18,14 +18,14 @@ use Rattle.writing.specs.Ranges.{text-limits, InQuick}
 use Rattle.writing.specs.Settings.{Text, Entry, unicode16}
 use Rattle.writing.specs.Writing.{quick-text}
 use Rattle.writing.proofs.Unique.{quick-ends}
-use Rattle.wire.specs.Entries.{QuickFrom, QuickAt}
-use Rattle.wire.specs.Places.{PartAt}
-use Rattle.wire.proofs.EntryLaws.{quick-whole}
-use Rattle.wire.specs.declared.entries.EntryRead.{EntryRead}
-use Rattle.wire.specs.declared.entries.EntryRead.the-variants.{Entry as AnEntry, NoEntry}
+use Rattle.fields.specs.Entries.{QuickFrom, QuickAt}
+use Rattle.fields.specs.Places.{PartAt}
+use Rattle.fields.proofs.EntryLaws.{quick-whole}
+use Rattle.fields.specs.declared.entries.EntryRead.{EntryRead}
+use Rattle.fields.specs.declared.entries.EntryRead.the-variants.{Entry as AnEntry, NoEntry}
 use Rattle.wire.specs.declared.settings.Entries.{Entries}
-use Rattle.wire.specs.declared.entries.EntryPlace.{EntryPlace}
-use Rattle.wire.specs.declared.texts.TextPlace.{TextPlace}
+use Rattle.fields.specs.declared.entries.EntryPlace.{EntryPlace}
+use Rattle.fields.specs.declared.texts.TextPlace.{TextPlace}
 use Rattle.tables.specs.Allowed.{QuickOk}
 use Rattle.tables.specs.Apply.{start-from, quick-step}
 use Rattle.tables.specs.Changes.{TextPut, QuickSlot, QuickStep, QuickIfAbsent, QuickApplied, QuicksAre, quick-slot}

@@ -12,11 +12,11 @@ use Rattle.writing.specs.Ranges.{text-limits, InStatus}
 use Rattle.writing.specs.Settings.{Text, Entry, unicode16}
 use Rattle.writing.specs.Writing.{status-text}
 use Rattle.writing.proofs.Unique.{status-ends}
-use Rattle.wire.specs.Entries.{StatusAt}
-use Rattle.wire.proofs.EntryLaws.{status-whole}
-use Rattle.wire.specs.declared.entries.EntryPlace.{EntryPlace}
-use Rattle.wire.specs.declared.entries.EntryRead.{EntryRead}
-use Rattle.wire.specs.declared.entries.EntryRead.the-variants.{Entry as AnEntry, NoEntry}
+use Rattle.fields.specs.Entries.{StatusAt}
+use Rattle.fields.proofs.EntryLaws.{status-whole}
+use Rattle.fields.specs.declared.entries.EntryPlace.{EntryPlace}
+use Rattle.fields.specs.declared.entries.EntryRead.{EntryRead}
+use Rattle.fields.specs.declared.entries.EntryRead.the-variants.{Entry as AnEntry, NoEntry}
 use Rattle.wire.specs.declared.settings.Entries.{Entries}
 use Rattle.tables.specs.Allowed.{StatusOk}
 use Rattle.tables.specs.Apply.{start-from, slot-after, status-step}

@@ -18,8 +18,7 @@ use Rattle.writing.specs.declared.Operation.{Operation}
 use Rattle.writing.specs.declared.Operation.the-variants.{Add, Delete, Replace}
 use Rattle.writing.specs.Ranges.{InChannel}
 use Rattle.writing.specs.Settings.{Text, Number, Contact, Entry}
-use Rattle.tables.specs.Allowed.{QuickOk, StatusOk, LineOk, Distinct}
-use Rattle.tables.specs.Checks.{PlacesOk, ListOk, LinesOk}
+use Rattle.tables.specs.Allowed.{QuickOk, StatusOk, LineOk, Distinct, PlacesOk, ListOk, LinesOk}
 use Rattle.tables.specs.Apply.{and-then, in-turn, start-from, has-number, put-line, drop-line, line-of, line-step, lines-after, if-absent, quick-step, quick-after, status-step, status-after, put-channel, channel-step, channels-after}
 use Rattle.tables.specs.Limits.{quick-places, status-places}
 use Rattle.tables.specs.Tables.{Line}

@@ -1,23 +1,11 @@
--- What the calls on a store promise: two outcomes allowed for one input are equal. Assumes nothing.
+-- What starting a store promises: two outcomes allowed for one input are equal. Assumes nothing.
 use Prim.Native.Nat.{ℕ}
-use mathlib.Core.Path.{_≡_, refl, sym, ap, _∙_}
-use mathlib.Core.Bool.{Bool, true, false, true≢false}
-use mathlib.Core.Logic.{_↔_}
+use mathlib.Core.Path.{_≡_, refl, sym, _∙_}
 use mathlib.Core.List.{List}
-use mathlib.Core.Option.{Option, none, some, Option·some-injective, Option·none-ne-some}
-use Rattle.writing.specs.Canonical.{Fits}
-use Rattle.writing.specs.Ranges.{text-limits, InRange}
-use Rattle.writing.specs.Settings.{Setting, unicode16}
-use Rattle.wire.specs.declared.settings.Setting.{Setting as Read}
-use Rattle.wire.specs.Settings.{Meant}
 use Rattle.tables.specs.declared.limits.Limits.{Limits}
 use Rattle.tables.specs.declared.start.Started.{Started}
 use Rattle.tables.specs.declared.start.Started.the-variants.{Fresh, WrongSize}
-use Rattle.tables.specs.Apply.{apply}
-use Rattle.tables.specs.Layout.{layout, Roomy}
-use Rattle.tables.specs.Lists.{Tried}
-use Rattle.tables.specs.Store.{StoreOf, StartedAs, Holds, Applied}
-use Rattle.tables.specs.Tables.{Tables}
+use Rattle.tables.specs.Store.{StartedAs}
 
 -- START-DETERMINED: one answer, and one content of the bytes
 pub start-determined : (m : Limits) (s t u : List ℕ) (a b : Started) → StartedAs m s t a → StartedAs m s u b → (a ≡ b) × (t ≡ u)
@@ -25,25 +13,3 @@ start-determined m s t u Fresh Fresh p q = (refl, p .2 ∙ sym (q .2))
 start-determined m s t u Fresh WrongSize p q = absurd (q .0 (p .0) (p .1))
 start-determined m s t u WrongSize Fresh p q = absurd (p .0 (q .0) (q .1))
 start-determined m s t u WrongSize WrongSize p q = (refl, p .1 ∙ sym (q .1))
-
--- IS-STORE-DETERMINED: one answer
-pub is-store-determined : (m : Limits) (s : List ℕ) (a b : Bool) → (a ≡ true) ↔ StoreOf m s → (b ≡ true) ↔ StoreOf m s → a ≡ b
-is-store-determined m s true true p q = refl
-is-store-determined m s true false p q = absurd (true≢false (sym (q .1 (p .0 refl))))
-is-store-determined m s false true p q = absurd (true≢false (sym (p .1 (q .0 refl))))
-is-store-determined m s false false p q = refl
-
--- two tries at one change: one answer, and where there was room one content
-tried-determined : (m : Limits) (o : Option Tables) (t u : List ℕ) (a b : Bool) → Tried (Holds m) o t a → Tried (Holds m) o u b → (a ≡ b) × (a ≡ true → t ≡ u)
-tried-determined m o t u true true p q =
-    let (x, e, h) = p .room refl in
-    let (y, f, k) = q .room refl in
-    (refl, λ _. h .1 ∙ ap (layout m) (Option·some-injective x y (sym e ∙ f)) ∙ sym (k .1))
-tried-determined m o t u true false p q = absurd (Option·none-ne-some (p .room refl .0) (sym (q .full refl) ∙ p .room refl .1))
-tried-determined m o t u false true p q = absurd (Option·none-ne-some (q .room refl .0) (sym (p .full refl) ∙ q .room refl .1))
-tried-determined m o t u false false p q = (refl, λ e. absurd (true≢false (sym e)))
-
--- APPLIED-DETERMINED: on a store, one answer, and where there was room one content
-pub applied-determined : (m : Limits) (msg : List ℕ) (r : Read) (s t u : List ℕ) (a b : Bool) (was : Tables) (set : Setting) (left : ℕ) → Roomy m → Holds m was s → Meant msg r set → InRange text-limits left set → Fits unicode16 set → Applied m msg r s t a → Applied m msg r s u b → (a ≡ b) × (a ≡ true → t ≡ u)
-applied-determined m msg r s t u a b was set left room is q i f x y =
-    tried-determined m (apply m set was) t u a b (x was set left room is q i f) (y was set left room is q i f)

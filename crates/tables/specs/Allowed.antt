@@ -3,6 +3,7 @@ use Prim.Native.Nat.{ℕ, _≤_, _<_}
 use mathlib.Core.Path.{_≡_}
 use mathlib.Core.Logic.{_≢_}
 use mathlib.Core.List.{List, [], _∷_}
+use mathlib.Core.Option.{Option}
 use lib.ListN.{length}
 use Rattle.lists.proofs.Every.{All}
 use Rattle.slots.specs.Slots.{Present}
@@ -85,3 +86,17 @@ pub record Allowed (m : Limits) (t : Tables) : Type 0 where
   pub channels : (length (t .channels) ≤ m .channels) × All InChannel (t .channels)
   pub lines : (length (t .lines) ≤ m .lines) × All LineOk (t .lines)
   pub distinct : Distinct (t .lines)
+
+-- ---- inner steps: no promise cites these
+
+-- an indexed table with n places
+abbrev pub PlacesOk : {A : Type 0} → (A → Type 0) → ℕ → List (Option A) → Type 0
+PlacesOk P n os = (length os ≡ n) × All (Present P) os
+
+-- a list table with at most n entries
+abbrev pub ListOk : {A : Type 0} → (A → Type 0) → ℕ → List A → Type 0
+ListOk P n xs = (length xs ≤ n) × All P xs
+
+-- at most n lines, each with a number of its own
+abbrev pub LinesOk : ℕ → List Line → Type 0
+LinesOk n ls = ListOk LineOk n ls × Distinct ls

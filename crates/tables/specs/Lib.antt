@@ -1,7 +1,6 @@
 pub mod Allowed
 pub mod Apply
 pub mod Changes
-pub mod Checks
 pub mod Layout
 pub mod Limits
 pub mod Lists

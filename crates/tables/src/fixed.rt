@@ -1,11 +1,11 @@
 // The fixed parts of the store: the emergency key, home numbers, the system code and the hash kept.
 use super::heads::bit_of;
 use super::heads::head_of;
+use fields::hashes::HashPlace;
+use fields::hashes::hash_size;
 use slots::bytes::copy;
 use slots::bytes::copy_padded;
 use slots::bytes::wipe;
-use wire::hashes::HashPlace;
-use wire::hashes::hash_size;
 use writing::HomeNumbers;
 use writing::KeyFlags;
 use writing::KeyTarget;

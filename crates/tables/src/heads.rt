@@ -7,14 +7,14 @@ ghost use Rattle.slots.specs.Slots.{u24};
 ghost use Rattle.writing.specs.Writing.{bit};
 
 // A flag as a number.
-pub(crate) fn bit_of(b: bool) -> u8
+pub fn bit_of(b: bool) -> u8
     ensures { λ r. ⌜ (r ≡ bit b) × (r ≤ 1) ⌝ }
 {
     if b { 1 } else { 0 }
 }
 
 // The flags, and the address as three bytes, highest first.
-pub(crate) fn head_of(flags: u8, address: u32) -> [u8; 4]
+pub fn head_of(flags: u8, address: u32) -> [u8; 4]
     ensures { λ r. ⌜ (length r ≡ 4) × (address < 16777216 → r ≡ flags ∷ u24 address) ⌝ }
 {
     [

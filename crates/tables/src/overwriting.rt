@@ -1,8 +1,8 @@
 // "Status texts and slots: add overwrites": a slot of a head and a text.
 use super::texts::put_text;
+use fields::texts::TextPlace;
 use slots::bytes::copy;
 use slots::bytes::wipe;
-use wire::texts::TextPlace;
 use writing::Operation;
 ghost use Prim.Native.Nat.{_+_, _*_, _≤_};
 ghost use lib.ListN.{length};

@@ -1,13 +1,13 @@
 // Quick texts: a place for each index of 6 bits.
 use super::replacing::empty_to_replace;
 use super::texts::put_text;
+use fields::entries::EntryPlace;
+use fields::entries::EntryRead;
+use fields::entries::read_quick;
+use fields::texts::TextPlace;
 use slots::bytes::is_zeros;
 use slots::bytes::wipe;
-use wire::entries::EntryPlace;
-use wire::entries::EntryRead;
-use wire::entries::read_quick;
 use wire::settings::Entries;
-use wire::texts::TextPlace;
 use writing::Operation;
 ghost use Rattle.tables.specs.Changes.{QuickIfAbsent, QuickSlot, QuickStep, QuickApplied};
 

@@ -1,6 +1,6 @@
 // Starting a store.
-use super::checks::roomy;
 use super::limits::Limits;
+use super::limits::roomy;
 use slots::bytes::wipe;
 ghost use Rattle.tables.specs.Store.{StartedAs};
 

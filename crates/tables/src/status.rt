@@ -1,9 +1,9 @@
 // Status texts: a place for each code from 32 to 127; a text may be empty.
 use super::overwriting::set_place;
 use super::replacing::empty_to_replace;
-use wire::entries::EntryPlace;
-use wire::entries::EntryRead;
-use wire::entries::read_status;
+use fields::entries::EntryPlace;
+use fields::entries::EntryRead;
+use fields::entries::read_status;
 use wire::settings::Entries;
 use writing::Operation;
 ghost use Rattle.tables.specs.Changes.{StatusStep, StatusApplied};

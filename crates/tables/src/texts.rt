@@ -1,6 +1,6 @@
 // Texts in the store: units of two bytes as they stand in the message, and zeros after them.
+use fields::texts::TextPlace;
 use slots::bytes::copy_padded;
-use wire::texts::TextPlace;
 ghost use Rattle.tables.specs.Changes.{TextPut};
 
 // Fills dst with a text's units, and zeros after them. A place outside the message changes nothing.

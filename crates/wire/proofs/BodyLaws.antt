@@ -21,13 +21,13 @@ use Rattle.writing.specs.Ranges.{text-limits, InRange, InQuick, InAddress, InSl
 use Rattle.writing.specs.Settings.{Setting, Entry, unicode16, kind}
 use Rattle.writing.specs.Writing.{bit, flag, op, op-code, text, contact, quick-text, status-text, current, to-group, key-address, body}
 use Rattle.writing.proofs.ByKind.{Contents, make, of-kind, kind-make}
-use Rattle.wire.specs.Entries.{channel-list, QuickFrom}
-use Rattle.wire.specs.Places.{PartAt, be}
+use Rattle.fields.specs.Entries.{channel-list, QuickFrom}
+use Rattle.fields.specs.Places.{PartAt, be}
 use Rattle.wire.specs.Settings.{Meant, BodyAt, LeastIs, AddressRefused, GroupRefused, IndividualRefused}
 use Rattle.wire.specs.declared.settings.Setting.{Setting as Read}
 use Rattle.wire.specs.declared.settings.BodyRead.the-variants.{Body, NoBody}
-use Rattle.wire.proofs.Heads.{Cut, head-in, head-out, be-small}
-use Rattle.wire.proofs.Parts.{nothing}
+use Rattle.fields.proofs.Heads.{Cut, head-in, head-out, be-small}
+use Rattle.fields.proofs.Parts.{nothing}
 
 -- the fields of a kind: a head of so many bytes, and what follows it
 pub record Headed (K : Kind) : Type 0 where

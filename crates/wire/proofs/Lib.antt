@@ -1,16 +1,4 @@
 pub mod BodyLaws
-pub mod CarrierLaws
-pub mod ChannelPlace
-pub mod ChannelWalk
-pub mod EntryLaws
-pub mod HashLaws
-pub mod Heads
-pub mod MessageLaws
-pub mod MessageOne
-pub mod NumberWalk
-pub mod Parts
 pub mod RowLaws
 pub mod SettingLaws
-pub mod TextWalk
 pub mod Theorems
-pub mod Walk

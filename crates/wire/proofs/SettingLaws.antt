@@ -19,7 +19,7 @@ use Rattle.writing.proofs.Ends.{all-read}
 use Rattle.writing.proofs.Lengths.{within-row}
 use Rattle.writing.proofs.Unique.{one-kind, Sized, body-ends}
 use Rattle.writing.proofs.Whole.{body-whole}
-use Rattle.wire.specs.Places.{PartAt, StandsAt, be}
+use Rattle.fields.specs.Places.{PartAt, StandsAt, be}
 use Rattle.wire.specs.Rows.{RowIs, RowAt, most-of}
 use Rattle.wire.specs.Settings.{BodyAt, SettingAt}
 use Rattle.wire.specs.declared.rows.Row.{Row}
@@ -30,9 +30,9 @@ use Rattle.wire.specs.declared.settings.BodyRead.{BodyRead}
 use Rattle.wire.specs.declared.settings.BodyRead.the-variants.{Body, NoBody}
 use Rattle.wire.specs.declared.reader.SettingRead.the-variants.{Taken, Unknown, Field as BadField}
 use Rattle.wire.proofs.BodyLaws.{last-head}
-use Rattle.wire.proofs.HashLaws.{one-size}
-use Rattle.wire.proofs.Heads.{head-in, head-out, three-bytes, be-small}
-use Rattle.wire.proofs.Walk.{agree-at, ends-at}
+use Rattle.fields.proofs.HashLaws.{one-size}
+use Rattle.fields.proofs.Heads.{head-in, head-out, three-bytes, be-small}
+use Rattle.fields.proofs.Walk.{agree-at, ends-at}
 
 -- ---- fields by their row
 

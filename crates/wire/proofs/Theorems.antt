@@ -11,18 +11,18 @@ use Rattle.writing.specs.Settings.{Setting, unicode16, lines, quick-texts, chan
 use Rattle.writing.specs.Writing.{text, contact, quick-text, status-text, fill, fields}
 use Rattle.writing.proofs.Ends.{Ends, each-ends, vals-end, regroup}
 use Rattle.writing.proofs.Unique.{text-ends, contact-ends, quick-ends, status-ends, setting-ends}
-use Rattle.wire.specs.Entries.{channel-list}
-use Rattle.wire.specs.Places.{StandsAt}
+use Rattle.fields.specs.Entries.{channel-list}
+use Rattle.fields.specs.Places.{StandsAt}
 use Rattle.wire.specs.Settings.{EntriesAre, TextOf, Meant, SettingAt}
-use Rattle.wire.specs.declared.texts.TextPlace.{TextPlace}
+use Rattle.fields.specs.declared.texts.TextPlace.{TextPlace}
 use Rattle.wire.specs.declared.settings.Entries.{Entries}
 use Rattle.wire.specs.declared.settings.Setting.{Setting as Read}
 use Rattle.wire.specs.declared.settings.Setting.the-variants.{Lines, Key, QuickTexts, Home, Channels, System, StatusTexts, Group, Individual, Last}
 use Rattle.wire.specs.declared.reader.SettingRead.{SettingRead}
 use Rattle.wire.specs.declared.reader.SettingRead.the-variants.{Taken, Missing, Unknown, Field as BadField}
-use Rattle.wire.proofs.HashLaws.{one-size}
+use Rattle.fields.proofs.HashLaws.{one-size}
 use Rattle.wire.proofs.SettingLaws.{setting-out}
-use Rattle.wire.proofs.Walk.{agree-at, one-part}
+use Rattle.fields.proofs.Walk.{agree-at, one-part}
 
 -- ---- a setting that was read means one setting
 

@@ -13,10 +13,10 @@ use Rattle.writing.specs.Fields.{Field, val, each}
 use Rattle.writing.specs.Ranges.{text-limits, HashSize, InRange, InAddress, InSlot, InTarget}
 use Rattle.writing.specs.Settings.{Setting, unicode16, Contact, Entry, lines, key, quick-texts, home, channels, system, status-texts, group, individual, last, kind}
 use Rattle.writing.specs.Writing.{contact, quick-text, status-text, type-byte, body, current, to-group, key-address}
-use Rattle.wire.specs.Entries.{channel-list}
-use Rattle.wire.specs.Parts.{TextIs}
-use Rattle.wire.specs.Places.{PartAt, StandsAt}
-use Rattle.wire.specs.declared.texts.TextPlace.{TextPlace}
+use Rattle.fields.specs.Entries.{channel-list}
+use Rattle.fields.specs.Parts.{TextIs}
+use Rattle.fields.specs.Places.{PartAt, StandsAt}
+use Rattle.fields.specs.declared.texts.TextPlace.{TextPlace}
 use Rattle.wire.specs.declared.settings.Entries.{Entries}
 use Rattle.wire.specs.declared.settings.Setting.{Setting as Read}
 use Rattle.wire.specs.declared.settings.Setting.the-variants.{Lines, Key, QuickTexts, Home, Channels, System, StatusTexts, Group, Individual, Last}

@@ -1,17 +1,17 @@
 // Settings that hold no list: the emergency key, home numbers, system code, group and individual slots, and the last item.
-use super::bytes::flag;
-use super::bytes::number;
-use super::bytes::remaining;
-use super::hashes::HashRead;
-use super::hashes::read_hash;
 use super::rows::OperationRead;
 use super::rows::operation_of;
 use super::settings::BodyRead;
 use super::settings::GroupPlace;
 use super::settings::IndividualPlace;
 use super::settings::Setting;
-use super::texts::TextRead;
-use super::texts::read_text;
+use fields::bytes::flag;
+use fields::bytes::number;
+use fields::bytes::remaining;
+use fields::hashes::HashRead;
+use fields::hashes::read_hash;
+use fields::texts::TextRead;
+use fields::texts::read_text;
 use plan::numbers::GroupAddress;
 use plan::numbers::IndividualAddress;
 use writing::GroupFlags;

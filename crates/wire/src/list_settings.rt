@@ -1,17 +1,17 @@
 // Settings that hold a list: line contacts, quick texts, scan channels and status texts.
-use super::bytes::flag;
-use super::bytes::number;
-use super::bytes::remaining;
-use super::channels::walk_channels;
-use super::entries::Walk;
-use super::entries::walk_contacts;
-use super::entries::walk_quick;
-use super::entries::walk_status;
 use super::rows::OperationRead;
 use super::rows::operation_of;
 use super::settings::BodyRead;
 use super::settings::Entries;
 use super::settings::Setting;
+use fields::bytes::flag;
+use fields::bytes::number;
+use fields::bytes::remaining;
+use fields::channels::walk_channels;
+use fields::entries::Walk;
+use fields::entries::walk_contacts;
+use fields::entries::walk_quick;
+use fields::entries::walk_status;
 use writing::LineFlags;
 use writing::Operation;
 ghost use mathlib.Core.Path.{_≡_};

@@ -1,6 +1,4 @@
 // The setting at a place of a message: type byte, DataLength, fields.
-use super::bytes::number;
-use super::bytes::remaining;
 use super::fixed_settings::read_group;
 use super::fixed_settings::read_home;
 use super::fixed_settings::read_individual;
@@ -16,6 +14,8 @@ use super::rows::RowRead;
 use super::rows::row_of;
 use super::settings::BodyRead;
 use super::settings::Setting;
+use fields::bytes::number;
+use fields::bytes::remaining;
 ghost use Rattle.wire.specs.Rows.{RowIs};
 ghost use Rattle.wire.specs.Settings.{BodyAt, SettingAt};
 ghost use Rattle.writing.specs.declared.Kind.{Kind};

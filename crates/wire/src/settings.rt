@@ -1,6 +1,6 @@
 // A setting once read: a kind with its operation inside it; texts, numbers and entries stay as places in the message.
-use super::hashes::HashPlace;
-use super::texts::TextPlace;
+use fields::hashes::HashPlace;
+use fields::texts::TextPlace;
 use plan::numbers::GroupAddress;
 use plan::numbers::IndividualAddress;
 use writing::GroupFlags;

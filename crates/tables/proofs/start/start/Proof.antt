@@ -2,8 +2,8 @@ use borrow.Author.Needs.{needs}
 use native.Mathlib.Omega.{arith}
 use mathlib.Core.Path.{refl}
 use Rattle.tables.specs.Layout.{Roomy}
-use Rattle.tables.proofs.CheckLaws.{not-said, was-said}
-use Rattle.tables.proofs.StoreChecks.{fresh-made}
+use Rattle.tables.proofs.AnswerLaws.{not-said, was-said}
+use Rattle.tables.proofs.StartLaws.{fresh-made}
 use Rattle.tables.proofs.start.start.Statement.{statement}
 use Rattle.tables.proofs.start.start.Tie as tie
 

@@ -7,9 +7,9 @@ use Rattle.wire.specs.declared.settings.Setting.the-variants.{Group}
 use Rattle.writing.specs.declared.Kind.the-variants.{Group as KGroup}
 use Rattle.writing.specs.Settings.{unicode16}
 use Rattle.wire.specs.Rows.{OperationIs}
-use Rattle.wire.specs.Parts.{TextAt}
+use Rattle.fields.specs.Parts.{TextAt}
 use Rattle.wire.specs.Settings.{GroupRefused}
-use Rattle.wire.specs.Places.{PartAt}
+use Rattle.fields.specs.Places.{PartAt}
 use Rattle.writing.specs.Writing.{text}
 use Rattle.wire.proofs.fixed_settings.read_group.Statement.{statement}
 use Rattle.wire.proofs.fixed_settings.read_group.Tie as tie

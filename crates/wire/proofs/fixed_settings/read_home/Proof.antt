@@ -3,7 +3,7 @@ use native.Mathlib.Omega.{arith}
 use Prim.Native.Nat.{_+_, _/_, _%_}
 use mathlib.Core.Path.{refl}
 use Rattle.wire.proofs.BodyLaws.{home-head, no-room, no-body, the-body}
-use Rattle.wire.proofs.Parts.{nothing}
+use Rattle.fields.proofs.Parts.{nothing}
 use Rattle.wire.specs.declared.settings.Setting.the-variants.{Home}
 use Rattle.writing.specs.declared.Kind.the-variants.{Home as KHome}
 use Rattle.wire.proofs.fixed_settings.read_home.Statement.{statement}

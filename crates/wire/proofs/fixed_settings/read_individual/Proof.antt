@@ -7,9 +7,9 @@ use Rattle.wire.specs.declared.settings.Setting.the-variants.{Individual
 use Rattle.writing.specs.declared.Kind.the-variants.{Individual as KIndividual}
 use Rattle.writing.specs.Settings.{unicode16}
 use Rattle.wire.specs.Rows.{OperationIs}
-use Rattle.wire.specs.Parts.{TextAt}
+use Rattle.fields.specs.Parts.{TextAt}
 use Rattle.wire.specs.Settings.{IndividualRefused}
-use Rattle.wire.specs.Places.{PartAt}
+use Rattle.fields.specs.Places.{PartAt}
 use Rattle.writing.specs.Writing.{text}
 use Rattle.wire.proofs.fixed_settings.read_individual.Statement.{statement}
 use Rattle.wire.proofs.fixed_settings.read_individual.Tie as tie

@@ -3,7 +3,7 @@ use native.Mathlib.Omega.{arith}
 use Prim.Native.Nat.{_+_, _/_, _%_}
 use mathlib.Core.Path.{_≡_, refl, sym, ap, _∙_, subst}
 use Rattle.wire.proofs.BodyLaws.{key-head, no-room, no-body, the-body, flag-bit, key-address-out, address-in}
-use Rattle.wire.proofs.Parts.{nothing}
+use Rattle.fields.proofs.Parts.{nothing}
 use Rattle.wire.specs.declared.settings.Setting.the-variants.{Key}
 use Rattle.writing.specs.declared.Kind.the-variants.{Key as KKey}
 use mathlib.Core.List.{List}
@@ -12,7 +12,7 @@ use Rattle.writing.specs.Fields.{Field}
 use Rattle.writing.specs.Writing.{bit}
 use Rattle.writing.specs.Ranges.{InAddress}
 use Rattle.wire.specs.Settings.{AddressRefused}
-use Rattle.wire.specs.Places.{PartAt}
+use Rattle.fields.specs.Places.{PartAt}
 use mathlib.Core.Bool.{false}
 use Rattle.wire.proofs.fixed_settings.read_key.Statement.{statement}
 use Rattle.wire.proofs.fixed_settings.read_key.Tie as tie

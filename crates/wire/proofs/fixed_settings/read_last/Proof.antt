@@ -7,9 +7,9 @@ use Rattle.wire.proofs.BodyLaws.{last-head, no-room, no-body, the-body,
 use Rattle.writing.specs.Ranges.{HashSize}
 use Rattle.writing.specs.Fields.{val}
 use mathlib.Core.List.{map}
-use Rattle.wire.specs.Places.{PartAt}
-use Rattle.wire.specs.Hashes.{HashAt}
-use Rattle.wire.proofs.HashLaws.{bytes-out}
+use Rattle.fields.specs.Places.{PartAt}
+use Rattle.fields.specs.Hashes.{HashAt}
+use Rattle.fields.proofs.HashLaws.{bytes-out}
 use Rattle.wire.specs.declared.settings.Setting.the-variants.{Last}
 use Rattle.writing.specs.declared.Kind.the-variants.{Last as KLast}
 use Rattle.wire.proofs.fixed_settings.read_last.Statement.{statement}

@@ -6,7 +6,7 @@ use mathlib.Core.List.{List, [], _∷_}
 use Rattle.writing.specs.declared.Kind.the-variants.{StatusTexts as KStatusTexts}
 use Rattle.writing.specs.Ranges.{text-limits}
 use Rattle.writing.specs.Settings.{unicode16}
-use Rattle.wire.specs.Entries.{StatusesAt}
+use Rattle.fields.specs.Entries.{StatusesAt}
 use Rattle.wire.specs.Rows.{OperationIs}
 use Rattle.wire.specs.declared.settings.Setting.the-variants.{StatusTexts}
 use Rattle.wire.proofs.BodyLaws.{status-head, no-room, no-body, the-body, flag-bit, op-small}

@@ -1,0 +1,3 @@
+pub mod CarrierLaws
+pub mod MessageLaws
+pub mod MessageOne

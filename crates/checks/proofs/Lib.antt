@@ -1,0 +1,10 @@
+pub mod CheckLaws
+pub mod DistinctLaws
+pub mod EntryChecks
+pub mod FixedChecks
+pub mod FrontLaws
+pub mod NumberChecks
+pub mod StoreChecks
+pub mod TableChecks
+pub mod TextChecks
+pub mod Theorems

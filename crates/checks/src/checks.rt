@@ -1,0 +1,49 @@
+// Whether lent bytes are a store.
+use super::checks_fixed::fixed_ok;
+use super::checks_lists::channels_ok;
+use super::checks_lists::lines_ok;
+use super::checks_tables::indexed_ok;
+use slots::bytes::is_zeros;
+use tables::limits::Limits;
+use tables::limits::roomy;
+ghost use mathlib.Core.Path.{_≡_};
+ghost use mathlib.Core.Bool.{true};
+ghost use mathlib.Core.Logic.{_↔_};
+ghost use lib.ListN.{length};
+ghost use Rattle.tables.specs.Layout.{Roomy, IsStore};
+ghost use Rattle.tables.specs.Store.{StoreOf};
+
+// Whether each part of bytes of the limits' size is what it has to be: docs/STORE.md says where they stand.
+fn parts_ok(store: &[u8], limits: Limits) -> bool
+    requires { ⌜ Roomy limits × (length (now store) ≡ limits .size) ⌝ }
+    ensures { λ r. ⌜ (r ≡ true) ↔ IsStore limits (now (store .entry)) ⌝ }
+{
+    if !fixed_ok(&store[0..22]) {
+        return false;
+    }
+    if !indexed_ok(&store[22..7286]) {
+        return false;
+    }
+    let lines = 7286 + limits.channels * 2;
+    if !channels_ok(&store[7286..lines]) {
+        return false;
+    }
+    let spare = lines + limits.lines * 51;
+    if !lines_ok(&store[lines..spare]) {
+        return false;
+    }
+    is_zeros(&store[spare..])
+}
+
+// Whether the bytes are those of tables and a kept hash that the rules allow, in a store with room for them.
+pub fn is_store(store: &[u8], limits: Limits) -> bool
+    ensures { λ r. ⌜ (r ≡ true) ↔ StoreOf limits (now (store .entry)) ⌝ }
+{
+    if store.len() != limits.size {
+        return false;
+    }
+    if !roomy(limits) {
+        return false;
+    }
+    parts_ok(store, limits)
+}

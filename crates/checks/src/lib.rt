@@ -1,0 +1,6 @@
+// Whether lent bytes are a store of the limits, part by part.
+pub mod checks;
+mod checks_entries;
+mod checks_fixed;
+mod checks_lists;
+mod checks_tables;

@@ -1,0 +1,9 @@
+pub mod ChannelPlace
+pub mod ChannelWalk
+pub mod EntryLaws
+pub mod HashLaws
+pub mod Heads
+pub mod NumberWalk
+pub mod Parts
+pub mod TextWalk
+pub mod Walk

@@ -1,0 +1,3 @@
+pub mod ChannelLaws
+pub mod DigitLaws
+pub mod LineLaws
