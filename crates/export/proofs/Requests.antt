@@ -10,8 +10,8 @@ use Rattle.writing.specs.Carrier.{carrier, Carries, coding-type}
 use Rattle.writing.specs.Settings.{Setting, unicode16}
 use Rattle.writing.specs.Writing.{request-head}
 use Rattle.writing.proofs.CanonicalLaws.{plain-shows}
-use Rattle.wire.specs.declared.carrier.Message.the-variants.{Request}
-use Rattle.wire.specs.Message.{Counted, MessageIs}
+use Rattle.carrier.specs.declared.carrier.Message.the-variants.{Request}
+use Rattle.carrier.specs.Message.{Counted, MessageIs}
 use Rattle.tables.specs.declared.limits.Limits.{Limits}
 use Rattle.tables.specs.Allowed.{Allowed}
 use Rattle.tables.specs.Limits.{handheld}

@@ -10,7 +10,7 @@ use lib.ListN.{length}
 use Rattle.lists.proofs.Every.{All}
 use Rattle.lists.proofs.Ladder.{Answers}
 use Rattle.writing.specs.Settings.{Setting}
-use Rattle.wire.specs.declared.carrier.Message.the-variants.{Request}
+use Rattle.carrier.specs.declared.carrier.Message.the-variants.{Request}
 use Rattle.tables.specs.declared.limits.Limits.{Limits}
 use Rattle.tables.specs.Allowed.{Allowed}
 use Rattle.tables.specs.Layout.{layout, Roomy}

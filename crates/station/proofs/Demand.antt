@@ -7,7 +7,7 @@ use native.Mathlib.Omega.{arith}
 use lib.ListN.{length}
 use Rattle.lists.proofs.Bytes.{Bytes, bytes-drop}
 use lib.Seq.{drop-at}
-use Rattle.wire.proofs.Parts.{bytes-left}
+use Rattle.fields.proofs.Parts.{bytes-left}
 use Rattle.writing.specs.Ranges.{text-limits, InRange}
 use Rattle.writing.specs.Settings.{Setting, Hash, unicode16, lines, key, quick-texts, home, channels, system, status-texts, group, individual, last}
 use Rattle.writing.specs.Writing.{WrittenAll}

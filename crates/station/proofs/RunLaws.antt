@@ -9,7 +9,7 @@ use lib.Seq.{drop-cons, drop-drop, drop-at}
 use Rattle.lists.proofs.Bytes.{Bytes, bytes-drop}
 use Rattle.writing.specs.Ranges.{text-limits, InRange}
 use Rattle.writing.specs.Settings.{Setting, unicode16, lines, key, quick-texts, home, channels, system, status-texts, group, individual, last}
-use Rattle.wire.specs.Places.{StandsAt}
+use Rattle.fields.specs.Places.{StandsAt}
 use Rattle.wire.specs.Settings.{SettingAt}
 use Rattle.wire.specs.declared.reader.SettingRead.the-variants.{Missing, Unknown, Field as BadField}
 use Rattle.fields.proofs.Parts.{bytes-left}

@@ -12,10 +12,10 @@ use Rattle.slots.proofs.Runs.{copy-whole}
 use Rattle.writing.specs.declared.LastFlags.{LastFlags}
 use Rattle.writing.specs.Ranges.{no-hash as of-no-value}
 use Rattle.writing.specs.Settings.{Hash}
-use Rattle.wire.specs.Message.{MessageIs}
-use Rattle.wire.specs.declared.carrier.Message.{Message}
-use Rattle.wire.specs.declared.carrier.Message.the-variants.{Request}
-use Rattle.wire.specs.declared.hashes.HashPlace.{HashPlace}
+use Rattle.carrier.specs.Message.{MessageIs}
+use Rattle.carrier.specs.declared.carrier.Message.{Message}
+use Rattle.carrier.specs.declared.carrier.Message.the-variants.{Request}
+use Rattle.fields.specs.declared.hashes.HashPlace.{HashPlace}
 use Rattle.tables.specs.declared.limits.Limits.{Limits}
 use Rattle.tables.specs.Allowed.{HashOk}
 use Rattle.tables.specs.Layout.{layout, hash-bytes, used-size}

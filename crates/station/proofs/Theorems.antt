@@ -13,11 +13,11 @@ use Rattle.writing.specs.Fields.{bitsOf, Shows}
 use Rattle.writing.specs.Ranges.{text-limits, InRange}
 use Rattle.writing.specs.Settings.{Setting, Hash, unicode16}
 use Rattle.writing.specs.Writing.{WrittenAs, request-head}
-use Rattle.wire.specs.Message.{InSize, Opens, Counted, MessageIs}
-use Rattle.wire.specs.declared.carrier.Message.{Message}
-use Rattle.wire.specs.declared.carrier.Message.the-variants.{Size, Carrier, «Type» as OtherType, Version, NoRequest, Request, NoQuery, Query as AQuery}
-use Rattle.wire.proofs.CarrierLaws.{wide-bytes}
-use Rattle.wire.proofs.MessageOne.{opens-one, counted-one, counted-opens, query-opens}
+use Rattle.carrier.specs.Message.{InSize, Opens, Counted, MessageIs}
+use Rattle.carrier.specs.declared.carrier.Message.{Message}
+use Rattle.carrier.specs.declared.carrier.Message.the-variants.{Size, Carrier, «Type» as OtherType, Version, NoRequest, Request, NoQuery, Query as AQuery}
+use Rattle.carrier.proofs.CarrierLaws.{wide-bytes}
+use Rattle.carrier.proofs.MessageOne.{opens-one, counted-one, counted-opens, query-opens}
 use Rattle.tables.specs.declared.limits.Limits.{Limits}
 use Rattle.tables.specs.Apply.{apply}
 use Rattle.tables.specs.Layout.{layout}

@@ -17,12 +17,12 @@ pub record Said : Type 0 where
   pub reply-length : ℕ
 
 -- the numbers of the refusals that touch nothing
-abbrev pub refusal : Refusal → ℕ
-refusal ReplyBuffer = 10
-refusal NotAStore = 11
-refusal MessageSize = 12
-refusal Carrier = 13
-refusal MessageType = 14
+abbrev pub refusal-number : Refusal → ℕ
+refusal-number ReplyBuffer = 10
+refusal-number NotAStore = 11
+refusal-number MessageSize = 12
+refusal-number Carrier = 13
+refusal-number MessageType = 14
 
 -- "for 10 to 14: ID 0, no, no, length 0"
 abbrev pub refused-with : ℕ → Said
@@ -30,7 +30,7 @@ refused-with n = record { number = n; failed = 0; send = false; reboot = false; 
 
 -- each case's number and values
 abbrev pub said : Answer → Said
-said (Untouched r) = refused-with (refusal r)
+said (Untouched r) = refused-with (refusal-number r)
 said (Replied r) = record { number = r .result; failed = r .failed; send = r .send; reboot = r .reboot; reply-length = r .length }
 
 -- "Starting a store: any 12,288 bytes become fresh, another length is 11"

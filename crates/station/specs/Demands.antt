@@ -9,7 +9,7 @@ use Rattle.writing.specs.Ranges.{text-limits, InRange}
 use Rattle.writing.specs.Carrier.{coding-type}
 use Rattle.writing.specs.Settings.{Setting, unicode16}
 use Rattle.writing.specs.Writing.{WrittenAll}
-use Rattle.wire.specs.Message.{InSize, Opens, Counted}
+use Rattle.carrier.specs.Message.{InSize, Opens, Counted}
 use Rattle.tables.specs.declared.limits.Limits.{Limits}
 use Rattle.tables.specs.Apply.{apply}
 use Rattle.tables.specs.Store.{StoreOf, Holds}

@@ -2,9 +2,9 @@
 use Prim.Native.Nat.{ℕ}
 use mathlib.Core.Path.{_≡_}
 use mathlib.Core.List.{List}
-use Rattle.wire.specs.Message.{MessageIs}
-use Rattle.wire.specs.declared.hashes.HashPlace.{HashPlace}
-use Rattle.wire.specs.declared.carrier.Message.the-variants.{Request, Query as AQuery}
+use Rattle.carrier.specs.Message.{MessageIs}
+use Rattle.fields.specs.declared.hashes.HashPlace.{HashPlace}
+use Rattle.carrier.specs.declared.carrier.Message.the-variants.{Request, Query as AQuery}
 use Rattle.tables.specs.declared.limits.Limits.{Limits}
 use Rattle.tables.specs.Store.{Holds}
 use Rattle.tables.specs.Tables.{Tables}

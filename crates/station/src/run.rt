@@ -1,6 +1,6 @@
 // The settings of a request, read and applied in turn on a working copy of the store.
+use applying::store::apply;
 use tables::limits::Limits;
-use tables::store::apply;
 use wire::reader::SettingRead;
 use wire::reader::read_setting;
 use wire::settings::Setting;
