@@ -1,18 +1,20 @@
 -- Runs, in demand 3's words: settings written one after the other, in range and with room in turn. Assumes nothing.
-use Prim.Native.Nat.{ℕ, zero, suc, _+_, _≤_, _<_}
+use Prim.Native.Nat.{ℕ, zero, suc}
 use mathlib.Core.Path.{_≡_, refl, sym, ap, _∙_, subst}
-use mathlib.Core.List.{List, [], _∷_, _++_, append-assoc, append-nil}
+use mathlib.Core.List.{List, [], _∷_, _++_, append-assoc}
 use mathlib.Core.Option.{Option, none, some, Option·some-injective}
 use native.Mathlib.Omega.{arith}
 use lib.ListN.{length}
 use Rattle.lists.proofs.Bytes.{Bytes, bytes-drop}
 use lib.Seq.{drop-at}
 use Rattle.fields.proofs.Parts.{bytes-left}
-use Rattle.writing.specs.Ranges.{text-limits, InRange}
 use Rattle.writing.specs.Settings.{Setting, Hash, unicode16, lines, key, quick-texts, home, channels, system, status-texts, group, individual, last}
 use Rattle.writing.specs.Writing.{WrittenAll}
 use Rattle.tables.specs.declared.limits.Limits.{Limits}
-use Rattle.tables.specs.Apply.{apply, with-room}
+use Rattle.tables.specs.Allowed.{Allowed}
+use Rattle.tables.proofs.AllowedLaws.{apply-allowed}
+use Rattle.writing.proofs.CanonicalLaws.{has-writing}
+use Rattle.tables.specs.Apply.{apply}
 use Rattle.tables.specs.Tables.{Tables, no-hash, with-hash}
 use Rattle.tables.proofs.RoomSentences.{own-table}
 use Rattle.station.specs.Demands.{InTurn}
@@ -40,6 +42,12 @@ module _ (m : Limits) where
       let q : bs ≡ v ++ (r ++ rest) = e ∙ ap (λ k. k ++ rest) p ∙ append-assoc v r rest in
       let c : Bytes (v ++ (r ++ rest)) = subst Bytes q b in
       step {w = v} {s = s} q (x, bytes-left v (r ++ rest) c) i a (written-runs n t′ u (r ++ rest) r rest l (subst Bytes (drop-at v (r ++ rest) (length v) refl) (bytes-drop (length v) (v ++ (r ++ rest)) c)) refl y z)
+
+  -- what a run leaves, the rules allow
+  pub run-allowed : {n : ℕ} {t u : Tables} {bs rest : List ℕ} {l : List Setting} → Runs m n t bs l u rest → Allowed m t → Allowed m u
+  run-allowed done ok = ok
+  run-allowed (step {n} {t} {t′ = v} {w = w} {s = s} p (x, _) i a q) ok =
+      run-allowed q (apply-allowed m t v n s ok i (has-writing unicode16 s w x) a)
 
   -- ---- the hash that is kept
 

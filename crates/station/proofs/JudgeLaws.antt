@@ -155,19 +155,19 @@ module _ (Setting Tables : Type 0)
           let z : left ≡ n - (length l + 1) = omega arith in
           inr (omega arith, omega arith, (λ k h. fewer q k (omega arith)), never, l, u, rest, refl, q, subst (λ (k : ℕ). Fault k u rest number) z f)
 
-      -- no fault has number 0
-      fault-number : {left number : ℕ} {t : Tables} {bs : List ℕ} → Fault left t bs number → 0 < number
-      fault-number missing = omega arith
-      fault-number (unknown x) = omega arith
-      fault-number (field k x) = omega arith
-      fault-number (room r p w i a) = omega arith
+      -- a fault's number is 2, 3 or 4
+      fault-number : {left number : ℕ} {t : Tables} {bs : List ℕ} → Fault left t bs number → (2 ≤ number) × (number ≤ 4)
+      fault-number missing = (omega arith, omega arith)
+      fault-number (unknown x) = (omega arith, omega arith)
+      fault-number (field k x) = (omega arith, omega arith)
+      fault-number (room r p w i a) = (omega arith, omega arith)
 
-      abbrev pub NotZero : Outcome Setting Tables → Type 0
-      NotZero (kept l u) = Unit {0}
-      NotZero (refused number failed) = 0 < number
+      abbrev pub RefusedWith : Outcome Setting Tables → Type 0
+      RefusedWith (kept l u) = Unit {0}
+      RefusedWith (refused number failed) = (2 ≤ number) × (number ≤ 4)
 
-      -- nor has a refusal
-      pub refused-number : {n : ℕ} {t : Tables} {bs : List ℕ} {o : Outcome Setting Tables} → Judged n t bs o → NotZero o
+      -- and so is a refusal's
+      pub refused-number : {n : ℕ} {t : Tables} {bs : List ℕ} {o : Outcome Setting Tables} → Judged n t bs o → RefusedWith o
       refused-number (taken e q) = tt
-      refused-number (over e q) = omega arith
+      refused-number (over e q) = (omega arith, omega arith)
       refused-number (fault left e q f) = fault-number f

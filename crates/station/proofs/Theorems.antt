@@ -1,8 +1,9 @@
 -- Demands 1 to 3 for taking a message, over the contract of take: for every message, store and reply buffer. Assumes nothing.
-use Prim.Native.Nat.{ℕ, zero, suc, _+_, _-_, _≤_, _<_}
-use mathlib.Core.Path.{_≡_, refl, sym, ap, _∙_, subst, subst₂}
-use mathlib.Core.Logic.{_≢_, _⊎_, inl, inr, _↔_}
-use mathlib.Core.List.{List, [], _∷_, _++_, append-nil, nil≢cons}
+use Prim.Native.Nat.{ℕ, _-_, _≤_}
+use mathlib.Core.Path.{_≡_, refl, sym, ap, _∙_, subst, subst₂, subst⁻¹}
+use mathlib.Core.Logic.{_≢_, inl, inr, _↔_}
+use mathlib.Core.Bool.{Bool, true, false}
+use mathlib.Core.List.{List, [], _++_, append-nil, nil≢cons}
 use native.Mathlib.Omega.{arith}
 use lib.ListN.{length, drop}
 use Rattle.lists.proofs.Bytes.{Bytes, bytes-drop}
@@ -20,39 +21,84 @@ use Rattle.carrier.proofs.CarrierLaws.{wide-bytes}
 use Rattle.carrier.proofs.MessageOne.{opens-one, counted-one, counted-opens, query-opens}
 use Rattle.tables.specs.declared.limits.Limits.{Limits}
 use Rattle.tables.specs.Apply.{apply}
-use Rattle.tables.specs.Layout.{layout}
+use Rattle.tables.specs.Allowed.{Allowed}
+use Rattle.tables.specs.Store.{StoreOf}
+use Rattle.tables.proofs.AllowedLaws.{forget-allowed}
 use Rattle.tables.specs.Tables.{Tables, no-hash}
-use Rattle.tables.proofs.LayoutLaws.{layout-one}
-use Rattle.station.specs.Answers.{refused-with}
-use Rattle.station.specs.Demands.{InTurn, Stand, Passes, FirstFault, Refused, no-count, left-over, at-setting}
+use Rattle.tables.proofs.LayoutLaws.{layout-one, layout-length}
+use Rattle.station.specs.Demands.{InTurn, Stand, Passes, Refused, no-count, left-over, at-setting}
 use Rattle.station.specs.Judge as J
 use Rattle.station.specs.Judge.{Outcome, kept, refused}
-use Rattle.station.specs.Taking.{WrittenIn, Known, Runs, Fault, Judged, forget, LastItem, last-item, After, Asked, Settles, Handled, settled, replies, turned-down, taken}
-use Rattle.station.proofs.Demand.{run-written, written-runs, hash-own}
+use Rattle.station.specs.Taking.{WrittenIn, Known, Runs, Judged, forget, last-item, After, Settles, settled, replies, stays, turned-down, taken}
+use Rattle.station.proofs.Demand.{run-allowed, run-written, written-runs, hash-own}
 use Rattle.station.proofs.Determined.{judged-determined, one-writing, type-first}
-use Rattle.station.proofs.JudgeLaws.{Says, Stands, judged-says, NotZero, refused-number}
+use Rattle.station.proofs.JudgeLaws.{Says, Stands, judged-says, RefusedWith, refused-number}
 
--- ---- what is left as it was
+-- ---- what judging says
+
+module _ (m : Limits) (t : Tables) {n : ℕ} {bs : List ℕ} {o : Outcome Setting Tables} where
+  -- what each outcome says
+  says : Judged m n t bs o → Says Setting Tables WrittenIn (InRange text-limits) (apply m) Known one-writing type-first n t bs o
+  says = judged-says Setting Tables WrittenIn (InRange text-limits) (apply m) Known one-writing type-first
+
+  -- with which number
+  numbered : Judged m n t bs o → RefusedWith Setting Tables WrittenIn (InRange text-limits) (apply m) Known one-writing type-first o
+  numbered = refused-number Setting Tables WrittenIn (InRange text-limits) (apply m) Known one-writing type-first
+
+-- ---- how a message ends
 
 module _ (m : Limits) (message store reply : List ℕ) where
-  -- only a message that is answered 0 may change the store
-  kind-stays : (t : Tables) (k : Message) (x : After) → Settles m message store reply t k x → x .answer .number ≢ 0 → x .store ≡ store
-  kind-stays t Size x e n = ap (λ (a : After). a .store) e
-  kind-stays t Carrier x e n = ap (λ (a : After). a .store) e
-  kind-stays t OtherType x e n = ap (λ (a : After). a .store) e
-  kind-stays t Version x e n = ap (λ (a : After). a .store) e
-  kind-stays t NoRequest x e n = ap (λ (a : After). a .store) e
-  kind-stays t NoQuery x e n = ap (λ (a : After). a .store) e
-  kind-stays t (AQuery p) x (h, q, inl (_, _, e)) n = ap (λ (a : After). a .store) e
-  kind-stays t (AQuery p) x (h, q, inr (_, e)) n = ap (λ (a : After). a .store) e
-  kind-stays t (Request count at) x (kept l u, j, e) n = absurd (n (ap (λ (a : After). a .answer .number) e))
-  kind-stays t (Request count at) x (refused number failed, j, e) n = ap (λ (a : After). a .store) e
+  -- nothing is touched, or a reply is written and the store stays, or a request is taken
+  data Ends (x : After) : Type 0 where
+    nothing : (n : ℕ) → x ≡ stays m message store reply n → Ends x
+    replied : (number failed : ℕ) (send reboot : Bool) (h : Hash) → number ≤ 5 → x ≡ replies m message store reply number failed send reboot h store → Ends x
+    stored : (l : List Setting) (u : Tables) → Allowed m u → x ≡ settled m message store reply (kept l u) → Ends x
+
+  kind-ends : (t : Tables) → Allowed m t → (k : Message) (x : After) → Settles m message store reply t k x → Ends x
+  kind-ends t ok Size x e = nothing 12 e
+  kind-ends t ok Carrier x e = nothing 13 e
+  kind-ends t ok OtherType x e = nothing 14 e
+  kind-ends t ok Version x e = replied 1 0 true false no-hash (omega arith) e
+  kind-ends t ok NoRequest x e = replied 4 0 true false no-hash (omega arith) e
+  kind-ends t ok NoQuery x e = replied 4 0 true false no-hash (omega arith) e
+  kind-ends t ok (AQuery p) x (h, q, inl (_, _, e)) = replied 0 0 true false (t .hash) (omega arith) e
+  kind-ends t ok (AQuery p) x (h, q, inr (_, e)) = replied 5 0 true false (t .hash) (omega arith) e
+  kind-ends t ok (Request count at) x (kept l u, j, e) = stored l u (run-allowed m (says m (forget t) j .1) (forget-allowed m t ok)) e
+  kind-ends t ok (Request count at) x (refused number failed, j, e) = replied number failed true false no-hash (omega (arith, numbered m (forget t) j .1)) e
+
+  ends : (x : After) → Answers (taken m message store reply) x → Ends x
+  ends x (inl (_, e)) = nothing 10 e
+  ends x (inr (_, inl (_, e))) = nothing 11 e
+  ends x (inr (_, inr (_, h))) = kind-ends (h .tables) (h .allowed) (h .kind) x (h .settles)
 
   -- STORE STAYS: "Only .. a taken request change[s] it": any number but 0 leaves every byte of the store
   pub store-stays : (x : After) → Answers (taken m message store reply) x → x .answer .number ≢ 0 → x .store ≡ store
-  store-stays x (inl (_, e)) n = ap (λ (a : After). a .store) e
-  store-stays x (inr (_, inl (_, e))) n = ap (λ (a : After). a .store) e
-  store-stays x (inr (_, inr (_, h))) n = kind-stays (h .tables) (h .kind) x (h .settles) n
+  store-stays x a n = by (ends x a)
+    where
+      by : Ends x → x .store ≡ store
+      by (nothing k e) = ap (λ (y : After). y .store) e
+      by (replied number failed send reboot h l e) = ap (λ (y : After). y .store) e
+      by (stored l u ok e) = absurd (n (ap (λ (y : After). y .answer .number) e))
+
+  -- UNTOUCHED: "10 to 17 touch no byte of any buffer", and "for 10 to 14: ID 0, no, no, length 0"
+  pub untouched : (x : After) → Answers (taken m message store reply) x → 10 ≤ x .answer .number → x ≡ stays m message store reply (x .answer .number)
+  untouched x a n = by (ends x a)
+    where
+      by : Ends x → x ≡ stays m message store reply (x .answer .number)
+      by (nothing k e) = e ∙ ap (stays m message store reply) (sym (ap (λ (y : After). y .answer .number) e))
+      by (replied number failed send reboot h l e) = absurd (omega (arith, n, l, ap (λ (y : After). y .answer .number) e))
+      by (stored l u ok e) = absurd (omega (arith, n, ap (λ (y : After). y .answer .number) e))
+
+  -- STORE KEPT: whatever message comes, a store is a store afterwards
+  pub store-kept : StoreOf m store → (x : After) → Answers (taken m message store reply) x → StoreOf m (x .store)
+  store-kept s x a = by (ends x a)
+    where
+      by : Ends x → StoreOf m (x .store)
+      by (nothing k e) = subst⁻¹ (λ (y : After). StoreOf m (y .store)) e s
+      by (replied number failed send reboot h l e) = subst⁻¹ (λ (y : After). StoreOf m (y .store)) e s
+      by (stored l u ok e) =
+          subst⁻¹ (λ (y : After). StoreOf m (y .store)) e
+          (record { size = layout-length m u (s .roomy) ok; roomy = s .roomy; store = record { tables = u; allowed = ok; bytes-are = refl } })
 
 -- ---- a request that passes the checks
 
@@ -103,14 +149,6 @@ module _ (m : Limits) (message store reply : List ℕ) (b : Bytes message) (t : 
       let (w, p, y, z) = run-written m q in
       record { settings = l; tables = u; written = w; rest = rest; parts = p; counted = e; writing = y; in-turn = z }
 
-  -- what the outcome of judging says
-  says : {n : ℕ} {bs : List ℕ} {o : Outcome Setting Tables} → Judged m n (forget t) bs o
-      → Says Setting Tables WrittenIn (InRange text-limits) (apply m) Known one-writing type-first n (forget t) bs o
-  says = judged-says Setting Tables WrittenIn (InRange text-limits) (apply m) Known one-writing type-first
-
-  not-zero : {n : ℕ} {bs : List ℕ} {o : Outcome Setting Tables} → Judged m n (forget t) bs o → NotZero Setting Tables WrittenIn (InRange text-limits) (apply m) Known one-writing type-first o
-  not-zero = refused-number Setting Tables WrittenIn (InRange text-limits) (apply m) Known one-writing type-first
-
   abbrev Stood : ℕ → List ℕ → ℕ → Type 0
   Stood n bs k = Stands Setting Tables WrittenIn (InRange text-limits) (apply m) Known one-writing type-first n (forget t) bs k
 
@@ -141,9 +179,9 @@ module _ (m : Limits) (message store reply : List ℕ) (b : Bytes message) (t : 
         by : x .answer .number ≡ 0 → (k : Message) × Counts d message k × Settles m message store reply t k x
             → (l : List Setting) × (u : Tables) × WrittenAs unicode16 l d × InTurn m (length l) (forget t) l u
         by n (NoRequest, uncounted never, e) = absurd (omega (arith, n, ap (λ (y : After). y .answer .number) e))
-        by n (Request count at, counts c, (refused number failed, j, e)) = absurd (omega (arith, n, ap (λ (y : After). y .answer .number) e, not-zero j))
+        by n (Request count at, counts c, (refused number failed, j, e)) = absurd (omega (arith, n, ap (λ (y : After). y .answer .number) e, numbered m (forget t) j .0))
         by n (Request count at, counts c, (kept l u, j, e)) =
-            let (q, r) = says j in
+            let (q, r) = says m (forget t) j in
             let (w, k, y, z) = run-written m r in
             let s : drop at message ≡ w = k ∙ append-nil w in (
               l,
@@ -179,7 +217,7 @@ module _ (m : Limits) (message store reply : List ℕ) (b : Bytes message) (t : 
             → Refused m (forget t) d (x .answer .number) (x .answer .failed) × (x ≡ turned-down m message store reply (x .answer .number) (x .answer .failed))
         by (NoRequest, uncounted never, e) = as-said 4 0 e (no-count never refl refl)
         by (Request count at, counts c, (kept l u, j, e)) = absurd (n (ap (λ (y : After). y .answer .number) e))
-        by (Request count at, counts c, (refused number failed, j, e)) = as-said number failed e (why (says j))
+        by (Request count at, counts c, (refused number failed, j, e)) = as-said number failed e (why (says m (forget t) j))
           where
             why : Says Setting Tables WrittenIn (InRange text-limits) (apply m) Known one-writing type-first count (forget t) (drop at message) (refused number failed)
                 → Refused m (forget t) d number failed
