@@ -1,0 +1,3 @@
+pub mod PlainLaws
+pub mod TextWriting
+pub mod WroteLaws

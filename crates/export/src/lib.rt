@@ -1,2 +1,4 @@
 // Writes a set's settings out again, part by part.
 pub mod parts;
+mod texts;
+mod writers;
