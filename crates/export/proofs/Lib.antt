@@ -1,3 +1,5 @@
+pub mod NumberWriting
 pub mod PlainLaws
+pub mod StartLaws
 pub mod TextWriting
 pub mod WroteLaws

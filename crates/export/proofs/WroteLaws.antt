@@ -110,3 +110,29 @@ wrote-one x at s h = record {
   content = rw add-one (set-split s at x h);
   next = refl;
 }
+
+-- ---- a walk that writes
+
+-- of all that is to be written, what is left
+pub record Writing (all : List ℕ) (at : ℕ) (before after : List ℕ) (r : ℕ) (left : List ℕ) : Type 0 where
+  pub done : List ℕ
+  pub wrote : Wrote done at before after r
+  pub whole : all ≡ done ++ left
+
+-- nothing is written yet
+pub writing-start : (all : List ℕ) (at : ℕ) (s : List ℕ) → at ≤ length s → Writing all at s s at all
+writing-start all at s h = record { done = []; wrote = wrote-none at s h; whole = refl }
+
+-- the next bytes are written
+pub writing-more : (all : List ℕ) (at m r : ℕ) (s t u : List ℕ) (left x rest : List ℕ) → Writing all at s t m left → left ≡ x ++ rest → Wrote x m t u r
+    → Writing all at s u r rest
+writing-more all at m r s t u left x rest g e w = record {
+  done = g .done ++ x;
+  wrote = wrote-both (g .done) x at m r s t u (g .wrote) w;
+  whole = g .whole ∙ ap (λ (l : List ℕ). g .done ++ l) e ∙ sym (append-assoc (g .done) x rest);
+}
+
+-- nothing is left
+pub writing-end : (all : List ℕ) (at r : ℕ) (s t left : List ℕ) → Writing all at s t r left → left ≡ [] → Wrote all at s t r
+writing-end all at r s t left g e =
+    wrote-as (g .done) all at r s t (sym (g .whole ∙ ap (λ (l : List ℕ). g .done ++ l) e ∙ append-nil (g .done))) (g .wrote)

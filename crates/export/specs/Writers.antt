@@ -1,11 +1,16 @@
 -- What the writers of an export leave in the buffer, step by step. No promise cites these.
-use Prim.Native.Nat.{ℕ, _+_, _≤_}
+use Prim.Native.Nat.{ℕ, _+_, _≤_, _<_}
 use mathlib.Core.Path.{_≡_}
 use mathlib.Core.List.{List, _++_}
-use lib.ListN.{length, take, drop}
+use lib.ListN.{length, getD, take, drop}
+use Rattle.lists.proofs.Every.{All}
+use Rattle.writing.specs.Canonical.{plain, canonical, canonical-all, FitsField}
+use Rattle.writing.specs.Ranges.{InNumber}
+use Rattle.writing.specs.Settings.{Text, Number, Setting, kind, unicode16}
+use Rattle.writing.specs.Writing.{type-byte, body}
 use Rattle.tables.specs.Allowed.{TextOk}
-use Rattle.tables.specs.Layout.{text-bytes}
-use Rattle.writing.specs.Settings.{Text}
+use Rattle.tables.specs.Layout.{text-bytes, digit-bytes}
+use Rattle.export.specs.Exported.{request-bytes}
 
 -- the bytes stand in the buffer from `at` on, all others stay, and r is the place after them
 pub record Wrote (bytes : List ℕ) (at : ℕ) (before after : List ℕ) (r : ℕ) : Type 0 where
@@ -26,3 +31,19 @@ Kept P f s a = P a × (s ≡ f a)
 -- the lent bytes are a text's, of whatever limit
 abbrev pub TextIn : List ℕ → Text → Type 0
 TextIn s us = (n : ℕ) × Kept (TextOk n) (text-bytes n) s us
+
+-- a digit of a kept number, 15 past the last
+abbrev pub DigitAt : List ℕ → ℕ → ℕ → Type 0
+DigitAt s i r = (r < 16) × ((ds : Number) → Kept InNumber digit-bytes s ds → r ≡ getD ds i 15)
+
+-- the setting whose fields after DataLength were written up to `end` was given its type byte and DataLength
+pub record Started (type at end : ℕ) (before after : List ℕ) (r : ℕ) : Type 0 where
+  pub same : r ≡ end
+  pub setting : (s : Setting) (was : List ℕ) → type-byte (kind s) ≡ type → All FitsField (body unicode16 s)
+      → Wrote (plain (body unicode16 s)) (at + 3) was before end → Wrote (canonical unicode16 s) at was after r
+
+-- the settings that were written up to `end` were given a request's head
+pub record Headed (count end : ℕ) (before after : List ℕ) (r : ℕ) : Type 0 where
+  pub same : r ≡ end
+  pub request : (ss : List Setting) (was : List ℕ) → length ss ≡ count
+      → Wrote (canonical-all unicode16 ss) 8 was before end → Wrote (request-bytes ss) 0 was after r
