@@ -1,3 +1,4 @@
+pub mod FixedWriting
 pub mod NumberWriting
 pub mod PlainLaws
 pub mod StartLaws

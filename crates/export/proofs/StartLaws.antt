@@ -16,7 +16,7 @@ use Rattle.writing.specs.Writing.{type-byte, body, data-length, request-head}
 use Rattle.writing.proofs.CanonicalLaws.{plain-length}
 use Rattle.writing.proofs.Whole.{body-whole}
 use Rattle.export.specs.Exported.{data-bytes, request-bytes}
-use Rattle.export.specs.Writers.{Wrote, Started, Headed}
+use Rattle.export.specs.Writers.{Wrote, Writes, Started, Headed}
 use Rattle.export.proofs.PlainLaws.{plain-byte, plain-two}
 use Rattle.export.proofs.WroteLaws.{wrote-before, wrote-as, wrote-length}
 
@@ -60,6 +60,17 @@ setting-started type at end r before after low high w = record { same = refl; se
         wrote-as ((type ∷ u16 (end - at - 1)) ++ plain (body unicode16 s)) (canonical unicode16 s) at end was after x
         (wrote-before (type ∷ u16 (end - at - 1)) (plain (body unicode16 s)) at (at + 3) end was before after v
         (subst (λ (m : ℕ). Wrote (type ∷ u16 (end - at - 1)) at before after m) (w .next) w))
+
+-- so what the lent bytes hold was written as a setting, where its fields after DataLength were written before
+pub setting-writes : {A : Type 0} (Held : A → Type 0) (setting : A → Setting) (type at room end r : ℕ) (before mid after : List ℕ)
+    → Started type at end mid after r → at ≤ end → end ≤ at + room
+    → ((a : A) → Held a → (type-byte (kind (setting a)) ≡ type) × All FitsField (body unicode16 (setting a)) × Wrote (plain (body unicode16 (setting a))) (at + 3) before mid end)
+    → Writes Held (λ a. canonical unicode16 (setting a)) at room before after r
+setting-writes Held setting type at room end r before mid after st low high h = record {
+  from = omega (arith, st .same);
+  most = omega (arith, st .same);
+  wrote = λ a k. let (t, f, w) = h a k in st .setting (setting a) before t f w;
+}
 
 -- ---- a request
 

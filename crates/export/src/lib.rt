@@ -1,4 +1,5 @@
 // Writes a set's settings out again, part by part.
+mod fixed;
 pub mod parts;
 mod texts;
 mod writers;
