@@ -8,7 +8,7 @@ use native.Mathlib.Omega.{arith}
 use borrow.Author.Tests.{eqb-true}
 use lib.Dec.{eqb}
 use lib.ListN.{length, drop, getD, set, length-drop, List·getD-eq-default}
-use lib.Seq.{drop-cons, getD-drop}
+use lib.Seq.{getD-drop}
 use Rattle.lists.proofs.Bools.{is-false, and-parts}
 use Rattle.lists.proofs.Every.{All, all-append, all-get, all-map}
 use Rattle.slots.specs.Slots.{flat, pad, front, zeros?, Listed, Found}
@@ -22,6 +22,7 @@ use Rattle.writing.specs.Writing.{number, fill}
 use Rattle.writing.proofs.Whole.{number-whole}
 use Rattle.tables.specs.Layout.{digit-bytes}
 use Rattle.export.specs.Writers.{Kept, DigitAt, Wrote}
+use Rattle.export.proofs.PairLaws.{all-drop, drop-two}
 use Rattle.export.proofs.PlainLaws.{plain-byte}
 use Rattle.export.proofs.WroteLaws.{Writing, writing-start, writing-more, writing-end, wrote-one}
 
@@ -73,12 +74,6 @@ module _ (s : List ℕ) (i : ℕ) (long : length s ≡ 18) where
 
 -- ---- the bytes of a number
 
--- every element behind a place
-all-drop : (P : ℕ → Type 0) (k : ℕ) (xs : List ℕ) → All P xs → All P (drop k xs)
-all-drop P zero xs p = p
-all-drop P (suc k) [] p = tt
-all-drop P (suc k) (x ∷ xs) p = all-drop P k xs (p .1)
-
 -- what fills a byte fits
 pub fill-fits : (n : ℕ) → All FitsField (fill n)
 fill-fits zero = tt
@@ -100,12 +95,7 @@ plain-digits a b ds p q h = plain-byte (a * 16 + b) (item 4 15 a ∷ item 4 15 b
 pub number-more : (ds : Number) (i x y : ℕ) → All (_≤ 9) ds → i < length ds / 2 → x ≡ getD ds (2 * i) 15 → y ≡ getD ds (2 * i + 1) 15
     → plain (number (drop (2 * i) ds)) ≡ (x * 16 + y) ∷ plain (number (drop (2 * (i + 1)) ds))
 number-more ds i x y h l p q =
-    let d : drop (2 * i) ds ≡ getD ds (2 * i) 15 ∷ getD ds (suc (2 * i)) 15 ∷ drop (suc (suc (2 * i))) ds
-    = drop-cons ds (2 * i) 15 (omega arith) ∙ ap (λ (m : Number). getD ds (2 * i) 15 ∷ m) (drop-cons ds (suc (2 * i)) 15 (omega arith)) in
-    let j : suc (2 * i) ≡ 2 * i + 1 = omega arith in
-    let k : suc (suc (2 * i)) ≡ 2 * (i + 1) = omega arith in
-    let e : drop (2 * i) ds ≡ x ∷ y ∷ drop (2 * (i + 1)) ds
-    = d ∙ (λ t. sym p t ∷ (ap (λ (n : ℕ). getD ds n 15) j ∙ sym q) t ∷ drop (k t) ds) in
+    let e : drop (2 * i) ds ≡ x ∷ y ∷ drop (2 * (i + 1)) ds = drop-two 15 ds i (omega arith) ∙ (λ t. sym p t ∷ sym q t ∷ drop (2 * (i + 1)) ds) in
     let a : x ≤ 9 = rw p (all-get (_≤ 9) ds (2 * i) 15 h (omega arith)) in
     let b : y ≤ 9 = rw q (all-get (_≤ 9) ds (2 * i + 1) 15 h (omega arith)) in
     ap (λ (m : Number). plain (number m)) e ∙ plain-digits x y (drop (2 * (i + 1)) ds) a b (all-drop (_≤ 9) (2 * (i + 1)) ds h)

@@ -4,6 +4,7 @@ use mathlib.Core.Path.{_≡_}
 use mathlib.Core.List.{List, _++_}
 use lib.ListN.{length, getD, take, drop}
 use Rattle.lists.proofs.Every.{All}
+use Rattle.slots.specs.Slots.{Listed}
 use Rattle.writing.specs.Canonical.{plain, canonical, canonical-all, FitsField}
 use Rattle.writing.specs.Ranges.{InNumber}
 use Rattle.writing.specs.Settings.{Text, Number, Setting, kind, unicode16}
@@ -47,3 +48,7 @@ pub record Headed (count end : ℕ) (before after : List ℕ) (r : ℕ) : Type 0
   pub same : r ≡ end
   pub request : (ss : List Setting) (was : List ℕ) → length ss ≡ count
       → Wrote (canonical-all unicode16 ss) 8 was before end → Wrote (request-bytes ss) 0 was after r
+
+-- the lent bytes are the list table of xs, with however many places
+abbrev pub ListIn : {A : Type 0} → (A → Type 0) → ℕ → (A → List ℕ) → List ℕ → List A → Type 0
+ListIn P w f s xs = (n : ℕ) × Listed P w f n xs s

@@ -1,4 +1,5 @@
 // Writes a set's settings out again, part by part.
+mod channels;
 mod fixed;
 pub mod parts;
 mod texts;
