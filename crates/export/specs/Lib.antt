@@ -1,3 +1,4 @@
 pub mod Exported
 pub mod Exporting
+pub mod MemberWriters
 pub mod Writers
