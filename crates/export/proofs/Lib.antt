@@ -1,5 +1,6 @@
 pub mod ChannelWriting
 pub mod FixedWriting
+pub mod LineWriting
 pub mod MemberWriting
 pub mod NumberWriting
 pub mod PairLaws

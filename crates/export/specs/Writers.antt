@@ -11,6 +11,7 @@ use Rattle.writing.specs.Settings.{Text, Number, Setting, kind, unicode16}
 use Rattle.writing.specs.Writing.{type-byte, body}
 use Rattle.tables.specs.Allowed.{TextOk}
 use Rattle.tables.specs.Layout.{text-bytes, digit-bytes}
+use Rattle.export.specs.declared.writers.Settings.{Settings}
 use Rattle.export.specs.Exported.{request-bytes}
 
 -- the bytes stand in the buffer from `at` on, all others stay, and r is the place after them
@@ -52,3 +53,8 @@ pub record Headed (count end : ℕ) (before after : List ℕ) (r : ℕ) : Type 0
 -- the lent bytes are the list table of xs, with however many places
 abbrev pub ListIn : {A : Type 0} → (A → Type 0) → ℕ → (A → List ℕ) → List ℕ → List A → Type 0
 ListIn P w f s xs = (n : ℕ) × Listed P w f n xs s
+
+-- the settings of what the lent bytes hold were written, and counted
+pub record WritesAll {A : Type 0} (Held : A → Type 0) (settings : A → List Setting) (at room : ℕ) (before after : List ℕ) (r : Settings) : Type 0 where
+  pub writes : Writes Held (λ a. canonical-all unicode16 (settings a)) at room before after (r .end)
+  pub counted : (a : A) → Held a → r .count ≡ length (settings a)

@@ -5,6 +5,12 @@ ghost use Prim.Native.Nat.{_+_, _-_, _≤_, _<_};
 ghost use lib.ListN.{length};
 ghost use Rattle.export.specs.Writers.{Wrote, Started, Headed};
 
+// Settings that were written: the place after them, and how many they are.
+pub(crate) struct Settings {
+    pub end: usize,
+    pub count: u8,
+}
+
 pub(crate) fn write_bytes(buffer: &mut [u8], at: usize, bytes: &[u8]) -> usize
     requires { ⌜ at + length (now bytes) ≤ length (now buffer) ⌝ }
     ensures { λ r. ⌜ Wrote (now (bytes .entry)) at (now (buffer .entry)) (now (buffer .exit)) r ⌝ }
