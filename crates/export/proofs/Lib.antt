@@ -1,4 +1,5 @@
 pub mod ChannelWriting
+pub mod EntryWriting
 pub mod FixedWriting
 pub mod LineWriting
 pub mod MemberWriting

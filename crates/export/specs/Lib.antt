@@ -1,3 +1,4 @@
+pub mod EntryWriters
 pub mod Exported
 pub mod Exporting
 pub mod MemberWriters

@@ -1,5 +1,6 @@
 // Writes a set's settings out again, part by part.
 mod channels;
+mod entries;
 mod fixed;
 mod lines;
 mod members;
