@@ -7,5 +7,7 @@ pub mod NumberWriting
 pub mod PairLaws
 pub mod PlainLaws
 pub mod StartLaws
+pub mod TextLists
+pub mod TextSettings
 pub mod TextWriting
 pub mod WroteLaws

@@ -5,12 +5,12 @@ use mathlib.Core.Bool.{false}
 use mathlib.Core.List.{List, [], _∷_, _++_, map}
 use mathlib.Core.Option.{Option}
 use lib.ListN.{length, take, drop}
-use Rattle.slots.specs.Slots.{flat, zeros?, Placed}
+use Rattle.slots.specs.Slots.{flat, slot, zeros?, Present, Placed}
 use Rattle.writing.specs.Canonical.{plain}
 use Rattle.writing.specs.Settings.{Text, Entry, unicode16}
 use Rattle.writing.specs.Writing.{text}
-use Rattle.tables.specs.Allowed.{TextOk}
-use Rattle.tables.specs.Layout.{text-bytes}
+use Rattle.tables.specs.Allowed.{TextOk, QuickOk}
+use Rattle.tables.specs.Layout.{text-bytes, quick-bytes, quick-width}
 use Rattle.export.specs.declared.entries.TextTable.{TextTable}
 use Rattle.export.specs.declared.entries.Entries.{Entries}
 use Rattle.export.specs.Exported.{entries}
@@ -51,3 +51,7 @@ pub record EntersAll (t : TextTable) (part : List ℕ) (at : ℕ) (before after 
   pub full : r .next < t .places → r .count ≡ t .most
   pub entered : (lead : List ℕ) (n : ℕ) (os : List (Option Text)) → length lead ≡ t .skip → t .width ≡ t .skip + 2 * n
       → Placed (Shown lead n) (t .width) (led lead n) (t .places) os part → Entered t os at before after r
+
+-- the lent bytes are the slot of a quick text, or an empty one
+abbrev pub QuickIn : List ℕ → Option Text → Type 0
+QuickIn s o = Present QuickOk o × (s ≡ slot quick-width quick-bytes o)

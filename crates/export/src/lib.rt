@@ -5,5 +5,6 @@ mod fixed;
 mod lines;
 mod members;
 pub mod parts;
+mod text_lists;
 mod texts;
 mod writers;
