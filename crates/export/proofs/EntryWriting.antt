@@ -20,7 +20,7 @@ use Rattle.tables.specs.Layout.{text-bytes}
 use Rattle.tables.proofs.TextCodes.{text-length}
 use Rattle.export.specs.declared.entries.TextTable.{TextTable}
 use Rattle.export.specs.declared.entries.Entries.{Entries}
-use Rattle.export.specs.EntryWriters.{entry-bytes, led, Shown, Indexed, Entered}
+use Rattle.export.specs.EntryWriters.{entry-bytes, entry-size, led, Shown, Indexed, Entered}
 use Rattle.export.specs.Exported.{entries}
 use Rattle.export.specs.Writers.{Wrote, Writes, TextIn}
 use Rattle.export.proofs.WroteLaws.{wrote-none, wrote-both, wrote-as}
@@ -145,7 +145,7 @@ pub record Turn (t : TextTable) (part buffer₀ : List ℕ) (at : ℕ) (buffer :
   pub same : length buffer ≡ length buffer₀
   pub within : next ≤ t .places
   pub from : at ≤ end
-  pub most : end ≤ at + (next * t .width + 3 * next)
+  pub most : end ≤ at + count * entry-size t
   pub passed : count ≤ next
   pub few : count ≤ t .most
   pub walked : Walked t part buffer₀ buffer at end count next
@@ -163,27 +163,24 @@ module _ (t : TextTable) (part buffer₀ : List ℕ) (at : ℕ) where
     -- where the slot is empty
     pub turn-none : zeros? (midOf (next * t .width) (next * t .width + t .width - next * t .width) part) ≡ true → Turn t part buffer₀ at buffer end count (next + 1)
     turn-none e =
-        let w : suc next * t .width ≡ next * t .width + t .width = suc-mul next (t .width) in
-        let w' : (next + 1) * t .width ≡ next * t .width + t .width = ap (λ (i : ℕ). i * t .width) (add-one next) ∙ w in
         record {
           same = z .same;
           within = omega arith;
           from = z .from;
-          most = omega (arith, z .most);
+          most = z .most;
           passed = omega (arith, z .passed);
           few = z .few;
           walked = walked-none t part buffer₀ buffer at end count next (z .walked) low e;
         }
 
     -- where it is not
-    pub turn-some : (after : List ℕ) (room r : ℕ) → length after ≡ length buffer → room ≤ t .width + 3 → (count ≡ t .most → ⊥)
+    pub turn-some : (after : List ℕ) (room r : ℕ) → length after ≡ length buffer → room ≤ entry-size t → (count ≡ t .most → ⊥)
         → zeros? (midOf (next * t .width) (next * t .width + t .width - next * t .width) part) ≡ false
         → Writes (λ us. TextIn (drop (t .skip) (midOf (next * t .width) (next * t .width + t .width - next * t .width) part)) us) (λ us. entry-bytes (record { index = t .first + next; text = us }))
         end room buffer after r
         → Turn t part buffer₀ at after r (count + 1) (next + 1)
     turn-some after room r l m c e v =
-        let w : suc next * t .width ≡ next * t .width + t .width = suc-mul next (t .width) in
-        let w' : (next + 1) * t .width ≡ next * t .width + t .width = ap (λ (i : ℕ). i * t .width) (add-one next) ∙ w in
+        let w : (count + 1) * entry-size t ≡ count * entry-size t + entry-size t = ap (λ (i : ℕ). i * entry-size t) (add-one count) ∙ suc-mul count (entry-size t) in
         record {
           same = l ∙ z .same;
           within = omega arith;

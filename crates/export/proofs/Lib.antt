@@ -1,10 +1,12 @@
 pub mod ChannelWriting
 pub mod EntryWriting
+pub mod ExportLaws
 pub mod FixedWriting
 pub mod LineWriting
 pub mod MemberWriting
 pub mod NumberWriting
 pub mod PairLaws
+pub mod PartWriting
 pub mod PlainLaws
 pub mod StartLaws
 pub mod TextLists

@@ -135,7 +135,7 @@ quick-settings os = quick-texts Replace (take 63 (entries 0 os)) ∷ map quick-a
 module _ (part s t v : List ℕ) (at z : ℕ) (r : Entries) (g : EntersAll quick-table part (at + 4) s t r) where
   -- the replace is all
   pub quick-done : r .next ≡ 64 → ((os : List (Option Text)) → QuicksIn part os → Wrote (canonical unicode16 (quick-texts Replace (take 63 (entries 0 os)))) at s v z)
-      → at ≤ z → z ≤ at + 3140 → WritesAll (QuicksIn part) quick-settings at 3193 s v (record { end = z; count = 1 })
+      → at ≤ z → z ≤ at + 3091 → WritesAll (QuicksIn part) quick-settings at 3144 s v (record { end = z; count = 1 })
   quick-done e w low high = record {
     writes = record { from = low; most = omega arith; wrote = all };
     counted = λ os p. ap (λ (x : List Entry). suc (length (map quick-add x))) (sym (rest os p));
@@ -153,8 +153,8 @@ module _ (part s t v : List ℕ) (at z : ℕ) (r : Entries) (g : EntersAll quick
   -- the last place may have an add
   pub quick-more : (after : List ℕ) (y : Settings) → (r .next ≡ 64 → ⊥)
       → ((os : List (Option Text)) → QuicksIn part os → Wrote (canonical unicode16 (quick-texts Replace (take 63 (entries 0 os)))) at s v z)
-      → WritesAll (QuickIn (midOf 2898 46 part)) (λ o. map quick-add (entries 63 (o ∷ []))) z 53 v after y → at ≤ z → z ≤ at + 3140
-      → WritesAll (QuicksIn part) quick-settings at 3193 s after (record { end = y .end; count = 1 + y .count })
+      → WritesAll (QuickIn (midOf 2898 46 part)) (λ o. map quick-add (entries 63 (o ∷ []))) z 53 v after y → at ≤ z → z ≤ at + 3091
+      → WritesAll (QuicksIn part) quick-settings at 3144 s after (record { end = y .end; count = 1 + y .count })
   quick-more after y n w h low high = record {
     writes = record { from = omega (arith, h .writes .from); most = omega (arith, h .writes .most); wrote = all };
     counted = λ os p.

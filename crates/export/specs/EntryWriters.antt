@@ -1,5 +1,5 @@
 -- Quick and status texts as the writers see them. No promise cites these.
-use Prim.Native.Nat.{ℕ, _+_, _*_, _≤_, _<_}
+use Prim.Native.Nat.{ℕ, _+_, _-_, _*_, _≤_, _<_}
 use mathlib.Core.Path.{_≡_}
 use mathlib.Core.Bool.{false}
 use mathlib.Core.List.{List, [], _∷_, _++_, map}
@@ -28,9 +28,12 @@ led lead n us = lead ++ text-bytes n us
 abbrev pub Shown : List ℕ → ℕ → Text → Type 0
 Shown lead n us = TextOk n us × (zeros? (led lead n us) ≡ false)
 
--- a table's slots have bytes, the text stands in them, and every index is a byte
+-- the most bytes of an entry: its index, its text and the end unit
+abbrev pub entry-size : TextTable → ℕ
+entry-size t = t .width - t .skip + 3
+
+-- the text stands in a slot, every index is a byte, and the table has its places
 pub record Indexed (t : TextTable) (part : List ℕ) : Type 0 where
-  pub wide : 0 < t .width
   pub skips : t .skip ≤ t .width
   pub indices : t .first + t .places ≤ 256
   pub long : length part ≡ t .places * t .width
@@ -44,7 +47,7 @@ pub record Entered (t : TextTable) (os : List (Option Text)) (at : ℕ) (before 
 -- the texts of a table were written, whatever they are
 pub record EntersAll (t : TextTable) (part : List ℕ) (at : ℕ) (before after : List ℕ) (r : Entries) : Type 0 where
   pub from : at ≤ r .end
-  pub most : r .end ≤ at + (length part + 3 * t .places)
+  pub most : r .end ≤ at + r .count * entry-size t
   pub few : r .count ≤ t .most
   pub passed : r .count ≤ r .next
   pub within : r .next ≤ t .places

@@ -4,7 +4,7 @@ use super::writers::write_bytes;
 use slots::bytes::is_zeros;
 ghost use Prim.Native.Nat.{_+_, _*_, _-_, _≤_};
 ghost use lib.ListN.{length, drop};
-ghost use Rattle.export.specs.EntryWriters.{entry-bytes, Indexed, EntersAll};
+ghost use Rattle.export.specs.EntryWriters.{entry-bytes, entry-size, Indexed, EntersAll};
 ghost use Rattle.export.specs.Writers.{Writes, TextIn};
 
 // A table of texts: its slots, where the text starts in one, the index or code of the first, and how many entries one setting takes.
@@ -31,8 +31,8 @@ pub(crate) fn write_entry(
     slot: &[u8],
     skip: usize,
 ) -> usize
-    requires { ⌜ (skip ≤ length (now slot)) × (at + length (now slot) + 3 ≤ length (now buffer)) ⌝ }
-    ensures { λ r. ⌜ Writes (λ us. TextIn (drop skip (now (slot .entry))) us) (λ us. entry-bytes (record { index = index; text = us })) at (length (now (slot .entry)) + 3) (now (buffer .entry)) (now (buffer .exit)) r ⌝ }
+    requires { ⌜ (skip ≤ length (now slot)) × (at + (length (now slot) - skip + 3) ≤ length (now buffer)) ⌝ }
+    ensures { λ r. ⌜ Writes (λ us. TextIn (drop skip (now (slot .entry))) us) (λ us. entry-bytes (record { index = index; text = us })) at (length (now (slot .entry)) - skip + 3) (now (buffer .entry)) (now (buffer .exit)) r ⌝ }
 {
     let head = [index];
     let text = write_bytes(buffer, at, &head);
@@ -41,7 +41,7 @@ pub(crate) fn write_entry(
 
 // The entries of a table, in order, until the most are written.
 pub(crate) fn write_entries(buffer: &mut [u8], at: usize, table: TextTable, part: &[u8]) -> Entries
-    requires { ⌜ Indexed table (now part) × (at + (length (now part) + 3 * table .places) ≤ length (now buffer)) ⌝ }
+    requires { ⌜ Indexed table (now part) × (at + table .most * entry-size table ≤ length (now buffer)) ⌝ }
     ensures { λ r. ⌜ EntersAll table (now (part .entry)) at (now (buffer .entry)) (now (buffer .exit)) r ⌝ }
 {
     let mut end = at;

@@ -1,6 +1,7 @@
 // Writes a set's settings out again, part by part.
 mod channels;
 mod entries;
+pub mod exporting;
 mod fixed;
 mod lines;
 mod members;

@@ -39,8 +39,8 @@ const STATUS: TextTable = TextTable {
 
 // A replace by all status texts.
 pub(crate) fn write_status(buffer: &mut [u8], at: usize, part: &[u8]) -> usize
-    requires { ⌜ (length (now part) ≡ 3168) × (at + 3461 ≤ length (now buffer)) ⌝ }
-    ensures { λ r. ⌜ Writes (λ os. Placed StatusOk 33 status-bytes 96 os (now (part .entry))) (λ os. canonical unicode16 (status-texts Replace (entries 32 os))) at 3461 (now (buffer .entry)) (now (buffer .exit)) r ⌝ }
+    requires { ⌜ (length (now part) ≡ 3168) × (at + 3365 ≤ length (now buffer)) ⌝ }
+    ensures { λ r. ⌜ Writes (λ os. Placed StatusOk 33 status-bytes 96 os (now (part .entry))) (λ os. canonical unicode16 (status-texts Replace (entries 32 os))) at 3365 (now (buffer .entry)) (now (buffer .exit)) r ⌝ }
 {
     let entries = write_entries(buffer, at + 5, STATUS, part);
     let head = [0xC0, entries.count as u8];
@@ -65,8 +65,8 @@ fn write_last_quick(buffer: &mut [u8], at: usize, slot: &[u8]) -> Settings
 
 // A replace by the first 63 quick texts, and an add of the last where there are 64.
 pub(crate) fn write_quick(buffer: &mut [u8], at: usize, part: &[u8]) -> Settings
-    requires { ⌜ (length (now part) ≡ 2944) × (at + 3193 ≤ length (now buffer)) ⌝ }
-    ensures { λ r. ⌜ WritesAll (λ os. Placed QuickOk 46 quick-bytes 64 os (now (part .entry))) (λ os. quick-texts Replace (take 63 (entries 0 os)) ∷ map quick-add (drop 63 (entries 0 os))) at 3193 (now (buffer .entry)) (now (buffer .exit)) r ⌝ }
+    requires { ⌜ (length (now part) ≡ 2944) × (at + 3144 ≤ length (now buffer)) ⌝ }
+    ensures { λ r. ⌜ WritesAll (λ os. Placed QuickOk 46 quick-bytes 64 os (now (part .entry))) (λ os. quick-texts Replace (take 63 (entries 0 os)) ∷ map quick-add (drop 63 (entries 0 os))) at 3144 (now (buffer .entry)) (now (buffer .exit)) r ⌝ }
 {
     let entries = write_entries(buffer, at + 4, QUICK, part);
     let head = [0xC0 + entries.count as u8];

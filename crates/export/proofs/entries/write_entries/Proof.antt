@@ -1,3 +1,4 @@
+use Rattle.export.specs.EntryWriters.{entry-size}
 use borrow.Author.Tests.{not-true, not-false}
 use mathlib.Core.Logic.{⊎-elim}
 use Rattle.slots.proofs.Tables.{slot-wide}
@@ -34,11 +35,10 @@ same-length c = search needs
 returns : tie.Need-returns Inv-loop μ-loop
 returns c =
     let a = c .before .before .before .before .before .before .before .args in
-    let p = c .before .before .before .before .before .before .before .pre in
     let l = c .before .before .before .before .loop in
     record {
       from = l .inv .from;
-      most = omega (arith, place-inside (l .next) (a .table .places) (a .table .width) (length (a .part .now)) (omega arith) (p .0 .long));
+      most = l .inv .most;
       few = omega arith;
       passed = omega arith;
       within = omega arith;
@@ -83,9 +83,11 @@ write-entry-requires : tie.Need-write-entry-requires Inv-loop μ-loop
 write-entry-requires c κs =
     let a = c .before .before .before .before .before .before .before .before .before .before .before .before .before .before .before .args in
     let l = c .before .before .before .before .before .before .before .before .before .before .before .before .loop in
-    let i = place-inside (l .next) (a .table .places) (a .table .width) (length (a .part .now)) (omega arith) (c .before .before .before .before .before .before .before .before .before .before .before .before .before .before .before .pre .0 .long) in
+    let p = c .before .before .before .before .before .before .before .before .before .before .before .before .before .before .before .pre in
+    let i = place-inside (l .next) (a .table .places) (a .table .width) (length (a .part .now)) (omega arith) (p .0 .long) in
     let w = slot-wide (a .part .now) (l .next * a .table .width) (a .table .width) i in
-    (omega (arith, w, c .before .before .before .before .before .before .before .before .before .before .before .before .before .before .before .pre .0 .skips), omega (arith, w, i, l .inv .most, l .inv .same, c .before .before .before .before .before .before .before .before .before .before .before .before .before .before .before .pre .1))
+    let m = place-inside (l .count) (a .table .most) (entry-size (a .table)) (a .table .most * entry-size (a .table)) (omega (arith, l .inv .few, c .before .before .before .before .before .before .before .before .if2 .left)) refl in
+    (omega (arith, w, p .0 .skips), omega (arith, w, m, l .inv .most, l .inv .same, p .1))
 
 add-count : tie.Need-add-count Inv-loop μ-loop
 add-count c = search needs
@@ -116,13 +118,10 @@ same-length-2 c = search needs
 returns-2 : tie.Need-returns-2 Inv-loop μ-loop
 returns-2 c =
     let a = c .before .before .before .before .before .args in
-    let p = c .before .before .before .before .before .pre in
     let l = c .before .before .loop in
-    let e : l .next ≡ a .table .places = omega arith in
-    let m : l .next * a .table .width ≡ a .table .places * a .table .width = ap (λ (i : ℕ). i * a .table .width) e in
     record {
       from = l .inv .from;
-      most = omega (arith, p .0 .long);
+      most = l .inv .most;
       few = omega arith;
       passed = omega arith;
       within = omega arith;

@@ -50,7 +50,7 @@ returns c =
     let z = c .before .before .before .before .start-setting in
     let q = quick-wrote (a .part .now) (a .buffer .now) (x .last .0) (w .last .0) (z .last .0) (a .at) (w .result) (z .result) (x .result) (x .ensures) (w .ensures) (z .ensures) in
     quick-done (a .part .now) (a .buffer .now) (x .last .0) (z .last .0) (a .at) (z .result) (x .result) (x .ensures) (c .if1 .taken) q
-    (omega (arith, z .ensures .same, x .ensures .from)) (omega (arith, z .ensures .same, x .ensures .most, c .before .before .before .before .before .before .before .before .before .before .before .before .before .before .before .before .before .before .pre .0))
+    (omega (arith, z .ensures .same, x .ensures .from)) (omega (arith, z .ensures .same, x .ensures .most, x .ensures .few))
 
 sub-write-last-quick : tie.Need-sub-write-last-quick
 sub-write-last-quick c = search needs
@@ -79,7 +79,7 @@ returns-2 c =
     let y = c .before .before .before .write-last-quick in
     let q = quick-wrote (a .part .now) (a .buffer .now) (x .last .0) (w .last .0) (z .last .0) (a .at) (w .result) (z .result) (x .result) (x .ensures) (w .ensures) (z .ensures) in
     quick-more (a .part .now) (a .buffer .now) (x .last .0) (z .last .0) (a .at) (z .result) (x .result) (x .ensures) (y .last .0) (y .result) (c .before .before .before .before .before .before .if1 .left) q (y .ensures .1)
-    (omega (arith, z .ensures .same, x .ensures .from)) (omega (arith, z .ensures .same, x .ensures .most, c .before .before .before .before .before .before .before .before .before .before .before .before .before .before .before .before .before .before .before .before .before .before .before .before .pre .0))
+    (omega (arith, z .ensures .same, x .ensures .from)) (omega (arith, z .ensures .same, x .ensures .most, x .ensures .few))
 
 pub write-quick-spec : {M : Type 1} → statement M
 write-quick-spec =

@@ -49,8 +49,8 @@ returns c =
     let x = c .before .before .before .before .before .before .before .before .before .before .before .before .write-entries in
     let w = c .before .before .before .before .before .before .write-bytes in
     let z = c .before .before .start-setting in
-    setting-writes _ (λ os. status-texts Replace (entries 32 os)) _ (a .at) 3461 (x .result .end) (z .result) (a .buffer .now) (w .last .0) (z .last .0) (z .ensures)
-    (omega (arith, x .ensures .from)) (omega (arith, x .ensures .most, p .0))
+    setting-writes _ (λ os. status-texts Replace (entries 32 os)) _ (a .at) 3365 (x .result .end) (z .result) (a .buffer .now) (w .last .0) (z .last .0) (z .ensures)
+    (omega (arith, x .ensures .from)) (omega (arith, x .ensures .most, x .ensures .few))
     (status-wrote (a .part .now) (a .buffer .now) (x .last .0) (w .last .0) (a .at) (w .result) (x .result) (x .ensures) (w .ensures))
 
 pub write-status-spec : {M : Type 1} → statement M
