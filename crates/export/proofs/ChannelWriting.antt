@@ -1,12 +1,12 @@
 -- Kept channels are written two in three bytes. Assumes nothing.
-use Prim.Native.Nat.{ℕ, zero, suc, _+_, _-_, _*_, _/_, _%_, _≤_, _<_}
-use mathlib.Core.Path.{_≡_, refl, sym, ap, ap₂, _∙_, subst}
+use Prim.Native.Nat.{ℕ, suc, _+_, _*_, _/_, _%_, _≤_, _<_}
+use mathlib.Core.Path.{_≡_, refl, sym, ap, _∙_}
 use mathlib.Core.List.{List, [], _∷_, _++_, map}
 use native.Mathlib.Omega.{arith}
 use lib.ListN.{length, drop, getD, drop-of-length-le}
 use lib.Seq.{drop-cons}
 use Rattle.lists.proofs.Every.{All, all-append, all-get, all-map}
-use Rattle.slots.specs.Slots.{flat, pad, front, u16, u24, zeros?, Listed, Found}
+use Rattle.slots.specs.Slots.{flat, pad, u16, zeros?, Listed, Found}
 use Rattle.slots.proofs.Keys.{used-at}
 use Rattle.slots.proofs.Tables.{front-bytes}
 use Rattle.writing.specs.declared.Operation.the-variants.{Replace}
@@ -22,7 +22,7 @@ use Rattle.export.specs.Writers.{Wrote, Writes, ListIn}
 use Rattle.export.proofs.NumberWriting.{fill-fits}
 use Rattle.export.proofs.PairLaws.{all-drop, drop-two, getD-pad, high-byte, low-byte}
 use Rattle.export.proofs.PlainLaws.{plain-two, plain-three}
-use Rattle.export.proofs.WroteLaws.{Writing, writing-start, writing-more, writing-end, wrote-both, wrote-as}
+use Rattle.export.proofs.WroteLaws.{Writing, writing-more, writing-end, wrote-both, wrote-as}
 
 -- ---- the bytes of channels
 

@@ -1,14 +1,14 @@
 -- The texts of a table are written as entries, each with its index or code. Assumes nothing.
-use Prim.Native.Nat.{ℕ, zero, suc, _+_, _-_, _*_, _≤_, _<_}
-use mathlib.Core.Path.{_≡_, refl, sym, ap, ap₂, _∙_, subst}
-use mathlib.Core.Bool.{Bool, true, false}
+use Prim.Native.Nat.{ℕ, suc, _+_, _-_, _*_, _≤_, _<_}
+use mathlib.Core.Path.{_≡_, refl, sym, ap, _∙_, subst}
+use mathlib.Core.Bool.{true, false}
 use mathlib.Core.List.{List, [], _∷_, _++_, map, map-append, append-assoc, append-nil}
 use mathlib.Core.Option.{Option, none, some}
 use native.Mathlib.Nat.{add-zero, add-suc, mul-le-mul-right, suc-mul}
 use native.Mathlib.Numerals.{add-one}
 use native.Mathlib.Omega.{arith}
 use borrow.Rule.Slice.PartMut.{midOf}
-use lib.ListN.{length, getD, take, drop, drop-of-length-le, length-append, length-drop}
+use lib.ListN.{length, getD, take, drop, drop-of-length-le, length-append}
 use lib.Seq.{take-all, take-at, drop-at, drop-cons}
 use Rattle.slots.specs.Slots.{flat, slot, zeros?, Placed}
 use Rattle.slots.proofs.Parts.{flat-append}
@@ -20,7 +20,7 @@ use Rattle.tables.specs.Layout.{text-bytes}
 use Rattle.tables.proofs.TextCodes.{text-length}
 use Rattle.export.specs.declared.entries.TextTable.{TextTable}
 use Rattle.export.specs.declared.entries.Entries.{Entries}
-use Rattle.export.specs.EntryWriters.{entry-bytes, entry-size, led, Shown, Indexed, Entered}
+use Rattle.export.specs.EntryWriters.{entry-bytes, entry-size, led, Shown, Entered}
 use Rattle.export.specs.Exported.{entries}
 use Rattle.export.specs.Writers.{Wrote, Writes, TextIn}
 use Rattle.export.proofs.WroteLaws.{wrote-none, wrote-both, wrote-as}

@@ -1,13 +1,13 @@
 -- The emergency key, home numbers and system code are written as their settings. Assumes nothing.
 use Prim.Native.Nat.{ℕ, _+_, _-_, _*_, _/_, _%_, _≤_, _<_}
-use mathlib.Core.Path.{_≡_, refl, sym, ap, ap₂, _∙_, subst}
-use mathlib.Core.Bool.{Bool, true, false}
+use mathlib.Core.Path.{_≡_, refl, sym, ap, ap₂, _∙_}
+use mathlib.Core.Bool.{true, false}
 use mathlib.Core.List.{List, [], _∷_, _++_, append-nil}
 use native.Mathlib.Omega.{arith}
 use borrow.Rule.Slice.PartMut.{midOf}
-use lib.ListN.{length, getD, take, drop}
+use lib.ListN.{getD, take}
 use Rattle.lists.proofs.Every.{All}
-use Rattle.slots.specs.Slots.{u16, u24}
+use Rattle.slots.specs.Slots.{u24}
 use Rattle.writing.specs.declared.KeyTarget.{KeyTarget}
 use Rattle.writing.specs.declared.KeyTarget.the-variants.{Current, ToGroup, ToIndividual}
 use Rattle.writing.specs.declared.HomeNumbers.{HomeNumbers}
@@ -18,11 +18,11 @@ use Rattle.writing.specs.Settings.{Setting, key, home, system, kind, unicode16}
 use Rattle.writing.specs.Writing.{bit, flag, current, to-group, type-byte, body, key-address}
 use Rattle.writing.proofs.Whole.{Whole}
 use Rattle.tables.specs.Allowed.{HomeOk, SystemOk, TargetOk}
-use Rattle.tables.specs.Checks.{KeyOk, Both, joined}
+use Rattle.tables.specs.Checks.{KeyOk}
 use Rattle.tables.specs.Layout.{key-bytes, key-flags, home-bytes, system-bytes, key-address as kept-address}
 use Rattle.tables.specs.Tables.{Key}
 use Rattle.tables.proofs.EntryCodes.{bit-small}
-use Rattle.export.specs.Writers.{Wrote, Kept, Started}
+use Rattle.export.specs.Writers.{Wrote, Kept}
 use Rattle.export.proofs.PlainLaws.{plain-byte, plain-three}
 use Rattle.export.proofs.WroteLaws.{wrote-both, wrote-as}
 

@@ -1,4 +1,5 @@
 pub mod ChannelWriting
+pub mod Determined
 pub mod EntryWriting
 pub mod ExportLaws
 pub mod FixedWriting

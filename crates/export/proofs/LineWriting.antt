@@ -1,16 +1,16 @@
 -- Line contacts are written as a replace and an add for each. Assumes nothing.
 use Prim.Native.Nat.{ℕ, zero, suc, _+_, _-_, _*_, _/_, _%_, _≤_, _<_}
-use mathlib.Core.Path.{_≡_, refl, sym, ap, ap₂, _∙_, subst}
-use mathlib.Core.List.{List, [], _∷_, _++_, map, append-assoc, append-nil}
-use mathlib.Core.Option.{Option, none, some}
+use mathlib.Core.Path.{_≡_, refl, sym, ap, _∙_, subst}
+use mathlib.Core.List.{List, [], _∷_, _++_, map, append-nil}
+use mathlib.Core.Option.{none, some}
 use native.Mathlib.Nat.{not-suc-le-zero, le-of-suc-le-suc}
 use native.Mathlib.Numerals.{add-one}
 use native.Mathlib.Omega.{arith}
 use borrow.Rule.Slice.PartMut.{midOf}
-use lib.ListN.{length, getD, take, drop, drop-of-length-le, length-map}
+use lib.ListN.{length, getD, take, drop, drop-of-length-le}
 use lib.Seq.{take-all, drop-at, drop-cons}
 use Rattle.lists.proofs.Every.{All, all-get, all-append}
-use Rattle.slots.specs.Slots.{pad, front, slot, zeros?, Listed, Placed, Found}
+use Rattle.slots.specs.Slots.{front, slot, zeros?, Listed, Placed, Found}
 use Rattle.slots.proofs.Keys.{used-at}
 use Rattle.slots.proofs.Tables.{all-front, front-length, place-read}
 use Rattle.writing.specs.declared.Operation.the-variants.{Add, Replace}
@@ -18,7 +18,7 @@ use Rattle.writing.specs.Canonical.{plain, canonical, canonical-all, FitsField}
 use Rattle.writing.specs.Fields.{Field, val, res}
 use Rattle.writing.specs.Ranges.{InNumber}
 use Rattle.writing.specs.Settings.{lines, kind, unicode16}
-use Rattle.writing.specs.Writing.{bit, flag, op, number, text, type-byte, body}
+use Rattle.writing.specs.Writing.{flag, op, number, text, type-byte, body}
 use Rattle.writing.proofs.CanonicalLaws.{plain-append}
 use Rattle.writing.proofs.Whole.{append-whole, number-whole, text-whole}
 use Rattle.tables.specs.Allowed.{LineOk}

@@ -1,7 +1,7 @@
 -- Group and individual slots are written as adds and deletes. Assumes nothing.
 use Prim.Native.Nat.{ℕ, suc, _+_, _-_, _*_, _/_, _%_, _≤_, _<_}
 use mathlib.Core.Path.{_≡_, refl, sym, ap, ap₂, _∙_, subst}
-use mathlib.Core.Bool.{Bool, true, false, cond}
+use mathlib.Core.Bool.{Bool, false, cond}
 use mathlib.Core.List.{List, [], _∷_, _++_}
 use mathlib.Core.Option.{Option, none, some}
 use native.Mathlib.Numerals.{add-one}
@@ -11,16 +11,15 @@ use lib.ListN.{length, getD, drop, replicate, drop-of-length-le}
 use lib.Seq.{take-all, drop-cons}
 use Rattle.lists.proofs.Every.{All, all-get}
 use Rattle.slots.specs.Slots.{u16, u24, slot, zeros?, Present, Placed}
-use Rattle.slots.proofs.Runs.{zeros-all}
 use Rattle.slots.proofs.Tables.{place-read}
 use Rattle.writing.specs.declared.Operation.the-variants.{Add, Delete}
 use Rattle.writing.specs.Canonical.{side-by-side, plain, canonical, canonical-all, FitsField}
 use Rattle.writing.specs.Fields.{Field, val, res, widths}
-use Rattle.writing.specs.Settings.{Text, Setting, group, individual, kind, unicode16}
-use Rattle.writing.specs.Writing.{bit, flag, op, text, type-byte, body}
+use Rattle.writing.specs.Settings.{Text, Setting, kind, unicode16}
+use Rattle.writing.specs.Writing.{flag, op, text, type-byte, body}
 use Rattle.writing.proofs.Whole.{text-whole}
-use Rattle.tables.specs.Allowed.{TextOk, GroupOk, IndividualOk}
-use Rattle.tables.specs.Layout.{text-bytes, group-bytes, individual-bytes, group-flags, individual-flags, member-width}
+use Rattle.tables.specs.Allowed.{GroupOk, IndividualOk}
+use Rattle.tables.specs.Layout.{text-bytes, group-bytes, individual-bytes, member-width}
 use Rattle.tables.specs.Tables.{GroupMember, IndividualMember}
 use Rattle.tables.proofs.EntryCodes.{bit-small, group-code, group-shown, individual-code, individual-shown}
 use Rattle.tables.proofs.TextLaws.{Unit16}

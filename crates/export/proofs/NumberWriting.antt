@@ -1,8 +1,8 @@
 -- A kept number is written as its digits, two to a byte, and the end mark. Assumes nothing.
 use Prim.Native.Nat.{ℕ, zero, suc, _+_, _-_, _*_, _/_, _%_, _≤_, _<_}
-use mathlib.Core.Path.{_≡_, refl, sym, ap, ap₂, _∙_, subst}
+use mathlib.Core.Path.{_≡_, refl, sym, ap, _∙_, subst}
 use mathlib.Core.Bool.{true, false}
-use mathlib.Core.List.{List, [], _∷_, _++_, map}
+use mathlib.Core.List.{List, [], _∷_, map}
 use native.Mathlib.Nat.{add-zero, not-suc-le-zero, le-of-suc-le-suc}
 use native.Mathlib.Omega.{arith}
 use borrow.Author.Tests.{eqb-true}
@@ -11,7 +11,7 @@ use lib.ListN.{length, drop, getD, set, length-drop, List·getD-eq-default}
 use lib.Seq.{getD-drop}
 use Rattle.lists.proofs.Bools.{is-false, and-parts}
 use Rattle.lists.proofs.Every.{All, all-append, all-get, all-map}
-use Rattle.slots.specs.Slots.{flat, pad, front, zeros?, Listed, Found}
+use Rattle.slots.specs.Slots.{flat, pad, zeros?, Listed, Found}
 use Rattle.slots.proofs.Keys.{used-at}
 use Rattle.slots.proofs.Tables.{front-bytes}
 use Rattle.writing.specs.Canonical.{plain, FitsField}

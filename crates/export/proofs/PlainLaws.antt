@@ -1,13 +1,12 @@
 -- The bytes of fields, piece by piece. Assumes nothing.
-use Prim.Native.Nat.{ℕ, _+_, _*_, _/_, _%_, _^_, _<_}
-use mathlib.Core.Path.{_≡_, refl, sym, ap, ap₂, _∙_}
-use mathlib.Core.List.{List, [], _∷_, _++_, map}
+use Prim.Native.Nat.{ℕ, _*_, _/_, _%_, _<_}
+use mathlib.Core.Path.{_≡_, ap, ap₂, _∙_}
+use mathlib.Core.List.{List, _∷_, _++_}
 use native.Mathlib.Omega.{arith}
-use lib.ListN.{length}
-use Rattle.lists.proofs.Every.{All, all-append}
-use Rattle.slots.specs.Slots.{flat, u16, u24}
+use Rattle.lists.proofs.Every.{All}
+use Rattle.slots.specs.Slots.{u16, u24}
 use Rattle.writing.specs.Canonical.{side-by-side, bytes, plain, FitsField}
-use Rattle.writing.specs.Fields.{Field, val, item, widths}
+use Rattle.writing.specs.Fields.{Field, widths}
 use Rattle.writing.proofs.CanonicalLaws.{plain-append}
 use Rattle.writing.proofs.Whole.{Whole}
 

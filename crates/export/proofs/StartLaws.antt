@@ -1,16 +1,16 @@
 -- A setting's type byte and DataLength, and a request's head, written before what follows them. Assumes nothing.
-use Prim.Native.Nat.{ℕ, _+_, _-_, _*_, _/_, _%_, _≤_, _<_}
+use Prim.Native.Nat.{ℕ, _+_, _-_, _≤_, _<_}
 use mathlib.Core.Path.{_≡_, refl, sym, ap, ap₂, _∙_, subst}
-use mathlib.Core.List.{List, [], _∷_, _++_, append-assoc, append-nil}
+use mathlib.Core.List.{List, [], _∷_, _++_}
 use native.Mathlib.Omega.{arith}
-use lib.ListN.{length, length-append}
+use lib.ListN.{length}
 use Rattle.lists.proofs.Every.{All}
 use Rattle.slots.specs.Slots.{u16}
 use Rattle.writing.specs.declared.Kind.{Kind}
 use Rattle.writing.specs.declared.Kind.the-variants.{Lines, Key, QuickTexts, Home, Channels, System, StatusTexts, Group, Individual, Last}
 use Rattle.writing.specs.Canonical.{plain, canonical, canonical-all, FitsField}
 use Rattle.writing.specs.Carrier.{carrier}
-use Rattle.writing.specs.Fields.{Field, val, res, widths}
+use Rattle.writing.specs.Fields.{val, res}
 use Rattle.writing.specs.Settings.{Setting, kind, unicode16}
 use Rattle.writing.specs.Writing.{type-byte, body, data-length, request-head}
 use Rattle.writing.proofs.CanonicalLaws.{plain-length}
@@ -18,7 +18,7 @@ use Rattle.writing.proofs.Whole.{body-whole}
 use Rattle.export.specs.Exported.{data-bytes, request-bytes}
 use Rattle.export.specs.Writers.{Wrote, Writes, Started, Headed}
 use Rattle.export.proofs.PlainLaws.{plain-byte, plain-two}
-use Rattle.export.proofs.WroteLaws.{wrote-before, wrote-as, wrote-length}
+use Rattle.export.proofs.WroteLaws.{wrote-before, wrote-as}
 
 -- ---- a setting
 

@@ -1,21 +1,21 @@
 -- Quick and status texts are written as their settings. Assumes nothing.
-use Prim.Native.Nat.{ℕ, suc, _+_, _-_, _*_, _≤_, _<_}
-use mathlib.Core.Path.{_≡_, refl, sym, ap, ap₂, _∙_, subst}
+use Prim.Native.Nat.{ℕ, suc, _+_, _*_, _≤_, _<_}
+use mathlib.Core.Path.{_≡_, refl, ap, ap₂, _∙_}
 use mathlib.Core.List.{List, [], _∷_, _++_, map}
 use mathlib.Core.Option.{Option, none, some}
 use native.Mathlib.Omega.{arith}
-use lib.ListN.{length, take, drop}
-use Rattle.lists.proofs.Every.{All, all-append, all-take, all-turn}
+use lib.ListN.{length}
+use Rattle.lists.proofs.Every.{All, all-append, all-turn}
 use Rattle.slots.specs.Slots.{flat, Present, Placed}
 use Rattle.writing.specs.declared.Operation.{Operation}
-use Rattle.writing.specs.declared.Operation.the-variants.{Add, Replace}
+use Rattle.writing.specs.declared.Operation.the-variants.{Replace}
 use Rattle.writing.specs.Canonical.{plain, FitsField}
 use Rattle.writing.specs.Fields.{Field, val, res, each}
 use Rattle.writing.specs.Settings.{Text, Entry, quick-texts, status-texts, unicode16}
 use Rattle.writing.specs.Writing.{op, op-code, text, quick-text, status-text, body}
 use Rattle.writing.proofs.CanonicalLaws.{plain-append}
 use Rattle.writing.proofs.Whole.{Whole, each-whole, entry-whole, text-whole}
-use Rattle.tables.specs.Allowed.{TextOk, QuickOk, StatusOk}
+use Rattle.tables.specs.Allowed.{QuickOk, StatusOk}
 use Rattle.tables.specs.Layout.{quick-bytes, status-bytes}
 use Rattle.tables.proofs.EntryCodes.{quick-shown, status-shown}
 use Rattle.tables.proofs.TextLaws.{Unit16}

@@ -1,7 +1,7 @@
 -- Quick and status texts: their settings were written, the entries first and the heads before them. Assumes nothing.
-use Prim.Native.Nat.{ℕ, suc, _+_, _-_, _*_, _≤_, _<_}
+use Prim.Native.Nat.{ℕ, suc, _+_, _≤_, _<_}
 use mathlib.Core.Path.{_≡_, refl, sym, ap, ap₂, _∙_, subst}
-use mathlib.Core.Bool.{Bool, true, false, true≢false}
+use mathlib.Core.Bool.{true, false, true≢false}
 use mathlib.Core.List.{List, [], _∷_, _++_, map, append-nil}
 use mathlib.Core.Option.{Option, none, some}
 use native.Mathlib.Omega.{arith}
@@ -9,7 +9,7 @@ use borrow.Rule.Slice.PartMut.{midOf}
 use lib.ListN.{length, getD, take, drop, drop-of-length-le, length-take}
 use lib.Seq.{drop-cons, take-all}
 use Rattle.lists.proofs.Every.{All, all-get, all-take}
-use Rattle.slots.specs.Slots.{flat, slot, zeros?, Present, Placed}
+use Rattle.slots.specs.Slots.{flat, zeros?, Present, Placed}
 use Rattle.slots.proofs.Tables.{place-read}
 use Rattle.writing.specs.declared.Operation.the-variants.{Add, Replace}
 use Rattle.writing.specs.Canonical.{plain, canonical, canonical-all, FitsField}

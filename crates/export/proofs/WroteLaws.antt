@@ -1,13 +1,13 @@
 -- Writes one after the other, and a head written before what follows it. Assumes nothing.
-use Prim.Native.Nat.{ℕ, suc, _+_, _-_, _≤_, _<_}
+use Prim.Native.Nat.{ℕ, _+_, _-_, _≤_, _<_}
 use mathlib.Core.Path.{_≡_, refl, sym, ap, ap₂, _∙_, subst}
 use mathlib.Core.List.{List, [], _∷_, _++_, append-assoc, append-nil}
 use native.Mathlib.Omega.{arith}
-use borrow.Rule.Slice.PartMut.{midOf, putMid, mid-len, post-is}
+use borrow.Rule.Slice.PartMut.{midOf, putMid, mid-len}
 use lib.ListN.{length, take, drop, set, length-append, length-drop, take-append-drop}
 use native.Mathlib.Nat.{add-zero}
 use native.Mathlib.Numerals.{add-one}
-use lib.Seq.{take-at, drop-at, take-append-le, drop-append-le, drop-drop, length-take-le, take-take, set-split}
+use lib.Seq.{take-at, drop-at, take-append-le, drop-drop, length-take-le, take-take, set-split}
 use Rattle.slots.proofs.Runs.{copy-whole}
 use Rattle.export.specs.Writers.{Wrote}
 

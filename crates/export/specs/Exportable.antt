@@ -1,5 +1,5 @@
 -- Limits under which every part of every store is a request that fits the buffer.
-use Prim.Native.Nat.{ℕ, _+_, _*_, _≤_}
+use Prim.Native.Nat.{_+_, _*_, _≤_}
 use Rattle.tables.specs.declared.limits.Limits.{Limits}
 
 pub record Exportable (m : Limits) : Type 0 where

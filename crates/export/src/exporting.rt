@@ -78,7 +78,7 @@ fn write_part(buffer: &mut [u8], part: Part, store: &[u8], limits: Limits) -> Se
 }
 
 // The request that exports a part of a store of a set with these limits; or why there is none, and the buffer stays.
-pub fn export_in(part: u32, store: &[u8], buffer: &mut [u8], limits: Limits) -> Export
+pub(crate) fn export_in(part: u32, store: &[u8], buffer: &mut [u8], limits: Limits) -> Export
     requires { ⌜ Exportable limits ⌝ }
     ensures { λ r. ⌜ Answers (exporting limits part (now (store .entry)) (now (buffer .entry))) (record { answer = told r; buffer = now (buffer .exit) }) ⌝ }
 {

@@ -3,20 +3,9 @@ use Rattle.writing.specs.Settings.{channels}
 use Rattle.export.proofs.ChannelWriting.{channels-wrote}
 use Rattle.export.proofs.StartLaws.{setting-writes}
 use borrow.Author.Needs.{needs}
-use Prim.Native.Nat.{ℕ, zero, suc, _≤_, _<_, _-_, _+_, _*_, _/_, _%_}
-use mathlib.Core.Path.{_≡_, refl, sym, ap, _∙_}
-use mathlib.Core.Bool.{Bool, true, false, cond}
-use mathlib.Core.List.{List, [], _∷_, _++_}
 use native.Mathlib.Omega.{arith}
-use lib.ListN.{length, getD, drop, take, set, replicate}
 use Rattle.export.proofs.channels.write_channels.Statement.{statement}
 use Rattle.export.proofs.channels.write_channels.Tie as tie
-use Rattle.export.proofs.channels.write_channels.Reads as reads
-use Rattle.export.proofs.channels.write_channels.Lts as lts
-use Rattle.export.proofs.channels.write_packed.Reads as write-packed-reads
-use Rattle.export.proofs.writers.start_setting.Reads as start-setting-reads
-use Rattle.export.proofs.writers.write_bytes.Reads as write-bytes-reads
-use Rattle.slots.proofs.slots.used.Reads as used-reads
 
 used-requires : tie.Need-used-requires
 used-requires c κs = search needs

@@ -1,19 +1,13 @@
-use mathlib.Core.Path.{subst}
+use mathlib.Core.Path.{subst, _≡_, refl}
 use Rattle.writing.specs.Canonical.{plain}
 use Rattle.export.proofs.WroteLaws.{writing-start}
 use Rattle.export.proofs.ChannelWriting.{Packed, packed, packed-more, packed-even, packed-odd}
 use borrow.Author.Needs.{needs}
-use Prim.Native.Nat.{ℕ, zero, suc, _≤_, _<_, _-_, _+_, _*_, _/_, _%_}
-use mathlib.Core.Path.{_≡_, refl, sym, ap, _∙_}
-use mathlib.Core.Bool.{Bool, true, false, cond}
-use mathlib.Core.List.{List, [], _∷_, _++_}
+use Prim.Native.Nat.{ℕ, _≤_, _-_, _+_, _*_, _/_}
 use native.Mathlib.Omega.{arith}
-use lib.ListN.{length, getD, drop, take, set, replicate}
+use lib.ListN.{length}
 use Rattle.export.proofs.channels.write_packed.Statement.{statement}
 use Rattle.export.proofs.channels.write_packed.Tie as tie
-use Rattle.export.proofs.channels.write_packed.Reads as reads
-use Rattle.export.proofs.channels.write_packed.Lts as lts
-use Rattle.export.proofs.writers.write_bytes.Reads as write-bytes-reads
 
 abbrev Inv-loop : tie.InvT-loop
 Inv-loop buffer₀ at part count pairs to₀ i₀ buffer to i = (length buffer ≡ length buffer₀) × (i ≤ pairs) × (to ≡ at + 3 * i) × Packed part buffer₀ buffer count at to i

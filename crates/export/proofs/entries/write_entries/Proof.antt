@@ -2,23 +2,14 @@ use Rattle.export.specs.EntryWriters.{entry-size}
 use borrow.Author.Tests.{not-true, not-false}
 use mathlib.Core.Logic.{⊎-elim}
 use Rattle.slots.proofs.Tables.{slot-wide}
-use mathlib.Core.Path.{sym}
-use Rattle.export.proofs.EntryWriting.{Turn, turn-start, turn-as, turn-none, turn-some}
-use Rattle.export.specs.declared.entries.TextTable.{TextTable}
-use Rattle.export.proofs.EntryWriting.{Walked, walked-start, walked-none, walked-some, entered-most, entered-all, place-inside}
+use mathlib.Core.Path.{sym, refl, _∙_}
+use Rattle.export.proofs.EntryWriting.{Turn, turn-start, turn-as, turn-none, turn-some, entered-most, entered-all, place-inside}
 use borrow.Author.Needs.{needs}
-use Prim.Native.Nat.{ℕ, zero, suc, _≤_, _<_, _-_, _+_, _*_, _/_, _%_}
-use mathlib.Core.Path.{_≡_, refl, sym, ap, _∙_}
-use mathlib.Core.Bool.{Bool, true, false, cond}
-use mathlib.Core.List.{List, [], _∷_, _++_}
+use Prim.Native.Nat.{_-_, _+_, _*_}
 use native.Mathlib.Omega.{arith}
-use lib.ListN.{length, getD, drop, take, set, replicate}
+use lib.ListN.{length}
 use Rattle.export.proofs.entries.write_entries.Statement.{statement}
 use Rattle.export.proofs.entries.write_entries.Tie as tie
-use Rattle.export.proofs.entries.write_entries.Reads as reads
-use Rattle.export.proofs.entries.write_entries.Lts as lts
-use Rattle.export.proofs.entries.write_entry.Reads as write-entry-reads
-use Rattle.slots.proofs.bytes.is_zeros.Reads as is-zeros-reads
 
 abbrev Inv-loop : tie.InvT-loop
 Inv-loop buffer₀ at table part end₀ count₀ next₀ buffer end count next = Turn table part buffer₀ at buffer end count next

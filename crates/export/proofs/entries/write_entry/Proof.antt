@@ -1,20 +1,13 @@
-use lib.ListN.{length-drop}
+use lib.ListN.{length-drop, length, drop}
 use lib.Seq.{take-all}
-use borrow.Rule.Slice.PartMut.{midOf, mid-len}
+use borrow.Rule.Slice.PartMut.{mid-len}
 use Rattle.export.proofs.EntryWriting.{entry-wrote}
 use borrow.Author.Needs.{needs}
-use Prim.Native.Nat.{ℕ, zero, suc, _≤_, _<_, _-_, _+_, _*_, _/_, _%_}
-use mathlib.Core.Path.{_≡_, refl, sym, ap, _∙_}
-use mathlib.Core.Bool.{Bool, true, false, cond}
-use mathlib.Core.List.{List, [], _∷_, _++_}
+use Prim.Native.Nat.{_-_}
+use mathlib.Core.Path.{sym}
 use native.Mathlib.Omega.{arith}
-use lib.ListN.{length, getD, drop, take, set, replicate}
 use Rattle.export.proofs.entries.write_entry.Statement.{statement}
 use Rattle.export.proofs.entries.write_entry.Tie as tie
-use Rattle.export.proofs.entries.write_entry.Reads as reads
-use Rattle.export.proofs.entries.write_entry.Lts as lts
-use Rattle.export.proofs.texts.write_text.Reads as write-text-reads
-use Rattle.export.proofs.writers.write_bytes.Reads as write-bytes-reads
 
 slice-aggregate-write-bytes : tie.Need-slice-aggregate-write-bytes
 slice-aggregate-write-bytes c = search needs

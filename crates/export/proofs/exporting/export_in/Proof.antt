@@ -3,20 +3,9 @@ use mathlib.Core.Path.{subst}
 use Rattle.tables.proofs.CheckLaws.{not-said, was-said}
 use Rattle.export.proofs.ExportLaws.{says-15, says-11, says-16, says-0}
 use borrow.Author.Needs.{needs}
-use Prim.Native.Nat.{ℕ, zero, suc, _≤_, _<_, _-_, _+_, _*_, _/_, _%_}
-use mathlib.Core.Path.{_≡_, refl, sym, ap, _∙_}
-use mathlib.Core.Bool.{Bool, true, false, cond}
-use mathlib.Core.List.{List, [], _∷_, _++_}
 use native.Mathlib.Omega.{arith}
-use lib.ListN.{length, getD, drop, take, set, replicate}
 use Rattle.export.proofs.exporting.export_in.Statement.{statement}
 use Rattle.export.proofs.exporting.export_in.Tie as tie
-use Rattle.export.proofs.exporting.export_in.Reads as reads
-use Rattle.export.proofs.exporting.export_in.Lts as lts
-use Rattle.export.proofs.exporting.part_of.Reads as part-of-reads
-use Rattle.export.proofs.exporting.write_part.Reads as write-part-reads
-use Rattle.export.proofs.writers.start_request.Reads as start-request-reads
-use Rattle.tables.proofs.checks.is_store.Reads as is-store-reads
 
 returns : tie.Need-returns
 returns c = let a = c .before .before .before .before .args in says-15 (a .limits) (a .part) (a .store .now) (a .buffer .now) (omega arith)

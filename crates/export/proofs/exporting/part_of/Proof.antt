@@ -1,15 +1,7 @@
 use Rattle.export.proofs.PartWriting.{no-part}
 use borrow.Author.Needs.{needs}
-use Prim.Native.Nat.{ℕ, zero, suc, _≤_, _<_, _-_, _+_, _*_, _/_, _%_}
-use mathlib.Core.Path.{_≡_, refl, sym, ap, _∙_}
-use mathlib.Core.Bool.{Bool, true, false, cond}
-use mathlib.Core.List.{List, [], _∷_, _++_}
-use native.Mathlib.Omega.{arith}
-use lib.ListN.{length, getD, drop, take, set, replicate}
 use Rattle.export.proofs.exporting.part_of.Statement.{statement}
 use Rattle.export.proofs.exporting.part_of.Tie as tie
-use Rattle.export.proofs.exporting.part_of.Reads as reads
-use Rattle.export.proofs.exporting.part_of.Lts as lts
 
 returns : tie.Need-returns
 returns c = search needs

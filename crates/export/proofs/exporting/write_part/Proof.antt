@@ -1,23 +1,11 @@
-use borrow.Rule.Slice.PartMut.{midOf}
-use borrow.Rule.Slice.PartMut.{mid-len}
+use borrow.Rule.Slice.PartMut.{midOf, mid-len}
 use Rattle.export.proofs.PartWriting.{lines-part, fixed-part, quick-part, channels-part, status-part, groups-part, individuals-part}
 use borrow.Author.Needs.{needs}
-use Prim.Native.Nat.{ℕ, zero, suc, _≤_, _<_, _-_, _+_, _*_, _/_, _%_}
-use mathlib.Core.Path.{_≡_, refl, sym, ap, _∙_}
-use mathlib.Core.Bool.{Bool, true, false, cond}
-use mathlib.Core.List.{List, [], _∷_, _++_}
+use Prim.Native.Nat.{ℕ, _-_, _+_, _*_, _/_}
 use native.Mathlib.Omega.{arith}
-use lib.ListN.{length, getD, drop, take, set, replicate}
+use lib.ListN.{length}
 use Rattle.export.proofs.exporting.write_part.Statement.{statement}
 use Rattle.export.proofs.exporting.write_part.Tie as tie
-use Rattle.export.proofs.exporting.write_part.Reads as reads
-use Rattle.export.proofs.exporting.write_part.Lts as lts
-use Rattle.export.proofs.channels.write_channels.Reads as write-channels-reads
-use Rattle.export.proofs.fixed.write_fixed.Reads as write-fixed-reads
-use Rattle.export.proofs.lines.write_lines.Reads as write-lines-reads
-use Rattle.export.proofs.members.write_members.Reads as write-members-reads
-use Rattle.export.proofs.text_lists.write_quick.Reads as write-quick-reads
-use Rattle.export.proofs.text_lists.write_status.Reads as write-status-reads
 
 mul-lines : tie.Need-mul-lines
 mul-lines c = search needs

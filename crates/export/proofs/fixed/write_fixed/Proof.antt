@@ -1,19 +1,13 @@
 use Rattle.writing.specs.Settings.{key, home, system}
 use Rattle.export.proofs.FixedWriting.{three-wrote}
 use borrow.Author.Needs.{needs}
-use Prim.Native.Nat.{ℕ, zero, suc, _≤_, _<_, _-_, _+_, _*_, _/_, _%_}
-use mathlib.Core.Path.{_≡_, refl, sym, ap, _∙_}
-use mathlib.Core.Bool.{Bool, true, false, cond}
-use mathlib.Core.List.{List, [], _∷_, _++_}
+use Prim.Native.Nat.{ℕ}
+use mathlib.Core.Path.{ap}
+use mathlib.Core.List.{List}
 use native.Mathlib.Omega.{arith}
-use lib.ListN.{length, getD, drop, take, set, replicate}
+use lib.ListN.{drop, take}
 use Rattle.export.proofs.fixed.write_fixed.Statement.{statement}
 use Rattle.export.proofs.fixed.write_fixed.Tie as tie
-use Rattle.export.proofs.fixed.write_fixed.Reads as reads
-use Rattle.export.proofs.fixed.write_fixed.Lts as lts
-use Rattle.export.proofs.fixed.write_home.Reads as write-home-reads
-use Rattle.export.proofs.fixed.write_key.Reads as write-key-reads
-use Rattle.export.proofs.fixed.write_system.Reads as write-system-reads
 
 sub-write-key : tie.Need-sub-write-key
 sub-write-key c = search needs

@@ -2,18 +2,9 @@ use Rattle.writing.specs.Settings.{home}
 use Rattle.export.proofs.FixedWriting.{home-wrote}
 use Rattle.export.proofs.StartLaws.{setting-writes}
 use borrow.Author.Needs.{needs}
-use Prim.Native.Nat.{ℕ, zero, suc, _≤_, _<_, _-_, _+_, _*_, _/_, _%_}
-use mathlib.Core.Path.{_≡_, refl, sym, ap, _∙_}
-use mathlib.Core.Bool.{Bool, true, false, cond}
-use mathlib.Core.List.{List, [], _∷_, _++_}
 use native.Mathlib.Omega.{arith}
-use lib.ListN.{length, getD, drop, take, set, replicate}
 use Rattle.export.proofs.fixed.write_home.Statement.{statement}
 use Rattle.export.proofs.fixed.write_home.Tie as tie
-use Rattle.export.proofs.fixed.write_home.Reads as reads
-use Rattle.export.proofs.fixed.write_home.Lts as lts
-use Rattle.export.proofs.writers.start_setting.Reads as start-setting-reads
-use Rattle.export.proofs.writers.write_bytes.Reads as write-bytes-reads
 
 shared-slice-read-t7 : tie.Need-shared-slice-read-t7
 shared-slice-read-t7 c = search needs

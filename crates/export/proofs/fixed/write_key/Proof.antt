@@ -2,19 +2,9 @@ use Rattle.writing.specs.Settings.{key}
 use Rattle.export.proofs.FixedWriting.{key-wrote}
 use Rattle.export.proofs.StartLaws.{setting-writes}
 use borrow.Author.Needs.{needs}
-use Prim.Native.Nat.{ℕ, zero, suc, _≤_, _<_, _-_, _+_, _*_, _/_, _%_}
-use mathlib.Core.Path.{_≡_, refl, sym, ap, _∙_}
-use mathlib.Core.Bool.{Bool, true, false, cond}
-use mathlib.Core.List.{List, [], _∷_, _++_}
 use native.Mathlib.Omega.{arith}
-use lib.ListN.{length, getD, drop, take, set, replicate}
 use Rattle.export.proofs.fixed.write_key.Statement.{statement}
 use Rattle.export.proofs.fixed.write_key.Tie as tie
-use Rattle.export.proofs.fixed.write_key.Reads as reads
-use Rattle.export.proofs.fixed.write_key.Lts as lts
-use Rattle.export.proofs.fixed.address_end.Reads as address-end-reads
-use Rattle.export.proofs.writers.start_setting.Reads as start-setting-reads
-use Rattle.export.proofs.writers.write_bytes.Reads as write-bytes-reads
 
 shared-slice-read-t9 : tie.Need-shared-slice-read-t9
 shared-slice-read-t9 c = search needs

@@ -3,20 +3,9 @@ use Rattle.export.specs.Exported.{line-add}
 use Rattle.export.proofs.LineWriting.{line-wrote}
 use Rattle.export.proofs.StartLaws.{setting-writes}
 use borrow.Author.Needs.{needs}
-use Prim.Native.Nat.{ℕ, zero, suc, _≤_, _<_, _-_, _+_, _*_, _/_, _%_}
-use mathlib.Core.Path.{_≡_, refl, sym, ap, _∙_}
-use mathlib.Core.Bool.{Bool, true, false, cond}
-use mathlib.Core.List.{List, [], _∷_, _++_}
 use native.Mathlib.Omega.{arith}
-use lib.ListN.{length, getD, drop, take, set, replicate}
 use Rattle.export.proofs.lines.write_line.Statement.{statement}
 use Rattle.export.proofs.lines.write_line.Tie as tie
-use Rattle.export.proofs.lines.write_line.Reads as reads
-use Rattle.export.proofs.lines.write_line.Lts as lts
-use Rattle.export.proofs.texts.write_number.Reads as write-number-reads
-use Rattle.export.proofs.texts.write_text.Reads as write-text-reads
-use Rattle.export.proofs.writers.start_setting.Reads as start-setting-reads
-use Rattle.export.proofs.writers.write_bytes.Reads as write-bytes-reads
 
 shared-slice-read-t9 : tie.Need-shared-slice-read-t9
 shared-slice-read-t9 c = search needs

@@ -1,4 +1,4 @@
-use lib.ListN.{length-map}
+use lib.ListN.{length-map, length}
 use mathlib.Core.List.{map}
 use Rattle.export.specs.Exported.{line-add}
 use Rattle.writing.specs.Settings.{unicode16}
@@ -6,19 +6,11 @@ use Rattle.writing.specs.Canonical.{canonical-all}
 use Rattle.export.proofs.WroteLaws.{writing-start}
 use Rattle.export.proofs.LineWriting.{Lined, lined-more, lined-end, lines-used}
 use borrow.Author.Needs.{needs}
-use Prim.Native.Nat.{ℕ, zero, suc, _≤_, _<_, _-_, _+_, _*_, _/_, _%_}
-use mathlib.Core.Path.{_≡_, refl, sym, ap, _∙_}
-use mathlib.Core.Bool.{Bool, true, false, cond}
-use mathlib.Core.List.{List, [], _∷_, _++_}
+use Prim.Native.Nat.{_≤_, _-_, _+_, _*_}
+use mathlib.Core.Path.{_≡_, refl}
 use native.Mathlib.Omega.{arith}
-use lib.ListN.{length, getD, drop, take, set, replicate}
 use Rattle.export.proofs.lines.write_lines.Statement.{statement}
 use Rattle.export.proofs.lines.write_lines.Tie as tie
-use Rattle.export.proofs.lines.write_lines.Reads as reads
-use Rattle.export.proofs.lines.write_lines.Lts as lts
-use Rattle.export.proofs.lines.write_line.Reads as write-line-reads
-use Rattle.export.proofs.writers.write_bytes.Reads as write-bytes-reads
-use Rattle.slots.proofs.slots.used.Reads as used-reads
 
 abbrev Inv-loop : tie.InvT-loop
 Inv-loop buffer₀ at part to₀ count i₀ buffer to i = (length buffer ≡ length buffer₀) × (i ≤ count) × (to₀ ≤ to) × (to ≤ to₀ + 49 * i) × Lined part buffer₀ buffer to₀ to i

@@ -1,14 +1,8 @@
 use borrow.Author.Needs.{needs}
-use Prim.Native.Nat.{ℕ, zero, suc, _≤_, _<_, _-_, _+_, _*_, _/_, _%_}
-use mathlib.Core.Path.{_≡_, refl, sym, ap, _∙_}
-use mathlib.Core.Bool.{Bool, true, false, cond}
-use mathlib.Core.List.{List, [], _∷_, _++_}
+use mathlib.Core.Path.{refl}
 use native.Mathlib.Omega.{arith}
-use lib.ListN.{length, getD, drop, take, set, replicate}
 use Rattle.export.proofs.members.flag_bits.Statement.{statement}
 use Rattle.export.proofs.members.flag_bits.Tie as tie
-use Rattle.export.proofs.members.flag_bits.Reads as reads
-use Rattle.export.proofs.members.flag_bits.Lts as lts
 
 enum-told : tie.Need-enum-told
 enum-told c = search needs

@@ -1,25 +1,12 @@
 use borrow.Rule.Slice.PartMut.{mid-len}
-use mathlib.Core.Path.{subst}
 use Rattle.export.specs.MemberWriters.{member-setting}
 use Rattle.export.proofs.MemberWriting.{member-wrote}
 use Rattle.export.proofs.StartLaws.{setting-writes}
 use borrow.Author.Needs.{needs}
-use Prim.Native.Nat.{ℕ, zero, suc, _≤_, _<_, _-_, _+_, _*_, _/_, _%_}
-use mathlib.Core.Path.{_≡_, refl, sym, ap, _∙_}
-use mathlib.Core.Bool.{Bool, true, false, cond}
-use mathlib.Core.List.{List, [], _∷_, _++_}
+use mathlib.Core.Path.{sym, _∙_}
 use native.Mathlib.Omega.{arith}
-use lib.ListN.{length, getD, drop, take, set, replicate}
 use Rattle.export.proofs.members.write_member.Statement.{statement}
 use Rattle.export.proofs.members.write_member.Tie as tie
-use Rattle.export.proofs.members.write_member.Reads as reads
-use Rattle.export.proofs.members.write_member.Lts as lts
-use Rattle.export.proofs.members.flag_bits.Reads as flag-bits-reads
-use Rattle.export.proofs.members.operation.Reads as operation-reads
-use Rattle.export.proofs.members.type_of.Reads as type-of-reads
-use Rattle.export.proofs.texts.write_text.Reads as write-text-reads
-use Rattle.export.proofs.writers.start_setting.Reads as start-setting-reads
-use Rattle.export.proofs.writers.write_bytes.Reads as write-bytes-reads
 
 operation-requires : tie.Need-operation-requires
 operation-requires c κs = search needs

@@ -4,17 +4,12 @@ use Rattle.writing.specs.Canonical.{canonical-all}
 use Rattle.export.proofs.WroteLaws.{writing-start}
 use Rattle.export.proofs.MemberWriting.{Membered, membered-more, membered-end}
 use borrow.Author.Needs.{needs}
-use Prim.Native.Nat.{ℕ, zero, suc, _≤_, _<_, _-_, _+_, _*_, _/_, _%_}
-use mathlib.Core.Path.{_≡_, refl, sym, ap, _∙_}
-use mathlib.Core.Bool.{Bool, true, false, cond}
-use mathlib.Core.List.{List, [], _∷_, _++_}
+use Prim.Native.Nat.{_≤_, _-_, _+_, _*_}
+use mathlib.Core.Path.{_≡_, refl}
 use native.Mathlib.Omega.{arith}
-use lib.ListN.{length, getD, drop, take, set, replicate}
+use lib.ListN.{length}
 use Rattle.export.proofs.members.write_members.Statement.{statement}
 use Rattle.export.proofs.members.write_members.Tie as tie
-use Rattle.export.proofs.members.write_members.Reads as reads
-use Rattle.export.proofs.members.write_members.Lts as lts
-use Rattle.export.proofs.members.write_member.Reads as write-member-reads
 
 abbrev Inv-loop : tie.InvT-loop
 Inv-loop buffer₀ at which part to₀ index₀ buffer to index = (length buffer ≡ length buffer₀) × (index ≤ 16) × (at ≤ to) × (to ≤ at + 42 * index) × Membered which part buffer₀ buffer at to index

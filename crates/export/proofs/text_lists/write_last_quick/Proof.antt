@@ -1,20 +1,9 @@
-use borrow.Author.Tests.{not-true, not-false}
 use Rattle.export.proofs.TextSettings.{last-none, last-some}
 use borrow.Author.Needs.{needs}
-use Prim.Native.Nat.{ℕ, zero, suc, _≤_, _<_, _-_, _+_, _*_, _/_, _%_}
-use mathlib.Core.Path.{_≡_, refl, sym, ap, _∙_}
-use mathlib.Core.Bool.{Bool, true, false, cond}
-use mathlib.Core.List.{List, [], _∷_, _++_}
+use mathlib.Core.Path.{sym, _∙_}
 use native.Mathlib.Omega.{arith}
-use lib.ListN.{length, getD, drop, take, set, replicate}
 use Rattle.export.proofs.text_lists.write_last_quick.Statement.{statement}
 use Rattle.export.proofs.text_lists.write_last_quick.Tie as tie
-use Rattle.export.proofs.text_lists.write_last_quick.Reads as reads
-use Rattle.export.proofs.text_lists.write_last_quick.Lts as lts
-use Rattle.export.proofs.entries.write_entry.Reads as write-entry-reads
-use Rattle.export.proofs.writers.start_setting.Reads as start-setting-reads
-use Rattle.export.proofs.writers.write_bytes.Reads as write-bytes-reads
-use Rattle.slots.proofs.bytes.is_zeros.Reads as is-zeros-reads
 
 is-zeros-requires : tie.Need-is-zeros-requires
 is-zeros-requires c κs = search needs

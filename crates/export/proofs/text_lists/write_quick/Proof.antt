@@ -1,19 +1,8 @@
-use Rattle.export.proofs.TextSettings.{quick-wrote, quick-all, quick-left, quick-last, quick-done, quick-more}
+use Rattle.export.proofs.TextSettings.{quick-wrote, quick-done, quick-more}
 use borrow.Author.Needs.{needs}
-use Prim.Native.Nat.{ℕ, zero, suc, _≤_, _<_, _-_, _+_, _*_, _/_, _%_}
-use mathlib.Core.Path.{_≡_, refl, sym, ap, _∙_}
-use mathlib.Core.Bool.{Bool, true, false, cond}
-use mathlib.Core.List.{List, [], _∷_, _++_}
 use native.Mathlib.Omega.{arith}
-use lib.ListN.{length, getD, drop, take, set, replicate}
 use Rattle.export.proofs.text_lists.write_quick.Statement.{statement}
 use Rattle.export.proofs.text_lists.write_quick.Tie as tie
-use Rattle.export.proofs.text_lists.write_quick.Reads as reads
-use Rattle.export.proofs.text_lists.write_quick.Lts as lts
-use Rattle.export.proofs.entries.write_entries.Reads as write-entries-reads
-use Rattle.export.proofs.text_lists.write_last_quick.Reads as write-last-quick-reads
-use Rattle.export.proofs.writers.start_setting.Reads as start-setting-reads
-use Rattle.export.proofs.writers.write_bytes.Reads as write-bytes-reads
 
 add-write-entries : tie.Need-add-write-entries
 add-write-entries c = search needs

@@ -4,19 +4,9 @@ use Rattle.export.specs.Exported.{entries}
 use Rattle.export.proofs.TextSettings.{status-wrote}
 use Rattle.export.proofs.StartLaws.{setting-writes}
 use borrow.Author.Needs.{needs}
-use Prim.Native.Nat.{ℕ, zero, suc, _≤_, _<_, _-_, _+_, _*_, _/_, _%_}
-use mathlib.Core.Path.{_≡_, refl, sym, ap, _∙_}
-use mathlib.Core.Bool.{Bool, true, false, cond}
-use mathlib.Core.List.{List, [], _∷_, _++_}
 use native.Mathlib.Omega.{arith}
-use lib.ListN.{length, getD, drop, take, set, replicate}
 use Rattle.export.proofs.text_lists.write_status.Statement.{statement}
 use Rattle.export.proofs.text_lists.write_status.Tie as tie
-use Rattle.export.proofs.text_lists.write_status.Reads as reads
-use Rattle.export.proofs.text_lists.write_status.Lts as lts
-use Rattle.export.proofs.entries.write_entries.Reads as write-entries-reads
-use Rattle.export.proofs.writers.start_setting.Reads as start-setting-reads
-use Rattle.export.proofs.writers.write_bytes.Reads as write-bytes-reads
 
 add-write-entries : tie.Need-add-write-entries
 add-write-entries c = search needs

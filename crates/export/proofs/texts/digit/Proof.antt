@@ -1,15 +1,8 @@
 use Rattle.export.proofs.NumberWriting.{digit-past, digit-none, digit-some}
 use borrow.Author.Needs.{needs}
-use Prim.Native.Nat.{ℕ, zero, suc, _≤_, _<_, _-_, _+_, _*_, _/_, _%_}
-use mathlib.Core.Path.{_≡_, refl, sym, ap, _∙_}
-use mathlib.Core.Bool.{Bool, true, false, cond}
-use mathlib.Core.List.{List, [], _∷_, _++_}
 use native.Mathlib.Omega.{arith}
-use lib.ListN.{length, getD, drop, take, set, replicate}
 use Rattle.export.proofs.texts.digit.Statement.{statement}
 use Rattle.export.proofs.texts.digit.Tie as tie
-use Rattle.export.proofs.texts.digit.Reads as reads
-use Rattle.export.proofs.texts.digit.Lts as lts
 
 returns : tie.Need-returns
 returns c = let a = c .before .args in digit-past (a .digits .now) (a .i) (c .before .pre) (omega arith)

@@ -1,21 +1,11 @@
-use mathlib.Core.Path.{subst}
-use lib.ListN.{length-set}
-use Rattle.export.proofs.NumberWriting.{numbered-start}
-use Rattle.export.proofs.WroteLaws.{writing-start}
-use Rattle.export.proofs.NumberWriting.{Numbered, numbered-more, numbered-end}
+use mathlib.Core.Path.{subst, _≡_, refl}
+use lib.ListN.{length-set, length}
+use Rattle.export.proofs.NumberWriting.{numbered-start, Numbered, numbered-more, numbered-end}
 use borrow.Author.Needs.{needs}
-use Prim.Native.Nat.{ℕ, zero, suc, _≤_, _<_, _-_, _+_, _*_, _/_, _%_}
-use mathlib.Core.Path.{_≡_, refl, sym, ap, _∙_}
-use mathlib.Core.Bool.{Bool, true, false, cond}
-use mathlib.Core.List.{List, [], _∷_, _++_}
+use Prim.Native.Nat.{ℕ, _≤_, _-_, _/_}
 use native.Mathlib.Omega.{arith}
-use lib.ListN.{length, getD, drop, take, set, replicate}
 use Rattle.export.proofs.texts.write_number.Statement.{statement}
 use Rattle.export.proofs.texts.write_number.Tie as tie
-use Rattle.export.proofs.texts.write_number.Reads as reads
-use Rattle.export.proofs.texts.write_number.Lts as lts
-use Rattle.export.proofs.texts.digit.Reads as digit-reads
-use Rattle.slots.proofs.slots.used.Reads as used-reads
 
 abbrev Inv-loop : tie.InvT-loop
 Inv-loop buffer₀ at digits pairs i₀ buffer i = (length buffer ≡ length buffer₀) × (i ≤ pairs) × Numbered digits buffer₀ buffer at i

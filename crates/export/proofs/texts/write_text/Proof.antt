@@ -1,18 +1,9 @@
 use borrow.Rule.Slice.PartMut.{mid-len}
 use Rattle.export.proofs.TextWriting.{text-wrote}
 use borrow.Author.Needs.{needs}
-use Prim.Native.Nat.{ℕ, zero, suc, _≤_, _<_, _-_, _+_, _*_, _/_, _%_}
-use mathlib.Core.Path.{_≡_, refl, sym, ap, _∙_}
-use mathlib.Core.Bool.{Bool, true, false, cond}
-use mathlib.Core.List.{List, [], _∷_, _++_}
 use native.Mathlib.Omega.{arith}
-use lib.ListN.{length, getD, drop, take, set, replicate}
 use Rattle.export.proofs.texts.write_text.Statement.{statement}
 use Rattle.export.proofs.texts.write_text.Tie as tie
-use Rattle.export.proofs.texts.write_text.Reads as reads
-use Rattle.export.proofs.texts.write_text.Lts as lts
-use Rattle.export.proofs.writers.write_bytes.Reads as write-bytes-reads
-use Rattle.slots.proofs.slots.used.Reads as used-reads
 
 used-requires : tie.Need-used-requires
 used-requires c κs = search needs

@@ -1,16 +1,8 @@
 use Rattle.export.proofs.StartLaws.{request-headed}
 use borrow.Author.Needs.{needs}
-use Prim.Native.Nat.{ℕ, zero, suc, _≤_, _<_, _-_, _+_, _*_, _/_, _%_}
-use mathlib.Core.Path.{_≡_, refl, sym, ap, _∙_}
-use mathlib.Core.Bool.{Bool, true, false, cond}
-use mathlib.Core.List.{List, [], _∷_, _++_}
 use native.Mathlib.Omega.{arith}
-use lib.ListN.{length, getD, drop, take, set, replicate}
 use Rattle.export.proofs.writers.start_request.Statement.{statement}
 use Rattle.export.proofs.writers.start_request.Tie as tie
-use Rattle.export.proofs.writers.start_request.Reads as reads
-use Rattle.export.proofs.writers.start_request.Lts as lts
-use Rattle.export.proofs.writers.write_bytes.Reads as write-bytes-reads
 
 sub-length : tie.Need-sub-length
 sub-length c = search needs

@@ -1,16 +1,8 @@
 use Rattle.export.proofs.WroteLaws.{wrote-copied}
 use borrow.Author.Needs.{needs}
-use Prim.Native.Nat.{ℕ, zero, suc, _≤_, _<_, _-_, _+_, _*_, _/_, _%_}
-use mathlib.Core.Path.{_≡_, refl, sym, ap, _∙_}
-use mathlib.Core.Bool.{Bool, true, false, cond}
-use mathlib.Core.List.{List, [], _∷_, _++_}
 use native.Mathlib.Omega.{arith}
-use lib.ListN.{length, getD, drop, take, set, replicate}
 use Rattle.export.proofs.writers.write_bytes.Statement.{statement}
 use Rattle.export.proofs.writers.write_bytes.Tie as tie
-use Rattle.export.proofs.writers.write_bytes.Reads as reads
-use Rattle.export.proofs.writers.write_bytes.Lts as lts
-use Rattle.slots.proofs.bytes.copy.Reads as copy-reads
 
 add-end : tie.Need-add-end
 add-end c = search needs
