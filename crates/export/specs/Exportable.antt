@@ -1,0 +1,13 @@
+-- Limits under which every part of every store is a request that fits the buffer.
+use Prim.Native.Nat.{_+_, _*_, _≤_}
+use Rattle.tables.specs.declared.limits.Limits.{Limits}
+
+pub record Exportable (m : Limits) : Type 0 where
+  -- a replace and an add for each line are at most 255 settings
+  pub counted : m .lines ≤ 254
+  -- a count of channels has 10 bits
+  pub channels : m .channels ≤ 1023
+  -- 96 status texts of 16 units, the largest part but the lines
+  pub status : 3373 ≤ m .message
+  -- lines of 18 digits and 16 units
+  pub lines : 13 + m .lines * 49 ≤ m .message

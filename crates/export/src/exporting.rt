@@ -1,0 +1,109 @@
+// Exports a part of a store as a request.
+use super::channels::write_channels;
+use super::fixed::write_fixed;
+use super::lines::write_lines;
+use super::members::Members;
+use super::members::write_members;
+use super::parts::Export;
+use super::parts::NoExport;
+use super::parts::Part;
+use super::text_lists::write_quick;
+use super::text_lists::write_status;
+use super::writers::Settings;
+use super::writers::start_request;
+use tables::checks::is_store;
+use tables::limits::Limits;
+ghost use mathlib.Core.Path.{_≡_};
+ghost use Prim.Native.Nat.{_≤_};
+ghost use lib.ListN.{length};
+ghost use Rattle.lists.proofs.Ladder.{Answers};
+ghost use Rattle.tables.specs.Layout.{Roomy};
+ghost use Rattle.tables.specs.Limits.{handheld};
+ghost use Rattle.export.specs.Exportable.{Exportable};
+ghost use Rattle.export.specs.Exporting.{exporting, told};
+ghost use Rattle.export.specs.PartWriters.{FoundAs, PartWritten};
+
+// A part by its number.
+pub(crate) enum FoundPart {
+    Is(Part),
+    NoneSuch,
+}
+
+fn part_of(number: u32) -> FoundPart
+    ensures { λ r. ⌜ FoundAs number r ⌝ }
+{
+    match number {
+        1 => FoundPart::Is(Part::Lines),
+        2 => FoundPart::Is(Part::Fixed),
+        3 => FoundPart::Is(Part::QuickTexts),
+        4 => FoundPart::Is(Part::Channels),
+        5 => FoundPart::Is(Part::StatusTexts),
+        6 => FoundPart::Is(Part::Groups),
+        7 => FoundPart::Is(Part::Individuals),
+        _ => FoundPart::NoneSuch,
+    }
+}
+
+// The settings of a part, behind the eight bytes of a request's head: docs/STORE.md says where the tables stand.
+fn write_part(buffer: &mut [u8], part: Part, store: &[u8], limits: Limits) -> Settings
+    requires { ⌜ Roomy limits × (length (now store) ≡ limits .size) × Exportable limits × (limits .message ≤ length (now buffer)) ⌝ }
+    ensures { λ r. ⌜ PartWritten limits part (now (store .entry)) (now (buffer .entry)) (now (buffer .exit)) r ⌝ }
+{
+    let lines = 7286 + limits.channels * 2;
+    let spare = lines + limits.lines * 51;
+    match part {
+        Part::Lines => write_lines(buffer, 8, &store[lines..spare]),
+        Part::Fixed => Settings {
+            end: write_fixed(buffer, 8, &store[11..22]),
+            count: 3,
+        },
+        Part::QuickTexts => write_quick(buffer, 8, &store[22..2966]),
+        Part::Channels => Settings {
+            end: write_channels(buffer, 8, &store[7286..lines]),
+            count: 1,
+        },
+        Part::StatusTexts => Settings {
+            end: write_status(buffer, 8, &store[2966..6134]),
+            count: 1,
+        },
+        Part::Groups => Settings {
+            end: write_members(buffer, 8, Members::OfGroups, &store[6134..6710]),
+            count: 16,
+        },
+        Part::Individuals => Settings {
+            end: write_members(buffer, 8, Members::OfIndividuals, &store[6710..7286]),
+            count: 16,
+        },
+    }
+}
+
+// The request that exports a part of a store of a set with these limits; or why there is none, and the buffer stays.
+pub(crate) fn export_in(part: u32, store: &[u8], buffer: &mut [u8], limits: Limits) -> Export
+    requires { ⌜ Exportable limits ⌝ }
+    ensures { λ r. ⌜ Answers (exporting limits part (now (store .entry)) (now (buffer .entry))) (record { answer = told r; buffer = now (buffer .exit) }) ⌝ }
+{
+    if buffer.len() < limits.message {
+        return Export::Untouched(NoExport::Buffer);
+    }
+    if !is_store(store, limits) {
+        return Export::Untouched(NoExport::NotAStore);
+    }
+    let FoundPart::Is(which) = part_of(part) else {
+        return Export::Untouched(NoExport::NoPart);
+    };
+    let settings = write_part(buffer, which, store, limits);
+    Export::Written(start_request(buffer, settings.count, settings.end))
+}
+
+// The same for a hand-held.
+pub fn export(part: u32, store: &[u8], buffer: &mut [u8]) -> Export
+    ensures { λ r. ⌜ Answers (exporting handheld part (now (store .entry)) (now (buffer .entry))) (record { answer = told r; buffer = now (buffer .exit) }) ⌝ }
+{
+    let limits = Limits {
+        lines: 32,
+        channels: 64,
+        message: 4096,
+        size: 12288,
+    };
+    export_in(part, store, buffer, limits)
+}
