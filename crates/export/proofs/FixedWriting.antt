@@ -18,7 +18,7 @@ use Rattle.writing.specs.Settings.{Setting, key, home, system, kind, unicode16}
 use Rattle.writing.specs.Writing.{bit, flag, current, to-group, type-byte, body, key-address}
 use Rattle.writing.proofs.Whole.{Whole}
 use Rattle.tables.specs.Allowed.{HomeOk, SystemOk, TargetOk}
-use Rattle.tables.specs.Checks.{KeyOk}
+use Rattle.checks.specs.Checks.{KeyOk}
 use Rattle.tables.specs.Layout.{key-bytes, key-flags, home-bytes, system-bytes, key-address as kept-address}
 use Rattle.tables.specs.Tables.{Key}
 use Rattle.tables.proofs.EntryCodes.{bit-small}

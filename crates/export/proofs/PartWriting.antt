@@ -14,7 +14,7 @@ use Rattle.writing.specs.Ranges.{InChannel}
 use Rattle.writing.specs.Settings.{Setting, lines, key, home, channels, system, status-texts, unicode16}
 use Rattle.tables.specs.declared.limits.Limits.{Limits}
 use Rattle.tables.specs.Allowed.{HomeOk, SystemOk, LineOk, StatusOk}
-use Rattle.tables.specs.Checks.{KeyOk, Both, joined}
+use Rattle.checks.specs.Checks.{KeyOk, Both, joined}
 use Rattle.tables.specs.Layout.{layout, key-bytes, home-bytes, system-bytes, line-bytes, status-bytes}
 use Rattle.tables.specs.Store.{Holds}
 use Rattle.tables.specs.Tables.{Tables}

@@ -2,4 +2,6 @@ pub mod EntryWriters
 pub mod Exportable
 pub mod Exported
 pub mod Exporting
-pub mod Restored
+pub mod MemberWriters
+pub mod PartWriters
+pub mod Writers

@@ -11,7 +11,7 @@ use super::text_lists::write_quick;
 use super::text_lists::write_status;
 use super::writers::Settings;
 use super::writers::start_request;
-use tables::checks::is_store;
+use checks::checks::is_store;
 use tables::limits::Limits;
 ghost use mathlib.Core.Path.{_≡_};
 ghost use Prim.Native.Nat.{_≤_};

@@ -8,7 +8,7 @@ ghost use lib.ListN.{length};
 ghost use Rattle.writing.specs.Canonical.{canonical, canonical-all};
 ghost use Rattle.writing.specs.Settings.{key, home, system, unicode16};
 ghost use Rattle.tables.specs.Allowed.{HomeOk, SystemOk};
-ghost use Rattle.tables.specs.Checks.{KeyOk, Both, joined};
+ghost use Rattle.checks.specs.Checks.{KeyOk, Both, joined};
 ghost use Rattle.tables.specs.Layout.{key-bytes, home-bytes, system-bytes};
 ghost use Rattle.export.specs.Writers.{Writes, Kept};
 

@@ -1,6 +1,6 @@
 // Writes bytes into a lent buffer. A writer takes the place to write at and gives the place after what it wrote.
+use carrier::carrier::START;
 use slots::bytes::copy;
-use wire::carrier::START;
 ghost use Prim.Native.Nat.{_+_, _-_, _≤_, _<_};
 ghost use lib.ListN.{length};
 ghost use Rattle.export.specs.Writers.{Wrote, Started, Headed};

@@ -1,6 +1,6 @@
 use Rattle.export.specs.PartWriters.{FoundAs}
 use mathlib.Core.Path.{subst}
-use Rattle.tables.proofs.CheckLaws.{not-said, was-said}
+use Rattle.tables.proofs.AnswerLaws.{not-said, was-said}
 use Rattle.export.proofs.ExportLaws.{says-15, says-11, says-16, says-0}
 use borrow.Author.Needs.{needs}
 use native.Mathlib.Omega.{arith}

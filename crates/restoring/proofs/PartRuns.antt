@@ -22,11 +22,12 @@ use Rattle.tables.specs.Tables.{Line, Member, Tables, with-lines, with-quick, w
 use Rattle.tables.proofs.Sentences.{line-add-new, others-without, channel-add, quick-add-free}
 use Rattle.station.specs.Judge.{done, step}
 use Rattle.station.specs.Taking.{Runs}
 use Rattle.export.specs.declared.parts.Part.{Part}
 use Rattle.export.specs.declared.parts.Part.the-variants.{Lines, Fixed, QuickTexts, Channels, StatusTexts, Groups, Individuals}
 use Rattle.export.specs.Exported.{line-add, entries, quick-add, no-group-flags, no-individual-flags, slots, exported}
-use Rattle.export.specs.Restored.{with-part, Exportable}
-use Rattle.export.proofs.Fitting.{AllReadable, exported-readable}
+use Rattle.export.specs.Exportable.{Exportable}
+use Rattle.restoring.specs.Restored.{with-part}
+use Rattle.restoring.proofs.Fitting.{AllReadable, exported-readable}
 
 -- ---- steps in turn
 

@@ -1,4 +1,4 @@
--- What taking the exported requests leaves of another set's tables, and which limits have room for every export: "the same tables".
+-- What taking the exported requests leaves of another set's tables, "the same tables", and how long the requests are.
 use Prim.Native.Nat.{ℕ, _+_, _*_, _/_, _≤_}
 use mathlib.Core.Path.{_≡_}
 use mathlib.Core.List.{List, [], _∷_, map}
@@ -56,9 +56,3 @@ longest-settings m Individuals = 16 * 42
 -- the most bytes of a part's request: start bytes, carrier and ParamSum are 8
 abbrev pub longest : Limits → Part → ℕ
 longest m p = 8 + longest-settings m p
-
--- limits of which every part is one request: its settings fit ParamSum, its channels their Count, its bytes a message
-pub record Exportable (m : Limits) : Type 0 where
-  pub lines : m .lines ≤ 254
-  pub channels : m .channels ≤ 1023
-  pub message : (p : Part) → longest m p ≤ m .message

@@ -12,11 +12,12 @@ use Rattle.tables.specs.Layout.{Roomy}
 use Rattle.tables.specs.Store.{StoreOf, Holds}
 use Rattle.tables.specs.Tables.{Tables}
 use Rattle.tables.proofs.LayoutLaws.{layout-length, layout-one}
 use Rattle.export.specs.declared.parts.Part.{Part}
 use Rattle.export.specs.declared.parts.Part.the-variants.{Lines, Fixed, QuickTexts, Channels, StatusTexts, Groups, Individuals}
 use Rattle.export.specs.Exported.{part-number, exported, request-bytes}
+use Rattle.export.proofs.Determined.{one-part}
 use Rattle.export.specs.Exporting.{After, writes, Exports, exporting}
-use Rattle.export.specs.Restored.{seven}
+use Rattle.restoring.specs.Restored.{seven}
 
 -- bytes that hold allowed tables, where these have room, are a store
 pub holds-store : (m : Limits) (t : Tables) (store : List ℕ) → Roomy m → Holds m t store → StoreOf m store
@@ -26,33 +27,14 @@ holds-store m t store room holds = record {
   store = record { tables = t; allowed = holds .0; bytes-are = holds .1 };
 }
 
--- a part stands in its place among the seven
-in-place : (p : Part) → getD seven (part-number p - 1) Lines ≡ p
-in-place Lines = refl
-in-place Fixed = refl
-in-place QuickTexts = refl
-in-place Channels = refl
-in-place StatusTexts = refl
-in-place Groups = refl
-in-place Individuals = refl
-
--- so a number has one part
-part-one : (p q : Part) → part-number p ≡ part-number q → p ≡ q
-part-one p q e = sym (in-place p) ∙ ap (λ (k : ℕ). getD seven (k - 1) Lines) e ∙ in-place q
-
 module _ (m : Limits) (part : ℕ) (store buffer : List ℕ) where
   -- the foot of exporting allows one outcome
   exports-one : (t : Tables) (p : Part) → Holds m t store → part-number p ≡ part → (a : After) → Exports m part store buffer a
       → a ≡ writes m part store buffer (request-bytes (exported p t))
   exports-one t p holds n a x =
       let e : x .tables ≡ t = layout-one m (x .tables) t (x .holds .0) (holds .0) (sym (x .holds .1) ∙ holds .1) in
-      let w : x .which ≡ p = part-one (x .which) p (x .numbered ∙ sym n) in
+      let w : x .which ≡ p = one-part (x .which) p (x .numbered ∙ sym n) in
       x .after ∙ (λ i. writes m part store buffer (request-bytes (exported (w i) (e i))))
-
-  -- DETERMINED: the contract of exporting allows one answer and one buffer
-  pub exporting-determined : (a b : After) → Answers (exporting m part store buffer) a → Answers (exporting m part store buffer) b → a ≡ b
-  exporting-determined a b p q =
-      one-answer (exporting m part store buffer) (λ y z k l. exports-one (l .tables) (l .which) (l .holds) (l .numbered) y k ∙ sym (l .after)) a b p q
 
   -- EXPORTED BYTES: from a store, into a buffer of a message's size, a part's number gives its request
   pub exported-bytes : (t : Tables) (p : Part) → Roomy m → Holds m t store → part-number p ≡ part → m .message ≤ length buffer

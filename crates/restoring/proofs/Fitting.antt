@@ -16,11 +16,12 @@ use Rattle.tables.specs.declared.limits.Limits.{Limits}
 use Rattle.tables.specs.Allowed.{Allowed, QuickOk, StatusOk, LineOk, GroupOk, IndividualOk}
 use Rattle.tables.specs.Tables.{Member, Tables}
 use Rattle.station.specs.Taking.{item-of}
 use Rattle.export.specs.declared.parts.Part.{Part}
 use Rattle.export.specs.declared.parts.Part.the-variants.{Lines, Fixed, QuickTexts, Channels, StatusTexts, Groups, Individuals}
 use Rattle.export.specs.Exported.{line-add, entries, quick-add, no-group-flags, no-individual-flags, slots, exported}
-use Rattle.export.specs.Restored.{longest-settings, Exportable}
-use Rattle.export.proofs.Readable.{Readable, QuickEntry, StatusEntry, lines-readable, line-readable, key-readable, home-readable, system-readable, quick-replace-readable, quick-add-readable, status-readable, channels-readable, group-readable, no-group-readable, individual-readable, no-individual-readable}
+use Rattle.export.specs.Exportable.{Exportable}
+use Rattle.restoring.specs.Restored.{longest-settings}
+use Rattle.restoring.proofs.Readable.{Readable, QuickEntry, StatusEntry, lines-readable, line-readable, key-readable, home-readable, system-readable, quick-replace-readable, quick-add-readable, status-readable, channels-readable, group-readable, no-group-readable, individual-readable, no-individual-readable}
 
 -- ---- settings one after the other
 
@@ -126,7 +127,7 @@ module _ (m : Limits) (x : Exportable m) (t : Tables) (ok : Allowed m t) where
 
   -- COUNTED: "1 to 255" settings
   pub exported-count : (p : Part) → (1 ≤ length (exported p t)) × (length (exported p t) ≤ 255)
-  exported-count Lines = omega (arith, x .lines, ok .lines .0, length-map (t .lines) line-add)
+  exported-count Lines = omega (arith, x .counted, ok .lines .0, length-map (t .lines) line-add)
   exported-count Fixed = omega arith
   exported-count QuickTexts =
       omega (arith, length-map (drop 63 (entries 0 (t .quick))) quick-add, length-drop 63 (entries 0 (t .quick)), entries-few 0 (t .quick), ok .quick .0)

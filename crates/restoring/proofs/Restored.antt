@@ -21,14 +21,15 @@ use Rattle.tables.proofs.LayoutLaws.{layout-one}
 use Rattle.station.specs.Judge.{kept, taken as all-taken}
 use Rattle.station.specs.Taking.{forget, item-of, or-else, LastItem, last-item, After, replies, settled, Handled, taken}
 use Rattle.station.proofs.Determined.{taken-determined}
 use Rattle.export.specs.declared.parts.Part.{Part}
 use Rattle.export.specs.declared.parts.Part.the-variants.{Lines, Fixed, QuickTexts, Channels, StatusTexts, Groups, Individuals}
 use Rattle.export.specs.Exported.{exported, request-bytes}
-use Rattle.export.specs.Restored.{with-part, SameTables, seven, requests, TakenInTurn, Exportable}
-use Rattle.export.proofs.ExportedBytes.{holds-store}
-use Rattle.export.proofs.Fitting.{exported-readable}
-use Rattle.export.proofs.PartRuns.{part-runs}
-use Rattle.export.proofs.Requests.{exported-is}
+use Rattle.export.specs.Exportable.{Exportable}
+use Rattle.restoring.specs.Restored.{with-part, SameTables, seven, requests, TakenInTurn}
+use Rattle.restoring.proofs.ExportedBytes.{holds-store}
+use Rattle.restoring.proofs.Fitting.{exported-readable}
+use Rattle.restoring.proofs.PartRuns.{part-runs}
+use Rattle.restoring.proofs.Requests.{exported-is}
 
 -- ---- one part
 

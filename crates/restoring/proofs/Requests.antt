@@ -16,11 +16,12 @@ use Rattle.tables.specs.declared.limits.Limits.{Limits}
 use Rattle.tables.specs.Allowed.{Allowed}
 use Rattle.tables.specs.Limits.{handheld}
 use Rattle.tables.specs.Tables.{Tables}
 use Rattle.export.specs.declared.parts.Part.{Part}
 use Rattle.export.specs.declared.parts.Part.the-variants.{Lines, Fixed, QuickTexts, Channels, StatusTexts, Groups, Individuals}
 use Rattle.export.specs.Exported.{exported, data-bytes, request-bytes}
-use Rattle.export.specs.Restored.{longest, Exportable}
-use Rattle.export.proofs.Fitting.{exported-readable, exported-count}
+use Rattle.export.specs.Exportable.{Exportable}
+use Rattle.restoring.specs.Restored.{longest}
+use Rattle.restoring.proofs.Fitting.{exported-readable, exported-count}
 
 -- ---- a request of any settings
 
@@ -53,15 +54,15 @@ request-is most ss some few in-size short =
 
 -- ---- the parts
 
--- limits that let every part be one request keep its length within 16 bits
-longest-small : (m : Limits) → Exportable m → (p : Part) → longest m p ≤ 65535
-longest-small m x Lines = omega (arith, x .lines)
-longest-small m x Fixed = omega arith
-longest-small m x QuickTexts = omega arith
-longest-small m x Channels = omega (arith, x .channels)
-longest-small m x StatusTexts = omega arith
-longest-small m x Groups = omega arith
-longest-small m x Individuals = omega arith
+-- limits that let every part be one request have room for it, within 16 bits
+pub longest-fits : (m : Limits) → Exportable m → (p : Part) → (longest m p ≤ m .message) × (longest m p ≤ 65535)
+longest-fits m x Lines = (omega (arith, x .lines), omega (arith, x .counted))
+longest-fits m x Fixed = (omega (arith, x .status), omega arith)
+longest-fits m x QuickTexts = (omega (arith, x .status), omega arith)
+longest-fits m x Channels = (omega (arith, x .status, x .channels), omega (arith, x .channels))
+longest-fits m x StatusTexts = (omega (arith, x .status), omega arith)
+longest-fits m x Groups = (omega (arith, x .status), omega arith)
+longest-fits m x Individuals = (omega (arith, x .status), omega arith)
 
 module _ (m : Limits) (x : Exportable m) (t : Tables) (ok : Allowed m t) (p : Part) where
   -- BOUND: no part of allowed tables is longer
@@ -73,19 +74,10 @@ module _ (m : Limits) (x : Exportable m) (t : Tables) (ok : Allowed m t) (p : Pa
   exported-is =
       let (some, few) = exported-count m x t ok p in
       let b : length (request-bytes (exported p t)) ≤ longest m p = exported-length in
-      request-is (m .message) (exported p t) some few (omega (arith, x .message p)) (omega (arith, longest-small m x p))
+      request-is (m .message) (exported p t) some few (omega (arith, longest-fits m x p .0)) (omega (arith, longest-fits m x p .1))
 
 -- ---- the handheld's limits
 
-handheld-message : (p : Part) → longest handheld p ≤ 4096
-handheld-message Lines = omega arith
-handheld-message Fixed = omega arith
-handheld-message QuickTexts = omega arith
-handheld-message Channels = omega arith
-handheld-message StatusTexts = omega arith
-handheld-message Groups = omega arith
-handheld-message Individuals = omega arith
-
 -- HANDHELD: every part of a handheld's tables is one request
 pub handheld-exportable : Exportable handheld
-handheld-exportable = record { lines = omega arith; channels = omega arith; message = handheld-message }
+handheld-exportable = record { counted = omega arith; channels = omega arith; status = omega arith; lines = omega arith }

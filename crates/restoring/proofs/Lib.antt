@@ -1,0 +1,6 @@
+pub mod Readable
+pub mod Fitting
+pub mod PartRuns
+pub mod Requests
+pub mod Restored
+pub mod ExportedBytes

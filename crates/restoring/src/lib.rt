@@ -1,0 +1,1 @@
+// Makes another set hold the same tables: each part exported, and taken.
