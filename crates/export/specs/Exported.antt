@@ -4,8 +4,6 @@ use mathlib.Core.Bool.{false}
 use mathlib.Core.List.{List, [], _∷_, _++_, map}
 use mathlib.Core.Option.{Option, none, some}
 use lib.ListN.{length, take, drop}
-use Rattle.plan.specs.declared.numbers.GroupAddress.{GroupAddress}
-use Rattle.plan.specs.declared.numbers.IndividualAddress.{IndividualAddress}
 use Rattle.writing.specs.declared.LineFlags.{LineFlags}
 use Rattle.writing.specs.declared.GroupFlags.{GroupFlags}
 use Rattle.writing.specs.declared.IndividualFlags.{IndividualFlags}
@@ -13,7 +11,7 @@ use Rattle.writing.specs.declared.Operation.{Operation}
 use Rattle.writing.specs.declared.Operation.the-variants.{Add, Delete, Replace}
 use Rattle.writing.specs.Canonical.{plain, canonical-all}
 use Rattle.writing.specs.Carrier.{start, carrier, coding-type}
-use Rattle.writing.specs.Settings.{Text, Contact, Entry, Slot, Setting, lines, key, quick-texts, home, channels, system, status-texts, group, individual, unicode16}
+use Rattle.writing.specs.Settings.{Text, Entry, Slot, Setting, lines, key, quick-texts, home, channels, system, status-texts, group, individual, unicode16}
 use Rattle.writing.specs.Writing.{request-head}
 use Rattle.tables.specs.Tables.{Line, Member, Tables}
 use Rattle.export.specs.declared.parts.Part.{Part}

@@ -1,23 +1,21 @@
 -- EXPORTED BYTES: what exporting a part leaves at the start of its buffer is that part's request, and nothing else is allowed. Assumes nothing.
-use Prim.Native.Nat.{ℕ, _-_, _≤_}
-use mathlib.Core.Path.{_≡_, refl, sym, ap, _∙_}
+use Prim.Native.Nat.{ℕ, _≤_}
+use mathlib.Core.Path.{_≡_, sym, ap, _∙_}
 use mathlib.Core.Logic.{inl, inr}
 use mathlib.Core.List.{List}
 use native.Mathlib.Omega.{arith}
-use lib.ListN.{length, getD, take, drop}
+use lib.ListN.{length, take, drop}
 use lib.Seq.{take-append-seam}
-use Rattle.lists.proofs.Ladder.{Answers, one-answer}
+use Rattle.lists.proofs.Ladder.{Answers}
 use Rattle.tables.specs.declared.limits.Limits.{Limits}
 use Rattle.tables.specs.Layout.{Roomy}
 use Rattle.tables.specs.Store.{StoreOf, Holds}
 use Rattle.tables.specs.Tables.{Tables}
 use Rattle.tables.proofs.LayoutLaws.{layout-length, layout-one}
 use Rattle.export.specs.declared.parts.Part.{Part}
-use Rattle.export.specs.declared.parts.Part.the-variants.{Lines, Fixed, QuickTexts, Channels, StatusTexts, Groups, Individuals}
 use Rattle.export.specs.Exported.{part-number, exported, request-bytes}
 use Rattle.export.proofs.Determined.{one-part}
 use Rattle.export.specs.Exporting.{After, writes, Exports, exporting}
-use Rattle.restoring.specs.Restored.{seven}
 
 -- bytes that hold allowed tables, where these have room, are a store
 pub holds-store : (m : Limits) (t : Tables) (store : List ℕ) → Roomy m → Holds m t store → StoreOf m store
@@ -29,7 +27,7 @@ holds-store m t store room holds = record {
 
 module _ (m : Limits) (part : ℕ) (store buffer : List ℕ) where
   -- the foot of exporting allows one outcome
-  exports-one : (t : Tables) (p : Part) → Holds m t store → part-number p ≡ part → (a : After) → Exports m part store buffer a
+  pub exports-one : (t : Tables) (p : Part) → Holds m t store → part-number p ≡ part → (a : After) → Exports m part store buffer a
       → a ≡ writes m part store buffer (request-bytes (exported p t))
   exports-one t p holds n a x =
       let e : x .tables ≡ t = layout-one m (x .tables) t (x .holds .0) (holds .0) (sym (x .holds .1) ∙ holds .1) in

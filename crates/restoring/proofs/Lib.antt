@@ -4,3 +4,5 @@ pub mod PartRuns
 pub mod Requests
 pub mod Restored
 pub mod ExportedBytes
+pub mod RestoreLaws
+pub mod Determined

@@ -25,7 +25,7 @@ use Rattle.export.specs.declared.parts.Part.{Part}
 use Rattle.export.specs.declared.parts.Part.the-variants.{Lines, Fixed, QuickTexts, Channels, StatusTexts, Groups, Individuals}
 use Rattle.export.specs.Exported.{exported, request-bytes}
 use Rattle.export.specs.Exportable.{Exportable}
-use Rattle.restoring.specs.Restored.{with-part, SameTables, seven, requests, TakenInTurn}
+use Rattle.restoring.specs.Restored.{with-part, with-parts, SameTables, seven, requests, TakenInTurn}
 use Rattle.restoring.proofs.ExportedBytes.{holds-store}
 use Rattle.restoring.proofs.Fitting.{exported-readable}
 use Rattle.restoring.proofs.PartRuns.{part-runs}
@@ -64,7 +64,7 @@ part-allowed m Individuals t u ok old = individuals-allowed m u old (t .individu
 module _ (m : Limits) (x : Exportable m) (room : Roomy m) (t : Tables) (ok : Allowed m t) where
   module _ (u : Tables) (store : List ℕ) (holds : Holds m u store) (reply : List ℕ) (long : 20 ≤ length reply) (p : Part) where
     -- what taking the part's request leaves
-    abbrev after-part : After
+    abbrev pub after-part : After
     after-part = replies m (request-bytes (exported p t)) store reply 0 0 false false no-hash (layout m (with-part p t (forget u)))
 
     -- it is what the settings come to
@@ -88,25 +88,24 @@ module _ (m : Limits) (x : Exportable m) (room : Roomy m) (t : Tables) (ok : All
     pub part-answers : Answers (taken m (request-bytes (exported p t)) store reply) after-part
     part-answers = inr (λ h. omega arith, inr (λ n. n (holds-store m u store room holds), handled-part))
 
-    -- EXPORTED TAKEN: and nothing else: the request is taken, asks for no reply, and leaves the set's tables with those of the part
+    -- and nothing else
+    pub part-taken : (a : After) → Answers (taken m (request-bytes (exported p t)) store reply) a → a ≡ after-part
+    part-taken a h = taken-determined m (request-bytes (exported p t)) store reply a after-part h part-answers
+
+    -- EXPORTED TAKEN: the request is taken, asks for no reply, and leaves the set's tables with those of the part
     pub exported-taken : (a : After) → Answers (taken m (request-bytes (exported p t)) store reply) a
         → (a .answer .number ≡ 0) × (a .answer .send ≡ false) × (a .store ≡ layout m (with-part p t (forget u)))
     exported-taken a h =
-        let e : a ≡ after-part = taken-determined m (request-bytes (exported p t)) store reply a after-part h part-answers in
+        let e : a ≡ after-part = part-taken a h in
         (ap (λ (y : After). y .answer .number) e, ap (λ (y : After). y .answer .send) e, ap (λ (y : After). y .store) e)
 
   -- ---- parts in turn
 
-  -- what taking these parts in turn makes of the tables u
-  abbrev with-parts : List Part → Tables → Tables
-  with-parts [] u = u
-  with-parts (p ∷ ps) u = with-parts ps (with-part p t (forget u))
-
   -- the store after each part holds the tables so far
-  after-holds : (u : Tables) (store after : List ℕ) → Holds m u store → (p : Part) → after ≡ layout m (with-part p t (forget u)) → Holds m (with-part p t (forget u)) after
+  pub after-holds : (u : Tables) (store after : List ℕ) → Holds m u store → (p : Part) → after ≡ layout m (with-part p t (forget u)) → Holds m (with-part p t (forget u)) after
   after-holds u store after holds p e = (part-allowed m p t (forget u) ok (forget-allowed m u (holds .0)), e)
 
-  parts-taken : (ps : List Part) (u : Tables) (store after : List ℕ) → Holds m u store → TakenInTurn m (requests t ps) store after → after ≡ layout m (with-parts ps u)
+  parts-taken : (ps : List Part) (u : Tables) (store after : List ℕ) → Holds m u store → TakenInTurn m (requests t ps) store after → after ≡ layout m (with-parts t ps u)
   parts-taken [] u store after holds h = h ∙ holds .1
   parts-taken (p ∷ ps) u store after holds (reply, a, long, h, more) =
       parts-taken ps (with-part p t (forget u)) (a .store) after (after-holds u store (a .store) holds p (exported-taken u store holds reply long p a h .2)) more
@@ -121,7 +120,7 @@ module _ (m : Limits) (x : Exportable m) (room : Roomy m) (t : Tables) (ok : All
       ap forget (layout-one m v (forget t) (now .0) (forget-allowed m t ok) (sym (now .1) ∙ restored u store after holds h))
 
   -- and they can be taken in turn, with any reply buffer that is long enough
-  parts-takable : (reply : List ℕ) → 20 ≤ length reply → (ps : List Part) (u : Tables) (store : List ℕ) → Holds m u store → TakenInTurn m (requests t ps) store (layout m (with-parts ps u))
+  parts-takable : (reply : List ℕ) → 20 ≤ length reply → (ps : List Part) (u : Tables) (store : List ℕ) → Holds m u store → TakenInTurn m (requests t ps) store (layout m (with-parts t ps u))
   parts-takable reply long [] u store holds = sym (holds .1)
   parts-takable reply long (p ∷ ps) u store holds = (
     reply,
