@@ -9,13 +9,13 @@ use Rattle.slots.specs.Slots.{u16}
 use Rattle.writing.specs.declared.Kind.{Kind}
 use Rattle.writing.specs.declared.Kind.the-variants.{Lines, Key, QuickTexts, Home, Channels, System, StatusTexts, Group, Individual, Last}
 use Rattle.writing.specs.Canonical.{plain, canonical, canonical-all, FitsField}
-use Rattle.writing.specs.Carrier.{carrier}
+use Rattle.writing.specs.Carrier.{start, carrier}
 use Rattle.writing.specs.Fields.{val, res}
 use Rattle.writing.specs.Settings.{Setting, kind, unicode16}
 use Rattle.writing.specs.Writing.{type-byte, body, data-length, request-head}
 use Rattle.writing.proofs.CanonicalLaws.{plain-length}
 use Rattle.writing.proofs.Whole.{body-whole}
-use Rattle.export.specs.Exported.{data-bytes, request-bytes}
+use Rattle.export.specs.Exported.{request-bytes}
 use Rattle.export.specs.Writers.{Wrote, Writes, Started, Headed}
 use Rattle.export.proofs.PlainLaws.{plain-byte, plain-two}
 use Rattle.export.proofs.WroteLaws.{wrote-before, wrote-as}
@@ -74,19 +74,27 @@ setting-writes Held setting type at room end r before mid after st low high h = 
 
 -- ---- a request
 
+-- the first data bytes, and the carrier's
+head-is : (n : ℕ) → n < 256 → plain (request-head n) ≡ 8 ∷ n ∷ []
+head-is n c =
+    plain-byte 8 (val 5 1 ∷ val 3 0 ∷ []) (val 8 n ∷ []) refl refl (omega arith) (1, refl) (c, tt)
+    ∙ ap (λ (x : List ℕ). 8 ∷ x) (plain-byte n (val 8 n ∷ []) [] refl (omega arith) c (0, refl) tt)
+
+carrier-is : (n : ℕ) → n < 65536 → plain (carrier n 7) ≡ u16 n ++ (8 ∷ 7 ∷ [])
+carrier-is n l = plain-two n (val 16 n ∷ []) (val 8 0x08 ∷ res 4 ∷ val 4 7 ∷ []) refl (omega arith) l (2, refl) (omega arith, (tt, (omega arith, tt)))
+
+-- a request's head before any bytes
+headed-is : (n : ℕ) (all : List ℕ) → n < 256 → 4 + length all < 65536
+    → start ++ plain (carrier (2 + length (plain (request-head n) ++ all)) 7) ++ (plain (request-head n) ++ all) ≡ (2 ∷ 2 ∷ u16 (4 + length all) ++ (8 ∷ 7 ∷ 8 ∷ n ∷ [])) ++ all
+headed-is n all c l =
+    let k : 2 + length (8 ∷ n ∷ all) ≡ 4 + length all = omega arith in
+    ap (λ (x : List ℕ). start ++ plain (carrier (2 + length (x ++ all)) 7) ++ (x ++ all)) (head-is n c)
+    ∙ ap (λ (i : ℕ). start ++ plain (carrier i 7) ++ (8 ∷ n ∷ all)) k ∙ ap (λ (x : List ℕ). start ++ x ++ (8 ∷ n ∷ all)) (carrier-is (4 + length all) l)
+
 -- the bytes of a request: its head, and the settings
 pub request-is : (ss : List Setting) → length ss < 256 → 4 + length (canonical-all unicode16 ss) < 65536
     → request-bytes ss ≡ (2 ∷ 2 ∷ u16 (4 + length (canonical-all unicode16 ss)) ++ (8 ∷ 7 ∷ 8 ∷ length ss ∷ [])) ++ canonical-all unicode16 ss
-request-is ss c l =
-    let all : List ℕ = canonical-all unicode16 ss in
-    let n : ℕ = length ss in
-    let p : plain (request-head n) ≡ 8 ∷ n ∷ []
-    = plain-byte 8 (val 5 1 ∷ val 3 0 ∷ []) (val 8 n ∷ []) refl refl (omega arith) (1, refl) (c, tt) ∙ ap (λ (x : List ℕ). 8 ∷ x) (plain-byte n (val 8 n ∷ []) [] refl (omega arith) c (0, refl) tt) in
-    let d : data-bytes ss ≡ 8 ∷ n ∷ all = ap (λ (x : List ℕ). x ++ all) p in
-    let k : 2 + length (data-bytes ss) ≡ 4 + length all = omega (arith, ap length d) in
-    let q : plain (carrier (4 + length all) 7) ≡ u16 (4 + length all) ++ (8 ∷ 7 ∷ [])
-    = plain-two (4 + length all) (val 16 (4 + length all) ∷ []) (val 8 0x08 ∷ res 4 ∷ val 4 7 ∷ []) refl (omega arith) l (2, refl) (omega arith, (tt, (omega arith, tt))) in
-    ap₂ (λ (i : ℕ) (x : List ℕ). 2 ∷ 2 ∷ plain (carrier i 7) ++ x) k d ∙ ap (λ (x : List ℕ). 2 ∷ 2 ∷ x ++ (8 ∷ n ∷ all)) q
+request-is ss c l = headed-is (length ss) (canonical-all unicode16 ss) c l
 
 -- the settings were written, and then it
 pub request-headed : (count end r : ℕ) (before after : List ℕ) → count < 256 → 8 ≤ end → end < 65540

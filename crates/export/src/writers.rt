@@ -1,9 +1,16 @@
 // Writes bytes into a lent buffer. A writer takes the place to write at and gives the place after what it wrote.
 use carrier::carrier::START;
+use carrier::carrier::UNICODE16;
 use slots::bytes::copy;
 ghost use Prim.Native.Nat.{_+_, _-_, _≤_, _<_};
 ghost use lib.ListN.{length};
 ghost use Rattle.export.specs.Writers.{Wrote, Started, Headed};
+
+// The manufacturer that the carrier names.
+const MFID: u8 = 0x08;
+
+// OTAPVer 1 and MsgType 0.
+const REQUEST: u8 = 0b0000_1000;
 
 // Settings that were written: the place after them, and how many they are.
 pub(crate) struct Settings {
@@ -42,9 +49,9 @@ pub(crate) fn start_request(buffer: &mut [u8], count: u8, end: usize) -> usize
         START[1],
         (length / 256) as u8,
         (length % 256) as u8,
-        8,
-        7,
-        8,
+        MFID,
+        UNICODE16,
+        REQUEST,
         count,
     ];
     write_bytes(buffer, 0, &start);
