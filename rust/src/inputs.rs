@@ -1,0 +1,137 @@
+//! Messages to try an implementation with: seeded, of every kind, for one set as it grows.
+
+pub mod damage;
+pub mod draft;
+pub mod maker;
+pub mod random;
+pub mod requests;
+pub mod sweep;
+
+use crate::reference::export::{part_bytes, PARTS};
+use crate::reference::message::{first_byte, Hash, LONGEST, QUERY, SHORTEST};
+use crate::reference::tables::Set;
+use crate::reference::take::take;
+use draft::{restate, Draft};
+use maker::pool_hash;
+use random::Random;
+
+/// Longest message ever made, a little over the longest allowed.
+pub const LONGEST_INPUT: usize = 4_200;
+
+/// A sequence of messages; it follows the set, so as to reach full tables and matching queries.
+pub struct Inputs {
+    random: Random,
+    set: Set,
+}
+
+impl Inputs {
+    pub fn new(seed: u64) -> Self {
+        Inputs { random: Random::new(seed), set: Set::default() }
+    }
+
+    /// The next message and a kind, which nobody judges.
+    pub fn record(&mut self) -> (u16, Vec<u8>) {
+        let kind = if self.random.percent(80) {
+            self.random.within(1..=7)
+        } else {
+            self.random.bits(16) as usize
+        };
+        (kind as u16, self.message())
+    }
+
+    pub fn message(&mut self) -> Vec<u8> {
+        let mut message = match self.random.below(100) {
+            0..=39 => self.request().bytes(),
+            40..=72 => self.damaged(),
+            73..=84 => self.query(),
+            85..=93 => self.carrier(),
+            94..=96 => self.wrong_length(),
+            _ => self.exported(),
+        };
+        message.truncate(LONGEST_INPUT);
+        take(&message, &mut self.set, &mut [0; 20]);
+        message
+    }
+
+    fn request(&mut self) -> Draft {
+        requests::request(&mut self.random, &self.set.tables)
+    }
+
+    fn damaged(&mut self) -> Vec<u8> {
+        let draft = self.request();
+        damage::damaged(&mut self.random, &self.set.tables, draft)
+    }
+
+    fn query(&mut self) -> Vec<u8> {
+        let hash = match self.random.below(10) {
+            0..=4 => self.set.hash.clone(),
+            5..=8 => pool_hash(&mut self.random),
+            _ => Hash::Nothing,
+        };
+        let mut code = self.random.pick(&[0, 0, 0xC0, 0x40]) | hash.code();
+        let mut value = hash.value().to_vec();
+        match self.random.below(20) {
+            0 => code = self.random.bits(8) as u8,
+            1 => value.extend(self.random.bytes_up_to(12)),
+            2 => drop(value.pop()),
+            3 if !value.is_empty() => {
+                let place = self.random.below(value.len());
+                value[place] ^= 1 << self.random.below(8);
+            }
+            _ => {}
+        }
+        let mut data = vec![first_byte(QUERY), code];
+        data.extend(value);
+        let coding = self.random.bits(8) as u8;
+        draft::carried(coding, &data, self.random.percent(70))
+    }
+
+    /// A good message with a wrong carrier, message type or version, at times several.
+    fn carrier(&mut self) -> Vec<u8> {
+        let query_first = self.random.percent(30);
+        let mut message = if query_first { self.query() } else { self.request().bytes() };
+        for _ in 0..self.random.pick(&[1, 1, 1, 2]) {
+            match self.random.below(8) {
+                0 => message[0] = self.random.pick(&[0, 1, 3, 0x82, 0x20]),
+                1 => message[1] = self.random.pick(&[0, 1, 3, 0x82, 0x20]),
+                2 => message[4] = self.random.pick(&[0, 7, 9, 0x88, 0x80]),
+                3 => self.misstate(&mut message),
+                4 | 5 => message[6] = message[6] & 0xF8 | self.random.bits(3) as u8,
+                _ => message[6] = message[6] & 0x07 | (self.random.bits(5) as u8) << 3,
+            }
+        }
+        message
+    }
+
+    /// A stated length that is a little off, byte-swapped, or anything.
+    fn misstate(&mut self, message: &mut [u8]) {
+        let truth = (message.len() - 4) as u16;
+        let stated = match self.random.below(6) {
+            0 => truth + 1,
+            1 => truth - 1,
+            2 => truth + 4,
+            3 => truth.swap_bytes(),
+            4 => truth - 2,
+            _ => self.random.bits(16) as u16,
+        };
+        message[2..4].copy_from_slice(&stated.to_be_bytes());
+    }
+
+    /// Fewer than 7 bytes, just 7 or 8, or more than 4,096.
+    fn wrong_length(&mut self) -> Vec<u8> {
+        if self.random.percent(50) {
+            let length = self.random.below(SHORTEST + 2);
+            let mut message = self.request().bytes();
+            message.truncate(length);
+            restate(&mut self.random, &mut message);
+            return message;
+        }
+        let length = self.random.within(LONGEST..=LONGEST_INPUT);
+        requests::long(&mut self.random, &self.set.tables, length).bytes()
+    }
+
+    fn exported(&mut self) -> Vec<u8> {
+        let part = self.random.within(1..=usize::from(PARTS)) as u8;
+        part_bytes(part, &self.set).expect("the part is one of the seven")
+    }
+}

@@ -1,0 +1,144 @@
+//! Requests damaged in one place, at times in two.
+
+use super::draft::{restate, Draft};
+use super::maker::{Maker, Size, TYPES};
+use super::random::Random;
+use crate::reference::tables::Tables;
+
+pub fn damaged(random: &mut Random, tables: &Tables, mut draft: Draft) -> Vec<u8> {
+    for _ in 0..random.pick(&[0, 1, 1, 1, 1, 2]) {
+        damage_draft(random, tables, &mut draft);
+    }
+    let mut message = draft.bytes();
+    if random.percent(25) {
+        damage_bytes(random, tables, &mut message);
+    }
+    message
+}
+
+fn damage_draft(random: &mut Random, tables: &Tables, draft: &mut Draft) {
+    let place = random.below(draft.settings.len());
+    match random.below(16) {
+        0 => data_length(random, draft, place),
+        1 => sum(random, draft),
+        2 => count(random, &mut draft.settings[place]),
+        3 => last_early(random, tables, draft),
+        4..=10 => out_of_range(random, tables, draft),
+        11 | 12 => unknown_type(random, draft, place),
+        13 => padded(random, &mut draft.settings[place]),
+        14 => unended(random, &mut draft.settings[place]),
+        _ => draft.coding = random.bits(8) as u8,
+    }
+}
+
+fn damage_bytes(random: &mut Random, tables: &Tables, message: &mut Vec<u8>) {
+    let place = random.within(6..=message.len() - 1);
+    match random.below(6) {
+        0 => message[place] = random.bits(8) as u8,
+        1 => message[place] ^= 1 << random.below(8),
+        2 => {
+            let any = random.below(message.len());
+            message[any] ^= 1 << random.below(8);
+        }
+        3 => {
+            message.truncate(place);
+            restate(random, message);
+        }
+        4 => {
+            message.extend(random.bytes_up_to(20));
+            restate(random, message);
+        }
+        _ => {
+            // What is left over may look like a setting.
+            message.extend(Maker { random, tables, slip_after: None }.any(Size::Small));
+            restate(random, message);
+        }
+    }
+}
+
+fn data_length(random: &mut Random, draft: &mut Draft, place: usize) {
+    let following = draft.settings.get(place + 1).map_or(3, Vec::len) as u16;
+    let setting = &mut draft.settings[place];
+    // An earlier damage may have left only a type byte.
+    setting.resize(setting.len().max(3), 0);
+    let truth = u16::from_be_bytes([setting[1], setting[2]]);
+    let wrong = match random.below(8) {
+        0 => truth.wrapping_add(1),
+        1 => truth.wrapping_sub(1),
+        2 => truth.wrapping_add(2),
+        3 => truth.wrapping_sub(2),
+        4 => 0,
+        5 => truth.swap_bytes(),
+        6 => truth.wrapping_add(following),
+        _ => random.bits(16) as u16,
+    };
+    setting[1..3].copy_from_slice(&wrong.to_be_bytes());
+}
+
+fn sum(random: &mut Random, draft: &mut Draft) {
+    let truth = draft.settings.len() as u8;
+    let wrong = [truth.wrapping_add(1), truth.wrapping_sub(1), 0, 255, random.bits(8) as u8];
+    draft.sum = Some(random.pick(&wrong));
+}
+
+/// Where a setting has a Count, it stands in the second byte of its fields, or in the first.
+fn count(random: &mut Random, setting: &mut [u8]) {
+    let place = if setting[0] == 0xCC { 3 } else { 4 }.min(setting.len() - 1);
+    let step = random.pick(&[1, 255, 2, 254]);
+    setting[place] = setting[place].wrapping_add(step);
+}
+
+fn last_early(random: &mut Random, tables: &Tables, draft: &mut Draft) {
+    let place = random.below(draft.settings.len());
+    let last = Maker { random, tables, slip_after: None }.last();
+    draft.settings.insert(place, last);
+    draft.settings.truncate(255);
+}
+
+fn out_of_range(random: &mut Random, tables: &Tables, draft: &mut Draft) {
+    let place = random.below(draft.settings.len());
+    let is_last = place + 1 == draft.settings.len();
+    let kind = if is_last && random.percent(20) { 0xFF } else { random.pick(&TYPES) };
+    // Small settings may have fewer values than were to stay good: then once more.
+    loop {
+        let slip_after = Some(random.below(6));
+        let mut maker = Maker { random, tables, slip_after };
+        let setting = maker.of_type(kind, Size::Small);
+        if maker.slip_after.is_none() {
+            draft.settings[place] = setting;
+            return;
+        }
+    }
+}
+
+fn unknown_type(random: &mut Random, draft: &mut Draft, place: usize) {
+    let unknown = random.pick(&[0x00, 0xC8, 0xC9, 0xD3, 0xD4, 0xFE, 0x8A, 0xC0, 0x4A]);
+    match random.below(3) {
+        0 => draft.settings[place] = vec![unknown],
+        1 => {
+            draft.settings.push(vec![unknown]);
+            draft.settings.truncate(255);
+        }
+        _ => draft.settings[place][0] = unknown,
+    }
+}
+
+/// More bytes than the fields take, with a DataLength that owns up to them.
+fn padded(random: &mut Random, setting: &mut Vec<u8>) {
+    setting.extend(random.bytes_up_to(4));
+    own_length(setting);
+}
+
+/// A setting that breaks off, with a DataLength that owns up to it.
+fn unended(random: &mut Random, setting: &mut Vec<u8>) {
+    let gone = random.pick(&[1, 1, 2, 2, 3]).min(setting.len() - 1);
+    setting.truncate(setting.len() - gone);
+    own_length(setting);
+}
+
+fn own_length(setting: &mut [u8]) {
+    if setting.len() >= 3 {
+        let length = setting.len() as u16 - 1;
+        setting[1..3].copy_from_slice(&length.to_be_bytes());
+    }
+}

@@ -1,0 +1,39 @@
+//! What document 01's programs `take` and `put` must write for an input.
+
+use crate::records::{push_record, Record, Records};
+use crate::reference::export::{part_bytes, PARTS};
+use crate::reference::tables::Set;
+use crate::reference::take::take;
+use std::fmt::Write;
+
+/// A line for each record: kind, number, failed ID; or `cut`.
+pub fn take_prints(input: &[u8]) -> String {
+    let mut out = String::new();
+    let mut set = Set::default();
+    for record in Records::new(input) {
+        match record {
+            Record::Cut => out.push_str("cut\n"),
+            Record::Whole { kind, message } => {
+                let answer = take(message, &mut set, &mut [0; 20]);
+                writeln!(out, "{kind} {} {}", answer.number, answer.failed).expect("a string takes every line");
+            }
+        }
+    }
+    out
+}
+
+/// The seven records of the set that took the input.
+pub fn put_writes(input: &[u8]) -> Vec<u8> {
+    let mut set = Set::default();
+    for record in Records::new(input) {
+        if let Record::Whole { message, .. } = record {
+            take(message, &mut set, &mut [0; 20]);
+        }
+    }
+    let mut out = Vec::new();
+    for part in 1..=PARTS {
+        let message = part_bytes(part, &set).expect("the part is one of the seven");
+        push_record(&mut out, u16::from(part), &message);
+    }
+    out
+}

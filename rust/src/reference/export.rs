@@ -1,0 +1,102 @@
+//! The seven export parts, as requests with true lengths and no last item.
+
+use super::message::request;
+use super::numbers::{BUFFER_SHORT, NOT_A_STORE, NO_SUCH_PART, TAKEN};
+use super::settings::{LineEntry, LineFlags, Operation, Setting, Text, TextEntry};
+use super::tables::{Set, Tables, FIRST_STATUS};
+
+pub const EXPORT_ROOM: usize = 4_096;
+pub const PARTS: u8 = 7;
+
+/// Most entries a quick-text setting's 6-bit Count can say.
+const MOST_QUICK: usize = 63;
+
+#[derive(Clone, Copy, Debug, PartialEq, Eq)]
+pub struct Exported {
+    pub number: u8,
+    pub length: usize,
+}
+
+/// Writes one part at the start of the buffer; bytes past its length stay.
+pub fn export(part: u8, is_store: bool, set: &Set, buffer: &mut [u8]) -> Exported {
+    let refused = |number| Exported { number, length: 0 };
+    if buffer.len() < EXPORT_ROOM {
+        return refused(BUFFER_SHORT);
+    }
+    if !is_store {
+        return refused(NOT_A_STORE);
+    }
+    match part_bytes(part, set) {
+        None => refused(NO_SUCH_PART),
+        Some(bytes) => {
+            buffer[..bytes.len()].copy_from_slice(&bytes);
+            Exported { number: TAKEN, length: bytes.len() }
+        }
+    }
+}
+
+/// The bytes of part 1 to 7.
+pub fn part_bytes(part: u8, set: &Set) -> Option<Vec<u8>> {
+    let tables = &set.tables;
+    let settings = match part {
+        1 => lines(tables),
+        2 => vec![
+            Setting::Emergency(tables.emergency),
+            Setting::Home(tables.home),
+            Setting::System(tables.system),
+        ],
+        3 => quick_texts(tables),
+        4 => vec![Setting::Channels {
+            operation: Operation::Replace,
+            channels: tables.channels.clone(),
+        }],
+        5 => vec![status_texts(tables)],
+        6 => slots(&tables.groups, |index, slot| Setting::Group { index, slot }),
+        7 => slots(&tables.individuals, |index, slot| Setting::Individual { index, slot }),
+        _ => return None,
+    };
+    let written: Vec<_> = settings.iter().map(Setting::write).collect();
+    Some(request(&written))
+}
+
+fn lines(tables: &Tables) -> Vec<Setting> {
+    let clear = Setting::Lines {
+        operation: Operation::Replace,
+        flags: LineFlags::default(),
+        entries: Vec::new(),
+    };
+    // One add each, because the flags stand once per setting.
+    let adds = tables.lines.iter().map(|line| Setting::Lines {
+        operation: Operation::Add,
+        flags: line.flags,
+        entries: vec![LineEntry { digits: line.digits.clone(), text: line.text.clone() }],
+    });
+    std::iter::once(clear).chain(adds).collect()
+}
+
+fn quick_texts(tables: &Tables) -> Vec<Setting> {
+    let mut entries = held(&tables.quick_texts, 0);
+    let beyond = entries.split_off(entries.len().min(MOST_QUICK));
+    let mut settings = vec![Setting::QuickTexts { operation: Operation::Replace, entries }];
+    if !beyond.is_empty() {
+        settings.push(Setting::QuickTexts { operation: Operation::Add, entries: beyond });
+    }
+    settings
+}
+
+fn status_texts(tables: &Tables) -> Setting {
+    let entries = held(&tables.status_texts, FIRST_STATUS);
+    Setting::StatusTexts { operation: Operation::Replace, entries }
+}
+
+/// The texts held, by rising key.
+fn held(texts: &[Option<Text>], first: u8) -> Vec<TextEntry> {
+    (first..)
+        .zip(texts)
+        .filter_map(|(key, text)| text.clone().map(|text| TextEntry { key, text }))
+        .collect()
+}
+
+fn slots<T: Clone>(slots: &[Option<T>], setting: fn(u8, Option<T>) -> Setting) -> Vec<Setting> {
+    (0..).zip(slots).map(|(index, slot)| setting(index, slot.clone())).collect()
+}

@@ -1,0 +1,19 @@
+//! The numbers returned, as document 01's table names them.
+
+pub const TAKEN: u8 = 0;
+pub const WRONG_VERSION: u8 = 1;
+pub const NO_ROOM: u8 = 2;
+pub const UNKNOWN_TYPE: u8 = 3;
+pub const BAD_FIELD: u8 = 4;
+pub const NO_MATCH: u8 = 5;
+pub const REPLY_SHORT: u8 = 10;
+pub const NOT_A_STORE: u8 = 11;
+pub const MESSAGE_LENGTH: u8 = 12;
+pub const WRONG_CARRIER: u8 = 13;
+pub const WRONG_MESSAGE_TYPE: u8 = 14;
+pub const BUFFER_SHORT: u8 = 15;
+pub const NO_SUCH_PART: u8 = 16;
+pub const NO_SUCH_ROW: u8 = 17;
+pub const OUTSIDE_PLAN: u8 = 20;
+pub const NOT_IN_KIND: u8 = 21;
+pub const NO_SUCH_CHANNEL: u8 = 22;

@@ -1,0 +1,134 @@
+//! Taking one message: the order of judgement, the answer and the reply.
+
+use super::message::{self, asked, open, Hash, Opened};
+use super::numbers::*;
+use super::settings::{parse, Fault, LastItem, Setting};
+use super::tables::{NoRoom, Set};
+
+pub const REPLY_ROOM: usize = 20;
+
+#[derive(Clone, Copy, Debug, Default, PartialEq, Eq)]
+pub struct Answer {
+    pub number: u8,
+    pub failed: u8,
+    pub send: bool,
+    pub reboot: bool,
+    pub length: usize,
+}
+
+/// What a message comes to, before the reply is written.
+struct Verdict {
+    number: u8,
+    failed: u8,
+    send: bool,
+    reboot: bool,
+}
+
+impl Verdict {
+    fn refused(number: u8, failed: u8) -> Self {
+        Verdict { number, failed, send: true, reboot: false }
+    }
+}
+
+/// Takes a message into a set whose store has the right size.
+pub fn take(message: &[u8], set: &mut Set, reply: &mut [u8]) -> Answer {
+    take_from(message, true, set, reply)
+}
+
+/// As `take`; `is_store` says whether the other side's bytes were a store at all.
+pub fn take_from(message: &[u8], is_store: bool, set: &mut Set, reply: &mut [u8]) -> Answer {
+    let opened = match admit(message, is_store, reply.len()) {
+        Ok(opened) => opened,
+        Err(number) => return Answer { number, ..Answer::default() },
+    };
+    let verdict = judge(&opened, set);
+    let hash = match verdict.number {
+        WRONG_VERSION..=BAD_FIELD => Hash::Nothing,
+        _ => set.hash.clone(),
+    };
+    let bytes = message::reply(verdict.number, verdict.failed, &hash);
+    reply[..bytes.len()].copy_from_slice(&bytes);
+    Answer {
+        number: verdict.number,
+        failed: verdict.failed,
+        send: verdict.send,
+        reboot: verdict.reboot,
+        length: bytes.len(),
+    }
+}
+
+/// The refusals without a reply, in their order.
+fn admit(message: &[u8], is_store: bool, reply_room: usize) -> Result<Opened<'_>, u8> {
+    if reply_room < REPLY_ROOM {
+        return Err(REPLY_SHORT);
+    }
+    if !is_store {
+        return Err(NOT_A_STORE);
+    }
+    if !(message::SHORTEST..=message::LONGEST).contains(&message.len()) {
+        return Err(MESSAGE_LENGTH);
+    }
+    let opened = open(message).ok_or(WRONG_CARRIER)?;
+    match opened.kind {
+        message::REQUEST | message::QUERY => Ok(opened),
+        _ => Err(WRONG_MESSAGE_TYPE),
+    }
+}
+
+fn judge(opened: &Opened, set: &mut Set) -> Verdict {
+    if opened.version != message::VERSION {
+        return Verdict::refused(WRONG_VERSION, 0);
+    }
+    if opened.kind == message::QUERY {
+        return answer_query(opened.body, set);
+    }
+    match read_request(opened, set) {
+        Err((number, failed)) => Verdict::refused(number, failed),
+        Ok((next, last)) => {
+            *set = next;
+            let (send, reboot) = last.map_or((false, false), |last| (last.reply, last.reboot));
+            Verdict { number: TAKEN, failed: 0, send, reboot }
+        }
+    }
+}
+
+fn answer_query(body: &[u8], set: &Set) -> Verdict {
+    let number = match asked(body) {
+        None => BAD_FIELD,
+        Some(hash) if hash != Hash::Nothing && hash == set.hash => TAKEN,
+        Some(_) => NO_MATCH,
+    };
+    Verdict { number, failed: 0, send: true, reboot: false }
+}
+
+/// The set after the request and its last item, or the number and failed ID.
+fn read_request(opened: &Opened, set: &Set) -> Result<(Set, Option<LastItem>), (u8, u8)> {
+    let sum = *opened.body.first().unwrap_or(&0);
+    if sum == 0 || opened.coding != message::CODING_UNICODE {
+        return Err((BAD_FIELD, 0));
+    }
+    let mut rest = &opened.body[1..];
+    let mut tables = set.tables.clone();
+    let mut last = None;
+    for place in 1..=sum {
+        let (setting, length) =
+            parse(rest, place == sum).map_err(|fault| (fault_number(fault), place))?;
+        rest = &rest[length..];
+        if let Setting::Last(item) = &setting {
+            last = Some(item.clone());
+        }
+        tables.apply(setting).map_err(|NoRoom| (NO_ROOM, place))?;
+    }
+    if !rest.is_empty() {
+        return Err((BAD_FIELD, 0));
+    }
+    let hash = last.as_ref().map_or(Hash::Nothing, |item| item.hash.clone());
+    Ok((Set { tables, hash }, last))
+}
+
+fn fault_number(fault: Fault) -> u8 {
+    match fault {
+        Fault::UnknownType => UNKNOWN_TYPE,
+        Fault::Field => BAD_FIELD,
+    }
+}
