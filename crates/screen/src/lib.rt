@@ -1,0 +1,5 @@
+// The rows of the screen: a row's own name, or its number.
+pub mod answers;
+mod names;
+mod numbers;
+pub mod rows;
