@@ -4,4 +4,5 @@ pub mod NameLaws
 pub mod NumberLaws
 pub mod RowLaws
 pub mod SeenLaws
+pub mod ShowLaws
 pub mod SlotLaws

@@ -3,8 +3,9 @@ use Prim.Native.Nat.{ℕ, _+_, _*_, _-_, _≤_, _<_}
 use mathlib.Core.Path.{_≡_}
 use mathlib.Core.List.{List, [], _++_, map}
 use mathlib.Core.Option.{Option, none, some}
+use denote.Ref.{RefT}
 use lib.ListN.{length, take, drop}
-use Rattle.lists.proofs.Ladder.{Ladder, rung, foot}
+use Rattle.lists.proofs.Ladder.{Ladder, rung, foot, Answers}
 use Rattle.plan.specs.declared.numbers.DialledAnswer.{DialledAnswer}
 use Rattle.plan.specs.declared.numbers.DialledAnswer.the-variants.{Dialled, OutsideKind}
 use Rattle.writing.specs.Ranges.{InNumber}
@@ -14,7 +15,8 @@ use Rattle.tables.specs.Layout.{quick-width, status-width, member-width, line-w
 use Rattle.tables.specs.Limits.{quick-places, status-places, slot-places}
 use Rattle.tables.specs.Store.{StoreOf, Holds}
 use Rattle.tables.specs.Tables.{Tables}
-use Rattle.screen.specs.declared.answers.Refusal.{Refusal}
+use Rattle.screen.specs.declared.answers.Place.{Place}
+use Rattle.screen.specs.declared.answers.Place.the-variants.{Store, Scratch, Refused as NoPlace}
 use Rattle.screen.specs.declared.answers.Refusal.the-variants.{ScratchSize, NotAStore, Absent}
 use Rattle.screen.specs.declared.names.Name.{Name}
 use Rattle.screen.specs.declared.names.Name.the-variants.{Refused, Text as TextAt, Digits, Group as GroupNumber, Individual as IndividualNumber}
@@ -23,7 +25,7 @@ use Rattle.screen.specs.declared.names.SlotPlace.the-variants.{At, Beyon
 use Rattle.screen.specs.declared.rows.Row.{Row}
 use Rattle.screen.specs.declared.rows.Row.the-variants.{Line, QuickText, StatusText, Group, Individual, NoTable}
 use Rattle.screen.specs.Rows.{Caption, line, group, individual, caption, text-of, Shows, stored, ascii, digits}
-use Rattle.screen.specs.Screen.{part-start, text-start, unit-bytes, NoRow}
+use Rattle.screen.specs.Screen.{part-start, text-start, unit-bytes, NoRow, showing, leaves, bytes-of, points-to}
 
 -- ---- numbers
 
@@ -83,3 +85,22 @@ naming m store room row =
     (rung (StoreOf m store → ⊥) (Refused NotAStore)
     (rung (NoRow m store row) (Refused Absent)
     (foot (λ r. (t : Tables) × Holds m t store × Named m store row (caption t row) r))))
+
+-- ---- places and parts
+
+-- the place lies in its slice
+abbrev pub PlaceFits : List ℕ → List ℕ → Place → Type 0
+PlaceFits store scratch (Store at n) = at + n ≤ length store
+PlaceFits store scratch (Scratch n) = n ≤ length scratch
+PlaceFits store scratch (NoPlace r) = Unit {0}
+
+-- the answer with a place, and the scratch afterwards
+pub record Placed (m : Limits) (store scratch after : List ℕ) (row : Row) (r : Place) : Type 0 where
+  pub allowed : Answers (showing m store scratch row) (leaves r after)
+  pub fits : PlaceFits store after r
+
+-- the part of a place: which slice, where, and its bytes
+pub record Picked (store scratch : RefT (List ℕ)) (place : Place) (r : RefT (List ℕ)) : Type 0 where
+  pub block : r .ptr .0 ≡ points-to (leaves place (scratch .now) .part) store scratch .0
+  pub offset : r .ptr .1 ≡ points-to (leaves place (scratch .now) .part) store scratch .1
+  pub bytes : r .now ≡ bytes-of (leaves place (scratch .now) .part) (store .now) (scratch .now)

@@ -103,23 +103,25 @@ showing m store scratch row =
     (rung (NoRow m store row) (refused 17 scratch)
     (foot (RowShown m store scratch row))))
 
--- ---- the calls
+-- the same tests for the number alone
+abbrev pub numbering : Limits → List ℕ → List ℕ → Row → Ladder ℕ
+numbering m store scratch row =
+    rung (length scratch < 36) 15
+    (rung (StoreOf m store → ⊥) 11
+    (rung (NoRow m store row) 17
+    (foot (λ n. n ≡ 0))))
 
--- the call that gives the number
-pub record NumberGiven (m : Limits) (store scratch : List ℕ) (row : Row) (r : Answer) : Type 0 where
-  pub after : After
-  pub allowed : Answers (showing m store scratch row) after
-  pub number-is : number r ≡ after .number
+-- ---- the part
 
 -- the bytes of a part, where the store is this and the scratch afterwards that
 abbrev pub bytes-of : Part → List ℕ → List ℕ → List ℕ
 bytes-of (of-store start bytes) store scratch = take bytes (drop start store)
 bytes-of (of-scratch bytes) store scratch = take bytes scratch
 
--- where the part points: its slice's block, and so many bytes further on
+-- where the part points: into its slice's block, so many bytes behind the slice's start
 abbrev pub points-to : Part → RefT (List ℕ) → RefT (List ℕ) → ℕ × ℕ
 points-to (of-store start bytes) store scratch = (store .ptr .0, store .ptr .1 + start)
-points-to (of-scratch bytes) store scratch = (scratch .ptr .0, scratch .ptr .1 + 0)
+points-to (of-scratch bytes) store scratch = scratch .ptr
 
 -- the call that gives the part: which part of which slice it is, and its bytes
 pub record PartGiven (m : Limits) (store scratch : RefT (List ℕ)) (row : Row) (r : RefT (List ℕ)) : Type 0 where

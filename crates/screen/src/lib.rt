@@ -3,3 +3,4 @@ pub mod answers;
 mod names;
 mod numbers;
 pub mod rows;
+mod show;
