@@ -31,8 +31,8 @@ use Rattle.screen.specs.declared.names.Name.{Name}
 use Rattle.screen.specs.declared.names.Name.the-variants.{Refused, Text as TextAt, Digits, Group as GroupNumber, Individual as IndividualNumber}
 use Rattle.screen.specs.declared.rows.Row.{Row}
 use Rattle.screen.specs.Naming.{Written, DigitsWritten, dialled-digits, NameIs, Named, naming, Placed}
-use Rattle.screen.specs.Rows.{Caption, line, group, individual, caption, text-of, ascii, AddressText, dialled as by-plan, outside, Shows, stored, written}
-use Rattle.screen.specs.Screen.{After, unit-bytes, refusal, refused, leaves, NoRow, RowShown, showing}
+use Rattle.screen.specs.Rows.{Caption, line, group, individual, caption, text-of, ascii, AddressText, dialled as by-plan, outside, Display, Shows, stored, written}
+use Rattle.screen.specs.Screen.{After, unit-bytes, refusal, refused, leaves, shows, NoRow, RowShown, showing}
 use Rattle.screen.proofs.NumberLaws.{unit-length}
 
 -- a store is that of some tables
@@ -68,6 +68,11 @@ module _ (m : Limits) (s : List ℕ) (row : Row) where
       by (Digits at) y = let z = y t holds in shown (Digits at) _ (z .1) z
       by (GroupNumber a) y = let z = y t holds in shown (GroupNumber a) _ z z
       by (IndividualNumber a) y = let z = y t holds in shown (IndividualNumber a) _ z z
+
+-- what is shown has the number 0
+pub shown-number : (m : Limits) (scratch : List ℕ) (row : Row) (d : Display) → shows m scratch row d .number ≡ 0
+shown-number m scratch row (stored us) = refl
+shown-number m scratch row (written us) = refl
 
 -- ---- the number of an address
 

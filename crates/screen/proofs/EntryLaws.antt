@@ -3,10 +3,11 @@ use Prim.Native.Nat.{ℕ, suc, _+_, _*_, _-_, _≤_, _<_}
 use mathlib.Core.Path.{_≡_, refl, sym, ap, ap₂, _∙_, subst}
 use mathlib.Core.Bool.{Bool, true, false}
 use mathlib.Core.List.{List, [], _∷_, _++_, map}
-use mathlib.Core.Option.{Option, none, some}
+use mathlib.Core.Option.{Option, none, some, Option·none-ne-some}
 use native.Mathlib.Omega.{arith}
-use borrow.Author.Tests.{le-ltb, lt-ltb}
+use borrow.Author.Tests.{le-ltb, ltb-true, ltb-false}
 use borrow.Rule.Slice.PartMut.{midOf}
+use lib.Dec.{ltb}
 use lib.ListN.{length, getD, length-append, length-map, List·getD-eq-default}
 use Rattle.plan.specs.declared.numbers.GroupAddress.{GroupAddress}
 use Rattle.plan.specs.declared.numbers.IndividualAddress.{IndividualAddress}
@@ -29,7 +30,7 @@ use Rattle.screen.specs.declared.rows.Row.{Row}
 use Rattle.screen.specs.declared.rows.Row.the-variants.{Line, QuickText, StatusText, Group, Individual, NoTable}
 use Rattle.screen.specs.Naming.{Slotted, SlotIs}
 use Rattle.screen.specs.Rows.{Caption, text, line, group, individual, caption, text-of, of}
-use Rattle.screen.specs.Screen.{part-start}
+use Rattle.screen.specs.Screen.{part-start, unit-bytes}
 use Rattle.screen.proofs.SeenLaws.{Texted, Held, slot-none, slot-some, front-get, behind, before}
 use Rattle.screen.proofs.SlotLaws.{slot-within}
 
@@ -119,6 +120,7 @@ pub record Captioned (s : List ℕ) (slot : Slot) (row : Row) (o : Option Captio
   pub kind : OfKind row row-is
   pub head : HeadIn s (slot .start) row-is
   pub ends : (r : ℕ) → Found (0 < 2) zeros? 2 (midOf (slot .text) (slot .end - slot .text) s) r → r ≡ 2 * length (text-of row-is)
+  pub shown : midOf (slot .text) (2 * length (text-of row-is)) s ≡ unit-bytes (text-of row-is)
 
 -- what a slot shows of a row
 pub record Seen (s : List ℕ) (slot : Slot) (row : Row) (o : Option Caption) : Type 0 where
@@ -158,6 +160,8 @@ module _ {A : Type 0} (P : A → Type 0) (w h : ℕ) (f : A → List ℕ) (us : 
             kind = c .cap-kind (x .entry);
             head = subst (λ (b : ℕ). HeadIn s b (c .cap (x .entry))) (sym (at .1)) (c .cap-head s (base + i * w) (x .entry) (x .ok) (x .bytes));
             ends = λ r q. x .ends r (subst (λ (l : List ℕ). Found (0 < 2) zeros? 2 l r) t q) ∙ ap (λ l. 2 * length l) (sym (c .cap-text (x .entry)));
+            shown =
+                ap₂ (λ i l. midOf i (2 * length l) s) (at .2) (c .cap-text (x .entry)) ∙ x .text-is ∙ ap unit-bytes (sym (c .cap-text (x .entry)));
           }
 
 -- ---- the five tables
@@ -242,3 +246,33 @@ row-seen m t s (Individual n) slot (ok, e) x =
     seen IndividualOk member-width 4 individual-bytes (λ g. g .text) individual-texted (Individual n) (individual-captions n) slot-places 6710 (t .individuals) s
     (placed-in IndividualOk member-width slot-places individual-bytes (t .individuals) m t s 6710 e (individuals-placed m t ok)) n slot x
 row-seen m t s NoTable slot h x = absurd x
+
+-- what is there stands among the places
+within : {A : Type 0} (os : List (Option A)) (n places : ℕ) (g : A → Caption) {c : Caption} → length os ≤ places → of g (getD os n none) ≡ some c → n < places
+within os n places g {c} h e = go (ltb n places) refl
+  where
+    go : (b : Bool) → ltb n places ≡ b → n < places
+    go true k = ltb-true n places k
+    go false k =
+        let past : getD os n none ≡ none = List·getD-eq-default os none {n = n} (omega (arith, ltb-false n places k)) in
+        absurd (Option·none-ne-some c (sym (ap (of g) past) ∙ e))
+
+-- ROW THERE: a row that stands in the tables has a slot
+pub row-there : (m : Limits) (t : Tables) → Allowed m t → (row : Row) (c : Caption) → caption t row ≡ some c → (slot : Slot) × SlotIs m row (At slot)
+row-there m t ok (Line n) c e =
+    let l : length (map some (t .lines)) ≡ length (t .lines) = length-map (t .lines) some in
+    (record { start = part-start m 9 + n * 51; text = part-start m 9 + n * 51 + 19; end = part-start m 9 + n * 51 + 51 }, (within (map some (t .lines)) n (m .lines) (line-captions n .cap) (omega (arith, l, ok .lines .0)) e, refl, refl, refl))
+row-there m t ok (QuickText n) c e =
+    (record { start = 22 + n * 46; text = 22 + n * 46 + 0; end = 22 + n * 46 + 46 }, (within (t .quick) n quick-places text (omega (arith, ok .quick .0)) e, refl, refl, refl))
+row-there m t ok (StatusText n) c e = go (ltb n 32) refl
+  where
+    go : (b : Bool) → ltb n 32 ≡ b → (slot : Slot) × SlotIs m (StatusText n) (At slot)
+    go true h = let z : none ≡ some c = (rw h at e) in absurd (Option·none-ne-some c z)
+    go false h =
+        let k : 32 ≤ n = ltb-false n 32 h in
+        (record { start = 2966 + (n - 32) * 33; text = 2966 + (n - 32) * 33 + 1; end = 2966 + (n - 32) * 33 + 33 }, (k, (within (t .status) (n - 32) status-places text (omega (arith, ok .status .0)) (sym (status-there t n k) ∙ e), refl, refl, refl)))
+row-there m t ok (Group n) c e =
+    (record { start = 6134 + n * 36; text = 6134 + n * 36 + 4; end = 6134 + n * 36 + 36 }, (within (t .groups) n slot-places (group-captions n .cap) (omega (arith, ok .groups .0)) e, refl, refl, refl))
+row-there m t ok (Individual n) c e =
+    (record { start = 6710 + n * 36; text = 6710 + n * 36 + 4; end = 6710 + n * 36 + 36 }, (within (t .individuals) n slot-places (individual-captions n .cap) (omega (arith, ok .individuals .0)) e, refl, refl, refl))
+row-there m t ok NoTable c e = absurd (Option·none-ne-some c e)

@@ -1,4 +1,5 @@
 pub mod AnswerLaws
+pub mod Determined
 pub mod EntryLaws
 pub mod NameLaws
 pub mod NumberLaws
@@ -6,3 +7,4 @@ pub mod RowLaws
 pub mod SeenLaws
 pub mod ShowLaws
 pub mod SlotLaws
+pub mod Theorems

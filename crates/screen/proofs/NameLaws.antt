@@ -61,7 +61,7 @@ named-beyond m s row r x e t h = row-beyond m t (h .0) row (subst (SlotIs m row)
 -- ---- rows with a slot
 
 -- where a slot was found, the row's text starts there
-text-starts : (m : Limits) (row : Row) (slot : Slot) → SlotIs m row (At slot) → slot .text ≡ text-start m row
+pub text-starts : (m : Limits) (row : Row) (slot : Slot) → SlotIs m row (At slot) → slot .text ≡ text-start m row
 text-starts m (Line n) slot x = x .2
 text-starts m (QuickText n) slot x = omega (arith, x .2)
 text-starts m (StatusText n) slot (h, x) = x .2

@@ -20,6 +20,7 @@ use Rattle.writing.specs.Settings.{Text}
 use Rattle.tables.specs.Allowed.{TextOk}
 use Rattle.tables.specs.Layout.{text-bytes}
 use Rattle.tables.proofs.TextCodes.{text-length}
+use Rattle.screen.specs.Screen.{unit-bytes}
 
 -- ---- parts of parts
 
@@ -59,6 +60,14 @@ pub text-ends : (n : ℕ) (us : Text) (s : List ℕ) (r : ℕ) → TextOk n us �
 text-ends n us s r ok e f =
     f .first (omega arith) (map u16 (pad 0 n us)) (all-made (λ x. length x ≡ 2) u16 (λ u. refl) (pad 0 n us)) e ∙ units-before n us ok
 
+-- and its units stand in front of it
+pub text-front : (n : ℕ) (us : Text) → length us ≤ n → take (2 * length us) (text-bytes n us) ≡ unit-bytes us
+text-front n [] h = refl
+text-front zero (u ∷ us) h = absurd (not-suc-le-zero h)
+text-front (suc n) (u ∷ us) h =
+    let e : 2 * suc (length us) ≡ suc (suc (2 * length us)) = omega arith in
+    ap (λ k. take k (u16 u ++ text-bytes n us)) e ∙ ap (λ l. u16 u ++ l) (text-front n us (le-of-suc-le-suc h))
+
 -- ---- an entry with a text
 
 -- an entry's bytes are a head and its text
@@ -79,6 +88,7 @@ pub record Held {A : Type 0} (P : A → Type 0) (w h : ℕ) (f : A → List ℕ)
   pub ok : P entry
   pub bytes : midOf start w s ≡ f entry
   pub ends : (r : ℕ) → Found (0 < 2) zeros? 2 (midOf (start + h) (w - h) s) r → r ≡ 2 * length (us entry)
+  pub text-is : midOf (start + h) (2 * length (us entry)) s ≡ unit-bytes (us entry)
 
 module _ {A : Type 0} (P : A → Type 0) (w h : ℕ) (f : A → List ℕ) (us : A → Text) (k : Texted P w h f us) (n base : ℕ) (os : List (Option A)) (s : List ℕ) (p : Placed P w f n os (midOf base (n * w) s)) (i : ℕ) (l : i < n) (fits : i * w + w ≤ n * w) where
   -- the slot, cut out of the store
@@ -97,7 +107,17 @@ module _ {A : Type 0} (P : A → Type 0) (w h : ℕ) (f : A → List ℕ) (us : 
       let d : w - h ≡ 2 * k .units = omega (arith, k .wide) in
       let t : midOf (base + i * w + h) (w - h) s ≡ text-bytes (k .units) (us a)
       = behind s (k .head a) (text-bytes (k .units) (us a)) (base + i * w) w h (w - h) (b ∙ k .bytes a) (k .head-long a) (omega (arith, k .wide)) (text-length (k .units) (us a) ∙ sym d) in
-      record { entry = a; is = e; ok = q; bytes = b; ends = λ r x. text-ends (k .units) (us a) (midOf (base + i * w + h) (w - h) s) r (k .ok a q) t x }
+      let o = k .ok a q in
+      record {
+        entry = a;
+        is = e;
+        ok = q;
+        bytes = b;
+        ends = λ r x. text-ends (k .units) (us a) (midOf (base + i * w + h) (w - h) s) r o t x;
+        text-is =
+            sym (take-take (2 * length (us a)) (w - h) (drop (base + i * w + h) s) (omega (arith, o .short)))
+            ∙ ap (take (2 * length (us a))) t ∙ text-front (k .units) (us a) (o .short);
+      }
 
 -- ---- entries from the front
 

@@ -21,9 +21,8 @@ use Rattle.screen.specs.declared.names.Name.the-variants.{Refused as NoN
 use Rattle.screen.specs.declared.rows.Row.{Row}
 use Rattle.screen.proofs.names.Name.{the-type}
 use Rattle.screen.specs.Naming.{DigitsWritten, naming, PlaceFits, Placed, Picked}
-use Rattle.screen.specs.Screen.{After, refusal, refused, leaves, shows, showing, numbering, points-to, bytes-of, PartGiven}
-use Rattle.screen.specs.Rows.{Display, stored, written}
-use Rattle.screen.proofs.AnswerLaws.{refused-as, InRow, Kept, in-row, digits-there, digits-placed}
+use Rattle.screen.specs.Screen.{After, refusal, refused, leaves, showing, numbering, points-to, bytes-of, PartGiven}
+use Rattle.screen.proofs.AnswerLaws.{shown-number, refused-as, InRow, Kept, in-row, digits-there, digits-placed}
 
 -- what is said of a case is said of the place
 pub fits-as : (s t : List ℕ) {place case : Place} → place ≡ case → PlaceFits s t place → PlaceFits s t case
@@ -46,11 +45,6 @@ placed-as m s t u row e x = subst (Placed m s t u row) (sym e) x
 -- a name with another tag is no refusal
 kept : (x : Name) → OneOf (1 ∷ 2 ∷ 3 ∷ 4 ∷ []) (tagOf the-type x) → {why : Refusal} → NoName why ≡ x → ⊥
 kept x k e = miss (1 ∷ 2 ∷ 3 ∷ 4 ∷ []) 0 tt (subst (λ (y : Name). OneOf (1 ∷ 2 ∷ 3 ∷ 4 ∷ []) (tagOf the-type y)) (sym e) k)
-
--- what is shown has the number 0
-shown-number : (m : Limits) (scratch : List ℕ) (row : Row) (d : Display) → shows m scratch row d .number ≡ 0
-shown-number m scratch row (stored us) = refl
-shown-number m scratch row (written us) = refl
 
 -- a row that is refused, and one that is not
 pub number-refused : (m : Limits) (s scratch : List ℕ) (row : Row) (x : Name) (why : Refusal) → x ≡ NoName why → Answers (naming m s (length scratch) row) x → Answers (numbering m s scratch row) (refusal why)

@@ -1,8 +1,8 @@
 -- What the screen's two calls answer, for every store, scratch and row: document 01, "Numbers, channels, screen" and "Numbers returned".
 use Prim.Native.Nat.{ℕ, _+_, _*_, _-_, _<_}
 use mathlib.Core.Path.{_≡_}
-use mathlib.Core.List.{List, _++_, map}
-use mathlib.Core.Option.{none, some}
+use mathlib.Core.List.{List, [], _++_, map}
+use mathlib.Core.Option.{Option, none, some}
 use denote.Ref.{RefT}
 use lib.ListN.{length, take, drop}
 use Rattle.lists.proofs.Ladder.{Ladder, rung, foot, Answers}
@@ -21,7 +21,7 @@ use Rattle.screen.specs.declared.answers.Refusal.{Refusal}
 use Rattle.screen.specs.declared.answers.Refusal.the-variants.{ScratchSize, NotAStore, Absent}
 use Rattle.screen.specs.declared.rows.Row.{Row}
 use Rattle.screen.specs.declared.rows.Row.the-variants.{Line, QuickText, StatusText, Group, Individual, NoTable}
-use Rattle.screen.specs.Rows.{Caption, caption, Shows, Display, stored, written}
+use Rattle.screen.specs.Rows.{Caption, caption, Shows, Display, stored, written, units}
 
 -- ---- where a row's text stands
 
@@ -117,6 +117,11 @@ numbering m store scratch row =
 abbrev pub bytes-of : Part → List ℕ → List ℕ → List ℕ
 bytes-of (of-store start bytes) store scratch = take bytes (drop start store)
 bytes-of (of-scratch bytes) store scratch = take bytes scratch
+
+-- what bytes show of a row: "the whole text", or the number, unit for unit; nothing where there is no row
+abbrev pub RowBytes : Option Caption → List ℕ → Type 0
+RowBytes none bytes = bytes ≡ []
+RowBytes (some c) bytes = (d : Display) × Shows c d × (bytes ≡ unit-bytes (units d))
 
 -- where the part points: into its slice's block, so many bytes behind the slice's start
 abbrev pub points-to : Part → RefT (List ℕ) → RefT (List ℕ) → ℕ × ℕ
