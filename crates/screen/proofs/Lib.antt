@@ -4,6 +4,7 @@ pub mod EntryLaws
 pub mod NameLaws
 pub mod NumberLaws
 pub mod RowLaws
+pub mod Scratch
 pub mod SeenLaws
 pub mod ShowLaws
 pub mod SlotLaws

@@ -35,7 +35,7 @@ use Rattle.screen.proofs.NumberLaws.{unit-length}
 -- ---- the bytes of a part
 
 -- a stored text is no number
-not-written : {us ns : Text} → stored us ≡ written ns → ⊥
+pub not-written : {us ns : Text} → stored us ≡ written ns → ⊥
 not-written e = let z : _≡_ {A = ℕ} 0 1 = cc in omega arith
 
 -- a stored text is the row's
@@ -49,23 +49,27 @@ stored-text (individual [] a) us (ns, p, e) = absurd (not-written e)
 stored-text (individual (v ∷ vs) a) us e = ap units e
 
 module _ (m : Limits) (store : List ℕ) (row : Row) where
-  -- TEXT STANDS: the row's text stands at its start, unit for unit
-  pub text-stands : (t : Tables) (c : Caption) → Holds m t store → caption t row ≡ some c → take (2 * length (text-of c)) (drop (text-start m row) store) ≡ unit-bytes (text-of c)
-  text-stands t c h e = by (row-there m t (h .0) row c e)
+  -- a row that stands in the tables is held by its slot
+  pub row-held : (t : Tables) (c : Caption) → Holds m t store → caption t row ≡ some c
+      → (slot : Slot) × (k : Captioned store slot row (caption t row)) × (k .row-is ≡ c) × (slot .text ≡ text-start m row)
+  row-held t c h e = by (row-there m t (h .0) row c e)
     where
-      Goal : Type 0
-      Goal = take (2 * length (text-of c)) (drop (text-start m row) store) ≡ unit-bytes (text-of c)
-
-      by : (slot : Slot) × SlotIs m row (At slot) → Goal
+      by : (slot : Slot) × SlotIs m row (At slot) → (slot : Slot) × (k : Captioned store slot row (caption t row)) × (k .row-is ≡ c) × (slot .text ≡ text-start m row)
       by (slot, x) = go (zeros? (midOf (slot .start) (slot .end - slot .start) store)) refl
         where
-          go : (b : Bool) → zeros? (midOf (slot .start) (slot .end - slot .start) store) ≡ b → Goal
+          go : (b : Bool) → zeros? (midOf (slot .start) (slot .end - slot .start) store) ≡ b
+              → (slot : Slot) × (k : Captioned store slot row (caption t row)) × (k .row-is ≡ c) × (slot .text ≡ text-start m row)
           go true z = absurd (Option·none-ne-some c (sym (row-seen m t store row slot h x .gone z) ∙ e))
           go false z =
               let k = row-seen m t store row slot h x .held z in
-              let d : k .row-is ≡ c = Option·some-injective (k .row-is) c (sym (k .there) ∙ e) in
-              ap (λ i. take (2 * length (text-of c)) (drop i store)) (sym (text-starts m row slot x))
-              ∙ ap (λ i. take (2 * length (text-of i)) (drop (slot .text) store)) (sym d) ∙ k .shown ∙ ap (λ i. unit-bytes (text-of i)) d
+              (slot, k, Option·some-injective (k .row-is) c (sym (k .there) ∙ e), text-starts m row slot x)
+
+  -- TEXT STANDS: the row's text stands at its start, unit for unit
+  pub text-stands : (t : Tables) (c : Caption) → Holds m t store → caption t row ≡ some c → take (2 * length (text-of c)) (drop (text-start m row) store) ≡ unit-bytes (text-of c)
+  text-stands t c h e =
+      let (slot, k, d, at) = row-held t c h e in
+      ap (λ i. take (2 * length (text-of c)) (drop i store)) (sym at)
+      ∙ ap (λ i. take (2 * length (text-of i)) (drop (slot .text) store)) (sym d) ∙ k .shown ∙ ap (λ i. unit-bytes (text-of i)) d
 
   module _ (scratch : List ℕ) where
     -- the part of what is shown has its units and nothing else
@@ -173,7 +177,7 @@ from-entry g none {c} e = absurd (Option·none-ne-some c e)
 from-entry g (some a) {c} e = (a, refl, sym (Option·some-injective (g a) c e))
 
 -- a number is shown only where the text is empty
-number-of-empty : (Number : Text → Type 0) (us ns : Text) → text-or us Number (written ns) → (us ≡ []) × Number ns
+pub number-of-empty : (Number : Text → Type 0) (us ns : Text) → text-or us Number (written ns) → (us ≡ []) × Number ns
 number-of-empty Number [] ns (vs, p, e) = (refl, subst Number (sym (ap units e)) p)
 number-of-empty Number (u ∷ us) ns e = absurd (not-written (sym e))
 
