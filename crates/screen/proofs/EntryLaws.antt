@@ -248,7 +248,7 @@ row-seen m t s (Individual n) slot (ok, e) x =
 row-seen m t s NoTable slot h x = absurd x
 
 -- what is there stands among the places
-within : {A : Type 0} (os : List (Option A)) (n places : ℕ) (g : A → Caption) {c : Caption} → length os ≤ places → of g (getD os n none) ≡ some c → n < places
+pub within : {A : Type 0} (os : List (Option A)) (n places : ℕ) (g : A → Caption) {c : Caption} → length os ≤ places → of g (getD os n none) ≡ some c → n < places
 within os n places g {c} h e = go (ltb n places) refl
   where
     go : (b : Bool) → ltb n places ≡ b → n < places
