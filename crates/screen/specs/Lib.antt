@@ -1,0 +1,4 @@
+pub mod Naming
+pub mod Reached
+pub mod Rows
+pub mod Screen

@@ -1,0 +1,28 @@
+// Which row of the screen is asked for.
+ghost use mathlib.Core.Path.{_≡_};
+ghost use Rattle.screen.specs.Rows.{row-named};
+
+// A table and a place in it: a line's position from 0, a quick text's index, a status text's code, a slot's index.
+pub enum Row {
+    Line(usize),
+    QuickText(usize),
+    StatusText(usize),
+    Group(usize),
+    Individual(usize),
+    NoTable,
+}
+
+// The row of plain numbers: tables 1 to 5 in this order, any other is no table.
+pub fn row_of(table: u32, place: u32) -> Row
+    ensures { λ r. ⌜ r ≡ row-named table place ⌝ }
+{
+    let n = place as usize;
+    match table {
+        1 => Row::Line(n),
+        2 => Row::QuickText(n),
+        3 => Row::StatusText(n),
+        4 => Row::Group(n),
+        5 => Row::Individual(n),
+        _ => Row::NoTable,
+    }
+}
