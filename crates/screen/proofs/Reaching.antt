@@ -16,10 +16,10 @@ use Rattle.writing.specs.Carrier.{coding-type}
 use Rattle.writing.specs.Settings.{Setting, unicode16}
 use Rattle.writing.specs.Writing.{WrittenAll}
 use Rattle.writing.proofs.CanonicalLaws.{has-writing}
-use Rattle.wire.specs.declared.carrier.Message.{Message}
-use Rattle.wire.specs.declared.carrier.Message.the-variants.{Size, Carrier, «Type» as OtherType, Version, NoRequest, Request, NoQuery, Query as AQuery}
-use Rattle.wire.specs.Message.{Opens, MessageIs}
-use Rattle.wire.proofs.MessageOne.{opens-one, counted-opens, query-opens}
+use Rattle.carrier.specs.declared.carrier.Message.{Message}
+use Rattle.carrier.specs.declared.carrier.Message.the-variants.{Size, Carrier, «Type» as OtherType, Version, NoRequest, Request, NoQuery, Query as AQuery}
+use Rattle.carrier.specs.Message.{Opens, MessageIs}
+use Rattle.carrier.proofs.MessageOne.{opens-one, counted-opens, query-opens}
 use Rattle.tables.specs.declared.limits.Limits.{Limits}
 use Rattle.tables.specs.Allowed.{Allowed}
 use Rattle.tables.specs.Apply.{apply}

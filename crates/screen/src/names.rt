@@ -5,7 +5,7 @@ use plan::numbers::GroupAddress;
 use plan::numbers::IndividualAddress;
 use slots::bytes::is_zeros;
 use slots::slots::used;
-use tables::checks::is_store;
+use checks::checks::is_store;
 use tables::limits::Limits;
 ghost use Prim.Native.Nat.{ℕ, _+_, _*_, _^_, _≤_, _<_};
 ghost use mathlib.Core.Path.{_≡_};

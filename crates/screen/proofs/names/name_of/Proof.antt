@@ -3,7 +3,7 @@ use mathlib.Core.Path.{refl}
 use mathlib.Core.Logic.{inl, inr}
 use borrow.Author.Needs.{needs}
 use native.Mathlib.Omega.{arith}
-use Rattle.tables.proofs.CheckLaws.{not-said, was-said}
+use Rattle.tables.proofs.AnswerLaws.{not-said, was-said}
 use Rattle.screen.proofs.AnswerLaws.{name-answers}
 use Rattle.screen.proofs.names.name_of.Statement.{statement}
 use Rattle.screen.proofs.names.name_of.Tie as tie
