@@ -24,7 +24,7 @@ use Rattle.screen.specs.declared.names.SlotPlace.the-variants.{At}
 use Rattle.screen.specs.declared.rows.Row.{Row}
 use Rattle.screen.specs.declared.rows.Row.the-variants.{Group, Individual}
 use Rattle.screen.specs.Naming.{SlotIs}
-use Rattle.screen.specs.Rows.{Caption, text, line, group, individual, caption, of, text-of, AddressText, Display, stored, written, units, text-or, Shows}
+use Rattle.screen.specs.Rows.{Caption, text, line, group, individual, caption, of, text-of, ascii, digits, AddressText, Display, stored, written, units, text-or, Shows}
 use Rattle.screen.specs.Screen.{text-start, unit-bytes, After, Part, of-store, of-scratch, refused, shows, RowShown, showing, numbering, points-to, bytes-of, RowBytes, PartGiven}
 use Rattle.screen.proofs.AnswerLaws.{shown-number, one-tables}
 use Rattle.screen.proofs.Determined.{one-display}
@@ -196,3 +196,12 @@ individual-number t n c us e s =
     let (g, is, d) = from-entry (λ x. individual (x .text) (x .address)) (getD (t .individuals) n none) e in
     let (empty, p) = number-of-empty (AddressText IndividualPlan (g .address .0)) (g .text) us (subst (λ (x : Caption). Shows x (written us)) d s) in
     (g, is, empty, p)
+
+-- ---- numbers as they are read
+
+-- the address 103C28 hex, and the dialled number 32841899
+pub hex-read : map ascii (digits 16 6 0x103C28) ≡ 49 ∷ 48 ∷ 51 ∷ 67 ∷ 50 ∷ 56 ∷ []
+hex-read = refl
+
+pub dialled-read : map ascii (digits 10 8 32841899) ≡ 51 ∷ 50 ∷ 56 ∷ 52 ∷ 49 ∷ 56 ∷ 57 ∷ 57 ∷ []
+dialled-read = refl
