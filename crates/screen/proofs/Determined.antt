@@ -1,11 +1,9 @@
 -- Two outcomes that the screen's calls allow for one store, scratch and row are equal. Assumes nothing.
-use Prim.Native.Nat.{ℕ, _+_, _*_, _≤_, _<_}
-use mathlib.Core.Path.{_≡_, refl, sym, ap, ap₂, _∙_, subst}
-use mathlib.Core.Logic.{inl, inr}
+use Prim.Native.Nat.{ℕ}
+use mathlib.Core.Path.{_≡_, sym, ap, _∙_, subst}
 use mathlib.Core.List.{List, [], _∷_, map}
-use mathlib.Core.Option.{some, Option·some-injective}
+use mathlib.Core.Option.{Option·some-injective}
 use denote.Ref.{RefT}
-use lib.ListN.{length}
 use Rattle.lists.proofs.Ladder.{Answers, one-answer}
 use Rattle.plan.specs.Answers.{Back}
 use Rattle.plan.specs.Numbers.{IndividualShort, GroupShort, Individual as IndividualPlan, Group as GroupPlan}
@@ -13,10 +11,9 @@ use Rattle.plan.proofs.AnswerLaws.{One}
 use Rattle.plan.proofs.NumberLaws.{individuals, groups, one-dialled}
 use Rattle.writing.specs.Settings.{Text}
 use Rattle.tables.specs.declared.limits.Limits.{Limits}
-use Rattle.tables.specs.Tables.{Tables}
 use Rattle.screen.specs.declared.rows.Row.{Row}
-use Rattle.screen.specs.Rows.{Caption, text, line, group, individual, caption, ascii, digits, AddressText, dialled, outside, Display, stored, written, text-or, Shows}
-use Rattle.screen.specs.Screen.{After, Part, of-store, of-scratch, shows, RowShown, showing, numbering, points-to, bytes-of, PartGiven}
+use Rattle.screen.specs.Rows.{Caption, text, line, group, individual, caption, ascii, digits, AddressText, dialled, outside, Display, written, text-or, Shows}
+use Rattle.screen.specs.Screen.{After, shows, RowShown, showing, numbering, points-to, bytes-of, PartGiven}
 use Rattle.screen.proofs.AnswerLaws.{one-tables}
 
 -- ---- one thing is shown

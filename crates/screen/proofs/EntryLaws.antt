@@ -20,18 +20,18 @@ use Rattle.tables.specs.Allowed.{Allowed, QuickOk, StatusOk, GroupOk, Individua
 use Rattle.tables.specs.Layout.{layout, text-bytes, quick-bytes, status-bytes, group-bytes, individual-bytes, line-bytes, group-flags, individual-flags, line-flags, digit-bytes, quick-width, status-width, member-width, line-width}
 use Rattle.tables.specs.Limits.{quick-places, status-places, slot-places}
 use Rattle.tables.specs.Store.{Holds}
-use Rattle.tables.specs.Tables.{Tables, Line as LineEntry, GroupMember, IndividualMember}
+use Rattle.tables.specs.Tables.{Tables, Line as LineEntry}
 use Rattle.tables.proofs.EntryCodes.{quick-code, quick-shown, status-code, status-shown, group-code, group-shown, individual-code, individual-shown, line-code, line-shown}
 use Rattle.tables.proofs.Frames.{quick-placed, status-placed, groups-placed, individuals-placed, lines-listed}
 use Rattle.tables.proofs.TextCodes.{digits-length, text-length}
 use Rattle.screen.specs.declared.names.Slot.{Slot}
-use Rattle.screen.specs.declared.names.SlotPlace.the-variants.{At, Beyond}
+use Rattle.screen.specs.declared.names.SlotPlace.the-variants.{At}
 use Rattle.screen.specs.declared.rows.Row.{Row}
 use Rattle.screen.specs.declared.rows.Row.the-variants.{Line, QuickText, StatusText, Group, Individual, NoTable}
 use Rattle.screen.specs.Naming.{Slotted, SlotIs}
 use Rattle.screen.specs.Rows.{Caption, text, line, group, individual, caption, text-of, of}
 use Rattle.screen.specs.Screen.{part-start, unit-bytes}
-use Rattle.screen.proofs.SeenLaws.{Texted, Held, slot-none, slot-some, front-get, behind, before}
+use Rattle.screen.proofs.SeenLaws.{Texted, slot-none, slot-some, front-get, behind, before}
 use Rattle.screen.proofs.SlotLaws.{slot-within}
 
 -- ---- entries with texts

@@ -3,13 +3,11 @@ use Prim.Native.Nat.{ℕ, _≤_, _<_}
 use mathlib.Core.Path.{_≡_, refl, sym, ap, _∙_, subst}
 use mathlib.Core.Logic.{_≢_, inl, inr, _↔_}
 use mathlib.Core.List.{List, [], _∷_}
-use mathlib.Core.Option.{Option, none, some, Option·some-injective, Option·none-ne-some}
+use mathlib.Core.Option.{Option, none, some}
 use native.Mathlib.Omega.{arith}
 use denote.Ref.{RefT}
 use lib.ListN.{length, getD, getD-replicate}
 use Rattle.lists.proofs.Ladder.{Answers}
-use Rattle.plan.specs.declared.numbers.GroupAddress.{GroupAddress}
-use Rattle.plan.specs.declared.numbers.IndividualAddress.{IndividualAddress}
 use Rattle.writing.specs.Settings.{Setting, Text}
 use Rattle.tables.specs.declared.limits.Limits.{Limits}
 use Rattle.tables.specs.Limits.{slot-places}
@@ -18,7 +16,7 @@ use Rattle.tables.specs.Tables.{Tables, GroupMember, IndividualMember, fresh}
 use Rattle.screen.specs.declared.rows.Row.{Row}
 use Rattle.screen.specs.declared.rows.Row.the-variants.{Group, Individual}
 use Rattle.screen.specs.Reached.{Reached, InOrder, all-of, to-group, to-individual, LastSent}
-use Rattle.screen.specs.Rows.{Caption, group, individual, caption, of, Display, stored, units, text-or, Shows}
+use Rattle.screen.specs.Rows.{Caption, group, individual, caption, of, Display, units, text-or}
 use Rattle.screen.specs.Screen.{After, bytes-of, unit-bytes, RowBytes, showing, numbering, PartGiven}
 use Rattle.screen.proofs.AnswerLaws.{one-tables}
 use Rattle.screen.proofs.EntryLaws.{within}

@@ -12,10 +12,8 @@ use denote.Enum.Declared.{tagOf}
 use types.Run.{OneOf, miss}
 use lib.Dec.{ltb}
 use lib.ListN.{length, getD, length-map, List·getD-eq-default}
-use Rattle.plan.specs.declared.numbers.GroupAddress.{GroupAddress}
-use Rattle.plan.specs.declared.numbers.IndividualAddress.{IndividualAddress}
 use Rattle.slots.specs.Slots.{u24, zeros?, Found}
-use Rattle.writing.specs.Settings.{Text, Number}
+use Rattle.writing.specs.Settings.{Text}
 use Rattle.tables.specs.declared.limits.Limits.{Limits}
 use Rattle.tables.specs.Allowed.{Allowed}
 use Rattle.tables.specs.Store.{StoreOf, Holds}

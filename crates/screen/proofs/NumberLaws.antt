@@ -9,10 +9,9 @@ use native.Mathlib.Numerals.{add-one}
 use native.Mathlib.Omega.{arith}
 use borrow.Author.Tests.{lt-ltb, le-ltb, ltb-true, ltb-false}
 use lib.Dec.{ltb}
-use lib.ListN.{length, take, drop, getD, set, length-append, length-map, length-drop, take-append-drop, List·getD-eq-default}
-use lib.Seq.{sets-eq, take-at, drop-at, take-suc, take-all, take-append-le, drop-append-le, drop-drop, length-take-le, take-take}
-use Rattle.lists.proofs.Every.{All, all-get, all-made}
-use Rattle.lists.proofs.Seqs.{getD-map}
+use lib.ListN.{length, take, drop, getD, set, length-map, take-append-drop}
+use lib.Seq.{sets-eq, take-at, drop-at, take-suc, take-all, take-append-le, drop-drop, length-take-le, take-take}
+use Rattle.lists.proofs.Every.{all-get, all-made}
 use Rattle.plan.specs.declared.numbers.DialledAnswer.{DialledAnswer}
 use Rattle.slots.specs.Slots.{flat, pad, u16}
 use Rattle.slots.proofs.Parts.{flat-append, slots-length}

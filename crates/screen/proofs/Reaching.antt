@@ -1,18 +1,16 @@
 -- After any messages from a start the store is that of the tables after the settings taken, in order. Assumes nothing.
 use Prim.Native.Nat.{ℕ, zero, suc, _≤_, _<_}
 use mathlib.Core.Path.{_≡_, refl, sym, ap, _∙_, subst}
-use mathlib.Core.Logic.{_≢_, _⊎_, inl, inr, _↔_}
+use mathlib.Core.Logic.{inl, inr}
 use mathlib.Core.Bool.{Bool, true, false}
 use mathlib.Core.List.{List, [], _∷_, _++_, append-nil}
-use mathlib.Core.Option.{Option, none, some, Option·some-injective, Option·none-ne-some}
+use mathlib.Core.Option.{Option, Option·some-injective}
 use native.Mathlib.Omega.{arith}
 use borrow.Author.Tests.{eqb-true, eqb-false, ltb-true, ltb-false}
-use denote.Ref.{RefT}
 use lib.Dec.{eqb, ltb}
-use lib.ListN.{length, drop, getD}
+use lib.ListN.{length}
 use Rattle.lists.proofs.Bytes.{Bytes}
 use Rattle.lists.proofs.Ladder.{Answers}
-use Rattle.writing.specs.Carrier.{coding-type}
 use Rattle.writing.specs.Settings.{Setting, unicode16}
 use Rattle.writing.specs.Writing.{WrittenAll}
 use Rattle.writing.proofs.CanonicalLaws.{has-writing}
@@ -22,8 +20,7 @@ use Rattle.carrier.specs.Message.{Opens, MessageIs}
 use Rattle.carrier.proofs.MessageOne.{opens-one, counted-opens, query-opens}
 use Rattle.tables.specs.declared.limits.Limits.{Limits}
 use Rattle.tables.specs.Allowed.{Allowed}
-use Rattle.tables.specs.Apply.{apply}
-use Rattle.tables.specs.Layout.{layout, Roomy}
+use Rattle.tables.specs.Layout.{Roomy}
 use Rattle.tables.specs.Store.{StoreOf, Holds}
 use Rattle.tables.specs.Tables.{Tables, fresh}
 use Rattle.tables.proofs.AllowedLaws.{apply-allowed, forget-allowed}

@@ -1,10 +1,9 @@
 -- "Scratch bytes not in a written number stay": and a number has at most 18 units. Assumes nothing.
-use Prim.Native.Nat.{ℕ, zero, suc, _+_, _*_, _-_, _/_, _%_, _≤_, _<_}
+use Prim.Native.Nat.{ℕ, zero, suc, _+_, _*_, _-_, _/_, _%_, _≤_}
 use mathlib.Core.Path.{_≡_, refl, sym, ap, _∙_, subst}
 use mathlib.Core.Logic.{inl, inr}
 use mathlib.Core.Bool.{Bool, true, false}
 use mathlib.Core.List.{List, [], _∷_, _++_, map}
-use mathlib.Core.Option.{some}
 use native.Mathlib.Omega.{arith}
 use borrow.Author.Tests.{ltb-true, ltb-false}
 use lib.Dec.{ltb}
@@ -14,11 +13,9 @@ use Rattle.lists.proofs.Ladder.{Answers}
 use Rattle.plan.specs.Numbers.{Individual as IndividualPlan, Group as GroupPlan}
 use Rattle.writing.specs.Settings.{Text}
 use Rattle.tables.specs.declared.limits.Limits.{Limits}
-use Rattle.tables.specs.Store.{Holds}
-use Rattle.tables.specs.Tables.{Tables}
 use Rattle.screen.specs.declared.rows.Row.{Row}
-use Rattle.screen.specs.Rows.{Caption, text, line, group, individual, caption, ascii, digits, AddressText, dialled, outside, Display, stored, written, Shows}
-use Rattle.screen.specs.Screen.{unit-bytes, After, Part, of-store, of-scratch, shows, RowShown, showing}
+use Rattle.screen.specs.Rows.{Caption, text, line, group, individual, ascii, digits, AddressText, dialled, outside, Display, stored, written, Shows}
+use Rattle.screen.specs.Screen.{unit-bytes, After, Part, of-store, of-scratch, shows, showing}
 use Rattle.screen.proofs.EntryLaws.{HeadIn}
 use Rattle.screen.proofs.NumberLaws.{unit-length}
 use Rattle.screen.proofs.Theorems.{not-written, number-of-empty, row-held}

@@ -1,21 +1,18 @@
 -- What a slot of the store shows of the tables: no entry, or an entry whose text stands behind its head. Assumes nothing.
 use Prim.Native.Nat.{ℕ, zero, suc, _+_, _*_, _-_, _≤_, _<_}
-use mathlib.Core.Path.{_≡_, refl, sym, ap, ap₂, _∙_, subst}
-use mathlib.Core.Logic.{_≢_}
-use mathlib.Core.Bool.{Bool, true, false, true≢false}
+use mathlib.Core.Path.{_≡_, refl, sym, ap, _∙_}
+use mathlib.Core.Bool.{true, false}
 use mathlib.Core.List.{List, [], _∷_, _++_, map}
 use mathlib.Core.Option.{Option, none, some}
 use native.Mathlib.Nat.{not-suc-le-zero, le-of-suc-le-suc, add-zero}
 use native.Mathlib.Omega.{arith}
 use borrow.Rule.Slice.PartMut.{midOf}
-use lib.ListN.{length, take, drop, getD, length-append, length-take, length-drop, length-map, List·getD-eq-default}
-use lib.Seq.{take-take, take-nil, drop-nil, drop-drop, take-at, drop-at, drop-append-le, take-all, take-append-le}
-use Rattle.lists.proofs.Every.{All, all-made}
-use Rattle.slots.specs.Slots.{flat, pad, slot, places, front, u16, zeros?, bytesBefore, Slots, Present, Placed, Found}
+use lib.ListN.{length, take, drop, getD}
+use lib.Seq.{take-take, take-nil, drop-drop, take-at, drop-at, take-all}
+use Rattle.lists.proofs.Every.{all-made}
+use Rattle.slots.specs.Slots.{pad, slot, front, u16, zeros?, bytesBefore, Placed, Found}
 use Rattle.slots.proofs.Numbers.{u16-shown}
-use Rattle.slots.proofs.Pads.{pad-length}
-use Rattle.slots.proofs.Runs.{zeros-all}
-use Rattle.slots.proofs.Tables.{place-read, place-none, place-some, front-length, all-front}
+use Rattle.slots.proofs.Tables.{place-read, place-none, place-some}
 use Rattle.writing.specs.Settings.{Text}
 use Rattle.tables.specs.Allowed.{TextOk}
 use Rattle.tables.specs.Layout.{text-bytes}

@@ -17,7 +17,7 @@ use Rattle.screen.specs.declared.answers.Place.{Place}
 use Rattle.screen.specs.declared.answers.Place.the-variants.{Store, Scratch, Refused as NoPlace}
 use Rattle.screen.specs.declared.answers.Refusal.{Refusal}
 use Rattle.screen.specs.declared.names.Name.{Name}
-use Rattle.screen.specs.declared.names.Name.the-variants.{Refused as NoName, Text as TextAt, Digits, Group as GroupNumber, Individual as IndividualNumber}
+use Rattle.screen.specs.declared.names.Name.the-variants.{Refused as NoName, Digits}
 use Rattle.screen.specs.declared.rows.Row.{Row}
 use Rattle.screen.proofs.names.Name.{the-type}
 use Rattle.screen.specs.Naming.{DigitsWritten, naming, PlaceFits, Placed, Picked}

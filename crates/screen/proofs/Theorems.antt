@@ -1,19 +1,16 @@
 -- What the screen's calls promise: the whole text of the row or its number, nothing else, and nothing touched on a refusal. Assumes nothing.
-use Prim.Native.Nat.{ℕ, _+_, _*_, _-_, _≤_, _<_}
-use mathlib.Core.Path.{_≡_, refl, sym, ap, ap₂, _∙_, subst}
-use mathlib.Core.Logic.{_≢_, _⊎_, inl, inr}
+use Prim.Native.Nat.{ℕ, _*_, _-_, _≤_}
+use mathlib.Core.Path.{_≡_, refl, sym, ap, _∙_, subst}
+use mathlib.Core.Logic.{_≢_, inl, inr}
 use mathlib.Core.Bool.{Bool, true, false}
-use mathlib.Core.List.{List, [], _∷_, _++_, map}
+use mathlib.Core.List.{List, [], _∷_, map}
 use mathlib.Core.Option.{Option, none, some, Option·some-injective, Option·none-ne-some}
 use native.Mathlib.Omega.{arith}
 use borrow.Rule.Slice.PartMut.{midOf}
 use denote.Ref.{RefT}
-use lib.ListN.{length, take, drop, getD, length-append, length-drop, length-map}
+use lib.ListN.{length, take, drop, getD}
 use lib.Seq.{take-at}
 use Rattle.lists.proofs.Ladder.{Answers}
-use Rattle.plan.specs.declared.numbers.GroupAddress.{GroupAddress}
-use Rattle.plan.specs.declared.numbers.IndividualAddress.{IndividualAddress}
-use Rattle.plan.specs.Numbers.{Individual as IndividualPlan, Group as GroupPlan}
 use Rattle.slots.specs.Slots.{zeros?}
 use Rattle.writing.specs.Settings.{Text}
 use Rattle.tables.specs.declared.limits.Limits.{Limits}
@@ -24,8 +21,8 @@ use Rattle.screen.specs.declared.names.SlotPlace.the-variants.{At}
 use Rattle.screen.specs.declared.rows.Row.{Row}
 use Rattle.screen.specs.declared.rows.Row.the-variants.{Group, Individual}
 use Rattle.screen.specs.Naming.{SlotIs}
-use Rattle.screen.specs.Rows.{Caption, text, line, group, individual, caption, of, text-of, AddressText, Display, stored, written, units, text-or, Shows}
-use Rattle.screen.specs.Screen.{text-start, unit-bytes, After, Part, of-store, of-scratch, refused, shows, RowShown, showing, numbering, points-to, bytes-of, RowBytes, PartGiven}
+use Rattle.screen.specs.Rows.{Caption, text, line, group, individual, caption, of, text-of, ascii, digits, GroupText, IndividualText, Display, stored, written, units, text-or, Shows}
+use Rattle.screen.specs.Screen.{text-start, unit-bytes, After, of-store, refused, shows, RowShown, showing, numbering, bytes-of, RowBytes, PartGiven}
 use Rattle.screen.proofs.AnswerLaws.{shown-number, one-tables}
 use Rattle.screen.proofs.Determined.{one-display}
 use Rattle.screen.proofs.EntryLaws.{Captioned, row-seen, row-there}
@@ -183,16 +180,25 @@ number-of-empty Number (u ∷ us) ns e = absurd (not-written (sym e))
 
 -- GROUP ROW: a group row shows the number of that slot's group address, by the group plan
 pub group-number : (t : Tables) (n : ℕ) (c : Caption) (us : Text) → caption t (Group n) ≡ some c → Shows c (written us)
-    → (g : GroupMember) × (getD (t .groups) n none ≡ some g) × (g .text ≡ []) × AddressText GroupPlan (g .address .0) us
+    → (g : GroupMember) × (getD (t .groups) n none ≡ some g) × (g .text ≡ []) × GroupText (g .address) us
 group-number t n c us e s =
     let (g, is, d) = from-entry (λ x. group (x .text) (x .address)) (getD (t .groups) n none) e in
-    let (empty, p) = number-of-empty (AddressText GroupPlan (g .address .0)) (g .text) us (subst (λ (x : Caption). Shows x (written us)) d s) in
+    let (empty, p) = number-of-empty (GroupText (g .address)) (g .text) us (subst (λ (x : Caption). Shows x (written us)) d s) in
     (g, is, empty, p)
 
 -- INDIVIDUAL ROW: an individual row shows that slot's individual address, by the individual plan
 pub individual-number : (t : Tables) (n : ℕ) (c : Caption) (us : Text) → caption t (Individual n) ≡ some c → Shows c (written us)
-    → (g : IndividualMember) × (getD (t .individuals) n none ≡ some g) × (g .text ≡ []) × AddressText IndividualPlan (g .address .0) us
+    → (g : IndividualMember) × (getD (t .individuals) n none ≡ some g) × (g .text ≡ []) × IndividualText (g .address) us
 individual-number t n c us e s =
     let (g, is, d) = from-entry (λ x. individual (x .text) (x .address)) (getD (t .individuals) n none) e in
-    let (empty, p) = number-of-empty (AddressText IndividualPlan (g .address .0)) (g .text) us (subst (λ (x : Caption). Shows x (written us)) d s) in
+    let (empty, p) = number-of-empty (IndividualText (g .address)) (g .text) us (subst (λ (x : Caption). Shows x (written us)) d s) in
     (g, is, empty, p)
+
+-- ---- numbers as they are read
+
+-- the address 103C28 hex, and the dialled number 32841899
+pub hex-read : map ascii (digits 16 6 0x103C28) ≡ 49 ∷ 48 ∷ 51 ∷ 67 ∷ 50 ∷ 56 ∷ []
+hex-read = refl
+
+pub dialled-read : map ascii (digits 10 8 32841899) ≡ 51 ∷ 50 ∷ 56 ∷ 52 ∷ 49 ∷ 56 ∷ 57 ∷ 57 ∷ []
+dialled-read = refl

@@ -5,7 +5,7 @@ use mathlib.Core.List.{List, [], _++_, map}
 use mathlib.Core.Option.{Option, none, some}
 use denote.Ref.{RefT}
 use lib.ListN.{length, take, drop}
-use Rattle.lists.proofs.Ladder.{Ladder, rung, foot, Answers}
+use Rattle.lists.proofs.Ladder.{Ladder, Answers}
 use Rattle.plan.specs.declared.numbers.DialledAnswer.{DialledAnswer}
 use Rattle.plan.specs.declared.numbers.DialledAnswer.the-variants.{Dialled, OutsideKind}
 use Rattle.writing.specs.Ranges.{InNumber}
@@ -13,7 +13,7 @@ use Rattle.writing.specs.Settings.{Text, Number}
 use Rattle.tables.specs.declared.limits.Limits.{Limits}
 use Rattle.tables.specs.Layout.{quick-width, status-width, member-width, line-width, digit-bytes}
 use Rattle.tables.specs.Limits.{quick-places, status-places, slot-places}
-use Rattle.tables.specs.Store.{StoreOf, Holds}
+use Rattle.tables.specs.Store.{Holds}
 use Rattle.tables.specs.Tables.{Tables}
 use Rattle.screen.specs.declared.answers.Place.{Place}
 use Rattle.screen.specs.declared.answers.Place.the-variants.{Store, Scratch, Refused as NoPlace}
@@ -25,7 +25,7 @@ use Rattle.screen.specs.declared.names.SlotPlace.the-variants.{At, Beyon
 use Rattle.screen.specs.declared.rows.Row.{Row}
 use Rattle.screen.specs.declared.rows.Row.the-variants.{Line, QuickText, StatusText, Group, Individual, NoTable}
 use Rattle.screen.specs.Rows.{Caption, line, group, individual, caption, text-of, Shows, stored, ascii, digits}
-use Rattle.screen.specs.Screen.{part-start, text-start, unit-bytes, NoRow, showing, leaves, bytes-of, points-to}
+use Rattle.screen.specs.Screen.{part-start, text-start, unit-bytes, judged, showing, leaves, bytes-of, points-to}
 
 -- ---- numbers
 
@@ -78,13 +78,9 @@ Named m s row o (IndividualNumber a) = o ≡ some (individual [] a)
 abbrev pub NameIs : Limits → List ℕ → Row → Name → Type 0
 NameIs m s row r = (t : Tables) → Holds m t s → Named m s row (caption t row) r
 
--- the tests of a screen row in their order
+-- the tests of both calls, and then what was found
 abbrev pub naming : Limits → List ℕ → ℕ → Row → Ladder Name
-naming m store room row =
-    rung (room < 36) (Refused ScratchSize)
-    (rung (StoreOf m store → ⊥) (Refused NotAStore)
-    (rung (NoRow m store row) (Refused Absent)
-    (foot (λ r. (t : Tables) × Holds m t store × Named m store row (caption t row) r))))
+naming m store room row = judged m store room row Refused (λ r. (t : Tables) × Holds m t store × Named m store row (caption t row) r)
 
 -- ---- places and parts
 

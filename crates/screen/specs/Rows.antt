@@ -69,12 +69,20 @@ pub data AddressText (Plan : ℕ → ℕ → Type 0) (address : ℕ) (us : Text)
   dialled : (number : ℕ) → Plan number address → us ≡ map ascii (digits 10 8 number) → AddressText Plan address us
   outside : ((number : ℕ) → Plan number address → ⊥) → us ≡ map ascii (digits 16 6 address) → AddressText Plan address us
 
--- the number of what a row names, by its kind: a group's by the group plan, an individual's by the individual plan
+-- a group's number is by the group plan
+abbrev pub GroupText : GroupAddress → Text → Type 0
+GroupText a us = AddressText GroupPlan (a .0) us
+
+-- and an individual's by the individual plan
+abbrev pub IndividualText : IndividualAddress → Text → Type 0
+IndividualText a us = AddressText IndividualPlan (a .0) us
+
+-- the number of what a row names, by the kind of its address
 abbrev pub NumberText : Caption → Text → Type 0
 NumberText (text us) ns = ⊥
 NumberText (line us ds) ns = ns ≡ map ascii ds
-NumberText (group us a) ns = AddressText GroupPlan (a .0) ns
-NumberText (individual us a) ns = AddressText IndividualPlan (a .0) ns
+NumberText (group us a) ns = GroupText a ns
+NumberText (individual us a) ns = IndividualText a ns
 
 -- ---- what is shown
 

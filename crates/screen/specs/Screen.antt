@@ -95,21 +95,21 @@ pub record RowShown (m : Limits) (store scratch : List ℕ) (row : Row) (a : Aft
   pub shown : Shows row-is display
   pub after : a ≡ shows m scratch row display
 
--- "Screen: 15, 11, 17"
-abbrev pub showing : Limits → List ℕ → List ℕ → Row → Ladder After
-showing m store scratch row =
-    rung (length scratch < 36) (refused 15 scratch)
-    (rung (StoreOf m store → ⊥) (refused 11 scratch)
-    (rung (NoRow m store row) (refused 17 scratch)
-    (foot (RowShown m store scratch row))))
+-- "Screen: 15, 11, 17": the tests of both calls, by the scratch's size
+abbrev pub judged : {A : Type 0} → Limits → List ℕ → ℕ → Row → (Refusal → A) → (A → Type 0) → Ladder A
+judged m store room row refuse There =
+    rung (room < 36) (refuse ScratchSize)
+    (rung (StoreOf m store → ⊥) (refuse NotAStore)
+    (rung (NoRow m store row) (refuse Absent)
+    (foot There)))
 
--- the same tests for the number alone
+-- what a row comes to
+abbrev pub showing : Limits → List ℕ → List ℕ → Row → Ladder After
+showing m store scratch row = judged m store (length scratch) row (λ r. refused (refusal r) scratch) (RowShown m store scratch row)
+
+-- its number alone
 abbrev pub numbering : Limits → List ℕ → List ℕ → Row → Ladder ℕ
-numbering m store scratch row =
-    rung (length scratch < 36) 15
-    (rung (StoreOf m store → ⊥) 11
-    (rung (NoRow m store row) 17
-    (foot (λ n. n ≡ 0))))
+numbering m store scratch row = judged m store (length scratch) row refusal (λ n. n ≡ 0)
 
 -- ---- the part
 

@@ -2,7 +2,7 @@
 use plan::numbers::DialledAnswer;
 ghost use Prim.Native.Nat.{_+_, _*_, _≤_, _<_};
 ghost use mathlib.Core.Path.{_≡_};
-ghost use mathlib.Core.List.{[], _∷_, _++_, map};
+ghost use mathlib.Core.List.{_∷_, _++_, map};
 ghost use lib.ListN.{length, take, drop};
 ghost use Rattle.slots.specs.Slots.{EntryOf};
 ghost use Rattle.tables.specs.Layout.{digit-bytes};

@@ -21,7 +21,7 @@ code-requires : tie.Need-code-requires
 code-requires c κs = search needs
 
 slice-write-scratch-2 : tie.Need-slice-write-scratch-2
-slice-write-scratch-2 c = let a = c .before .before .args in omega (arith, length-set (a .scratch .now) (2 * a .i) 0)
+slice-write-scratch-2 c = simp length-set (omega arith)
 
 same-length : tie.Need-same-length
 same-length c = search needs

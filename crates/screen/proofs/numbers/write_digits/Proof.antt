@@ -1,5 +1,5 @@
 -- `screen::numbers::write_digits` meets its contract. The loop's invariant: the digits from `left` on are written. Assumes nothing.
-use Prim.Native.Nat.{_-_, _/_, _%_}
+use Prim.Native.Nat.{_-_, _%_}
 use mathlib.Core.Path.{_≡_, refl}
 use borrow.Author.Needs.{needs}
 use native.Mathlib.Nat.{mod-lt}
