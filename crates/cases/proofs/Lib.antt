@@ -1,3 +1,4 @@
 pub mod MarkedHold
 pub mod PlanRows
+pub mod TakenRows
 pub mod WritingRows

@@ -7,15 +7,33 @@ use Rattle.lists.proofs.Every.{All}
 use Rattle.plan.specs.Frequencies.{simplex, paired}
 use Rattle.plan.specs.Numbers.{IndividualShort, of-700, of-350, GroupShort, of-100}
 use Rattle.plan.proofs.NumberLaws.{individuals, groups}
+use Rattle.writing.specs.Ranges.{text-limits, InRange}
 use Rattle.writing.specs.Settings.{home}
-use Rattle.cases.specs.Marked.{Holds, marked}
+use Rattle.tables.specs.Allowed.{Allowed}
+use Rattle.tables.specs.Limits.{handheld}
+use Rattle.tables.specs.Tables.{fresh, with-channels}
+use Rattle.tables.proofs.AllowedLaws.{channels-allowed}
+use Rattle.tables.proofs.FreshLaws.{fresh-allowed}
+use Rattle.cases.specs.Marked.{Holds, two-channels, one-contact, marked}
 use Rattle.cases.proofs.PlanRows.{member, channel}
+use Rattle.cases.proofs.TakenRows.{taken-row}
 use Rattle.cases.proofs.WritingRows.{digits, setting, out-of-range}
 
 -- a row, and those below it
 infixr 60 _then_
 abbrev _then_ : {P Q : Type 0} → P → Q → P × Q
 p then q = (p, q)
+
+-- the settings of 10 and 11 are in range
+channels-in-range : InRange text-limits 0 two-channels
+channels-in-range = ((lit≤ tt, lit≤ tt), ((lit≤ tt, lit≤ tt), tt))
+
+contact-in-range : InRange text-limits 0 one-contact
+contact-in-range = (((lit≤ tt, lit≤ tt, (lit≤ tt, (lit≤ tt, (lit≤ tt, (lit≤ tt, tt))))), lit≤ tt), tt)
+
+-- the tables before 10 are a set's
+channel-300 : Allowed handheld (with-channels fresh (300 ∷ []))
+channel-300 = channels-allowed handheld fresh (fresh-allowed handheld) (300 ∷ []) (lit≤ tt, ((lit≤ tt, lit≤ tt), tt))
 
 -- THE MARKED CASES
 pub marked-hold : All Holds marked
@@ -32,8 +50,10 @@ marked-hold =
     then channel 640 3560000 (paired (lit≤ tt) (lit≤ tt) refl)
     then digits (2 ∷ 3 ∷ 4 ∷ 5 ∷ []) _ tt tt refl
     then digits (1 ∷ 2 ∷ 3 ∷ []) _ tt tt refl
-    then setting _ _ tt refl
+    then setting _ _ tt refl (lit≤ tt)
     then out-of-range (home (record { nzi = 15; np = 807 })) _ tt refl (λ left. omega arith)
-    then setting _ _ tt refl
-    then setting _ _ tt refl
+    then setting _ _ tt refl channels-in-range
+    then setting _ _ tt refl contact-in-range
+    then taken-row two-channels _ _ channel-300 tt channels-in-range refl refl refl tt _ refl
+    then taken-row one-contact _ _ (fresh-allowed handheld) tt contact-in-range refl refl refl tt _ refl
     then tt

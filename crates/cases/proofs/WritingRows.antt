@@ -27,8 +27,8 @@ only s bytes t e =
     record { allowed = own; alone = λ r w. unique unicode16 r s bytes bytes [] [] w own refl .0 }
 
 -- a setting and its bytes
-pub setting : (s : Setting) (bytes : List ℕ) → T (all? fits? (fields unicode16 s)) → canonical unicode16 s ≡ bytes → Holds (setting-is s bytes)
-setting s bytes t e = (only s bytes t e, e)
+pub setting : (s : Setting) (bytes : List ℕ) → T (all? fits? (fields unicode16 s)) → canonical unicode16 s ≡ bytes → InRange text-limits 0 s → Holds (setting-is s bytes)
+setting s bytes t e r = (only s bytes t e, e, r)
 
 -- bytes of a setting that is out of range
 pub out-of-range : (s : Setting) (bytes : List ℕ) → T (all? fits? (fields unicode16 s)) → canonical unicode16 s ≡ bytes

@@ -1,9 +1,11 @@
 -- The cases that document 01 works by hand and marks P, as one table.
-use Prim.Native.Nat.{ℕ, _<_}
+use Prim.Native.Nat.{ℕ, _≤_, _<_}
 use mathlib.Core.Bool.{true, false}
 use mathlib.Core.Path.{_≡_}
 use mathlib.Core.List.{List, [], _∷_}
+use lib.ListN.{length}
 use Rattle.lists.proofs.Every.{All}
+use Rattle.lists.proofs.Ladder.{Answers}
 use Rattle.plan.specs.Answers.{Answered, given}
 use Rattle.plan.specs.Frequencies.{Transmits}
 use Rattle.plan.specs.Numbers.{Individual, Group}
@@ -14,14 +16,20 @@ use Rattle.writing.specs.Fields.{bitsOf, Shows}
 use Rattle.writing.specs.Ranges.{text-limits, InRange}
 use Rattle.writing.specs.Settings.{Setting, home, channels, lines, unicode16}
 use Rattle.writing.specs.Writing.{number, Written}
+use Rattle.tables.specs.Layout.{layout}
+use Rattle.tables.specs.Limits.{handheld}
+use Rattle.tables.specs.Tables.{Line, Tables, fresh, with-channels, with-lines}
+use Rattle.station.specs.Replies.{written-over}
+use Rattle.station.specs.Taking.{After, taken}
 
 pub data Case : Type 0 where
   individual : (dialled address : ℕ) → Case
   group : (dialled address : ℕ) → Case
   transmit : (channel frequency : ℕ) → Case
   digits-are : (digits bytes : List ℕ) → Case  -- a number's only bytes
-  setting-is : Setting → (bytes : List ℕ) → Case  -- the only setting written as these bytes, which have reserved bits 0
+  setting-is : Setting → (bytes : List ℕ) → Case  -- the only setting written as these bytes, which have reserved bits 0; in range as the last one counted
   no-setting : (bytes : List ℕ) → Case  -- no setting in range is written as these bytes, whatever is still counted after it
+  taken-is : (before : Tables) (message reply : List ℕ) (after : Tables) → Case  -- a request to a set with these tables: its reply, and the tables that it leaves
 
 -- this outcome is allowed, and no other
 pub record Only {A : Type 0} (Allows : A → Type 0) (outcome : A) : Type 0 where
@@ -32,18 +40,43 @@ pub record Only {A : Type 0} (Allows : A → Type 0) (outcome : A) : Type 0 wher
 abbrev pub NumberIn : List ℕ → List ℕ → Type 0
 NumberIn digits bytes = All (_< 256) bytes × Shows (number digits) (bitsOf bytes)
 
+-- what taking a request without FF leaves: number 0, failed ID 0, nothing to send, no restart; the bytes of these tables, and this reply over the buffer
+abbrev pub took : (reply : List ℕ) → Tables → (buffer : List ℕ) → After
+took reply after buffer = record {
+  answer = record { number = 0; failed = 0; send = false; reboot = false; reply-length = length reply };
+  store = layout handheld after;
+  reply = written-over reply buffer;
+}
+
 -- what a case claims
 abbrev pub Holds : Case → Type 0
 Holds (individual dialled address) = Only (Answered Individual 20 dialled) (given address)
 Holds (group dialled address) = Only (Answered Group 20 dialled) (given address)
 Holds (transmit channel frequency) = Only (Answered Transmits 22 channel) (given frequency)
 Holds (digits-are digits bytes) = Only (NumberIn digits) bytes
-Holds (setting-is s bytes) = Only (λ t. Written unicode16 t bytes) s × (canonical unicode16 s ≡ bytes)
+Holds (setting-is s bytes) = Only (λ t. Written unicode16 t bytes) s × (canonical unicode16 s ≡ bytes) × InRange text-limits 0 s
 Holds (no-setting bytes) = (s : Setting) (left : ℕ) → InRange text-limits left s → Written unicode16 s bytes → ⊥
+Holds (taken-is before message reply after) =
+    (store buffer : List ℕ) → store ≡ layout handheld before → 20 ≤ length buffer → Only (Answers (taken handheld message store buffer)) (took reply after buffer)
 
--- the flags of case 11: PABX, and nothing else
+-- the flags of 11: PABX, and nothing else
 abbrev pub pabx-only : LineFlags
 pabx-only = record { encryption = false; emergency = false; priority = 0; pabx = true }
+
+-- the settings of 10 and 11
+abbrev pub two-channels : Setting
+two-channels = channels Replace (241 ∷ 640 ∷ [])
+
+abbrev pub one-contact : Setting
+one-contact = lines Add pabx-only (record { number = 2 ∷ 3 ∷ 4 ∷ 5 ∷ []; text = [] } ∷ [])
+
+-- the line that 11 adds
+abbrev pub line-2345 : Line
+line-2345 = record { flags = pabx-only; number = 2 ∷ 3 ∷ 4 ∷ 5 ∷ []; text = [] }
+
+-- the reply to 10 and 11
+abbrev pub reply-0 : List ℕ
+reply-0 = 0x02 ∷ 0x02 ∷ 0x00 ∷ 0x06 ∷ 0x08 ∷ 0x00 ∷ 0x09 ∷ 0x00 ∷ 0x00 ∷ 0x00 ∷ []
 
 -- the table
 abbrev pub marked : List Case
@@ -62,7 +95,12 @@ marked =
     ∷ digits-are (1 ∷ 2 ∷ 3 ∷ []) (0x12 ∷ 0x3F ∷ [])
     ∷ setting-is (home (record { nzi = 15; np = 806 })) (0xCD ∷ 0x00 ∷ 0x05 ∷ 0x07 ∷ 0xE4 ∷ 0xC0 ∷ [])  -- 9
     ∷ no-setting (0xCD ∷ 0x00 ∷ 0x05 ∷ 0x07 ∷ 0xE4 ∷ 0xE0 ∷ [])
-    ∷ setting-is (channels Replace (241 ∷ 640 ∷ [])) (0xCE ∷ 0x00 ∷ 0x07 ∷ 0xC0 ∷ 0x02 ∷ 0x0F ∷ 0x12 ∷ 0x80 ∷ [])  -- the setting of 10
-    ∷ setting-is (lines Add pabx-only (record { number = 2 ∷ 3 ∷ 4 ∷ 5 ∷ []; text = [] } ∷ []))
-    (0xCA ∷ 0x00 ∷ 0x09 ∷ 0x42 ∷ 0x01 ∷ 0x23 ∷ 0x45 ∷ 0xFF ∷ 0x00 ∷ 0x00 ∷ [])  -- the setting of 11
+    ∷ setting-is two-channels (0xCE ∷ 0x00 ∷ 0x07 ∷ 0xC0 ∷ 0x02 ∷ 0x0F ∷ 0x12 ∷ 0x80 ∷ [])  -- the setting of 10
+    ∷ setting-is one-contact (0xCA ∷ 0x00 ∷ 0x09 ∷ 0x42 ∷ 0x01 ∷ 0x23 ∷ 0x45 ∷ 0xFF ∷ 0x00 ∷ 0x00 ∷ [])  -- the setting of 11
+    ∷ taken-is (with-channels fresh (300 ∷ []))
+    (0x02 ∷ 0x02 ∷ 0x00 ∷ 0x0C ∷ 0x08 ∷ 0x07 ∷ 0x08 ∷ 0x01 ∷ 0xCE ∷ 0x00 ∷ 0x07 ∷ 0xC0 ∷ 0x02 ∷ 0x0F ∷ 0x12 ∷ 0x80 ∷ []) reply-0
+    (with-channels fresh (241 ∷ 640 ∷ []))  -- 10
+    ∷ taken-is fresh
+    (0x02 ∷ 0x02 ∷ 0x00 ∷ 0x0E ∷ 0x08 ∷ 0x07 ∷ 0x08 ∷ 0x01 ∷ 0xCA ∷ 0x00 ∷ 0x09 ∷ 0x42 ∷ 0x01 ∷ 0x23 ∷ 0x45 ∷ 0xFF ∷ 0x00 ∷ 0x00 ∷ []) reply-0
+    (with-lines fresh (line-2345 ∷ []))  -- 11
     ∷ []

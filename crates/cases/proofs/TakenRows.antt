@@ -1,0 +1,71 @@
+-- Rows of taking: requests of one setting, the reply and the tables that they leave. Assumes nothing.
+use Prim.Native.Nat.{ℕ, _≤_}
+use mathlib.Core.Path.{_≡_, refl, sym, subst}
+use mathlib.Core.Logic.{inr}
+use mathlib.Core.List.{List, [], _∷_, _++_}
+use mathlib.Core.Option.{some}
+use native.Mathlib.Omega.{arith}
+use lib.Dec.{T, leb, leb→le}
+use lib.ListN.{length}
+use Rattle.lists.proofs.Bytes.{all-bytes}
+use Rattle.lists.proofs.Every.{all?}
+use Rattle.lists.proofs.Ladder.{Answers}
+use Rattle.writing.specs.Canonical.{canonical}
+use Rattle.writing.specs.Ranges.{text-limits, InRange}
+use Rattle.writing.specs.Settings.{Setting, unicode16}
+use Rattle.writing.specs.Writing.{fields}
+use Rattle.writing.proofs.CanonicalLaws.{plain-bytes}
+use Rattle.writing.proofs.Computed.{fits?, written}
+use Rattle.carrier.specs.declared.carrier.Message.the-variants.{Request}
+use Rattle.tables.specs.Allowed.{Allowed}
+use Rattle.tables.specs.Apply.{apply}
+use Rattle.tables.specs.Layout.{layout}
+use Rattle.tables.specs.Limits.{handheld}
+use Rattle.tables.specs.Tables.{Tables, no-hash}
+use Rattle.station.specs.Judge.{kept, done, step, taken as all-taken}
+use Rattle.station.specs.Replies.{reply-bytes}
+use Rattle.station.specs.Taking.{Judged, forget, last-item, replies, settled, Handled, taken}
+use Rattle.station.proofs.Determined.{taken-determined}
+use Rattle.export.specs.Exported.{request-bytes}
+use Rattle.export.proofs.ExportedBytes.{holds-store}
+use Rattle.export.proofs.Requests.{request-is}
+use Rattle.cases.specs.Marked.{Only, Holds, taken-is, took, reply-0}
+
+-- a setting that fits, is in range and has room, sent alone to a set with the tables t, makes them u
+module _ (s : Setting) (t u : Tables) (ok : Allowed handheld t) (fit : T (all? fits? (fields unicode16 s))) (range : InRange text-limits 0 s)
+    (applied : apply handheld s (forget t) ≡ some u) (plain : last-item (s ∷ []) ≡ last-item []) (none-kept : u .hash ≡ no-hash)
+    (short : T (leb (length (request-bytes (s ∷ []))) 4096))
+  where
+    -- its request is judged good
+    judged : Judged handheld 1 (forget t) (canonical unicode16 s ++ []) (kept (s ∷ []) u)
+    judged =
+        all-taken refl (step {w = canonical unicode16 s} {s = s} refl
+        (written unicode16 s (canonical unicode16 s) fit refl, all-bytes (canonical unicode16 s) (plain-bytes (fields unicode16 s))) range applied done)
+
+    module _ (store buffer : List ℕ) (holds : store ≡ layout handheld t) (long : 20 ≤ length buffer) where
+      -- which leaves the reply and the tables
+      settles : took reply-0 u buffer ≡ settled handheld (request-bytes (s ∷ [])) store buffer (kept (s ∷ []) u)
+      settles = sym (λ i. replies handheld (request-bytes (s ∷ [])) store buffer 0 0 (plain i .flags .reply) (plain i .flags .reboot) (none-kept i) (layout handheld u))
+
+      handled : Handled handheld (request-bytes (s ∷ [])) store buffer (took reply-0 u buffer)
+      handled =
+          let b : length (request-bytes (s ∷ [])) ≤ 4096 = leb→le _ _ short in
+          record {
+            tables = t;
+            allowed = ok;
+            bytes = holds;
+            kind = Request 1 8;
+            is = request-is 4096 (s ∷ []) (omega arith) (omega arith) b (omega arith);
+            settles = (kept (s ∷ []) u, judged, settles);
+          }
+
+      answers : Answers (taken handheld (request-bytes (s ∷ [])) store buffer) (took reply-0 u buffer)
+      answers = inr (λ h. omega arith, inr (λ n. n (holds-store handheld t store (omega arith) (ok, holds)), handled))
+
+    -- TAKEN: so the request is taken, and nothing else is allowed
+    pub taken-row : (message : List ℕ) → request-bytes (s ∷ []) ≡ message → Holds (taken-is t message reply-0 u)
+    taken-row message e store buffer holds long =
+        subst (λ (x : List ℕ). Only (Answers (taken handheld x store buffer)) (took reply-0 u buffer)) e (record {
+          allowed = answers store buffer holds long;
+          alone = λ a p. taken-determined handheld (request-bytes (s ∷ [])) store buffer a (took reply-0 u buffer) p (answers store buffer holds long);
+        })
