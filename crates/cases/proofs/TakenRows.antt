@@ -27,8 +27,8 @@ use Rattle.station.specs.Replies.{reply-bytes}
 use Rattle.station.specs.Taking.{Judged, forget, last-item, replies, settled, Handled, taken}
 use Rattle.station.proofs.Determined.{taken-determined}
 use Rattle.export.specs.Exported.{request-bytes}
-use Rattle.export.proofs.ExportedBytes.{holds-store}
-use Rattle.export.proofs.Requests.{request-is}
+use Rattle.restoring.proofs.ExportedBytes.{holds-store}
+use Rattle.restoring.proofs.Requests.{request-is}
 use Rattle.cases.specs.Marked.{Only, Holds, taken-is, took, reply-0}
 
 -- a setting that fits, is in range and has room, sent alone to a set with the tables t, makes them u

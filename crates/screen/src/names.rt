@@ -1,11 +1,11 @@
 // What a row shows: the place of its text, or the number of what it names.
 use super::answers::Refusal;
 use super::rows::Row;
+use checks::checks::is_store;
 use plan::numbers::GroupAddress;
 use plan::numbers::IndividualAddress;
 use slots::bytes::is_zeros;
 use slots::slots::used;
-use checks::checks::is_store;
 use tables::limits::Limits;
 ghost use Prim.Native.Nat.{ℕ, _+_, _*_, _^_, _≤_, _<_};
 ghost use mathlib.Core.Path.{_≡_};
