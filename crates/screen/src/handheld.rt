@@ -24,7 +24,7 @@ pub fn row_part<'a>(store: &'a [u8], scratch: &'a mut [u8], row: Row) -> &'a [u8
     part_in(store, scratch, row, HANDHELD)
 }
 
-// Where that part is; its contract says too which bytes of the scratch changed.
+// Where that part is. A contract cannot speak of a slice that may live on in the result: this one, of the same writing step, says what is left of the scratch.
 pub fn row_place(store: &[u8], scratch: &mut [u8], row: Row) -> Place
     ensures { λ r. ⌜ Answers (showing handheld (now (store .entry)) (now (scratch .entry)) row) (leaves r (now (scratch .exit))) ⌝ }
 {
