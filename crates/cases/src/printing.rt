@@ -1,0 +1,79 @@
+// Prints what a case comes to, on one line.
+use libc::STDOUT_FILENO;
+use station::answers::Answer;
+use station::answers::Reply;
+use station::answers::failed_id;
+use station::answers::number;
+
+// The hexadecimal digits.
+const HEX: [u8; 16] = *b"0123456789ABCDEF";
+
+pub(crate) fn text(bytes: &[u8]) {
+    io::write_all(STDOUT_FILENO, bytes);
+}
+
+pub(crate) fn decimal(n: u32) {
+    io::print_decimal(STDOUT_FILENO, n as u64);
+}
+
+fn yes_or_no(what: &[u8], answer: bool) {
+    text(what);
+    if answer {
+        text(b" yes");
+    } else {
+        text(b" no");
+    }
+}
+
+// A space and two hexadecimal digits.
+fn byte(b: u8) {
+    let high = (b / 16) as usize;
+    let low = (b % 16) as usize;
+    text(&[b' ', HEX[high], HEX[low]]);
+}
+
+// The reply, of which so many bytes were written; the line's end.
+fn reply_bytes(reply: &[u8], length: usize) {
+    text(b", reply");
+    if length == 0 {
+        text(b" none");
+    }
+    let mut i = 0;
+    while i < reply.len() && i < length {
+        byte(reply[i]);
+        i += 1;
+    }
+    text(b"\n");
+}
+
+// What an answer says of its reply; a refusal that touches nothing has none.
+fn reply_of(answer: Answer) -> Reply {
+    match answer {
+        Answer::Untouched(_) => Reply {
+            result: 0,
+            failed: 0,
+            send: false,
+            reboot: false,
+            length: 0,
+        },
+        Answer::Replied(reply) => reply,
+    }
+}
+
+fn numbers(answer: Answer) {
+    text(b": ");
+    decimal(number(answer) as u32);
+    text(b", failed ID ");
+    decimal(failed_id(answer) as u32);
+}
+
+// The case's line: number, failed ID, send, reboot, whether the store stayed as it was, and the reply's bytes.
+pub(crate) fn line(what: &[u8], answer: Answer, stayed: bool, reply: &[u8]) {
+    text(what);
+    numbers(answer);
+    let said = reply_of(answer);
+    yes_or_no(b", send", said.send);
+    yes_or_no(b", reboot", said.reboot);
+    yes_or_no(b", store stayed", stayed);
+    reply_bytes(reply, said.length as usize);
+}
