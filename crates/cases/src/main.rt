@@ -6,6 +6,7 @@ mod last_cases;
 mod line_cases;
 mod plan_cases;
 mod printing;
+mod screen_cases;
 mod setting_cases;
 mod slot_cases;
 mod taking;
@@ -21,4 +22,5 @@ fn main() {
     text_cases::run(&mut store);
     slot_cases::run(&mut store);
     last_cases::run(&mut store);
+    screen_cases::run(&mut store);
 }

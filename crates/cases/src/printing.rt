@@ -32,15 +32,14 @@ fn byte(b: u8) {
     text(&[b' ', HEX[high], HEX[low]]);
 }
 
-// The reply, of which so many bytes were written; the line's end.
-fn reply_bytes(reply: &[u8], length: usize) {
-    text(b", reply");
+// The first bytes, as many as the length says, or that there are none; the line's end.
+pub(crate) fn hex(bytes: &[u8], length: usize) {
     if length == 0 {
         text(b" none");
     }
     let mut i = 0;
-    while i < reply.len() && i < length {
-        byte(reply[i]);
+    while i < bytes.len() && i < length {
+        byte(bytes[i]);
         i += 1;
     }
     text(b"\n");
@@ -75,5 +74,6 @@ pub(crate) fn line(what: &[u8], answer: Answer, stayed: bool, reply: &[u8]) {
     yes_or_no(b", send", said.send);
     yes_or_no(b", reboot", said.reboot);
     yes_or_no(b", store stayed", stayed);
-    reply_bytes(reply, said.length as usize);
+    text(b", reply");
+    hex(reply, said.length as usize);
 }

@@ -1,4 +1,7 @@
 // What asking for a row answers.
+ghost use mathlib.Core.Path.{_≡_};
+ghost use Rattle.screen.specs.Screen.{number};
+
 // Why no row is shown.
 pub enum Refusal {
     ScratchSize,
@@ -16,4 +19,18 @@ pub enum Place {
     Store(usize, usize),
     Scratch(usize),
     Refused(Refusal),
+}
+
+// The number of document 01 for an answer.
+pub fn number_of(answer: Answer) -> u8
+    ensures { λ r. ⌜ r ≡ number answer ⌝ }
+{
+    match answer {
+        Answer::Shown => 0,
+        Answer::Refused(why) => match why {
+            Refusal::ScratchSize => 15,
+            Refusal::NotAStore => 11,
+            Refusal::Absent => 17,
+        },
+    }
 }

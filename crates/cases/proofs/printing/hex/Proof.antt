@@ -1,28 +1,22 @@
 use borrow.Author.Needs.{needs}
 use Prim.Native.Nat.{_-_}
 use lib.ListN.{length}
-use Rattle.cases.proofs.printing.reply_bytes.Statement.{statement}
-use Rattle.cases.proofs.printing.reply_bytes.Tie as tie
+use Rattle.cases.proofs.printing.hex.Statement.{statement}
+use Rattle.cases.proofs.printing.hex.Tie as tie
 
 abbrev Inv-loop : tie.InvT-loop
-Inv-loop reply size i₀ t6 i =
+Inv-loop bytes size i₀ t6 i =
     Unit {0}
 
 abbrev μ-loop : tie.MeasureT-loop
-μ-loop reply size i₀ t6 i =
-    length reply - i
+μ-loop bytes size i₀ t6 i =
+    length bytes - i
 
 slice-aggregate-text : tie.Need-slice-aggregate-text Inv-loop μ-loop
 slice-aggregate-text c = search needs
 
 text-requires : tie.Need-text-requires Inv-loop μ-loop
 text-requires c κs = search needs
-
-slice-aggregate-text-2 : tie.Need-slice-aggregate-text-2 Inv-loop μ-loop
-slice-aggregate-text-2 c = search needs
-
-text-requires-2 : tie.Need-text-requires-2 Inv-loop μ-loop
-text-requires-2 c κs = search needs
 
 loop-holds : tie.Need-loop-holds Inv-loop μ-loop
 loop-holds c = tt
@@ -42,31 +36,29 @@ loop-less c = search needs
 loop-again : tie.Need-loop-again Inv-loop μ-loop
 loop-again c = tt
 
-slice-aggregate-text-3 : tie.Need-slice-aggregate-text-3 Inv-loop μ-loop
-slice-aggregate-text-3 c = search needs
+slice-aggregate-text-2 : tie.Need-slice-aggregate-text-2 Inv-loop μ-loop
+slice-aggregate-text-2 c = search needs
 
-text-requires-3 : tie.Need-text-requires-3 Inv-loop μ-loop
-text-requires-3 c κs = search needs
+text-requires-2 : tie.Need-text-requires-2 Inv-loop μ-loop
+text-requires-2 c κs = search needs
 
 returns : tie.Need-returns Inv-loop μ-loop
 returns c = tt
 
-pub reply-bytes-spec : {M : Type 1} → statement M
-reply-bytes-spec =
+pub hex-spec : {M : Type 1} → statement M
+hex-spec =
     tie.close
     (tie.spec
     Inv-loop
     μ-loop
     slice-aggregate-text
     text-requires
-    slice-aggregate-text-2
-    text-requires-2
     loop-holds
     shared-slice-read-byte
     byte-requires
     add-i
     loop-less
     loop-again
-    slice-aggregate-text-3
-    text-requires-3
+    slice-aggregate-text-2
+    text-requires-2
     returns)
