@@ -1,14 +1,11 @@
 pub mod AnswerLaws
 pub mod Determined
 pub mod EntryLaws
-pub mod Reaching
-pub mod Joins
 pub mod NameLaws
 pub mod NumberLaws
 pub mod RowLaws
 pub mod Scratch
 pub mod SeenLaws
-pub mod Sent
 pub mod ShowLaws
 pub mod SlotLaws
 pub mod Theorems

@@ -1,4 +1,3 @@
 pub mod Naming
-pub mod Reached
 pub mod Rows
 pub mod Screen

@@ -30,8 +30,8 @@ use Rattle.station.specs.Demands.{InTurn, Passes}
 use Rattle.station.specs.Judge.{kept, refused}
 use Rattle.station.specs.Taking.{After, Handled, Settles, forget, taken}
 use Rattle.station.proofs.Theorems.{taken-leaves, taken-exactly}
-use Rattle.screen.specs.Reached.{Takes, Adds, its-settings, nothing, Reached, from-start, then-message, InOrder}
+use Rattle.joined.specs.Reached.{Takes, Adds, its-settings, nothing, Reached, from-start, then-message, InOrder}
 use Rattle.screen.proofs.AnswerLaws.{one-tables}
 
 -- ---- settings in turn
 

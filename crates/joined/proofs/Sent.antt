@@ -17,7 +17,7 @@ use Rattle.tables.specs.Tables.{Tables, GroupMember, IndividualMember, with-gro
 use Rattle.tables.proofs.RoomSentences.{with-own, own-table}
 use Rattle.station.specs.Demands.{InTurn}
 use Rattle.station.specs.Taking.{forget, or-else}
-use Rattle.screen.specs.Reached.{InOrder, all-of, to-group, to-individual, LastSent}
+use Rattle.joined.specs.Reached.{InOrder, all-of, to-group, to-individual, LastSent}
 
 -- ---- the last of a list
 

@@ -1,0 +1,1 @@
+// Taking and the screen together: laws only.
