@@ -1,1 +1,4 @@
+pub mod ExportBits
 pub mod Packed
+pub mod RowBits
+pub mod Theorems

@@ -1,28 +1,41 @@
 -- A packed answer by its case. Assumes nothing.
-use Prim.Native.Nat.{ℕ, _+_, _*_}
-use mathlib.Core.Path.{_≡_, sym, ap, ap₂, _∙_}
+use Prim.Native.Nat.{ℕ, _+_, _*_, _<_}
+use mathlib.Core.Path.{_≡_, sym, ap, ap₂, _∙_, subst}
+use mathlib.Core.List.{List}
 use native.Mathlib.Omega.{arith}
-use Rattle.plan.specs.Answers.{Said, answer}
+use Rattle.plan.specs.Answers.{Said, answer, refused}
 use Rattle.writing.specs.Writing.{bit}
 use Rattle.station.specs.declared.answers.Answer.{Answer as Station}
 use Rattle.station.specs.declared.answers.Answer.the-variants.{Untouched, Replied}
 use Rattle.station.specs.declared.answers.Refusal.{Refusal}
 use Rattle.station.specs.declared.answers.Reply.{Reply}
-use Rattle.station.specs.Answers.{refusal-number, refused-with, said}
-use Rattle.handheld.specs.Packing.{packed, packed-value}
+use Rattle.station.specs.Answers.{Said as TakeSaid, refusal-number, refused-with, said}
+use Rattle.handheld.specs.Packing.{packed, Packs, PacksValue}
+
+-- ---- conversions
 
 -- a number that packs one case packs the answer that is that case
-pub packed-case : {A : Type 0} (said : A → Said) (a b : A) (r : ℕ) → a ≡ b → r ≡ packed-value (answer (said b)) → r ≡ packed-value (answer (said a))
-packed-case said a b r e p = p ∙ sym (ap (λ x. packed-value (answer (said x))) e)
+pub packed-case : {A : Type 0} (say : A → Said) (a b : A) (r : ℕ) → a ≡ b → PacksValue (answer (say b)) r → PacksValue (answer (say a)) r
+packed-case say a b r e p = subst (λ x. PacksValue (answer (say x)) r) (sym e) p
+
+-- a refusal is its number
+pub value-refused : (n : ℕ) → n < 256 → PacksValue (refused n) n
+value-refused n h = record { number = h; value = omega arith; bits = omega arith }
+
+-- ---- taking
 
 -- the number alone, where nothing was touched
-pub packed-refusal : (a : Station) (x : Refusal) (r : ℕ) → a ≡ Untouched x → r ≡ refusal-number x → r ≡ packed (said a)
-packed-refusal a x r e p =
-    let q : refusal-number x ≡ packed (refused-with (refusal-number x)) = omega arith in
-    p ∙ q ∙ sym (ap (λ y. packed (said y)) e)
+pub packed-refusal : (a : Station) (x : Refusal) (r : ℕ) → a ≡ Untouched x → r ≡ refusal-number x → r < 256 → Packs (said a) r
+packed-refusal a x r e p h = subst (λ y. Packs (said y) r) (sym e) (record { number = omega (arith, p); failed = omega arith; reply-length = omega arith; bits = omega (arith, p) })
 
 -- all of a reply's values
 pub packed-reply : (a : Station) (x : Reply) (send reboot : ℕ) → a ≡ Replied x → send ≡ bit (x .send) → reboot ≡ bit (x .reboot)
-    → x .result + x .failed * 256 + send * 65536 + reboot * 131072 + x .length * 16777216 ≡ packed (said a)
-packed-reply a x send reboot e p q =
-    ap₂ (λ (i j : ℕ). x .result + x .failed * 256 + i * 65536 + j * 131072 + x .length * 16777216) p q ∙ sym (ap (λ y. packed (said y)) e)
+    → x .result < 256 → x .failed < 256 → x .length < 256
+    → Packs (said a) (x .result + x .failed * 256 + send * 65536 + reboot * 131072 + x .length * 16777216)
+packed-reply a x send reboot e p q hr hf hl =
+    subst (λ y. Packs (said y) (x .result + x .failed * 256 + send * 65536 + reboot * 131072 + x .length * 16777216)) (sym e) (record {
+      number = hr;
+      failed = hf;
+      reply-length = hl;
+      bits = ap₂ (λ (i j : ℕ). x .result + x .failed * 256 + i * 65536 + j * 131072 + x .length * 16777216) p q;
+    })

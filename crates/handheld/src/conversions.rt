@@ -13,20 +13,19 @@ use plan::numbers::dialled_of_group;
 use plan::numbers::dialled_of_individual;
 use plan::numbers::group_of_dialled;
 use plan::numbers::individual_of_dialled;
-ghost use mathlib.Core.Path.{_≡_};
 ghost use Rattle.plan.specs.Answers.{Back, given, answer as plan-answer, individual, group, dialled, frequency, channel};
 ghost use Rattle.plan.specs.Numbers.{Individual, Group};
 ghost use Rattle.plan.specs.Frequencies.{Transmits, Receives};
-ghost use Rattle.handheld.specs.Packing.{packed-value, Converts};
+ghost use Rattle.handheld.specs.Packing.{PacksValue, Converts};
 
 fn pack(value: u32) -> u64
-    ensures { λ r. ⌜ r ≡ packed-value (given value) ⌝ }
+    ensures { λ r. ⌜ PacksValue (given value) r ⌝ }
 {
     value as u64 * 256
 }
 
 fn pack_individual(answer: IndividualAnswer) -> u64
-    ensures { λ r. ⌜ r ≡ packed-value (plan-answer (individual answer)) ⌝ }
+    ensures { λ r. ⌜ PacksValue (plan-answer (individual answer)) r ⌝ }
 {
     match answer {
         IndividualAnswer::Address(address) => pack(address.0),
@@ -43,7 +42,7 @@ pub extern "C" fn otap_individual_of_dialled(number: u32) -> u64
 }
 
 fn pack_group(answer: GroupAnswer) -> u64
-    ensures { λ r. ⌜ r ≡ packed-value (plan-answer (group answer)) ⌝ }
+    ensures { λ r. ⌜ PacksValue (plan-answer (group answer)) r ⌝ }
 {
     match answer {
         GroupAnswer::Address(address) => pack(address.0),
@@ -60,7 +59,7 @@ pub extern "C" fn otap_group_of_dialled(number: u32) -> u64
 }
 
 fn pack_dialled(answer: DialledAnswer) -> u64
-    ensures { λ r. ⌜ r ≡ packed-value (plan-answer (dialled answer)) ⌝ }
+    ensures { λ r. ⌜ PacksValue (plan-answer (dialled answer)) r ⌝ }
 {
     match answer {
         DialledAnswer::Dialled(number) => pack(number),
@@ -85,7 +84,7 @@ pub extern "C" fn otap_dialled_of_group(address: u32) -> u64
 }
 
 fn pack_frequency(answer: FrequencyAnswer) -> u64
-    ensures { λ r. ⌜ r ≡ packed-value (plan-answer (frequency answer)) ⌝ }
+    ensures { λ r. ⌜ PacksValue (plan-answer (frequency answer)) r ⌝ }
 {
     match answer {
         FrequencyAnswer::Frequency(f) => pack(f),
@@ -110,7 +109,7 @@ pub extern "C" fn otap_receive(number: u32) -> u64
 }
 
 fn pack_channel(answer: ChannelAnswer) -> u64
-    ensures { λ r. ⌜ r ≡ packed-value (plan-answer (channel answer)) ⌝ }
+    ensures { λ r. ⌜ PacksValue (plan-answer (channel answer)) r ⌝ }
 {
     match answer {
         ChannelAnswer::Channel(n) => pack(n),

@@ -8,7 +8,7 @@ ghost use Prim.Native.Nat.{_≤_};
 ghost use mathlib.Core.Path.{_≡_};
 ghost use Rattle.writing.specs.Writing.{bit};
 ghost use Rattle.station.specs.Answers.{said};
-ghost use Rattle.handheld.specs.Packing.{Starts, packed, Takes};
+ghost use Rattle.handheld.specs.Packing.{Starts, Packs, Takes};
 
 // 0: the bytes are a fresh store. 11: they are not 12,288, and stay.
 #[no_mangle]
@@ -29,7 +29,7 @@ fn bit_of(said: bool) -> u64
 }
 
 fn pack(answer: Answer) -> u64
-    ensures { λ r. ⌜ r ≡ packed (said answer) ⌝ }
+    ensures { λ r. ⌜ Packs (said answer) r ⌝ }
 {
     match answer {
         Answer::Untouched(refusal) => refusal_number(refusal) as u64,

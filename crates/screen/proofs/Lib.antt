@@ -3,6 +3,7 @@ pub mod Determined
 pub mod EntryLaws
 pub mod NameLaws
 pub mod NumberLaws
+pub mod PartLaws
 pub mod RowLaws
 pub mod Scratch
 pub mod SeenLaws

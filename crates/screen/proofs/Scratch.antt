@@ -15,7 +15,7 @@ use Rattle.writing.specs.Settings.{Text}
 use Rattle.tables.specs.declared.limits.Limits.{Limits}
 use Rattle.screen.specs.declared.rows.Row.{Row}
 use Rattle.screen.specs.Rows.{Caption, text, line, group, individual, ascii, digits, AddressText, dialled, outside, Display, stored, written, Shows}
-use Rattle.screen.specs.Screen.{unit-bytes, After, Part, of-store, of-scratch, shows, showing}
+use Rattle.screen.specs.Screen.{unit-bytes, After, Part, of-store, of-scratch, shows, RowShown, showing}
 use Rattle.screen.proofs.EntryLaws.{HeadIn}
 use Rattle.screen.proofs.NumberLaws.{unit-length}
 use Rattle.screen.proofs.Theorems.{not-written, number-of-empty, row-held}
@@ -51,6 +51,12 @@ abbrev pub Stays : List ℕ → After → Type 0
 Stays scratch a = (length (a .scratch) ≡ length scratch) × ((i : ℕ) → in-scratch (a .part) ≤ i → getD (a .scratch) i 0 ≡ getD scratch i 0)
 
 module _ (m : Limits) (store scratch : List ℕ) (row : Row) where
+  -- a number that is shown has at most 18 units
+  pub written-short : (a : After) (p : RowShown m store scratch row a) (us : Text) → p .display ≡ written us → length us ≤ 18
+  written-short a p us e =
+      let (slot, c, d, at) = row-held m store row (p .tables) (p .row-is) (p .holds) (p .there) in
+      number-short store (slot .start) (p .row-is) us (subst (HeadIn store (slot .start)) d (c .head)) (subst (Shows (p .row-is)) e (p .shown))
+
   -- what is shown leaves them
   display-stays : (d : Display) → 36 ≤ length scratch → ((us : Text) → d ≡ written us → length us ≤ 18) → Stays scratch (shows m scratch row d)
   display-stays (stored us) big short = (refl, λ i h. refl)
@@ -70,13 +76,8 @@ module _ (m : Limits) (store scratch : List ℕ) (row : Row) where
   scratch-stays a (inl (l, e)) = subst (Stays scratch) (sym e) (refl, λ i h. refl)
   scratch-stays a (inr (l, inl (n, e))) = subst (Stays scratch) (sym e) (refl, λ i h. refl)
   scratch-stays a (inr (l, inr (n, inl (k, e)))) = subst (Stays scratch) (sym e) (refl, λ i h. refl)
-  scratch-stays a (inr (l, inr (n, inr (k, p)))) = subst (Stays scratch) (sym (p .after)) (display-stays (p .display) (go (ltb (length scratch) 36) refl) short)
+  scratch-stays a (inr (l, inr (n, inr (k, p)))) = subst (Stays scratch) (sym (p .after)) (display-stays (p .display) (go (ltb (length scratch) 36) refl) (written-short a p))
     where
       go : (b : Bool) → ltb (length scratch) 36 ≡ b → 36 ≤ length scratch
       go true e = absurd (l (ltb-true (length scratch) 36 e))
       go false e = ltb-false (length scratch) 36 e
-
-      short : (us : Text) → p .display ≡ written us → length us ≤ 18
-      short us e =
-          let (slot, c, d, at) = row-held m store row (p .tables) (p .row-is) (p .holds) (p .there) in
-          number-short store (slot .start) (p .row-is) us (subst (HeadIn store (slot .start)) d (c .head)) (subst (Shows (p .row-is)) e (p .shown))

@@ -36,7 +36,7 @@ pub not-written : {us ns : Text} → stored us ≡ written ns → ⊥
 not-written e = let z : _≡_ {A = ℕ} 0 1 = cc in omega arith
 
 -- a stored text is the row's
-stored-text : (c : Caption) (us : Text) → Shows c (stored us) → us ≡ text-of c
+pub stored-text : (c : Caption) (us : Text) → Shows c (stored us) → us ≡ text-of c
 stored-text (text vs) us e = ap units e
 stored-text (line [] ds) us (ns, p, e) = absurd (not-written e)
 stored-text (line (v ∷ vs) ds) us e = ap units e

@@ -1,7 +1,7 @@
 use borrow.Author.Needs.{needs}
-use mathlib.Core.Path.{refl}
+use native.Mathlib.Omega.{arith}
 use Rattle.plan.specs.Answers.{dialled}
-use Rattle.handheld.proofs.Packed.{packed-case}
+use Rattle.handheld.proofs.Packed.{packed-case, value-refused}
 use Rattle.handheld.proofs.conversions.pack_dialled.Statement.{statement}
 use Rattle.handheld.proofs.conversions.pack_dialled.Tie as tie
 
@@ -20,7 +20,7 @@ returns c =
 
 returns-2 : tie.Need-returns-2
 returns-2 c =
-    packed-case dialled _ _ _ (c .enum-told .given .1) refl
+    packed-case dialled _ _ _ (c .enum-told .given .1) (value-refused 21 (omega arith))
 
 pub pack-dialled-spec : {M : Type 1} → statement M
 pack-dialled-spec =

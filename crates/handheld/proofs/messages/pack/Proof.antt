@@ -1,4 +1,5 @@
 use borrow.Author.Needs.{needs}
+use native.Mathlib.Omega.{arith}
 use Rattle.handheld.proofs.Packed.{packed-refusal, packed-reply}
 use Rattle.handheld.proofs.messages.pack.Statement.{statement}
 use Rattle.handheld.proofs.messages.pack.Tie as tie
@@ -56,11 +57,11 @@ add-result-4 c = search needs
 
 returns : tie.Need-returns
 returns c =
-    packed-refusal _ _ _ (c .before .before .answer .given .1) (c .refusal-number .ensures)
+    packed-refusal _ _ _ (c .before .before .answer .given .1) (c .refusal-number .ensures) (omega arith)
 
 returns-2 : tie.Need-returns-2
 returns-2 c =
-    packed-reply _ (c .before .before .before .before .before .before .answer2 .given .0 .0) _ _ (c .before .before .before .before .before .before .answer2 .given .1) (c .before .before .bit-of .ensures .0) (c .before .bit-of2 .ensures .0)
+    packed-reply _ (c .before .before .before .before .before .before .answer2 .given .0 .0) _ _ (c .before .before .before .before .before .before .answer2 .given .1) (c .before .before .bit-of .ensures .0) (c .before .bit-of2 .ensures .0) (c .struct-known3 .given .0 .fits) (c .struct-known3 .given .1 .0 .fits) (c .struct-known3 .given .1 .1 .1 .1 .0 .fits)
 
 pub pack-spec : {M : Type 1} → statement M
 pack-spec =
