@@ -94,6 +94,17 @@ static uint32_t expected_of_take(void)
     return message.length < 7 || message.length > OTAP_MESSAGE_BYTES ? OTAP_MESSAGE_LENGTH : OTAP_OK;
 }
 
+/* What changes nothing does not write either, not even what was there: the same call again, on bytes that cannot be written. */
+static void take_again(uint64_t answer)
+{
+    current = "otap_take that is refused";
+    must(mprotect(store.pages, store.room, PROT_READ) == 0, "mprotect");
+    must(otap_answer_number(answer) < OTAP_SHORT_REPLY || mprotect(buffer.pages, buffer.room, PROT_READ) == 0, "mprotect");
+    calls++;
+    must(answer == otap_take(message.bytes, message.length, store.bytes, store.length, buffer.bytes, buffer.length), "another answer");
+    current = "otap_take";
+}
+
 /* One call, with the buffers as they are lent. */
 static uint64_t take(void)
 {
@@ -107,6 +118,9 @@ static uint64_t take(void)
     must(otap_answer_number(answer) == OTAP_OK || store_stays(), "a refusal changed the store");
     must(buffer_stays(otap_take_reply_length(answer)), "bytes past the reply changed");
     seen[otap_answer_number(answer)]++;
+    if (otap_answer_number(answer) != OTAP_OK) {
+        take_again(answer);
+    }
     return answer;
 }
 

@@ -36,7 +36,7 @@ checks_can_fail() {
         (cd "$work" && ./wrong 0 1 "$seeds"/*) > "$work/log" 2>&1
         ended=$?
         if [ $((ended == 0)) -ne $((wrong == 0)) ]; then
-            echo "FAILED  the checks do not tell wrong library $wrong"
+            [ $wrong -eq 0 ] && echo "FAILED  on the seeds" || echo "FAILED  the checks do not find wrong library $wrong"
             cat "$work/log"
             return 1
         fi
