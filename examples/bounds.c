@@ -1,6 +1,6 @@
 /*
- * No call leaves the bytes that it was lent. The archive is not built with a sanitizer, so each buffer stands at the very end of its pages, before a page
- * that cannot be touched, and once more right after one; what a call may only read cannot be written. An access outside faults and ends this with 1.
+ * No call leaves the bytes that it was lent. The archive is not built with a sanitizer, so each buffer stands at the very end of its pages, before a
+ * page that cannot be touched, and once more right after one; what a call may only read cannot be written. An access outside ends this with 1.
  * Refusals by size are checked for their number, and that they touch nothing. With the word "outside" it reads one byte too many, to see the fault.
  */
 #define _DEFAULT_SOURCE

@@ -1,5 +1,6 @@
 #!/bin/sh
-# fuzz/run.sh [SECONDS]: fuzzes the C functions for as long (60), with libFuzzer, else AFL++, else a driver of our own; says which. Ends with 1 on a finding.
+# fuzz/run.sh [SECONDS]: fuzzes the C functions for as long (60), with libFuzzer, else AFL++, else a driver of our own, and says which.
+# Ends with 1 on a finding, or if a check cannot fail.
 # FUZZ_WITH=libfuzzer, afl or driver asks for one; FUZZ_SEED (1) is the driver's and libFuzzer's seed. Findings are kept in target/fuzz/.
 # It links $OTAP_ARCHIVE_DIR/libhandheld.a, or target/staticlib/libhandheld.a, which `rt staticlib handheld` writes.
 set -u
@@ -11,6 +12,8 @@ flags="-std=c11 -Wall -Wextra -Iinclude -g -O1"
 sanitizers="-fsanitize=address,undefined -fno-sanitize-recover=all"
 wrapped="-Wl,--wrap=otap_take -Wl,--wrap=otap_export -Wl,--wrap=otap_row_number -Wl,--wrap=otap_row_part"
 CC=${CC:-gcc}
+# There are many short-lived buffers: a large quarantine only slows it down.
+export ASAN_OPTIONS=quarantine_size_mb=1
 
 if [ "$(uname -m)" != x86_64 ]; then
     echo "skipped fuzzing: the archive links only into x86-64 programs, and this is $(uname -m)"
@@ -28,7 +31,8 @@ seeds=$(pwd)/fuzz/corpus
 
 # Every wrong library of wrong.c has to be found on the seeds alone; number 0 is the right one and has to pass.
 checks_can_fail() {
-    $CC $flags $sanitizers -c fuzz/target.c -o "$work/target.o" && $CC $flags $sanitizers -c fuzz/driver.c -o "$work/driver.o" || return 1
+    $CC $flags $sanitizers -c fuzz/target.c -o "$work/target.o" || return 1
+    $CC $flags $sanitizers -c fuzz/driver.c -o "$work/driver.o" || return 1
     wrong=0
     while [ $wrong -le 11 ]; do
         $CC $flags -DWRONG=$wrong -c fuzz/wrong.c -o "$work/wrong.o" || return 1
@@ -48,7 +52,7 @@ checks_can_fail() {
 with_libfuzzer() {
     clang $flags -fsanitize=fuzzer $sanitizers fuzz/target.c "$archive" -o "$work/target" 2> "$work/log" || return 2
     echo "with libFuzzer, $seconds seconds"
-    ASAN_OPTIONS=quarantine_size_mb=1 "$work/target" -max_total_time="$seconds" -seed="$seed" -max_len=4096 -len_control=10 -print_final_stats=1 -verbosity=1 \
+    "$work/target" -max_total_time="$seconds" -seed="$seed" -max_len=4096 -len_control=10 -print_final_stats=1 \
         -artifact_prefix="$found/" "$work/new" "$seeds" > "$work/log" 2>&1
     ended=$?
     grep -E 'INITED|DONE|NOT KEPT|ERROR|SUMMARY|^stat::(number|average|new|peak)' "$work/log"

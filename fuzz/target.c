@@ -154,12 +154,13 @@ static void restore_it(void)
     uint32_t part;
     must(otap_start(other, OTAP_STORE_BYTES) == OTAP_OK, "a store can be started");
     for (part = 1; part <= 7; part++) {
-        uint64_t written = export_twice(part, store, OTAP_STORE_BYTES, OTAP_EXPORT_BYTES, request);
+        uint64_t written = export_once(part, store, OTAP_STORE_BYTES, OTAP_EXPORT_BYTES, 0, request), answer;
         size_t length = otap_export_length(written);
         must(otap_answer_number(written) == OTAP_OK, "a store can be exported");
-        must(otap_answer_number(take_twice(request, length, other, OTAP_STORE_BYTES, OTAP_REPLY_BYTES, after)) == OTAP_OK, "an export is taken");
+        answer = take_once(request, length, other, OTAP_STORE_BYTES, OTAP_REPLY_BYTES, 1, after);
+        must(otap_answer_number(answer) == OTAP_OK, "an export is taken");
         memcpy(other, after, OTAP_STORE_BYTES);
-        must(written == export_twice(part, other, OTAP_STORE_BYTES, OTAP_EXPORT_BYTES, again), "the other store's export is as long");
+        must(written == export_once(part, other, OTAP_STORE_BYTES, OTAP_EXPORT_BYTES, 1, again), "the other store's export is as long");
         must(same_bytes(request, again, length), "the other store's export is the same");
     }
     must(same_bytes(store + 11, other + 11, OTAP_STORE_BYTES - 11), "the other store has the same tables");
