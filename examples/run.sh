@@ -1,6 +1,6 @@
 #!/bin/sh
 # examples/run.sh: the C header and the C examples, one named step after the other; ends with 1 if one of them fails.
-# It links $OTAP_ARCHIVE_DIR/libhandheld.a, or target/staticlib/libhandheld.a, which `rt staticlib handheld` writes.
+# It links $OTAP_ARCHIVE_DIR/libhandheld.a, or target/staticlib/libhandheld.a, which `rt staticlib handheld` writes. CC and CXX name the compilers.
 set -u
 cd "$(dirname "$0")/.." || exit 1
 archive=${OTAP_ARCHIVE_DIR:-target/staticlib}/libhandheld.a

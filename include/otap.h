@@ -17,8 +17,9 @@
  *
  * Screens. A row's part is not a copy: it is a place in the store, or in the scratch. It is good until the store or the scratch is next written: by
  * otap_take and otap_start (the store), by otap_row_part (the scratch), or by anything else. A screen task that draws a list while another task takes a
- * message would draw one row's name beside another row's number. So either draw while holding the lock under which otap_take is called, or, under that
- * lock, ask for the rows and copy their bytes out (at most OTAP_ROW_BYTES each), then draw the copies. Asking again without a lock does not help.
+ * message can draw one row's name beside another row's number. So either draw while holding the lock under which otap_take is called, or, under that
+ * lock, ask for the rows and copy their bytes out (at most OTAP_ROW_BYTES each), then draw the copies. Copy all rows that are drawn together under one
+ * hold of the lock: rows asked for in two holds can be of two lists. Asking twice without a lock does not help.
  */
 #ifndef OTAP_H
 #define OTAP_H
@@ -102,7 +103,8 @@ uint32_t otap_start(uint8_t *store, size_t store_length);
  *             or a result query matches: the store stays, and the reply is written
  *   1 to 5    refused, or the query does not match: the store stays, and the reply is written
  *   10 to 14  no byte of any buffer is touched; failed ID 0, no send, no reboot, reply length 0
- * The first that applies, in the order 10, 11, 12, 13, 14, 1, then 4, 3, 2 as the settings come, is the answer. The message is only read.
+ * The first that applies is the answer: 10, 11, 12, 13, 14, 1; then, of a request, its count or coding (4), setting by setting its type (3), its
+ * fields (4), room for it (2), and last bytes left over (4); of a query, its form (4) or 5. The message is only read.
  * A reply has 10, 14 or 20 bytes; bytes of the reply buffer past them stay. It is written for 0 to 5 also where send is no.
  * Unpack with otap_answer_number, otap_take_failed, otap_take_send, otap_take_reboot, otap_take_reply_length.
  */
