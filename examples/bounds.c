@@ -315,19 +315,34 @@ static void damaged_stores(unsigned turns)
 }
 
 /* No row, no part and no table of the store is left empty, so that each call walks as far as it can. */
-static void fill(void)
+static void fill(unsigned vary)
 {
     static Message said;
     unsigned each;
     current = "filling a store";
     must(otap_start(filled, OTAP_STORE_BYTES) == OTAP_OK, "start");
     for (each = 0; each < FILLING_MESSAGES; each++) {
-        write_filling(&said, each);
+        write_filling(&said, each, vary);
         lend(&message, 1, said.bytes, said.length, 0);
         lend(&store, 1, filled, OTAP_STORE_BYTES, 1);
         lend(&buffer, 1, filled, OTAP_REPLY_BYTES, 1);
         must(otap_answer_number(take()) == OTAP_OK, "a filling message was refused");
         memcpy(filled, store.bytes, OTAP_STORE_BYTES);
+    }
+}
+
+/* Stores whose texts and numbers have every length in every place. */
+static void every_length(void)
+{
+    unsigned vary;
+    uint32_t part;
+    for (vary = 0; vary < 23; vary++) {
+        fill(vary);
+        row_all();
+        for (part = 1; part <= 14; part++) {
+            export_at((int)(part % 2), (part + 1) / 2, filled, OTAP_STORE_BYTES, OTAP_EXPORT_BYTES);
+        }
+        damaged_stores(1000);
     }
 }
 
@@ -348,7 +363,7 @@ int main(int count, char **words)
     make_room(&message, 8192);
     make_room(&store, LONGEST);
     make_room(&buffer, LONGEST);
-    fill();
+    fill(0);
     if (count > 1 && strcmp(words[1], "outside") == 0) {
         current = "a byte too many, as asked";
         lend(&store, 1, filled, OTAP_STORE_BYTES, 1);
@@ -363,7 +378,7 @@ int main(int count, char **words)
     export_sizes();
     row_sizes();
     row_all();
-    damaged_stores(20000);
+    every_length();
     all_seen();
     printf("no call left its bytes: %lu calls\n", calls);
     return 0;

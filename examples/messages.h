@@ -63,81 +63,85 @@ static inline void put_text(Message *m, unsigned units)
     put(m, 0);
 }
 
-/* Eighteen digits: the last four say which line it is. */
-static inline void put_number(Message *m, unsigned which)
+/* The number of a line, in as many digits, 3 to 18: the last two say which line it is. */
+static inline void put_number(Message *m, unsigned which, unsigned digits)
 {
-    unsigned each;
-    for (each = 0; each < 7; each++) {
-        put(m, 0x12);
+    unsigned at, pair = 0;
+    for (at = 0; at < digits + 1 + (digits + 1) % 2; at++) {
+        unsigned digit = at >= digits ? 15 : at == digits - 1 ? which % 10 : at == digits - 2 ? which / 10 : 1;
+        pair = pair * 16 % 256 + digit;
+        if (at % 2 == 1) {
+            put(m, pair);
+        }
     }
-    put(m, (which / 1000 % 10) * 16 + which / 100 % 10);
-    put(m, (which / 10 % 10) * 16 + which % 10);
-    put(m, 0xFF);
 }
 
-static inline void put_lines(Message *m, unsigned operation, unsigned count, unsigned units)
+/* Texts and numbers of every length: `vary` says with which the first entry starts, 0 with the longest. */
+static inline void put_lines(Message *m, unsigned operation, unsigned count, unsigned vary)
 {
     size_t at = open_setting(m, 0xCA);
     unsigned each;
-    put(m, operation * 64 + 2);
+    put(m, operation * 64 + vary % 32 * 2);
     put(m, count);
     for (each = 0; each < count; each++) {
-        put_number(m, each);
-        put_text(m, each % 2 == 0 ? units : 0);
+        put_number(m, each, 18 - (each + vary) % 16);
+        put_text(m, 16 - (each + vary) % 17);
     }
     close_setting(m, at);
 }
 
-static inline void put_quick(Message *m, unsigned operation, unsigned first, unsigned count)
+static inline void put_quick(Message *m, unsigned operation, unsigned first, unsigned count, unsigned vary)
 {
     size_t at = open_setting(m, 0xCC);
     unsigned each;
     put(m, operation * 64 + count);
-    for (each = first; each < first + count; each++) {
-        put(m, each);
-        put_text(m, 23);
+    for (each = 0; each < count; each++) {
+        put(m, first + each);
+        put_text(m, 23 - (each + vary) % 23);
     }
     close_setting(m, at);
 }
 
-static inline void put_status(Message *m, unsigned operation, unsigned count)
+static inline void put_status(Message *m, unsigned operation, unsigned count, unsigned vary)
 {
     size_t at = open_setting(m, 0xD0);
     unsigned each;
     put(m, operation * 64);
     put(m, count);
     for (each = 0; each < count; each++) {
-        put(m, 32 + each);
-        put_text(m, 16);
+        put(m, 32 + (each + vary * 7) % 96);
+        put_text(m, 16 - (each + vary) % 17);
     }
     close_setting(m, at);
 }
 
-/* Two channels in three bytes. */
-static inline void put_channels(Message *m, unsigned operation, unsigned pairs)
+/* Two channels in three bytes; the last one alone, with its fill, if the count is odd. */
+static inline void put_channels(Message *m, unsigned operation, unsigned count)
 {
     size_t at = open_setting(m, 0xCE);
     unsigned each;
     put(m, operation * 64);
-    put(m, pairs * 2);
-    for (each = 0; each < pairs; each++) {
+    put(m, count);
+    for (each = 0; each < count; each += 2) {
         put(m, 0x0F);
-        put(m, 0x12);
-        put(m, 0x80);
+        put(m, each + 1 < count ? 0x12 : 0x1F);
+        if (each + 1 < count) {
+            put(m, 0x80);
+        }
     }
     close_setting(m, at);
 }
 
-/* A group (D1) or an individual (D2); slot 15 has an address outside the plan, odd slots have no text. */
-static inline void put_slot(Message *m, unsigned type, unsigned operation, unsigned index)
+/* A group (D1) or an individual (D2). Slots 14 and 15 have no text; the address of 15 is outside the plan. */
+static inline void put_slot(Message *m, unsigned type, unsigned operation, unsigned index, unsigned vary)
 {
     size_t at = open_setting(m, type);
-    put(m, operation * 64 + (type == 0xD1 ? 16 : 0));
-    put(m, index);
+    put(m, operation * 64 + (type == 0xD1 ? (1 + vary % 3) * 16 + vary % 16 : vary % 16 * 4));
+    put(m, (type == 0xD1 ? vary % 4 * 64 : 0) + index);
     put(m, index == 15 ? 0xFF : 0x10);
     put(m, index == 15 ? 0xFF : 0x00);
     put(m, 1 + index);
-    put_text(m, index % 2 == 0 ? 16 : 0);
+    put_text(m, index >= 14 ? 0 : 16 - (index + vary) % 17);
     close_setting(m, at);
 }
 
@@ -181,17 +185,17 @@ static inline void write_message(Message *m, unsigned kind, unsigned turn)
     unsigned operation = 1 + turn % 3, i;
     open_request(m, kind == 3 ? 4 : 2);
     switch (kind) {
-    case 0: put_lines(m, operation, 3, 16); break;
-    case 1: put_quick(m, operation, turn % 60, 2); break;
-    case 2: put_status(m, operation, 2); break;
+    case 0: put_lines(m, operation, 3, turn); break;
+    case 1: put_quick(m, operation, turn % 60, 2, turn); break;
+    case 2: put_status(m, operation, 2, turn); break;
     case 3: put_fixed(m); break;
-    case 4: put_channels(m, operation, 3); break;
-    case 5: put_slot(m, 0xD1, 1, turn % 16); break;
-    case 6: put_slot(m, 0xD2, 1, turn % 16); break;
-    case 7: put_slot(m, 0xD1, 2, turn % 16); break;
-    case 8: put_slot(m, 0xD2, 2, turn % 16); break;
-    case 9: put_lines(m, 3, 33, 16); break;
-    case 10: put_channels(m, 1, 33); break;
+    case 4: put_channels(m, operation, turn % 7); break;
+    case 5: put_slot(m, 0xD1, 1, turn % 16, turn / 16); break;
+    case 6: put_slot(m, 0xD2, 1, turn % 16, turn / 16); break;
+    case 7: put_slot(m, 0xD1, 2, turn % 16, turn / 16); break;
+    case 8: put_slot(m, 0xD2, 2, turn % 16, turn / 16); break;
+    case 9: put_lines(m, 3, 33, turn); break;
+    case 10: put_channels(m, 1, 65); break;
     default: write_query(m, kind - 11); break;
     }
     if (kind <= 10) {
@@ -202,22 +206,22 @@ static inline void write_message(Message *m, unsigned kind, unsigned turn)
     m->bytes[3] = (uint8_t)i;
 }
 
-/* One of the messages that together leave no place of a fresh store empty. */
-static inline void write_filling(Message *m, unsigned each)
+/* One of the messages that together leave no place of a fresh store empty; `vary` as for the lines. */
+static inline void write_filling(Message *m, unsigned each, unsigned vary)
 {
     unsigned slot, type = each == 5 ? 0xD1 : 0xD2;
     open_request(m, each == 5 || each == 6 ? 16 : each == 7 ? 4 : 1);
     switch (each) {
-    case 0: put_lines(m, 3, 32, 16); break;
-    case 1: put_quick(m, 3, 0, 63); break;
-    case 2: put_quick(m, 1, 63, 1); break;
-    case 3: put_status(m, 3, 96); break;
-    case 4: put_channels(m, 3, 32); break;
+    case 0: put_lines(m, 3, 32, vary); break;
+    case 1: put_quick(m, 3, 0, 63, vary); break;
+    case 2: put_quick(m, 1, 63, 1, vary); break;
+    case 3: put_status(m, 3, 96, vary); break;
+    case 4: put_channels(m, 3, 64 - vary); break;
     case 7: put_fixed(m); put_last(m); break;
     default: break;
     }
     for (slot = 0; slot < 16 && (each == 5 || each == 6); slot++) {
-        put_slot(m, type, 1, slot);
+        put_slot(m, type, 1, slot, vary);
     }
 }
 
@@ -226,8 +230,8 @@ static inline void write_long(Message *m, size_t length)
 {
     memset(m->bytes, 0x12, sizeof m->bytes);
     open_request(m, 3);
-    put_lines(m, 3, 32, 16);
-    put_status(m, 3, 75);
+    put_lines(m, 3, 32, 0);
+    put_status(m, 3, 96, 0);
     put_last(m);
     m->length = length;
 }

@@ -28,7 +28,7 @@ static void fill(void)
     unsigned each;
     same("start", 0, OTAP_OK, otap_start(store, OTAP_STORE_BYTES));
     for (each = 0; each < FILLING_MESSAGES; each++) {
-        write_filling(&said, each);
+        write_filling(&said, each, 0);
         same("taken", 0, OTAP_OK, otap_answer_number(take()));
     }
 }
@@ -125,9 +125,9 @@ static void rows(void)
 /* Eighteen digits fill the scratch; an address outside the plan is six hex digits. */
 static void numbers_shown(void)
 {
-    uint64_t line = otap_row_part(OTAP_LINES, 1, store, OTAP_STORE_BYTES, scratch, sizeof scratch);
+    uint64_t line = otap_row_part(OTAP_LINES, 16, store, OTAP_STORE_BYTES, scratch, sizeof scratch);
     same("line's number", 1 | (uint64_t)OTAP_SCRATCH_BYTES << 32, line, line);
-    same("its last digit", '1', scratch[35], otap_part_bytes(line, store, scratch)[35]);
+    same("its last digit", '6', scratch[35], otap_part_bytes(line, store, scratch)[35]);
     line = otap_row_part(OTAP_GROUPS, 15, store, OTAP_STORE_BYTES, scratch, sizeof scratch);
     same("group's number", 1 | (uint64_t)12 << 32, line, line);
     same("its digits", 0, (uint64_t)memcmp(scratch, "\0F\0F\0F\0F\0" "1\0" "0", 12), 0);

@@ -73,7 +73,7 @@ static void fill(void)
     unsigned each;
     otap_start(filled, sizeof filled);
     for (each = 0; each < FILLING_MESSAGES; each++) {
-        write_filling(&message, each);
+        write_filling(&message, each, 0);
         if (otap_take(message.bytes, message.length, filled, sizeof filled, buffer, sizeof buffer) % 256 != OTAP_OK) {
             fprintf(stderr, "a filling message was refused\n");
             exit(1);
