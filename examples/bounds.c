@@ -314,7 +314,7 @@ static void damaged_stores(unsigned turns)
     }
 }
 
-/* No row, no part and no table of the store is left empty, so that each call walks as far as it can. */
+/* With 0, no row of the store is left empty, so that each call walks as far as it can; with another, one table is, and some lists are shorter. */
 static void fill(unsigned vary)
 {
     static Message said;
@@ -322,6 +322,9 @@ static void fill(unsigned vary)
     current = "filling a store";
     must(otap_start(filled, OTAP_STORE_BYTES) == OTAP_OK, "start");
     for (each = 0; each < FILLING_MESSAGES; each++) {
+        if (vary > 0 && each == vary % FILLING_MESSAGES) {
+            continue;
+        }
         write_filling(&said, each, vary);
         lend(&message, 1, said.bytes, said.length, 0);
         lend(&store, 1, filled, OTAP_STORE_BYTES, 1);
@@ -331,7 +334,7 @@ static void fill(unsigned vary)
     }
 }
 
-/* Stores whose texts and numbers have every length in every place. */
+/* Stores whose texts and numbers have every length, full ones and others. */
 static void every_length(void)
 {
     unsigned vary;

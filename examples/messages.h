@@ -63,7 +63,7 @@ static inline void put_text(Message *m, unsigned units)
     put(m, 0);
 }
 
-/* The number of a line, in as many digits, 3 to 18: the last two say which line it is. */
+/* The number of a line, in as many digits, 1 to 18: the last two say which line it is. */
 static inline void put_number(Message *m, unsigned which, unsigned digits)
 {
     unsigned at, pair = 0;
@@ -84,7 +84,7 @@ static inline void put_lines(Message *m, unsigned operation, unsigned count, uns
     put(m, operation * 64 + vary % 32 * 2);
     put(m, count);
     for (each = 0; each < count; each++) {
-        put_number(m, each, 18 - (each + vary) % 16);
+        put_number(m, each, 18 - (each + 6 * vary) % (vary == 0 ? 16 : 18));
         put_text(m, 16 - (each + vary) % 17);
     }
     close_setting(m, at);
@@ -132,16 +132,16 @@ static inline void put_channels(Message *m, unsigned operation, unsigned count)
     close_setting(m, at);
 }
 
-/* A group (D1) or an individual (D2). Slots 14 and 15 have no text; the address of 15 is outside the plan. */
+/* A group (D1) or an individual (D2). Slots 13 to 15 have no text; the address of 14 is a group outside the plan, that of 15 both. */
 static inline void put_slot(Message *m, unsigned type, unsigned operation, unsigned index, unsigned vary)
 {
     size_t at = open_setting(m, type);
     put(m, operation * 64 + (type == 0xD1 ? (1 + vary % 3) * 16 + vary % 16 : vary % 16 * 4));
     put(m, (type == 0xD1 ? vary % 4 * 64 : 0) + index);
     put(m, index == 15 ? 0xFF : 0x10);
-    put(m, index == 15 ? 0xFF : 0x00);
-    put(m, 1 + index);
-    put_text(m, index >= 14 ? 0 : 16 - (index + vary) % 17);
+    put(m, index == 15 ? 0xFF : index == 14 ? 0x3C : 0x00);
+    put(m, index == 14 ? 0x29 + vary : 1 + index);
+    put_text(m, index >= 13 ? 0 : 16 - (index + vary) % 17);
     close_setting(m, at);
 }
 
@@ -206,13 +206,13 @@ static inline void write_message(Message *m, unsigned kind, unsigned turn)
     m->bytes[3] = (uint8_t)i;
 }
 
-/* One of the messages that together leave no place of a fresh store empty; `vary` as for the lines. */
+/* One of the messages that together leave no place of a fresh store empty, with `vary` 0; with another, some of the lists are shorter. */
 static inline void write_filling(Message *m, unsigned each, unsigned vary)
 {
     unsigned slot, type = each == 5 ? 0xD1 : 0xD2;
     open_request(m, each == 5 || each == 6 ? 16 : each == 7 ? 4 : 1);
     switch (each) {
-    case 0: put_lines(m, 3, 32, vary); break;
+    case 0: put_lines(m, 3, 32 - vary, vary); break;
     case 1: put_quick(m, 3, 0, 63, vary); break;
     case 2: put_quick(m, 1, 63, 1, vary); break;
     case 3: put_status(m, 3, 96, vary); break;
