@@ -1,0 +1,235 @@
+/*
+ * A bit of firmware over libhandheld.a: start a store, take messages, draw the rows, write the settings out and into another set.
+ * Every answer is checked; the first that is not what it must be ends the program with 1. examples/firmware.out is what it prints.
+ */
+#include "otap.h"
+
+#include <stdio.h>
+#include <stdlib.h>
+#include <string.h>
+
+/* Two groups and a line contact, each with its name; then the last item, which asks for a reply and leaves a hash. */
+static const uint8_t adding[] = {
+    0x02, 0x02, 0x00, 0x42,             /* protocol version, service; length: 66 bytes follow */
+    0x08, 0x07,                         /* MFID; coding type 0111, 16-bit Unicode */
+    0x08, 0x04,                         /* OTAPVer 1, MsgType 0 request; four settings */
+    0xD1, 0x00, 0x11,                   /* group slot, DataLength 17 */
+    0x50, 0x00, 0x10, 0x00, 0x01,       /* add, attribute 01; priority 0, index 0; address 100001 */
+    0x52, 0x11, 0x8B, 0x66, 0x4E, 0x00, 0x96, 0x1F, 0x00, 0x00, /* 刑警一队, end */
+    0xD1, 0x00, 0x11,                   /* group slot, DataLength 17 */
+    0x50, 0x01, 0x10, 0x00, 0x02,       /* add, attribute 01; priority 0, index 1; address 100002 */
+    0x4E, 0xA4, 0x8B, 0x66, 0x4E, 0x8C, 0x96, 0x1F, 0x00, 0x00, /* 交警二队, end */
+    0xCA, 0x00, 0x11,                   /* line contacts, DataLength 17 */
+    0x42, 0x01,                         /* add, IDtype PABX; one entry */
+    0x23, 0x45, 0xFF,                   /* number 2345, end, fill */
+    0x63, 0x07, 0x63, 0x25, 0x4E, 0x2D, 0x5F, 0xC3, 0x00, 0x00, /* 指挥中心, end */
+    0xFF, 0x00, 0x07,                   /* last item, DataLength 7 */
+    0x41, 0x12, 0x34, 0x56, 0x78        /* no reboot, reply, HashCode 1; the hash value */
+};
+
+/* Another name for group slot 1, and an individual without a name: it is shown by its dialled number. */
+static const uint8_t renaming[] = {
+    0x02, 0x02, 0x00, 0x00,             /* length 0: not stated */
+    0x08, 0x07,                         /* MFID, coding type */
+    0x08, 0x02,                         /* request, two settings */
+    0xD1, 0x00, 0x11,                   /* group slot, DataLength 17 */
+    0x50, 0x01, 0x10, 0x00, 0x02,       /* add, attribute 01; index 1; address 100002 */
+    0x5D, 0xE1, 0x90, 0x3B, 0x4E, 0x09, 0x7E, 0xC4, 0x00, 0x00, /* 巡逻三组, end */
+    0xD2, 0x00, 0x09,                   /* individual slot, DataLength 9 */
+    0x40, 0x00, 0x10, 0x3C, 0x28,       /* add; index 0; address 103C28 */
+    0x00, 0x00                          /* no text, end */
+};
+
+/* Setting 1 is good, setting 2 is not: so that nothing may change. */
+static const uint8_t refused[] = {
+    0x02, 0x02, 0x00, 0x00,             /* length 0: not stated */
+    0x08, 0x07,                         /* MFID, coding type */
+    0x08, 0x02,                         /* request, two settings */
+    0xD1, 0x00, 0x0B,                   /* group slot, DataLength 11 */
+    0x50, 0x00, 0x10, 0x00, 0x02,       /* add, attribute 01; index 0; address 100002 */
+    0x96, 0x1F, 0x00, 0x00,             /* 队, end */
+    0xCD, 0x00, 0x05,                   /* home numbers, DataLength 5 */
+    0x07, 0xE4, 0xE0                    /* NZI 15, NP 807: one too many */
+};
+
+static uint8_t store[OTAP_STORE_BYTES];
+static uint8_t other[OTAP_STORE_BYTES];
+static uint8_t reply[OTAP_REPLY_BYTES];
+static uint8_t request[OTAP_EXPORT_BYTES];
+static uint8_t scratch[OTAP_SCRATCH_BYTES];
+static uint8_t other_scratch[OTAP_SCRATCH_BYTES];
+
+static void must_be(const char *what, uint64_t is, uint64_t must)
+{
+    if (is != must) {
+        fprintf(stderr, "%s is %lu, must be %lu\n", what, (unsigned long)is, (unsigned long)must);
+        exit(1);
+    }
+}
+
+/* One character as UTF-8. */
+static void print_character(uint32_t c)
+{
+    if (c < 0x80) {
+        putchar((int)c);
+    } else if (c < 0x800) {
+        putchar((int)(0xC0 | (c >> 6)));
+    } else if (c < 0x10000) {
+        putchar((int)(0xE0 | (c >> 12)));
+        putchar((int)(0x80 | ((c >> 6) & 0x3F)));
+    } else {
+        putchar((int)(0xF0 | (c >> 18)));
+        putchar((int)(0x80 | ((c >> 12) & 0x3F)));
+        putchar((int)(0x80 | ((c >> 6) & 0x3F)));
+    }
+    if (c >= 0x80) {
+        putchar((int)(0x80 | (c & 0x3F)));
+    }
+}
+
+static uint32_t unit_at(const uint8_t *text, size_t at)
+{
+    return (uint32_t)text[at] * 256 + text[at + 1];
+}
+
+/* Units as UTF-8. The library keeps any units but 0, so a half of a pair can stand alone. */
+static void print_text(const uint8_t *text, size_t length)
+{
+    size_t at = 0;
+    while (at < length) {
+        uint32_t unit = unit_at(text, at);
+        uint32_t next = at + 2 < length ? unit_at(text, at + 2) : 0;
+        int pair = unit >= 0xD800 && unit < 0xDC00 && next >= 0xDC00 && next < 0xE000;
+        int half = !pair && unit >= 0xD800 && unit < 0xE000;
+        print_character(pair ? 0x10000 + ((unit - 0xD800) << 10) + (next - 0xDC00) : half ? 0xFFFD : unit);
+        at += pair ? 4 : 2;
+    }
+}
+
+/* A task of its own would hold the lock of otap_take from here to the last print_text. */
+static void draw_table(const char *name, uint32_t table, uint32_t first, uint32_t last)
+{
+    uint32_t row;
+    for (row = first; row <= last; row++) {
+        uint64_t part;
+        uint32_t number = otap_row_number(table, row, store, sizeof store, scratch, sizeof scratch);
+        if (number == OTAP_NO_ROW) {
+            continue;
+        }
+        must_be("the number of a row", number, OTAP_OK);
+        part = otap_row_part(table, row, store, sizeof store, scratch, sizeof scratch);
+        printf("  %s %u: ", name, (unsigned)row);
+        print_text(otap_part_bytes(part, store, scratch), otap_part_length(part));
+        printf("%s\n", otap_part_in_scratch(part) ? " (number)" : "");
+    }
+}
+
+static void draw(const char *title)
+{
+    printf("%s\n", title);
+    draw_table("line", OTAP_LINES, 0, OTAP_LINE_ROWS - 1);
+    draw_table("quick text", OTAP_QUICK_TEXTS, 0, OTAP_QUICK_ROWS - 1);
+    draw_table("status text", OTAP_STATUS_TEXTS, OTAP_STATUS_FIRST, OTAP_STATUS_LAST);
+    draw_table("group", OTAP_GROUPS, 0, OTAP_SLOT_ROWS - 1);
+    draw_table("individual", OTAP_INDIVIDUALS, 0, OTAP_SLOT_ROWS - 1);
+}
+
+static uint64_t take(const char *what, const uint8_t *message, size_t length)
+{
+    size_t at;
+    uint64_t answer = otap_take(message, length, store, sizeof store, reply, sizeof reply);
+    printf("%s: number %u, failed ID %u, %s, reply", what, (unsigned)otap_answer_number(answer),
+           (unsigned)otap_take_failed(answer), otap_take_send(answer) ? "send" : "do not send");
+    for (at = 0; at < otap_take_reply_length(answer); at++) {
+        printf(" %02X", reply[at]);
+    }
+    printf("\n");
+    return answer;
+}
+
+static void add_and_rename(void)
+{
+    uint64_t answer = take("adding", adding, sizeof adding);
+    must_be("the number of the adding", otap_answer_number(answer), OTAP_OK);
+    must_be("its send", (uint64_t)otap_take_send(answer), 1);
+    must_be("its reply length", otap_take_reply_length(answer), 14);
+    draw("rows after the adding");
+    answer = take("renaming", renaming, sizeof renaming);
+    must_be("the number of the renaming", otap_answer_number(answer), OTAP_OK);
+    must_be("its send", (uint64_t)otap_take_send(answer), 0);
+    draw("rows after the renaming");
+}
+
+static void try_refused(void)
+{
+    uint64_t answer;
+    memcpy(other, store, sizeof store);
+    answer = take("refused", refused, sizeof refused);
+    must_be("the number of the refused message", otap_answer_number(answer), OTAP_BAD_FIELD);
+    must_be("its failed ID", otap_take_failed(answer), 2);
+    must_be("whether the store changed", memcmp(other, store, sizeof store) != 0, 0);
+    printf("the store is as it was, byte for byte\n");
+}
+
+static void export_to_other(void)
+{
+    uint32_t part;
+    must_be("starting the other store", otap_start(other, sizeof other), OTAP_OK);
+    for (part = OTAP_EXPORT_LINES; part <= OTAP_EXPORT_INDIVIDUALS; part++) {
+        uint64_t written = otap_export(part, store, sizeof store, request, sizeof request);
+        uint64_t answer;
+        must_be("the number of an export", otap_answer_number(written), OTAP_OK);
+        answer = otap_take(request, otap_export_length(written), other, sizeof other, reply, sizeof reply);
+        must_be("the number of an exported request", otap_answer_number(answer), OTAP_OK);
+        printf("part %u: %u bytes, taken by the other store\n", (unsigned)part, (unsigned)otap_export_length(written));
+    }
+}
+
+/* Both stores show the same row: the same number, and the same bytes. */
+static void same_row(uint32_t table, uint32_t row)
+{
+    uint32_t here = otap_row_number(table, row, store, sizeof store, scratch, sizeof scratch);
+    uint32_t there = otap_row_number(table, row, other, sizeof other, other_scratch, sizeof other_scratch);
+    uint64_t mine = otap_row_part(table, row, store, sizeof store, scratch, sizeof scratch);
+    uint64_t theirs = otap_row_part(table, row, other, sizeof other, other_scratch, sizeof other_scratch);
+    must_be("the number of the other store's row", there, here);
+    must_be("the part of the other store's row", theirs, mine);
+    must_be("whether two rows differ", memcmp(otap_part_bytes(mine, store, scratch),
+            otap_part_bytes(theirs, other, other_scratch), otap_part_length(mine)) != 0, 0);
+}
+
+static void same_rows(void)
+{
+    uint32_t table, row;
+    for (table = OTAP_LINES; table <= OTAP_INDIVIDUALS; table++) {
+        for (row = 0; row <= OTAP_STATUS_LAST; row++) {
+            same_row(table, row);
+        }
+    }
+    printf("every row of the other store is the same\n");
+}
+
+static void convert(void)
+{
+    uint64_t address = otap_individual_of_dialled(32841899);
+    uint64_t frequency = otap_transmit(241);
+    must_be("the number of 32841899", otap_answer_number(address), OTAP_OK);
+    must_be("the address of 32841899", otap_value(address), 0x103C28);
+    must_be("the number of channel 241", otap_answer_number(frequency), OTAP_OK);
+    must_be("the frequency of channel 241", otap_value(frequency), 3510125);
+    must_be("channel 641", otap_transmit(641), OTAP_NO_CHANNEL);
+    printf("32841899 is address %06X; channel 241 sends on %u x 100 Hz\n", (unsigned)otap_value(address),
+           (unsigned)otap_value(frequency));
+}
+
+int main(void)
+{
+    must_be("starting a store", otap_start(store, sizeof store), OTAP_OK);
+    draw("rows of a fresh store");
+    add_and_rename();
+    try_refused();
+    export_to_other();
+    same_rows();
+    convert();
+    return 0;
+}

@@ -1,0 +1,113 @@
+#!/bin/sh
+# examples/run.sh: the C header and the C examples, one named step after the other; ends with 1 if one of them fails.
+# It links $OTAP_ARCHIVE_DIR/libhandheld.a, or target/staticlib/libhandheld.a, which `rt staticlib handheld` writes. CC and CXX name the compilers.
+set -u
+cd "$(dirname "$0")/.." || exit 1
+archive=${OTAP_ARCHIVE_DIR:-target/staticlib}/libhandheld.a
+CC=${CC:-gcc}
+CXX=${CXX:-g++}
+warnings="-Wall -Wextra -Wpedantic -Wconversion -Wshadow -Werror -Iinclude"
+sanitizers="-g -fsanitize=address,undefined -fno-sanitize-recover=all"
+emulator=
+built=$(mktemp -d) || exit 1
+trap 'rm -rf "$built"' EXIT
+failed=0
+
+# step NAME COMMAND..: runs it and prints its name; what it printed is shown only if it failed.
+step() {
+    name=$1
+    shift
+    if "$@" > "$built/log" 2>&1; then
+        echo "ok      $name"
+    else
+        echo "FAILED  $name"
+        show
+        failed=1
+        return 1
+    fi
+}
+
+# What the last step printed.
+show() {
+    sed 's/^/        /' "$built/log"
+}
+
+# What the header itself says, seen alone: no warning in any of these languages.
+header_as() {
+    language=$1 standard=$2 compiler=$3
+    echo '#include "otap.h"' | $compiler -std="$standard" $warnings -fsyntax-only -x "$language" -
+}
+
+# build OUTPUT LANGUAGE STANDARD COMPILER FLAGS SOURCE
+build() {
+    $4 -x "$2" -std="$3" $warnings $5 "$6" -x none "$archive" -o "$built/$1"
+}
+
+run_built() {
+    program=$1
+    shift
+    $emulator "$built/$program" "$@"
+}
+
+prints() {
+    run_built "$1" > "$built/printed" && diff "$2" "$built/printed"
+}
+
+build_and_print() {
+    build "$1" "$2" "$3" "$4" "$5" examples/firmware.c && prints "$1" examples/firmware.out
+}
+
+build_and_run() {
+    build "$1" c c99 "$CC" "$2" "examples/$1.c" && run_built "$1"
+}
+
+# The test of the bounds sees a byte too many: it ends with 1, and says so.
+sees_outside() {
+    run_built bounds outside > "$built/outside" 2>&1
+    [ $? -eq 1 ] && grep -q "a byte too many, as asked" "$built/outside"
+}
+
+# README.md quotes examples/snippet.c: the ```c block after the marker line is the file, byte for byte.
+snippet_quoted() {
+    awk '/^<!-- examples\/snippet.c -->$/ { here = 1; next }
+         here == 1 && /^```c$/ { here = 2; next }
+         here == 2 && /^```$/ { exit }
+         here == 2 { print }' README.md > "$built/quoted"
+    diff examples/snippet.c "$built/quoted"
+}
+
+for standard in c99 c11; do
+    step "header as $standard" header_as c $standard "$CC"
+done
+for standard in c++98 c++11 c++17; do
+    step "header as $standard" header_as c++ $standard "$CXX"
+done
+step "snippet as C" $CC -std=c99 $warnings -c examples/snippet.c -o "$built/snippet.o"
+step "snippet as C++" $CXX -x c++ -std=c++11 $warnings -c examples/snippet.c -o "$built/snippet.o"
+if grep -q '^<!-- examples/snippet.c -->$' README.md; then
+    step "snippet in README.md" snippet_quoted
+fi
+
+if [ "$(uname -m)" != x86_64 ]; then
+    echo "note    the archive links only into x86-64 programs, and this is $(uname -m)"
+    emulator=$(command -v qemu-x86_64 || command -v qemu-x86_64-static)
+    CC=x86_64-linux-gnu-gcc
+    CXX=x86_64-linux-gnu-g++
+    # A static program needs no x86-64 loader here; sanitizers do not run under an emulator.
+    sanitizers=-static
+    if [ -z "$emulator" ] || ! command -v $CC > /dev/null || ! command -v $CXX > /dev/null; then
+        echo "skipped what links the archive: $CC, $CXX and qemu-x86_64 are not all here"
+        exit $failed
+    fi
+fi
+if [ ! -f "$archive" ]; then
+    echo "FAILED  no $archive: rt staticlib handheld writes it"
+    exit 1
+fi
+step "firmware as C" build_and_print firmware_c c c99 "$CC" "$sanitizers"
+step "firmware as C++" build_and_print firmware_cpp c++ c++11 "$CXX" "$sanitizers"
+step "numbers and constants" build_and_run numbers "$sanitizers"
+step "bounds of the lent bytes" build_and_run bounds "-O1 ${emulator:+-static}"
+step "bounds can fail" sees_outside
+step "stack" build_and_run stack "-O1 ${emulator:+-static}" && show
+exit $failed

@@ -1,0 +1,130 @@
+/*
+ * Each call of the archive, made twice on buffers of their own, and what has to hold of it whatever was lent. No second implementation: what is checked
+ * is the ladder of refusals by size, what may change, the bits that must be 0, the form of replies and exports, and where a row's part may lie.
+ */
+#ifndef CALLS_H
+#define CALLS_H
+
+#include "lent.h"
+#include "otap.h"
+
+/* Any bytes that the buffers hold before a call: what stays is compared with them. */
+static const uint8_t *stale(void)
+{
+    static uint8_t bytes[2 * OTAP_EXPORT_BYTES];
+    if (bytes[1] == 0) {
+        size_t at;
+        for (at = 0; at < sizeof bytes; at++) {
+            bytes[at] = (uint8_t)(at * 7 + 3);
+        }
+    }
+    return bytes;
+}
+
+/* A reply's bytes are those of its answer: 02 02, true length, 08 00, version and kind, result, failed ID, hash code, as many bytes as it has. */
+static void check_reply(const uint8_t *reply, uint64_t answer)
+{
+    static const uint8_t lengths[] = {10, 14, 20};
+    uint32_t number = otap_answer_number(answer);
+    size_t length = otap_take_reply_length(answer);
+    must(reply[0] == 2 && reply[1] == 2 && reply[2] == 0 && reply[3] == length - 4, "a reply's head");
+    must(reply[4] == 8 && reply[5] == 0 && reply[6] == 9, "a reply's kind");
+    must(reply[7] == number && reply[8] == otap_take_failed(answer), "a reply says the answer");
+    must(reply[9] <= 2 && length == lengths[reply[9]], "a reply's hash code and length");
+    must(number == 0 || number == 5 || reply[9] == 0, "1 to 4 carry no hash");
+}
+
+static void check_answer(uint64_t answer)
+{
+    uint32_t number = otap_answer_number(answer);
+    must((answer & 0xFFFFFFFF00FC0000u) == 0, "bits of take that must be 0");
+    must(number <= 5 || (number >= 10 && number <= 14), "a number of take");
+    must(number < 10 || answer == number, "10 to 14: nothing but the number");
+    must((number >= 10) == (otap_take_reply_length(answer) == 0), "a reply exactly for 0 to 5");
+    must(number == 0 || number >= 10 || otap_take_send(answer), "1 to 5 are sent");
+    must(number == 0 || !otap_take_reboot(answer), "only what is taken reboots");
+    must((number >= 2 && number <= 4) || otap_take_failed(answer) == 0, "failed ID 0 but for 2 to 4");
+    must((number != 2 && number != 3) || otap_take_failed(answer) != 0, "2 and 3 name a setting");
+}
+
+/* The first refusal that sizes alone say; 0 if none. */
+static uint32_t take_refusal(size_t message_length, size_t store_length, size_t reply_length)
+{
+    return reply_length < OTAP_REPLY_BYTES ? OTAP_SHORT_REPLY : store_length != OTAP_STORE_BYTES ? OTAP_NO_STORE
+         : message_length < 7 || message_length > OTAP_MESSAGE_BYTES ? OTAP_MESSAGE_LENGTH : OTAP_OK;
+}
+
+/* A message on these bytes; the store afterwards is left in `after`. */
+static uint64_t take_once(const uint8_t *message, size_t message_length, const uint8_t *store, size_t store_length,
+                          size_t reply_length, int guarded, uint8_t *after)
+{
+    Lent m = lend(message, message_length, guarded), s = lend(store, store_length, guarded), r = lend(stale(), reply_length, guarded);
+    uint64_t answer = otap_take(m.bytes, m.length, s.bytes, s.length, r.bytes, r.length);
+    size_t wrote = otap_take_reply_length(answer);
+    int query = message_length > 6 && (message[6] & 7) == 5;
+    must(same_bytes(m.bytes, message, message_length), "the message stays");
+    must((otap_answer_number(answer) == OTAP_OK && !query) || same_bytes(s.bytes, store, store_length), "only a taken request changes the store");
+    must(wrote <= reply_length && same_bytes(r.bytes + wrote, stale() + wrote, reply_length - wrote), "bytes past the reply stay");
+    check_answer(answer);
+    must(otap_answer_number(answer) != OTAP_NO_MATCH || query, "5 only of a query");
+    if (wrote > 0) {
+        check_reply(r.bytes, answer);
+    }
+    memcpy(after, s.bytes, store_length);
+    give_back(&m);
+    give_back(&s);
+    give_back(&r);
+    return answer;
+}
+
+static uint64_t take_twice(const uint8_t *message, size_t message_length, const uint8_t *store, size_t store_length,
+                           size_t reply_length, uint8_t *after)
+{
+    static uint8_t again[OTAP_STORE_BYTES + 64];
+    uint32_t refusal = take_refusal(message_length, store_length, reply_length);
+    uint64_t answer = take_once(message, message_length, store, store_length, reply_length, 0, after);
+    must(answer == take_once(message, message_length, store, store_length, reply_length, 1, again), "the same answer twice");
+    must(same_bytes(after, again, store_length), "the same store twice");
+    must(refusal == OTAP_OK || answer == refusal || (refusal == OTAP_MESSAGE_LENGTH && answer == OTAP_NO_STORE), "refusals by size, in order");
+    must(refusal != OTAP_OK || (answer != OTAP_SHORT_REPLY && answer != OTAP_MESSAGE_LENGTH), "no refusal by size");
+    return answer;
+}
+
+/* An export; what it wrote is left in `request`. */
+static uint64_t export_once(uint32_t part, const uint8_t *store, size_t store_length, size_t length, int guarded, uint8_t *request)
+{
+    Lent s = lend(store, store_length, guarded), b = lend(stale(), length, guarded);
+    uint64_t answer = otap_export(part, s.bytes, s.length, b.bytes, b.length);
+    uint32_t number = otap_answer_number(answer);
+    size_t wrote = otap_export_length(answer);
+    must((answer & 0xFFFFFFFF0000FF00u) == 0, "bits of export that must be 0");
+    must(same_bytes(s.bytes, store, store_length), "an export leaves the store");
+    must(wrote <= length && same_bytes(b.bytes + wrote, stale() + wrote, length - wrote), "bytes past the request stay");
+    must((number == OTAP_SHORT_BUFFER) == (length < OTAP_EXPORT_BYTES), "15 exactly of short buffers");
+    must(number == OTAP_OK || answer == number, "a refused export has length 0");
+    must(number == OTAP_OK || number == OTAP_SHORT_BUFFER || number == OTAP_NO_STORE || number == OTAP_NO_PART, "a number of export");
+    must(number != OTAP_OK || (part >= 1 && part <= 7 && wrote >= 12 && wrote <= OTAP_EXPORT_BYTES), "a part that there is");
+    must(number != OTAP_NO_PART || part < 1 || part > 7, "16 only of other parts");
+    must(number != OTAP_OK || b.bytes[2] * 256u + b.bytes[3] + 4u == wrote, "an export states its true length");
+    memcpy(request, b.bytes, wrote);
+    give_back(&s);
+    give_back(&b);
+    return answer;
+}
+
+static uint64_t export_twice(uint32_t part, const uint8_t *store, size_t store_length, size_t length, uint8_t *request)
+{
+    static uint8_t again[OTAP_EXPORT_BYTES];
+    uint64_t answer = export_once(part, store, store_length, length, 0, request);
+    must(answer == export_once(part, store, store_length, length, 1, again), "the same export twice");
+    must(same_bytes(request, again, otap_export_length(answer)), "the same request twice");
+    return answer;
+}
+
+/* Whether bytes are a store, by the number of a row. */
+static int is_store(const uint8_t *store, size_t store_length)
+{
+    return otap_row_number(0, 0, store, store_length, stale(), OTAP_SCRATCH_BYTES) != OTAP_NO_STORE;
+}
+
+#endif

@@ -1,0 +1,91 @@
+#!/bin/sh
+# fuzz/run.sh [SECONDS]: fuzzes the C functions for as long (60), with libFuzzer, else AFL++, else a driver of our own, and says which.
+# Ends with 1 on a finding, or if a check cannot fail.
+# FUZZ_WITH=libfuzzer, afl or driver asks for one; FUZZ_SEED (1) is the driver's and libFuzzer's seed. Findings are kept in target/fuzz/.
+# It links $OTAP_ARCHIVE_DIR/libhandheld.a, or target/staticlib/libhandheld.a, which `rt staticlib handheld` writes.
+set -u
+cd "$(dirname "$0")/.." || exit 1
+seconds=${1:-60}
+seed=${FUZZ_SEED:-1}
+archive=${OTAP_ARCHIVE_DIR:-target/staticlib}/libhandheld.a
+flags="-std=c11 -Wall -Wextra -Iinclude -g -O1"
+sanitizers="-fsanitize=address,undefined -fno-sanitize-recover=all"
+wrapped="-Wl,--wrap=otap_take -Wl,--wrap=otap_export -Wl,--wrap=otap_row_number -Wl,--wrap=otap_row_part"
+CC=${CC:-gcc}
+# There are many short-lived buffers: a large quarantine only slows it down.
+export ASAN_OPTIONS=quarantine_size_mb=1
+
+if [ "$(uname -m)" != x86_64 ]; then
+    echo "skipped fuzzing: the archive links only into x86-64 programs, and this is $(uname -m)"
+    exit 0
+fi
+if [ ! -f "$archive" ]; then
+    echo "FAILED  no $archive: rt staticlib handheld writes it"
+    exit 1
+fi
+work=$(mktemp -d) || exit 1
+trap 'rm -rf "$work"' EXIT
+mkdir -p target/fuzz "$work/new"
+found=$(pwd)/target/fuzz
+seeds=$(pwd)/fuzz/corpus
+
+# Every wrong library of wrong.c has to be found on the seeds alone; number 0 is the right one and has to pass.
+checks_can_fail() {
+    $CC $flags $sanitizers -c fuzz/target.c -o "$work/target.o" || return 1
+    $CC $flags $sanitizers -c fuzz/driver.c -o "$work/driver.o" || return 1
+    wrong=0
+    while [ $wrong -le 11 ]; do
+        $CC $flags -DWRONG=$wrong -c fuzz/wrong.c -o "$work/wrong.o" || return 1
+        $CC $sanitizers "$work/target.o" "$work/driver.o" "$work/wrong.o" "$archive" $wrapped -o "$work/wrong" || return 1
+        (cd "$work" && ./wrong 0 1 "$seeds"/*) > "$work/log" 2>&1
+        ended=$?
+        if [ $((ended == 0)) -ne $((wrong == 0)) ]; then
+            [ $wrong -eq 0 ] && echo "FAILED  on the seeds" || echo "FAILED  the checks do not find wrong library $wrong"
+            cat "$work/log"
+            return 1
+        fi
+        wrong=$((wrong + 1))
+    done
+    echo "ok      the checks find each of 11 wrong libraries"
+}
+
+with_libfuzzer() {
+    clang $flags -fsanitize=fuzzer $sanitizers fuzz/target.c "$archive" -o "$work/target" 2> "$work/log" || return 2
+    echo "with libFuzzer, $seconds seconds"
+    "$work/target" -max_total_time="$seconds" -seed="$seed" -max_len=4096 -len_control=10 -print_final_stats=1 \
+        -artifact_prefix="$found/" "$work/new" "$seeds" > "$work/log" 2>&1
+    ended=$?
+    grep -E 'INITED|DONE|NOT KEPT|ERROR|SUMMARY|^stat::(number|average|new|peak)' "$work/log"
+    return $((ended != 0))
+}
+
+with_afl() {
+    command -v afl-fuzz > /dev/null && command -v afl-clang-fast > /dev/null || return 2
+    AFL_USE_ASAN=1 afl-clang-fast $flags -fsanitize=fuzzer fuzz/target.c "$archive" -o "$work/target" > "$work/log" 2>&1 || return 2
+    echo "with AFL++, $seconds seconds"
+    AFL_SKIP_CPUFREQ=1 AFL_I_DONT_CARE_ABOUT_MISSING_CRASHES=1 AFL_NO_UI=1 \
+        afl-fuzz -V "$seconds" -m none -i "$seeds" -o "$work/afl" -- "$work/target" > "$work/log" 2>&1 || { tail -5 "$work/log"; return 1; }
+    grep -E 'execs_done|saved_crashes|saved_hangs' "$work/afl/default/fuzzer_stats"
+    crashes=$(find "$work/afl/default/crashes" -name 'id*')
+    [ -z "$crashes" ] || { cp "$work"/afl/default/crashes/id* "$found/"; return 1; }
+}
+
+with_driver() {
+    $CC $flags $sanitizers fuzz/target.c fuzz/driver.c "$archive" -o "$work/driver" || return 1
+    echo "with the driver of our own, $seconds seconds; for libFuzzer install clang and its runtime (Debian: clang libclang-rt-14-dev)"
+    (cd "$work" && ./driver "$seconds" "$seed" "$seeds"/*) || { cp "$work/last-input" "$found/"; return 1; }
+}
+
+checks_can_fail || exit 1
+ended=2
+for engine in ${FUZZ_WITH:-libfuzzer afl driver}; do
+    "with_$engine"
+    ended=$?
+    [ $ended -eq 2 ] || break
+done
+case $ended in
+    0) echo "ok      no finding" ;;
+    2) echo "FAILED  $FUZZ_WITH is not here" ;;
+    *) echo "FAILED  a finding; inputs are in target/fuzz/" ;;
+esac
+exit $((ended != 0))

@@ -1,0 +1,253 @@
+/*
+ * The entry of a fuzzer over the C functions. An input is records, each a byte that chooses the call and the sizes, then what the call needs; one store
+ * goes from record to record. After each message the store is still a store, and at the end it is written out into a fresh one that becomes the same.
+ */
+#include "rows.h"
+
+enum { MOST_RECORDS = 64 };
+
+typedef struct {
+    const uint8_t *bytes;
+    size_t left;
+} Input;
+
+static uint8_t store[OTAP_STORE_BYTES + 64], after[OTAP_STORE_BYTES + 64], other[OTAP_STORE_BYTES + 64];
+
+/* What the archive came to, since a fuzzer cannot see its branches: numbers by failed ID, and how many slots of each table are in use. */
+#if defined(__clang__) && defined(__linux__)
+__attribute__((section("__libfuzzer_extra_counters")))
+#endif
+static uint8_t reached[2048];
+
+int LLVMFuzzerTestOneInput(const uint8_t *data, size_t size);
+
+static unsigned next_byte(Input *input)
+{
+    if (input->left == 0) {
+        return 0;
+    }
+    input->left--;
+    return *input->bytes++;
+}
+
+static size_t next_bytes(Input *input, size_t length, uint8_t *to)
+{
+    size_t given = length < input->left ? length : input->left;
+    memcpy(to, input->bytes, given);
+    input->bytes += given;
+    input->left -= given;
+    return given;
+}
+
+/* The high five bits of a choice: mostly what the call needs; else the buffer or the store is one more, one less, none, or some more. */
+static size_t chosen_size(unsigned choice, size_t least)
+{
+    switch (choice >> 3) {
+    case 16: return least + 1;
+    case 17: case 18: return least - 1;
+    case 19: return 0;
+    case 20: return least + 40;
+    default: return least;
+    }
+}
+
+static size_t chosen_store(unsigned choice)
+{
+    switch (choice >> 3) {
+    case 18: case 21: return OTAP_STORE_BYTES - 1;
+    case 22: return OTAP_STORE_BYTES + 1;
+    case 23: return 0;
+    default: return OTAP_STORE_BYTES;
+    }
+}
+
+static void count_slots(unsigned table, size_t first, size_t width, unsigned slots)
+{
+    unsigned each, used = 0;
+    for (each = 0; each < slots; each++) {
+        used += store[first + each * width] != 0 || store[first + each * width + 1] != 0;
+    }
+    reached[1024 + table * 100 + used] = 1;
+}
+
+static void note(uint64_t answer)
+{
+    unsigned failed = otap_take_failed(answer);
+    reached[otap_answer_number(answer) * 32 + (failed < 31 ? failed : 31)] = 1;
+    count_slots(0, 22, 46, 64);
+    count_slots(1, 2966, 33, 96);
+    count_slots(2, 6134, 36, 16);
+    count_slots(3, 6710, 36, 16);
+    count_slots(4, 7286, 2, 64);
+    count_slots(5, 7414, 51, 32);
+}
+
+static void take_message(const uint8_t *message, size_t length, unsigned choice)
+{
+    size_t store_length = chosen_store(choice);
+    uint64_t answer = take_twice(message, length, store, store_length, chosen_size(choice, OTAP_REPLY_BYTES), after);
+    must(store_length != OTAP_STORE_BYTES || otap_answer_number(answer) != OTAP_NO_STORE, "a store is known as one");
+    if (otap_answer_number(answer) == OTAP_OK) {
+        memcpy(store, after, OTAP_STORE_BYTES);
+        must(is_store(store, OTAP_STORE_BYTES), "a store stays a store");
+    }
+    note(answer);
+}
+
+static void take_raw(Input *input, unsigned choice)
+{
+    static uint8_t message[OTAP_MESSAGE_BYTES + 64];
+    size_t length = next_byte(input);
+    length = (length + 256 * next_byte(input)) % (OTAP_MESSAGE_BYTES + 2);
+    take_message(message, next_bytes(input, length, message), choice);
+}
+
+/* One setting with a true DataLength, so that inputs get past it to the fields. */
+static size_t build_setting(Input *input, uint8_t *to)
+{
+    static const uint8_t types[] = {0xCA, 0xCB, 0xCC, 0xCD, 0xCE, 0xCF, 0xD0, 0xD1, 0xD2, 0xFF};
+    unsigned type = next_byte(input);
+    size_t length = next_bytes(input, next_byte(input), to + 3);
+    to[0] = type < 0xC0 ? types[type % 10] : (uint8_t)type;
+    to[1] = (uint8_t)((length + 2) >> 8);
+    to[2] = (uint8_t)(length + 2);
+    return length + 3;
+}
+
+static void take_built(Input *input, unsigned choice)
+{
+    static uint8_t message[OTAP_MESSAGE_BYTES + 64] = {2, 2, 0, 0, 8, 7, 8};
+    unsigned settings = 1 + next_byte(input) % 12, each;
+    size_t length = 8;
+    message[7] = (uint8_t)settings;
+    for (each = 0; each < settings; each++) {
+        length += build_setting(input, message + length);
+    }
+    message[2] = (uint8_t)((length - 4) >> 8);
+    message[3] = (uint8_t)(length - 4);
+    take_message(message, length, choice);
+}
+
+static void ask_row(Input *input, unsigned choice)
+{
+    unsigned table = next_byte(input), row = next_byte(input);
+    size_t store_length = chosen_store(choice);
+    uint32_t number = row_twice(table < 250 ? table % 7 : 0xFFFFFFFFu - table, row < 250 ? row : row * 0x01010101u, store, store_length,
+                                chosen_size(choice, OTAP_SCRATCH_BYTES));
+    must(store_length != OTAP_STORE_BYTES || number != OTAP_NO_STORE, "a store is known as one");
+}
+
+static void ask_export(Input *input, unsigned choice)
+{
+    static uint8_t request[OTAP_EXPORT_BYTES];
+    unsigned part = next_byte(input);
+    size_t store_length = chosen_store(choice);
+    uint64_t answer = export_twice(part < 250 ? part % 9 : part * 0x01010101u, store, store_length,
+                                   chosen_size(choice, OTAP_EXPORT_BYTES), request);
+    must(store_length != OTAP_STORE_BYTES || otap_answer_number(answer) != OTAP_NO_STORE, "a store is known as one");
+}
+
+/* The seven parts of a store, taken by a fresh one, make it the same but for the kept hash: the first 11 bytes. */
+static void restore_it(void)
+{
+    static uint8_t request[OTAP_EXPORT_BYTES], again[OTAP_EXPORT_BYTES];
+    uint32_t part;
+    must(otap_start(other, OTAP_STORE_BYTES) == OTAP_OK, "a store can be started");
+    for (part = 1; part <= 7; part++) {
+        uint64_t written = export_once(part, store, OTAP_STORE_BYTES, OTAP_EXPORT_BYTES, 0, request), answer;
+        size_t length = otap_export_length(written);
+        must(otap_answer_number(written) == OTAP_OK, "a store can be exported");
+        answer = take_once(request, length, other, OTAP_STORE_BYTES, OTAP_REPLY_BYTES, 1, after);
+        must(otap_answer_number(answer) == OTAP_OK, "an export is taken");
+        memcpy(other, after, OTAP_STORE_BYTES);
+        must(written == export_once(part, other, OTAP_STORE_BYTES, OTAP_EXPORT_BYTES, 1, again), "the other store's export is as long");
+        must(same_bytes(request, again, length), "the other store's export is the same");
+    }
+    must(same_bytes(store + 11, other + 11, OTAP_STORE_BYTES - 11), "the other store has the same tables");
+}
+
+/* Some bytes of the store changed: every call agrees on whether it is still one; it goes on from there if so. */
+static void poke(Input *input)
+{
+    static const uint8_t query[] = {2, 2, 0, 0, 8, 0, 0x0D, 0};
+    static uint8_t request[OTAP_EXPORT_BYTES];
+    unsigned changes = 1 + next_byte(input) % 4, each, at;
+    int known;
+    memcpy(other, store, OTAP_STORE_BYTES);
+    for (each = 0; each < changes; each++) {
+        at = next_byte(input);
+        at = (at + 256 * next_byte(input)) % OTAP_STORE_BYTES;
+        store[at] = (uint8_t)next_byte(input);
+    }
+    known = row_twice(OTAP_GROUPS, 0, store, OTAP_STORE_BYTES, OTAP_SCRATCH_BYTES) != OTAP_NO_STORE;
+    must(known == (otap_answer_number(export_twice(2, store, OTAP_STORE_BYTES, OTAP_EXPORT_BYTES, request)) == OTAP_OK), "export knows a store");
+    must(known == (take_twice(query, sizeof query, store, OTAP_STORE_BYTES, OTAP_REPLY_BYTES, after) != OTAP_NO_STORE), "take knows a store");
+    reached[2000 + known] = 1;
+    if (!known) {
+        memcpy(store, other, OTAP_STORE_BYTES);
+    }
+}
+
+/* What one way gives, the other takes back. */
+static void there_and_back(uint64_t answer, uint32_t refusal, uint32_t from, uint64_t (*back)(uint32_t))
+{
+    must(answer >> 40 == 0, "bits of a conversion that must be 0");
+    must(answer == refusal || otap_answer_number(answer) == OTAP_OK, "a conversion answers or refuses with value 0");
+    must(answer == refusal || back(otap_value(answer)) == (uint64_t)from << 8, "a conversion goes both ways");
+}
+
+static void convert(Input *input)
+{
+    uint32_t value = next_byte(input);
+    value = value << 8 | next_byte(input);
+    value = value << 8 | next_byte(input);
+    value = value << 8 | next_byte(input);
+    there_and_back(otap_individual_of_dialled(value), OTAP_OUTSIDE_PLAN, value, otap_dialled_of_individual);
+    there_and_back(otap_group_of_dialled(value), OTAP_OUTSIDE_PLAN, value, otap_dialled_of_group);
+    there_and_back(otap_dialled_of_individual(value), OTAP_OUTSIDE_KIND, value, otap_individual_of_dialled);
+    there_and_back(otap_dialled_of_group(value), OTAP_OUTSIDE_KIND, value, otap_group_of_dialled);
+    there_and_back(otap_transmit(value % 700), OTAP_NO_CHANNEL, value % 700, otap_channel_of_transmit);
+    there_and_back(otap_channel_of_transmit(value), OTAP_NO_CHANNEL, value, otap_transmit);
+    must(otap_answer_number(otap_receive(value)) == otap_answer_number(otap_transmit(value)), "both frequencies or none");
+}
+
+static void start_again(Input *input)
+{
+    static const size_t sizes[] = {0, 1, OTAP_STORE_BYTES - 1, OTAP_STORE_BYTES, OTAP_STORE_BYTES + 1};
+    size_t length = sizes[next_byte(input) % 5];
+    Lent lent = lend(store, length, 1);
+    uint32_t number = otap_start(lent.bytes, length);
+    must(number == (length == OTAP_STORE_BYTES ? OTAP_OK : OTAP_NO_STORE), "a number of start");
+    must(number == OTAP_OK || same_bytes(lent.bytes, store, length), "a refused start touches nothing");
+    must(number != OTAP_OK || is_store(lent.bytes, length), "a started store is one");
+    memcpy(store, lent.bytes, number == OTAP_OK ? length : 0);
+    give_back(&lent);
+}
+
+static void one_record(Input *input)
+{
+    unsigned choice = next_byte(input);
+    switch (choice & 7) {
+    case 0: case 1: take_raw(input, choice); break;
+    case 2: case 3: take_built(input, choice); break;
+    case 4: ask_row(input, choice); break;
+    case 5: ask_export(input, choice); break;
+    case 6: poke(input); break;
+    default: (choice & 8 ? convert : start_again)(input); break;
+    }
+}
+
+int LLVMFuzzerTestOneInput(const uint8_t *data, size_t size)
+{
+    Input input;
+    unsigned records;
+    input.bytes = data;
+    input.left = size;
+    memset(store, 0xEE, sizeof store);
+    must(otap_start(store, OTAP_STORE_BYTES) == OTAP_OK, "any bytes can be started");
+    for (records = 0; records < MOST_RECORDS && input.left > 0; records++) {
+        one_record(&input);
+    }
+    restore_it();
+    return 0;
+}

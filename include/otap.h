@@ -1,0 +1,237 @@
+/*
+ * otap.h: the C functions of libhandheld.a, for the firmware of a PDT hand-held.
+ *
+ * The library owns no memory and keeps nothing between two calls: the tables are in the store, bytes that the caller lends. No call allocates, waits or
+ * calls back, and every call comes back. Every answer is a number of the table below; a call that answers more than a number packs it into 64 bits, and
+ * the functions at the end of this file unpack it.
+ *
+ * What the caller has to hold, for no C function can look at it:
+ *
+ *  - Each pointer is good for as many bytes as its length says, and is not null, also with length 0.
+ *  - The buffers of one call do not overlap. This is not checked.
+ *  - While one task is in a call, no other task writes its buffers or reads those that the call may change. See "Screens".
+ *  - The stack has room: otap_take works on a copy of the store. docs/TESTING.md has measured figures.
+ *  - memcpy and memset are there to link with; the archive needs nothing else.
+ *
+ * Otherwise anything may be lent: any bytes, of any length, as a message, a store or a buffer. What is wrong is refused with a number.
+ *
+ * Screens. A row's part is not a copy: it is a place in the store, or in the scratch. It is good until the store or the scratch is next written: by
+ * otap_take and otap_start (the store), by otap_row_part (the scratch), or by anything else. A screen task that draws a list while another task takes a
+ * message can draw one row's name beside another row's number. So either draw while holding the lock under which otap_take is called, or, under that
+ * lock, ask for the rows and copy their bytes out (at most OTAP_ROW_BYTES each), then draw the copies. Copy all rows that are drawn together under one
+ * hold of the lock: rows asked for in two holds can be of two lists. Asking twice without a lock does not help.
+ */
+#ifndef OTAP_H
+#define OTAP_H
+
+#include <stddef.h>
+#include <stdint.h>
+
+#ifdef __cplusplus
+extern "C" {
+#endif
+
+/* Sizes in bytes. */
+enum {
+    OTAP_STORE_BYTES = 12288,  /* a store has exactly as many */
+    OTAP_MESSAGE_BYTES = 4096, /* a message has at most as many, and at least 7 */
+    OTAP_REPLY_BYTES = 20,     /* a reply buffer has at least as many */
+    OTAP_EXPORT_BYTES = 4096,  /* an export buffer has at least as many */
+    OTAP_SCRATCH_BYTES = 36,   /* a scratch has at least as many */
+    OTAP_ROW_BYTES = 46        /* a row's part has at most as many: 23 units */
+};
+
+/* The numbers. */
+enum {
+    OTAP_OK = 0,               /* taken, or the query matches; otherwise: done */
+    OTAP_BAD_VERSION = 1,      /* OTAPVer is not 1 */
+    OTAP_NO_ROOM = 2,          /* a setting needs a place in a full table */
+    OTAP_UNKNOWN_TYPE = 3,     /* a setting's type is not among the ten */
+    OTAP_BAD_FIELD = 4,        /* bad field, length or count */
+    OTAP_NO_MATCH = 5,         /* query: code 0, nothing kept, or code or value differs */
+    OTAP_SHORT_REPLY = 10,     /* reply buffer under 20 bytes */
+    OTAP_NO_STORE = 11,        /* store not 12,288 bytes, or not a store */
+    OTAP_MESSAGE_LENGTH = 12,  /* message under 7 or over 4,096 bytes */
+    OTAP_BAD_CARRIER = 13,     /* carrier field or length wrong */
+    OTAP_OTHER_MESSAGE = 14,   /* MsgType is neither request nor result query */
+    OTAP_SHORT_BUFFER = 15,    /* scratch under 36 bytes, or export buffer under 4,096 */
+    OTAP_NO_PART = 16,         /* export part not 1 to 7 */
+    OTAP_NO_ROW = 17,          /* the screen's row is absent */
+    OTAP_OUTSIDE_PLAN = 20,    /* dialled number outside the plan */
+    OTAP_OUTSIDE_KIND = 21,    /* address outside its kind's plan */
+    OTAP_NO_CHANNEL = 22       /* channel outside 1 to 640, or no channel's transmit value */
+};
+
+/* The tables of the screen, and how their rows are counted. */
+enum {
+    OTAP_LINES = 1,            /* line contacts by position, from 0; the first absent row ends the list */
+    OTAP_QUICK_TEXTS = 2,      /* quick texts by index */
+    OTAP_STATUS_TEXTS = 3,     /* status texts by code */
+    OTAP_GROUPS = 4,           /* group slots by index */
+    OTAP_INDIVIDUALS = 5       /* individual slots by index */
+};
+
+enum {
+    OTAP_LINE_ROWS = 32,       /* positions 0 to 31 */
+    OTAP_QUICK_ROWS = 64,      /* indexes 0 to 63 */
+    OTAP_STATUS_FIRST = 32,    /* codes 32 to 127 */
+    OTAP_STATUS_LAST = 127,
+    OTAP_SLOT_ROWS = 16        /* group and individual slots 0 to 15 */
+};
+
+/* The parts of an export. */
+enum {
+    OTAP_EXPORT_LINES = 1,
+    OTAP_EXPORT_FIXED = 2,     /* emergency key, home numbers, system code */
+    OTAP_EXPORT_QUICK_TEXTS = 3,
+    OTAP_EXPORT_CHANNELS = 4,
+    OTAP_EXPORT_STATUS_TEXTS = 5,
+    OTAP_EXPORT_GROUPS = 6,
+    OTAP_EXPORT_INDIVIDUALS = 7
+};
+
+/*
+ * Makes a fresh store of any OTAP_STORE_BYTES bytes: empty tables, no hash kept.
+ *   0   every byte of the store is written
+ *   11  store_length is not OTAP_STORE_BYTES; no byte is touched
+ */
+uint32_t otap_start(uint8_t *store, size_t store_length);
+
+/*
+ * Takes one message, a request or a result query, whole or not at all.
+ *   0         a request was taken: the store has all its settings, and the reply is written;
+ *             or a result query matches: the store stays, and the reply is written
+ *   1 to 5    refused, or the query does not match: the store stays, and the reply is written
+ *   10 to 14  no byte of any buffer is touched; failed ID 0, no send, no reboot, reply length 0
+ * The first that applies is the answer: 10, 11, 12, 13, 14, 1; then, of a request, its count or coding (4), setting by setting its type (3), its
+ * fields (4), room for it (2), and last bytes left over (4); of a query, its form (4) or 5. The message is only read.
+ * A reply has 10, 14 or 20 bytes; bytes of the reply buffer past them stay. It is written for 0 to 5 also where send is no.
+ * Unpack with otap_answer_number, otap_take_failed, otap_take_send, otap_take_reboot, otap_take_reply_length.
+ */
+uint64_t otap_take(const uint8_t *message, size_t message_length,
+                   uint8_t *store, size_t store_length,
+                   uint8_t *reply, size_t reply_length);
+
+/*
+ * Writes a part of the store as a request at the buffer's start. The seven parts, taken by any other started set, give it the same tables.
+ *   0   the request is written; bytes of the buffer past its length stay
+ *   15  buffer_length is under OTAP_EXPORT_BYTES; no byte is touched, length 0
+ *   11  not a store; no byte is touched, length 0
+ *   16  part is not 1 to 7; no byte is touched, length 0
+ * The first that applies, in this order: 15, 11, 16. The store is only read.
+ * Unpack with otap_answer_number, otap_export_length.
+ */
+uint64_t otap_export(uint32_t part,
+                     const uint8_t *store, size_t store_length,
+                     uint8_t *buffer, size_t buffer_length);
+
+/*
+ * Whether a row can be shown. Touches no byte.
+ *   0   yes: otap_row_part with the same lengths gives its part
+ *   15  scratch_length is under OTAP_SCRATCH_BYTES
+ *   11  not a store
+ *   17  no such table, no such row, or nothing in it
+ * The first that applies, in this order: 15, 11, 17.
+ */
+uint32_t otap_row_number(uint32_t table, uint32_t row,
+                         const uint8_t *store, size_t store_length,
+                         const uint8_t *scratch, size_t scratch_length);
+
+/*
+ * The part of the store or of the scratch that shows a row: 16-bit units, high byte first, without an end unit.
+ * A row with a text shows it, where it stands in the store; no byte is touched. A line, group or individual without one shows its number: it is
+ * written at the scratch's start (line digits, eight dialled digits, or six upper-case hex digits), and the scratch's other bytes stay.
+ * An empty status text is an empty part of the store.
+ * Where otap_row_number does not answer 0, the answer is 0 (an empty part) and no byte is touched. The store is only read.
+ * The part is good until the store or the scratch is next written: see "Screens" above.
+ * Unpack with otap_part_in_scratch, otap_part_offset, otap_part_length, or with otap_part_bytes.
+ */
+uint64_t otap_row_part(uint32_t table, uint32_t row,
+                       const uint8_t *store, size_t store_length,
+                       uint8_t *scratch, size_t scratch_length);
+
+/*
+ * Conversions of GA/T 1056-2013. Frequencies are in units of 100 Hz; a dialled number has eight digits.
+ * Unpack with otap_answer_number, otap_value; the value of a refusal is 0.
+ */
+uint64_t otap_individual_of_dialled(uint32_t dialled); /* 0: its address; 20 */
+uint64_t otap_group_of_dialled(uint32_t dialled);      /* 0: its address; 20 */
+uint64_t otap_dialled_of_individual(uint32_t address); /* 0: its dialled number; 21 */
+uint64_t otap_dialled_of_group(uint32_t address);      /* 0: its dialled number; 21 */
+uint64_t otap_transmit(uint32_t channel);              /* 0: the frequency to send on; 22 */
+uint64_t otap_receive(uint32_t channel);               /* 0: the frequency to listen on; 22 */
+uint64_t otap_channel_of_transmit(uint32_t frequency); /* 0: the channel that sends on it; 22 */
+
+/* Unpacking. */
+
+/* The number of an answer of otap_take, otap_export or a conversion; not of otap_row_part, which has none. */
+static inline uint32_t otap_answer_number(uint64_t answer)
+{
+    return (uint32_t)(answer & 0xFFu);
+}
+
+/* The place, from 1, of the first setting at fault; 0 if it is none of them. */
+static inline uint32_t otap_take_failed(uint64_t answer)
+{
+    return (uint32_t)((answer >> 8) & 0xFFu);
+}
+
+/* 1 if the reply is to be sent, else 0. */
+static inline int otap_take_send(uint64_t answer)
+{
+    return (int)((answer >> 16) & 1u);
+}
+
+/* 1 if the set is to start again, else 0. */
+static inline int otap_take_reboot(uint64_t answer)
+{
+    return (int)((answer >> 17) & 1u);
+}
+
+/* How many bytes of the reply buffer are the reply. */
+static inline size_t otap_take_reply_length(uint64_t answer)
+{
+    return (size_t)((answer >> 24) & 0xFFu);
+}
+
+/* How many bytes of the buffer are the request. */
+static inline size_t otap_export_length(uint64_t answer)
+{
+    return (size_t)((answer >> 16) & 0xFFFFu);
+}
+
+/* 1 if the part lies in the scratch, 0 if in the store. */
+static inline int otap_part_in_scratch(uint64_t part)
+{
+    return (int)(part & 1u);
+}
+
+/* The part's first byte. */
+static inline size_t otap_part_offset(uint64_t part)
+{
+    return (size_t)((part >> 16) & 0xFFFFu);
+}
+
+/* The part's length in bytes: twice its units. */
+static inline size_t otap_part_length(uint64_t part)
+{
+    return (size_t)((part >> 32) & 0xFFFFu);
+}
+
+/* The part's bytes, of the two buffers that otap_row_part was lent. */
+static inline const uint8_t *otap_part_bytes(uint64_t part, const uint8_t *store, const uint8_t *scratch)
+{
+    return (otap_part_in_scratch(part) ? scratch : store) + otap_part_offset(part);
+}
+
+/* The value of a conversion. */
+static inline uint32_t otap_value(uint64_t answer)
+{
+    return (uint32_t)((answer >> 8) & 0xFFFFFFFFu);
+}
+
+#ifdef __cplusplus
+}
+#endif
+
+#endif
