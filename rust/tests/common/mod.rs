@@ -1,6 +1,9 @@
 //! Small helpers shared by the tests; not every test file uses all of them.
 #![allow(dead_code)]
 
+#[cfg(not(without_archive))]
+pub mod pair;
+
 use otap::reference::message;
 use otap::reference::settings::{LineEntry, LineFlags, Operation, Setting, TextEntry};
 use otap::reference::tables::Set;
