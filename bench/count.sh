@@ -1,0 +1,24 @@
+#!/bin/sh
+# count.sh [NAME ...]: instructions of one call on each side, by callgrind; every call of `bench list` without names.
+here=$(cd "$(dirname "$0")" && pwd)
+command -v valgrind >/dev/null || { echo "valgrind is not here: instructions are not counted"; exit 0; }
+cargo build --release --quiet --manifest-path "$here/Cargo.toml" || exit 1
+bench=$here/target/release/bench
+FEW=5 MANY=55
+
+# count NAME SIDE CALLS: instructions of the whole program.
+count() {
+    valgrind --tool=callgrind --callgrind-out-file=/dev/null "$bench" one "$1" "$2" "$3" 2>&1 | sed -n 's/.*Collected : *//p'
+}
+
+# per_call NAME SIDE: what one more call adds, so that making ready is not counted.
+per_call() {
+    echo $((($(count "$1" "$2" $MANY) - $(count "$1" "$2" $FEW)) / (MANY - FEW)))
+}
+
+echo "| call | Rattle instructions | plain instructions | ratio |"
+echo "|---|---|---|---|"
+for name in ${*:-$("$bench" list)}; do
+    rattle=$(per_call "$name" rattle) plain=$(per_call "$name" plain)
+    awk -v n="$name" -v r="$rattle" -v p="$plain" 'BEGIN { printf "| %s | %d | %d | %.2f |\n", n, r, p, r / p }'
+done
