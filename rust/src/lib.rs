@@ -33,6 +33,8 @@ pub use store::{Part, Store, EXPORT_ROOM, LONGEST_MESSAGE, REPLY_ROOM, SCRATCH_R
 #[cfg(feature = "reference")]
 pub mod inputs;
 #[cfg(feature = "reference")]
+pub mod layout;
+#[cfg(feature = "reference")]
 pub mod programs;
 #[cfg(feature = "reference")]
 pub mod records;

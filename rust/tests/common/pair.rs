@@ -1,5 +1,6 @@
 //! A store behind the face and a set of the reference, which get the same calls and must stay alike.
 
+use otap::layout;
 use otap::reference::export::{export, Exported};
 use otap::reference::screen::{self, row_number, row_part, Shown};
 use otap::reference::tables::Set;
@@ -38,6 +39,10 @@ impl Pair {
         // Equal contents are equal bytes, so that one stays exactly where the other does.
         assert_eq!(self.bytes == bytes, self.set == set, "{message:02X?}");
         assert!(number == 0 || self.bytes == bytes, "refused, so the store stays");
+        assert!(
+            !is_store || self.bytes == layout::bytes(&self.set),
+            "the store's bytes after {message:02X?}"
+        );
         number
     }
 
