@@ -1,5 +1,5 @@
 #!/bin/sh
-# count.sh [NAME ...]: instructions of one call on each side, by callgrind; every call of `bench list` without names.
+# count.sh [NAME ...]: instructions of one call on each side of `bench`, by callgrind; every call of `bench list` without names.
 here=$(cd "$(dirname "$0")" && pwd)
 command -v valgrind >/dev/null || { echo "valgrind is not here: instructions are not counted"; exit 0; }
 cargo build --release --quiet --manifest-path "$here/Cargo.toml" || exit 1
@@ -16,9 +16,10 @@ per_call() {
     echo $((($(count "$1" "$2" $MANY) - $(count "$1" "$2" $FEW)) / (MANY - FEW)))
 }
 
-echo "| call | Rattle instructions | plain instructions | ratio |"
-echo "|---|---|---|---|"
+echo "| call | Rattle | plain | judged | to plain | to judged |"
+echo "|---|---|---|---|---|---|"
 for name in ${*:-$("$bench" list)}; do
-    rattle=$(per_call "$name" rattle) plain=$(per_call "$name" plain)
-    awk -v n="$name" -v r="$rattle" -v p="$plain" 'BEGIN { printf "| %s | %d | %d | %.2f |\n", n, r, p, r / p }'
+    rattle=$(per_call "$name" rattle) plain=$(per_call "$name" plain) judged=$(per_call "$name" judged)
+    awk -v n="$name" -v r="$rattle" -v p="$plain" -v j="$judged" \
+        'BEGIN { printf "| %s | %d | %d | %d | %.2f | %.2f |\n", n, r, p, j, r / p, r / j }'
 done

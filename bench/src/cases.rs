@@ -1,7 +1,8 @@
 //! What is measured: a name, a call, and the number that it must answer.
 
+use crate::conversions;
 use crate::messages;
-use crate::sides::{Call, Plain, Rattle, Side};
+use crate::sides::{Call, Judging, Plain, Rattle, Side};
 
 pub struct Case {
     pub name: String,
@@ -45,6 +46,9 @@ pub fn all() -> Vec<Case> {
     for (name, table, row) in ROWS {
         cases.push(case(format!("row-{name}"), Call::Row(table, row), 0));
     }
+    for (which, conversion) in conversions::ALL.iter().enumerate() {
+        cases.push(case(format!("{}-x100", conversion.name), Call::Convert(which), 0));
+    }
     cases
 }
 
@@ -66,4 +70,8 @@ pub fn rattle(case: &Case) -> Rattle {
 
 pub fn plain(case: &Case) -> Plain {
     ready(Plain::fresh(), case)
+}
+
+pub fn judging(case: &Case) -> Judging {
+    Judging::of(plain(case))
 }

@@ -1,7 +1,8 @@
 //! `bench`: times as a table. `bench stack`: stack depths. `bench list`: the names.
-//! `bench one NAME rattle|plain N`: one call N times, for counting instructions.
+//! `bench one NAME rattle|plain|judged N`: one call N times, for counting instructions.
 
 mod cases;
+mod conversions;
 mod messages;
 mod sides;
 mod stack;
@@ -25,7 +26,7 @@ fn main() -> ExitCode {
 }
 
 fn usage() -> ExitCode {
-    eprintln!("usage: bench [stack | list | one NAME rattle|plain N]");
+    eprintln!("usage: bench [stack | list | one NAME rattle|plain|judged N]");
     ExitCode::FAILURE
 }
 
@@ -37,11 +38,14 @@ fn one(name: &str, side: &str, calls: &str) -> ExitCode {
     match side {
         "rattle" => repeat(cases::rattle(&case), &case, calls),
         "plain" => repeat(cases::plain(&case), &case, calls),
+        "judged" => repeat(cases::judging(&case), &case, calls),
         _ => return usage(),
     }
     ExitCode::SUCCESS
 }
 
+/// Stands alone, so that a profiler can look at it only.
+#[inline(never)]
 fn repeat(mut side: impl Side, case: &Case, calls: u32) {
     for _ in 0..calls {
         std::hint::black_box(side.call(&case.call));

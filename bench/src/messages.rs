@@ -60,13 +60,22 @@ pub fn filling() -> Vec<Vec<u8>> {
     ]
 }
 
-/// The largest request that a count of 1 to 255 gives within 4,096 bytes.
+/// The largest request that a count of 1 to 255 gives within 4,096 bytes, found by halving.
 fn full(settings: impl Fn(usize) -> Vec<Vec<u8>>) -> Vec<u8> {
-    let fits = |settings: &Vec<Vec<u8>>| {
+    let fits = |count| {
+        let settings = settings(count);
         settings.len() <= 255 && HEAD + settings.iter().map(Vec::len).sum::<usize>() <= LONGEST
     };
-    let largest = (1..=255).map(settings).take_while(fits).last();
-    request(&largest.expect("one setting fits"))
+    let (mut good, mut bad) = (1, 256);
+    while bad - good > 1 {
+        let middle = (good + bad) / 2;
+        if fits(middle) {
+            good = middle;
+        } else {
+            bad = middle;
+        }
+    }
+    request(&settings(good))
 }
 
 fn repeated(count: usize, setting: Setting) -> Vec<Vec<u8>> {

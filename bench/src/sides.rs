@@ -1,5 +1,7 @@
 //! The same calls to the archive and to plain Rust.
 
+use crate::conversions;
+use otap::layout;
 use otap::reference::export::export;
 use otap::reference::screen::{row_part, Row};
 use otap::reference::tables::Set;
@@ -12,6 +14,8 @@ pub enum Call {
     Take(Vec<u8>),
     Export(u32),
     Row(u32, u32),
+    /// A hundred conversions, named by their place in `conversions::ALL`.
+    Convert(usize),
 }
 
 pub trait Side {
@@ -32,6 +36,13 @@ pub struct Plain {
     buffer: Vec<u8>,
 }
 
+/// The reference behind a plain check of a store's bytes, as firmware that trusts no flash would have it.
+#[derive(Clone, PartialEq)]
+pub struct Judging {
+    plain: Plain,
+    bytes: Vec<u8>,
+}
+
 impl Rattle {
     pub fn fresh() -> Rattle {
         let mut bytes = vec![0; STORE_SIZE];
@@ -43,6 +54,25 @@ impl Rattle {
 impl Plain {
     pub fn fresh() -> Plain {
         Plain { set: Set::default(), buffer: vec![0; EXPORT_ROOM] }
+    }
+}
+
+impl Judging {
+    /// The bytes are those of the set, and stay: every call leaves what it found.
+    pub fn of(plain: Plain) -> Judging {
+        let bytes = layout::bytes(&plain.set);
+        Judging { plain, bytes }
+    }
+}
+
+impl Side for Judging {
+    fn call(&mut self, call: &Call) -> u8 {
+        // A conversion has no store.
+        if matches!(call, Call::Convert(_)) || layout::is_store(black_box(&self.bytes)) {
+            self.plain.call(call)
+        } else {
+            11
+        }
     }
 }
 
@@ -62,6 +92,10 @@ impl Side for Rattle {
                 let shown = store.row(Table(black_box(*table)), black_box(*row), scratch);
                 black_box(shown).map_or_else(|refusal| refusal.number(), |_| 0)
             }
+            Call::Convert(which) => {
+                conversions::ALL[*which].rattle();
+                0
+            }
         }
     }
 }
@@ -78,6 +112,10 @@ impl Side for Plain {
             Call::Row(table, row) => {
                 let row = named(black_box(*table), black_box(*row) as usize);
                 black_box(row_part(row, true, &self.set, &mut self.buffer[..SCRATCH_ROOM]));
+                0
+            }
+            Call::Convert(which) => {
+                conversions::ALL[*which].plain();
                 0
             }
         }

@@ -1,6 +1,7 @@
 //! How deep each call goes: it runs on a painted stack, which is then looked through.
 
 use crate::cases;
+use crate::conversions;
 use crate::sides::{Call, Rattle, Side};
 use otap::inputs::Inputs;
 use otap::{Store, STORE_SIZE};
@@ -31,7 +32,6 @@ pub fn table() {
     }
     let mut bytes = vec![1; STORE_SIZE];
     note("start", depth(|| seen(Store::start(&mut bytes).is_ok())));
-    note("conversions", depth(conversions));
     note("nothing", depth(|| ()));
     println!("Deepest stack of each call through the face, in bytes; `nothing` is what the measurement itself takes.");
     println!();
@@ -45,18 +45,7 @@ fn call_name(call: &Call) -> &'static str {
         Call::Take(_) => "take",
         Call::Export(_) => "export",
         Call::Row(..) => "row",
-    }
-}
-
-fn conversions() {
-    for number in [0, 240, 641, 32_820_200, 32_820_900, 0x10_0001, 3_510_125, u32::MAX] {
-        seen(otap::individual_of_dialled(number));
-        seen(otap::group_of_dialled(number));
-        seen(otap::dialled_of_individual(otap::IndividualAddress(number)));
-        seen(otap::dialled_of_group(otap::GroupAddress(number)));
-        seen(otap::transmit(number));
-        seen(otap::receive(number));
-        seen(otap::channel_of_transmit(number));
+        Call::Convert(which) => conversions::ALL[*which].name,
     }
 }
 
