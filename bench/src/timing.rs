@@ -12,8 +12,8 @@ pub fn table() {
     println!("Rattle: the verified archive through the face. Plain: the reference in rust/src/reference, as it is.");
     println!("Judged: the same behind a plain check of the store's 12,288 bytes, which Rattle makes in every call too.");
     println!(
-        "All on a full store, warm, {BATCHES} batches of about {} ms in turn, median.",
-        BATCH.as_millis()
+        "All on a full store, warm, {BATCHES} batches of about {} us in turn, median.",
+        BATCH.as_micros()
     );
     println!("Every call leaves what it found, so each repetition starts from the same store without a copy.");
     println!("Plain works on tables, not on bytes: it reads bit by bit, allocates each text, clones its tables for a request.");
@@ -23,8 +23,9 @@ pub fn table() {
     println!("|---|---|---|---|---|---|---|");
     for case in cases::all() {
         let [rattle, plain, judged] = compare(&case);
+        let (to_plain, to_judged) = (ratio(&rattle, &plain), ratio(&rattle, &judged));
+        let [rattle, plain, judged] = [rattle, plain, judged].map(median);
         let length = message_length(&case).map_or(String::new(), |length| length.to_string());
-        let (to_plain, to_judged) = (rattle / plain, rattle / judged);
         let name = &case.name;
         println!("| {name} | {length} | {rattle:.0} | {plain:.0} | {judged:.0} | {to_plain:.2} | {to_judged:.2} |");
     }
@@ -37,7 +38,8 @@ fn message_length(case: &Case) -> Option<usize> {
     }
 }
 
-fn compare(case: &Case) -> [f64; 3] {
+/// The batches' times of each side, neighbours in time at the same place.
+fn compare(case: &Case) -> [Vec<f64>; 3] {
     let (mut rattle, mut plain, mut judging) =
         (cases::rattle(case), cases::plain(case), cases::judging(case));
     let sides: [&mut dyn Side; 3] = [&mut rattle, &mut plain, &mut judging];
@@ -47,7 +49,7 @@ fn compare(case: &Case) -> [f64; 3] {
             times.push(batch(*side, case, *calls));
         }
     }
-    sides.map(|(_, _, times)| median(times))
+    sides.map(|(_, _, times)| times)
 }
 
 /// Nanoseconds for one call.
@@ -65,6 +67,11 @@ fn calls_in_a_batch(side: &mut dyn Side, case: &Case) -> u32 {
         calls *= 2;
     }
     calls
+}
+
+/// Taken between neighbours, so that a machine which slows down meanwhile does not count.
+fn ratio(first: &[f64], second: &[f64]) -> f64 {
+    median(first.iter().zip(second).map(|(first, second)| first / second).collect())
 }
 
 fn median(mut times: Vec<f64>) -> f64 {
