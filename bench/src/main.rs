@@ -1,53 +1,27 @@
 //! `bench`: times as a table. `bench stack`: stack depths. `bench list`: the names.
 //! `bench one NAME rattle|plain|judged N`: one call N times, for counting instructions.
 
+#[cfg(target_arch = "x86_64")]
 mod cases;
+#[cfg(target_arch = "x86_64")]
 mod conversions;
+#[cfg(target_arch = "x86_64")]
 mod messages;
+#[cfg(target_arch = "x86_64")]
+mod program;
+#[cfg(target_arch = "x86_64")]
 mod sides;
+#[cfg(target_arch = "x86_64")]
 mod stack;
+#[cfg(target_arch = "x86_64")]
 mod timing;
 
-use cases::Case;
-use sides::Side;
-use std::process::ExitCode;
-
-fn main() -> ExitCode {
-    let words: Vec<String> = std::env::args().skip(1).collect();
-    let words: Vec<&str> = words.iter().map(String::as_str).collect();
-    match words[..] {
-        [] => timing::table(),
-        ["stack"] => stack::table(),
-        ["list"] => cases::all().iter().for_each(|case| println!("{}", case.name)),
-        ["one", name, side, calls] => return one(name, side, calls),
-        _ => return usage(),
-    }
-    ExitCode::SUCCESS
+#[cfg(target_arch = "x86_64")]
+fn main() -> std::process::ExitCode {
+    program::run()
 }
 
-fn usage() -> ExitCode {
-    eprintln!("usage: bench [stack | list | one NAME rattle|plain|judged N]");
-    ExitCode::FAILURE
-}
-
-fn one(name: &str, side: &str, calls: &str) -> ExitCode {
-    let case = cases::all().into_iter().find(|case| case.name == name);
-    let (Some(case), Ok(calls)) = (case, calls.parse()) else {
-        return usage();
-    };
-    match side {
-        "rattle" => repeat(cases::rattle(&case), &case, calls),
-        "plain" => repeat(cases::plain(&case), &case, calls),
-        "judged" => repeat(cases::judging(&case), &case, calls),
-        _ => return usage(),
-    }
-    ExitCode::SUCCESS
-}
-
-/// Stands alone, so that a profiler can look at it only.
-#[inline(never)]
-fn repeat(mut side: impl Side, case: &Case, calls: u32) {
-    for _ in 0..calls {
-        std::hint::black_box(side.call(&case.call));
-    }
+#[cfg(not(target_arch = "x86_64"))]
+fn main() {
+    println!("the archive is for x86-64: there is nothing to measure here");
 }

@@ -57,6 +57,11 @@ impl Refusal {
     pub(crate) fn from_number(number: u8) -> Refusal {
         LISTED.iter().find(|row| row.0 == number).map_or(Refusal::Unlisted(number), |row| row.1)
     }
+
+    /// As `from_number`, for the calls that answer nothing else.
+    pub(crate) fn from_word(number: u32) -> Refusal {
+        Refusal::from_number(u8::try_from(number).unwrap_or(u8::MAX))
+    }
 }
 
 impl fmt::Display for Refusal {

@@ -57,7 +57,7 @@ impl<'s> Store<'s> {
     pub fn start(bytes: &'s mut [u8]) -> Result<Store<'s>, Refusal> {
         match calls::start(bytes) {
             0 => Ok(Store { bytes }),
-            number => Err(Refusal::from_number(number as u8)),
+            number => Err(Refusal::from_word(number)),
         }
     }
 
@@ -143,6 +143,20 @@ impl<'s> Store<'s> {
     /// # Ok(())
     /// # }
     /// ```
+    ///
+    /// Nor does its other form: a scratch that is used again while a row in it is still held.
+    ///
+    /// ```compile_fail,E0499
+    /// # use otap::{Store, Table, SCRATCH_ROOM, STORE_SIZE};
+    /// # fn main() -> Result<(), otap::Refusal> {
+    /// # let (mut bytes, mut scratch) = ([0; STORE_SIZE], [0; SCRATCH_ROOM]);
+    /// # let store = Store::start(&mut bytes)?;
+    /// let first = store.row(Table::GROUPS, 0, &mut scratch)?;
+    /// let second = store.row(Table::GROUPS, 1, &mut scratch)?;
+    /// assert_eq!(first.bytes(), second.bytes());
+    /// # Ok(())
+    /// # }
+    /// ```
     pub fn row<'a>(
         &'a self,
         table: Table,
@@ -161,7 +175,7 @@ impl<'s> Store<'s> {
     pub fn check_row(&self, table: Table, row: u32, scratch: &[u8]) -> Result<(), Refusal> {
         match calls::row_number(table.0, row, self.bytes, scratch) {
             0 => Ok(()),
-            number => Err(Refusal::from_number(number as u8)),
+            number => Err(Refusal::from_word(number)),
         }
     }
 }
