@@ -1,8 +1,10 @@
-//! `bench`: times as a table. `bench stack`: stack depths. `bench list`: the names.
+//! `bench`: times as a table. `bench stack`: stack depths. `bench check`: the store's check in parts. `bench list`: the names.
 //! `bench one NAME rattle|plain|judged N`: one call N times, for counting instructions.
 
 #[cfg(target_arch = "x86_64")]
 mod cases;
+#[cfg(target_arch = "x86_64")]
+mod check;
 #[cfg(target_arch = "x86_64")]
 mod conversions;
 #[cfg(target_arch = "x86_64")]

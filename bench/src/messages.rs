@@ -12,7 +12,7 @@ use otap::reference::settings::{
 const HASH: Hash = Hash::Stamped([1, 2, 3, 4, 5, 6, 7, 8, 9, 10]);
 const HEAD: usize = 8;
 
-/// A name for each kind, and a request full of it.
+/// A name for each kind, and a request full of it; at the end the two with the most to look for.
 pub fn of_each_kind() -> Vec<(&'static str, Vec<u8>)> {
     vec![
         ("lines", full(|count| lines(count, Operation::Replace))),
@@ -28,6 +28,8 @@ pub fn of_each_kind() -> Vec<(&'static str, Vec<u8>)> {
         ("groups", full(|count| (0..count).map(|place| group(place, 16)).collect())),
         ("individuals", full(|count| (0..count).map(|place| individual(place, 16)).collect())),
         ("last-item", request(&[last()])),
+        ("lines-deleted", deleted_lines()),
+        ("channels-deleted", deleted_channels()),
     ]
 }
 
@@ -100,6 +102,21 @@ fn line_setting(operation: Operation, entries: Vec<LineEntry>) -> Vec<u8> {
 
 fn lines(count: usize, operation: Operation) -> Vec<Vec<u8>> {
     vec![line_setting(operation, (0..count).map(|place| line(place, 16)).collect())]
+}
+
+/// As many deletes as fit of a number that comes close to all 32 and is none of them.
+fn deleted_lines() -> Vec<u8> {
+    let absent = LineEntry { digits: vec![7; 18], text: Text::new() };
+    let settings =
+        [255, 84].map(|count| line_setting(Operation::Delete, vec![absent.clone(); count]));
+    request(&settings)
+}
+
+/// As many deletes as fit of a channel that is not there.
+fn deleted_channels() -> Vec<u8> {
+    let setting =
+        |count| Setting::Channels { operation: Operation::Delete, channels: vec![640; count] };
+    request(&[1_023, 1_023, 668].map(|count| setting(count).write()))
 }
 
 fn key() -> Setting {

@@ -2,7 +2,7 @@
 
 use crate::cases::{self, Case};
 use crate::sides::Side;
-use crate::{stack, timing};
+use crate::{check, stack, timing};
 use std::process::ExitCode;
 
 pub fn run() -> ExitCode {
@@ -11,6 +11,7 @@ pub fn run() -> ExitCode {
     match words[..] {
         [] => timing::table(),
         ["stack"] => stack::table(),
+        ["check"] => check::table(),
         ["list"] => cases::all().iter().for_each(|case| println!("{}", case.name)),
         ["one", name, side, calls] => return one(name, side, calls),
         _ => return usage(),
@@ -19,7 +20,7 @@ pub fn run() -> ExitCode {
 }
 
 fn usage() -> ExitCode {
-    eprintln!("usage: bench [stack | list | one NAME rattle|plain|judged N]");
+    eprintln!("usage: bench [stack | check | list | one NAME rattle|plain|judged N]");
     ExitCode::FAILURE
 }
 

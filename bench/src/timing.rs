@@ -74,7 +74,7 @@ fn ratio(first: &[f64], second: &[f64]) -> f64 {
     median(first.iter().zip(second).map(|(first, second)| first / second).collect())
 }
 
-fn median(mut times: Vec<f64>) -> f64 {
+pub fn median(mut times: Vec<f64>) -> f64 {
     times.sort_by(f64::total_cmp);
     times[times.len() / 2]
 }
