@@ -5,7 +5,7 @@ mod common;
 
 use common::pair::{number_of, patterned, Pair};
 use otap::inputs::calls::{Call, Calls};
-use otap::{Refusal, Store, EXPORT_ROOM, REPLY_ROOM, SCRATCH_ROOM, STORE_SIZE};
+use otap::{Store, EXPORT_ROOM, REPLY_ROOM, SCRATCH_ROOM, STORE_SIZE};
 use std::collections::BTreeMap;
 
 const SIZES: [usize; 8] = [0, 1, 35, 4_096, 12_287, 12_289, 24_576, 65_536];
@@ -88,12 +88,4 @@ fn short_buffers_come_first() {
             }
         }
     }
-}
-
-#[test]
-fn refusals_have_names_and_numbers() {
-    let mut bytes = [0; 3];
-    let refusal = Store::start(&mut bytes).expect_err("three bytes are no store");
-    assert_eq!((refusal, refusal.number()), (Refusal::NotAStore, 11));
-    assert_eq!(refusal.to_string(), "11: the bytes lent are not a store");
 }
