@@ -1,5 +1,6 @@
 //! Messages to try an implementation with: seeded, of every kind, for one set as it grows.
 
+pub mod calls;
 pub mod damage;
 pub mod draft;
 pub mod maker;

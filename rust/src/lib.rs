@@ -1,6 +1,42 @@
-//! An independent plain-Rust implementation of document 01, and messages to try it with.
+//! Over-the-air settings of a PDT radio (document 01).
+//!
+//! At the root stands the safe face of the verified archive: a [`Store`] over bytes that the
+//! firmware lends, and the conversions of numbers, addresses and channels. It needs no std.
+//! With the feature `reference`, which is on by default, there is also an independent reading of
+//! document 01 in plain Rust, with messages to try either one with.
+#![cfg_attr(not(feature = "reference"), no_std)]
+#![deny(unsafe_code)]
 
+#[cfg(not(without_archive))]
+mod answer;
+#[cfg(not(without_archive))]
+mod calls;
+#[cfg(not(without_archive))]
+mod conversions;
+#[cfg(not(without_archive))]
+mod row;
+#[cfg(not(without_archive))]
+mod store;
+
+#[cfg(not(without_archive))]
+pub use answer::{Answer, Outcome, Refusal};
+#[cfg(not(without_archive))]
+pub use conversions::{
+    channel_of_transmit, dialled_of_group, dialled_of_individual, group_of_dialled,
+    individual_of_dialled, receive, transmit, GroupAddress, IndividualAddress,
+};
+#[cfg(not(without_archive))]
+pub use row::{Row, Slice, Table};
+#[cfg(not(without_archive))]
+pub use store::{Part, Store, EXPORT_ROOM, LONGEST_MESSAGE, REPLY_ROOM, SCRATCH_ROOM, STORE_SIZE};
+
+#[cfg(feature = "reference")]
 pub mod inputs;
+#[cfg(feature = "reference")]
+pub mod layout;
+#[cfg(feature = "reference")]
 pub mod programs;
+#[cfg(feature = "reference")]
 pub mod records;
+#[cfg(feature = "reference")]
 pub mod reference;

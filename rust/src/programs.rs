@@ -15,7 +15,8 @@ pub fn take_prints(input: &[u8]) -> String {
             Record::Cut => out.push_str("cut\n"),
             Record::Whole { kind, message } => {
                 let answer = take(message, &mut set, &mut [0; 20]);
-                writeln!(out, "{kind} {} {}", answer.number, answer.failed).expect("a string takes every line");
+                writeln!(out, "{kind} {} {}", answer.number, answer.failed)
+                    .expect("a string takes every line");
             }
         }
     }

@@ -1,9 +1,10 @@
 //! The generator reaches every number a message can come to, and every table's edge.
+#![cfg(feature = "reference")]
 
-use pdt_reference::inputs::{Inputs, LONGEST_INPUT};
-use pdt_reference::reference::message::LONGEST;
-use pdt_reference::reference::tables::Set;
-use pdt_reference::reference::take::take;
+use otap::inputs::{Inputs, LONGEST_INPUT};
+use otap::reference::message::LONGEST;
+use otap::reference::tables::Set;
+use otap::reference::take::take;
 use std::collections::BTreeMap;
 
 const SEEDS: u64 = 200;

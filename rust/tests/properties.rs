@@ -1,18 +1,19 @@
 //! Properties of the reference itself: conversions both ways, writing and reading, exports.
+#![cfg(feature = "reference")]
 
 mod common;
 
 use common::{number_in, request, taken, units};
-use pdt_reference::inputs::random::Random;
-use pdt_reference::inputs::Inputs;
-use pdt_reference::reference::export::{export, part_bytes, Exported, EXPORT_ROOM, PARTS};
-use pdt_reference::reference::message::LONGEST;
-use pdt_reference::reference::numbers::*;
-use pdt_reference::reference::plan::*;
-use pdt_reference::reference::screen::{row_number, row_part, Row, Shown};
-use pdt_reference::reference::settings::{parse, Operation};
-use pdt_reference::reference::tables::Set;
-use pdt_reference::reference::take::take;
+use otap::inputs::random::Random;
+use otap::inputs::Inputs;
+use otap::reference::export::{export, part_bytes, Exported, EXPORT_ROOM, PARTS};
+use otap::reference::message::LONGEST;
+use otap::reference::numbers::*;
+use otap::reference::plan::*;
+use otap::reference::screen::{row_number, row_part, Row, Shown};
+use otap::reference::settings::{parse, Operation};
+use otap::reference::tables::Set;
+use otap::reference::take::take;
 use std::collections::HashSet;
 
 #[test]

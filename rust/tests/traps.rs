@@ -1,13 +1,14 @@
 //! Document 01's traps and the readings, each as the smallest message that falls into it.
+#![cfg(feature = "reference")]
 
 mod common;
 
 use common::*;
-use pdt_reference::reference::message::{query, Hash};
-use pdt_reference::reference::numbers::*;
-use pdt_reference::reference::settings::Operation::{Add, Delete, Replace};
-use pdt_reference::reference::tables::Set;
-use pdt_reference::reference::take::{take, take_from, Answer};
+use otap::reference::message::{query, Hash};
+use otap::reference::numbers::*;
+use otap::reference::settings::Operation::{Add, Delete, Replace};
+use otap::reference::tables::Set;
+use otap::reference::take::{take, take_from, Answer};
 
 const HOME: &str = "CD 00 05 00 00 00";
 

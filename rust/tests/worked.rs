@@ -1,14 +1,15 @@
 //! Document 01's worked examples 1 to 12, and the input of its program `take`.
+#![cfg(feature = "reference")]
 
 mod common;
 
 use common::{bytes, lines_add, number_of, request, taken};
-use pdt_reference::records::{Record, Records};
-use pdt_reference::reference::numbers::*;
-use pdt_reference::reference::plan::*;
-use pdt_reference::reference::settings::{parse, Fault, HomeNumbers, Setting};
-use pdt_reference::reference::tables::Set;
-use pdt_reference::reference::take::{take, Answer};
+use otap::records::{Record, Records};
+use otap::reference::numbers::*;
+use otap::reference::plan::*;
+use otap::reference::settings::{parse, Fault, HomeNumbers, Setting};
+use otap::reference::tables::Set;
+use otap::reference::take::{take, Answer};
 
 #[test]
 fn examples_1_to_4_individual_numbers() {

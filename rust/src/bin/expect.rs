@@ -5,5 +5,5 @@ use std::io::{self, Read, Write};
 fn main() -> io::Result<()> {
     let mut input = Vec::new();
     io::stdin().read_to_end(&mut input)?;
-    io::stdout().write_all(pdt_reference::programs::take_prints(&input).as_bytes())
+    io::stdout().write_all(otap::programs::take_prints(&input).as_bytes())
 }

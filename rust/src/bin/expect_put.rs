@@ -5,5 +5,5 @@ use std::io::{self, Read, Write};
 fn main() -> io::Result<()> {
     let mut input = Vec::new();
     io::stdin().read_to_end(&mut input)?;
-    io::stdout().write_all(&pdt_reference::programs::put_writes(&input))
+    io::stdout().write_all(&otap::programs::put_writes(&input))
 }

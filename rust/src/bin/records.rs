@@ -1,7 +1,7 @@
 //! `records SEED COUNT`: writes COUNT records, a sequence for one fresh set.
 
-use pdt_reference::inputs::Inputs;
-use pdt_reference::records::push_record;
+use otap::inputs::Inputs;
+use otap::records::push_record;
 use std::io::{self, Write};
 use std::process::ExitCode;
 

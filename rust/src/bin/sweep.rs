@@ -1,7 +1,7 @@
 //! `sweep BASE`: writes records with every one-byte change of one small message.
 
-use pdt_reference::inputs::sweep::{sweep, BASES};
-use pdt_reference::records::push_record;
+use otap::inputs::sweep::{sweep, BASES};
+use otap::records::push_record;
 use std::io::{self, Write};
 use std::process::ExitCode;
 

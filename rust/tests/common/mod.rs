@@ -1,10 +1,13 @@
 //! Small helpers shared by the tests; not every test file uses all of them.
 #![allow(dead_code)]
 
-use pdt_reference::reference::message;
-use pdt_reference::reference::settings::{LineEntry, LineFlags, Operation, Setting, TextEntry};
-use pdt_reference::reference::tables::Set;
-use pdt_reference::reference::take::take;
+#[cfg(not(without_archive))]
+pub mod pair;
+
+use otap::reference::message;
+use otap::reference::settings::{LineEntry, LineFlags, Operation, Setting, TextEntry};
+use otap::reference::tables::Set;
+use otap::reference::take::take;
 
 pub fn bytes(hex: &str) -> Vec<u8> {
     hex.split_whitespace()

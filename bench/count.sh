@@ -1,0 +1,26 @@
+#!/bin/sh
+# count.sh [NAME ...]: instructions of one call on each side of `bench`, by callgrind; every call of `bench list` without names.
+here=$(cd "$(dirname "$0")" && pwd)
+[ "$(uname -m)" = x86_64 ] || { echo "the archive is for x86-64: instructions are not counted here"; exit 0; }
+command -v valgrind >/dev/null || { echo "valgrind is not here: instructions are not counted"; exit 0; }
+cargo build --release --quiet --manifest-path "$here/Cargo.toml" || exit 1
+bench=$here/target/release/bench
+FEW=5 MANY=55
+
+# count NAME SIDE CALLS: instructions of the whole program.
+count() {
+    valgrind --tool=callgrind --callgrind-out-file=/dev/null "$bench" one "$1" "$2" "$3" 2>&1 | sed -n 's/.*Collected : *//p'
+}
+
+# per_call NAME SIDE: what one more call adds, so that making ready is not counted.
+per_call() {
+    echo $((($(count "$1" "$2" $MANY) - $(count "$1" "$2" $FEW)) / (MANY - FEW)))
+}
+
+echo "| call | Rattle | plain | judged | to plain | to judged |"
+echo "|---|---|---|---|---|---|"
+for name in ${*:-$("$bench" list)}; do
+    rattle=$(per_call "$name" rattle) plain=$(per_call "$name" plain) judged=$(per_call "$name" judged)
+    awk -v n="$name" -v r="$rattle" -v p="$plain" -v j="$judged" \
+        'BEGIN { printf "| %s | %d | %d | %d | %.2f | %.2f |\n", n, r, p, j, r / p, r / j }'
+done

@@ -1,0 +1,77 @@
+//! What is measured: a name, a call, and the number that it must answer.
+
+use crate::conversions;
+use crate::messages;
+use crate::sides::{Call, Judging, Plain, Rattle, Side};
+
+pub struct Case {
+    pub name: String,
+    pub call: Call,
+    pub number: u8,
+}
+
+const PARTS: [&str; 7] = [
+    "lines",
+    "key-home-system",
+    "quick-texts",
+    "channels",
+    "status-texts",
+    "groups",
+    "individuals",
+];
+
+/// Last rows have a text; the rows before them have none, where a number is written.
+const ROWS: [(&str, u32, u32); 8] = [
+    ("line-text", 1, 31),
+    ("line-number", 1, 30),
+    ("quick-text", 2, 63),
+    ("status-text", 3, 127),
+    ("group-text", 4, 15),
+    ("group-number", 4, 14),
+    ("individual-text", 5, 15),
+    ("individual-number", 5, 14),
+];
+
+pub fn all() -> Vec<Case> {
+    let case = |name: String, call, number| Case { name, call, number };
+    let mut cases = Vec::new();
+    for (kind, message) in messages::of_each_kind() {
+        cases.push(case(format!("take-{kind}"), Call::Take(message), 0));
+    }
+    cases.push(case("take-refused".into(), Call::Take(messages::refused()), 4));
+    cases.push(case("take-query".into(), Call::Take(messages::matching_query()), 0));
+    for (part, name) in (1..).zip(PARTS) {
+        cases.push(case(format!("export-{name}"), Call::Export(part), 0));
+    }
+    for (name, table, row) in ROWS {
+        cases.push(case(format!("row-{name}"), Call::Row(table, row), 0));
+    }
+    for (which, conversion) in conversions::ALL.iter().enumerate() {
+        cases.push(case(format!("{}-x100", conversion.name), Call::Convert(which), 0));
+    }
+    cases
+}
+
+/// A full store, after the case's own call has been made once where it changes anything.
+pub fn ready<S: Side + Clone + PartialEq>(mut side: S, case: &Case) -> S {
+    for message in messages::filling() {
+        assert_eq!(side.call(&Call::Take(message)), 0);
+    }
+    assert_eq!(side.call(&case.call), case.number, "{}", case.name);
+    let once = side.clone();
+    assert_eq!(side.call(&case.call), case.number, "{}", case.name);
+    assert!(side == once, "{}: the second call leaves what the first left", case.name);
+    side
+}
+
+pub fn rattle(case: &Case) -> Rattle {
+    ready(Rattle::fresh(), case)
+}
+
+pub fn plain(case: &Case) -> Plain {
+    ready(Plain::fresh(), case)
+}
+
+pub fn judging(case: &Case) -> Judging {
+    Judging::of(plain(case))
+}

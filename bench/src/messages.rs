@@ -1,0 +1,182 @@
+//! Requests of at most 4,096 bytes, each full of one kind of setting.
+//!
+//! Taken twice, each leaves what it left the first time, so that every repetition starts from the same store.
+
+use otap::reference::message::{query, request, Hash, LONGEST};
+use otap::reference::plan::{GroupAddress, IndividualAddress};
+use otap::reference::settings::{
+    EmergencyKey, GroupSlot, HomeNumbers, IndividualSlot, LastItem, LineEntry, LineFlags,
+    Operation, Setting, SystemCode, Text, TextEntry,
+};
+
+const HASH: Hash = Hash::Stamped([1, 2, 3, 4, 5, 6, 7, 8, 9, 10]);
+const HEAD: usize = 8;
+
+/// A name for each kind, and a request full of it; at the end the two with the most to look for.
+pub fn of_each_kind() -> Vec<(&'static str, Vec<u8>)> {
+    vec![
+        ("lines", full(|count| lines(count, Operation::Replace))),
+        ("emergency-key", full(|count| repeated(count, key()))),
+        ("quick-texts", full(quick_texts)),
+        (
+            "home-numbers",
+            full(|count| repeated(count, Setting::Home(HomeNumbers { nzi: 15, np: 806 }))),
+        ),
+        ("channels", full(channels)),
+        ("system-code", full(|count| repeated(count, system()))),
+        ("status-texts", full(|count| status_texts(count, Operation::Replace))),
+        ("groups", full(|count| (0..count).map(|place| group(place, 16)).collect())),
+        ("individuals", full(|count| (0..count).map(|place| individual(place, 16)).collect())),
+        ("last-item", request(&[last()])),
+        ("lines-deleted", deleted_lines()),
+        ("channels-deleted", deleted_channels()),
+    ]
+}
+
+/// As the request full of groups, with a fault in the last one.
+pub fn refused() -> Vec<u8> {
+    let mut message = full(|count| (0..count).map(|place| group(place, 16)).collect());
+    let operation = message.len() - group(0, 16).len() + 3;
+    // Attribute 00 is out of range.
+    message[operation] &= 0b1100_1111;
+    message
+}
+
+pub fn matching_query() -> Vec<u8> {
+    query(&HASH)
+}
+
+/// What fills every table; the last row but one of lines, groups and individuals has no text.
+pub fn filling() -> Vec<Vec<u8>> {
+    let slots = |of: fn(usize, usize) -> Vec<u8>| {
+        (0..16).map(|place| of(place, if place == 14 { 0 } else { 16 })).collect::<Vec<_>>()
+    };
+    let mut nameless = lines(32, Operation::Replace);
+    nameless.push(line_setting(Operation::Add, vec![line(30, 0)]));
+    vec![
+        request(&nameless),
+        request(&quick_texts(64)),
+        request(&status_texts(96, Operation::Replace)),
+        request(&[slots(group), slots(individual)].concat()),
+        request(&[channels(1), vec![key().write(), system().write(), last()]].concat()),
+    ]
+}
+
+/// The largest request that a count of 1 to 255 gives within 4,096 bytes, found by halving.
+fn full(settings: impl Fn(usize) -> Vec<Vec<u8>>) -> Vec<u8> {
+    let fits = |count| {
+        let settings = settings(count);
+        settings.len() <= 255 && HEAD + settings.iter().map(Vec::len).sum::<usize>() <= LONGEST
+    };
+    let (mut good, mut bad) = (1, 256);
+    while bad - good > 1 {
+        let middle = (good + bad) / 2;
+        if fits(middle) {
+            good = middle;
+        } else {
+            bad = middle;
+        }
+    }
+    request(&settings(good))
+}
+
+fn repeated(count: usize, setting: Setting) -> Vec<Vec<u8>> {
+    vec![setting.write(); count]
+}
+
+fn text(length: usize) -> Text {
+    (0..length).map(|place| 0x4E00 + place as u16).collect()
+}
+
+/// Eighteen digits, one of 32 numbers.
+fn line(place: usize, units: usize) -> LineEntry {
+    let mut digits = vec![7; 18];
+    digits[16] = (place % 32 / 10) as u8;
+    digits[17] = (place % 32 % 10) as u8;
+    LineEntry { digits, text: text(units) }
+}
+
+fn line_setting(operation: Operation, entries: Vec<LineEntry>) -> Vec<u8> {
+    Setting::Lines { operation, flags: LineFlags::default(), entries }.write()
+}
+
+fn lines(count: usize, operation: Operation) -> Vec<Vec<u8>> {
+    vec![line_setting(operation, (0..count).map(|place| line(place, 16)).collect())]
+}
+
+/// As many deletes as fit of a number that comes close to all 32 and is none of them.
+fn deleted_lines() -> Vec<u8> {
+    let absent = LineEntry { digits: vec![7; 18], text: Text::new() };
+    let settings =
+        [255, 84].map(|count| line_setting(Operation::Delete, vec![absent.clone(); count]));
+    request(&settings)
+}
+
+/// As many deletes as fit of a channel that is not there.
+fn deleted_channels() -> Vec<u8> {
+    let setting =
+        |count| Setting::Channels { operation: Operation::Delete, channels: vec![640; count] };
+    request(&[1_023, 1_023, 668].map(|count| setting(count).write()))
+}
+
+fn key() -> Setting {
+    Setting::Emergency(EmergencyKey { address: Some(0x10_0001), ..EmergencyKey::default() })
+}
+
+fn system() -> Setting {
+    Setting::System(SystemCode { lai: 0x123, la: 8, roaming: 2, par: true })
+}
+
+/// A replace of the first 63, and adds for the others.
+fn quick_texts(count: usize) -> Vec<Vec<u8>> {
+    let entries: Vec<_> =
+        (0..count).map(|place| TextEntry { key: place as u8 % 64, text: text(23) }).collect();
+    let operation = |place| if place == 0 { Operation::Replace } else { Operation::Add };
+    (0..)
+        .zip(entries.chunks(63))
+        .map(|(place, chunk)| {
+            Setting::QuickTexts { operation: operation(place), entries: chunk.to_vec() }.write()
+        })
+        .collect()
+}
+
+/// Replaces of 64 channels each, since no more have room.
+fn channels(count: usize) -> Vec<Vec<u8>> {
+    let channels = (0..64).map(|place| 241 + place * 6).collect();
+    repeated(count, Setting::Channels { operation: Operation::Replace, channels })
+}
+
+fn status_texts(count: usize, operation: Operation) -> Vec<Vec<u8>> {
+    let entries =
+        (0..count).map(|place| TextEntry { key: 32 + place as u8 % 96, text: text(16) }).collect();
+    vec![Setting::StatusTexts { operation, entries }.write()]
+}
+
+fn group(place: usize, units: usize) -> Vec<u8> {
+    let slot = GroupSlot {
+        attribute: 1,
+        broadcast: false,
+        encryption: true,
+        ovcm: false,
+        emergency: true,
+        priority: 2,
+        address: GroupAddress(0x10_0001 + place as u32 % 16),
+        text: text(units),
+    };
+    Setting::Group { index: place as u8 % 16, slot: Some(slot) }.write()
+}
+
+fn individual(place: usize, units: usize) -> Vec<u8> {
+    let slot = IndividualSlot {
+        encryption: true,
+        emergency: false,
+        priority: 1,
+        address: IndividualAddress(0x10_0001 + place as u32 % 16),
+        text: text(units),
+    };
+    Setting::Individual { index: place as u8 % 16, slot: Some(slot) }.write()
+}
+
+fn last() -> Vec<u8> {
+    Setting::Last(LastItem { reboot: false, reply: true, hash: HASH }).write()
+}

@@ -1,0 +1,133 @@
+//! The same calls to the archive and to plain Rust.
+
+use crate::conversions;
+use otap::layout;
+use otap::reference::export::export;
+use otap::reference::screen::{row_part, Row};
+use otap::reference::tables::Set;
+use otap::reference::take::take;
+use otap::{Part, Store, Table, EXPORT_ROOM, REPLY_ROOM, SCRATCH_ROOM, STORE_SIZE};
+use std::hint::black_box;
+
+#[derive(Clone)]
+pub enum Call {
+    Take(Vec<u8>),
+    Export(u32),
+    Row(u32, u32),
+    /// A hundred conversions, named by their place in `conversions::ALL`.
+    Convert(usize),
+}
+
+pub trait Side {
+    fn call(&mut self, call: &Call) -> u8;
+}
+
+/// The verified archive through the face.
+#[derive(Clone, PartialEq)]
+pub struct Rattle {
+    pub bytes: Vec<u8>,
+    buffer: Vec<u8>,
+}
+
+/// The reference.
+#[derive(Clone, PartialEq)]
+pub struct Plain {
+    set: Set,
+    buffer: Vec<u8>,
+}
+
+/// The reference behind a plain check of a store's bytes, as firmware that trusts no flash would have it.
+#[derive(Clone, PartialEq)]
+pub struct Judging {
+    plain: Plain,
+    bytes: Vec<u8>,
+}
+
+impl Rattle {
+    pub fn fresh() -> Rattle {
+        let mut bytes = vec![0; STORE_SIZE];
+        Store::start(&mut bytes).expect("the size is right");
+        Rattle { bytes, buffer: vec![0; EXPORT_ROOM] }
+    }
+}
+
+impl Plain {
+    pub fn fresh() -> Plain {
+        Plain { set: Set::default(), buffer: vec![0; EXPORT_ROOM] }
+    }
+}
+
+impl Judging {
+    /// The bytes are those of the set, and stay: every call leaves what it found.
+    pub fn of(plain: Plain) -> Judging {
+        let bytes = layout::bytes(&plain.set);
+        Judging { plain, bytes }
+    }
+}
+
+impl Side for Judging {
+    fn call(&mut self, call: &Call) -> u8 {
+        // A conversion has no store.
+        if matches!(call, Call::Convert(_)) || layout::is_store(black_box(&self.bytes)) {
+            self.plain.call(call)
+        } else {
+            11
+        }
+    }
+}
+
+impl Side for Rattle {
+    fn call(&mut self, call: &Call) -> u8 {
+        let mut store = Store::lent(&mut self.bytes);
+        match call {
+            Call::Take(message) => {
+                store.take(black_box(message), &mut self.buffer[..REPLY_ROOM]).number()
+            }
+            Call::Export(part) => {
+                let exported = store.export(Part(black_box(*part)), &mut self.buffer);
+                exported.map_or_else(|refusal| refusal.number(), |_| 0)
+            }
+            Call::Row(table, row) => {
+                let scratch = &mut self.buffer[..SCRATCH_ROOM];
+                let shown = store.row(Table(black_box(*table)), black_box(*row), scratch);
+                black_box(shown).map_or_else(|refusal| refusal.number(), |_| 0)
+            }
+            Call::Convert(which) => {
+                conversions::ALL[*which].rattle();
+                0
+            }
+        }
+    }
+}
+
+impl Side for Plain {
+    fn call(&mut self, call: &Call) -> u8 {
+        match call {
+            Call::Take(message) => {
+                take(black_box(message), &mut self.set, &mut self.buffer[..REPLY_ROOM]).number
+            }
+            Call::Export(part) => {
+                export(black_box(*part) as u8, true, &self.set, &mut self.buffer).number
+            }
+            Call::Row(table, row) => {
+                let row = named(black_box(*table), black_box(*row) as usize);
+                black_box(row_part(row, true, &self.set, &mut self.buffer[..SCRATCH_ROOM]));
+                0
+            }
+            Call::Convert(which) => {
+                conversions::ALL[*which].plain();
+                0
+            }
+        }
+    }
+}
+
+fn named(table: u32, row: usize) -> Row {
+    match table {
+        1 => Row::Line(row),
+        2 => Row::Quick(row),
+        3 => Row::Status(row),
+        4 => Row::Group(row),
+        _ => Row::Individual(row),
+    }
+}

@@ -1,0 +1,77 @@
+//! How deep each call goes: it runs on a painted stack, which is then looked through.
+
+use crate::cases;
+use crate::conversions;
+use crate::sides::{Call, Rattle, Side};
+use otap::inputs::Inputs;
+use otap::{Store, STORE_SIZE};
+use std::arch::asm;
+use std::collections::BTreeMap;
+use std::hint::black_box;
+
+const ROOM: usize = 256 * 1024;
+const PAINT: u8 = 0xC3;
+
+pub fn table() {
+    let mut deepest = BTreeMap::new();
+    let mut note = |name: &'static str, depth: usize| {
+        let most = deepest.entry(name).or_insert(0);
+        *most = depth.max(*most);
+    };
+    for case in cases::all() {
+        let mut rattle = cases::rattle(&case);
+        note(call_name(&case.call), depth(|| seen(rattle.call(&case.call))));
+    }
+    for seed in 0..20 {
+        let mut inputs = Inputs::new(seed);
+        let mut rattle = Rattle::fresh();
+        for _ in 0..100 {
+            let call = Call::Take(inputs.message());
+            note("take", depth(|| seen(rattle.call(&call))));
+        }
+    }
+    let mut bytes = vec![1; STORE_SIZE];
+    note("start", depth(|| seen(Store::start(&mut bytes).is_ok())));
+    note("nothing", depth(|| ()));
+    println!("Deepest stack of each call through the face, in bytes; `nothing` is what the measurement itself takes.");
+    println!();
+    println!("| call | bytes |");
+    println!("|---|---|");
+    deepest.iter().for_each(|(name, depth)| println!("| {name} | {depth} |"));
+}
+
+fn call_name(call: &Call) -> &'static str {
+    match call {
+        Call::Take(_) => "take",
+        Call::Export(_) => "export",
+        Call::Row(..) => "row",
+        Call::Convert(which) => conversions::ALL[*which].name,
+    }
+}
+
+/// Keeps the compiler from leaving a call out.
+fn seen<T>(answer: T) {
+    black_box(answer);
+}
+
+/// Bytes of stack that the work wrote below its own entry.
+fn depth<F: FnMut()>(mut work: F) -> usize {
+    let mut stack = vec![PAINT; ROOM];
+    let top = (stack.as_mut_ptr() as usize + ROOM) & !15;
+    // SAFETY: `enter` gets a live closure of its own type and a stack of its own, large enough for every call.
+    unsafe {
+        asm!(
+            "mov r12, rsp", "mov rsp, {top}", "call {enter}", "mov rsp, r12",
+            top = in(reg) top,
+            enter = in(reg) enter::<F> as *const (),
+            in("rdi") &mut work,
+            out("r12") _,
+            clobber_abi("C"),
+        );
+    }
+    top - stack.as_ptr() as usize - stack.iter().take_while(|&&byte| byte == PAINT).count()
+}
+
+extern "C" fn enter<F: FnMut()>(work: &mut F) {
+    work();
+}

@@ -1,0 +1,80 @@
+//! Median times of both sides, in one process and in turn.
+
+use crate::cases::{self, Case};
+use crate::sides::{Call, Side};
+use std::hint::black_box;
+use std::time::{Duration, Instant};
+
+const BATCHES: usize = 101;
+const BATCH: Duration = Duration::from_micros(300);
+
+pub fn table() {
+    println!("Rattle: the verified archive through the face. Plain: the reference in rust/src/reference, as it is.");
+    println!("Judged: the same behind a plain check of the store's 12,288 bytes, which Rattle makes in every call too.");
+    println!(
+        "All on a full store, warm, {BATCHES} batches of about {} us in turn, median.",
+        BATCH.as_micros()
+    );
+    println!("Every call leaves what it found, so each repetition starts from the same store without a copy.");
+    println!("Plain works on tables, not on bytes: it reads bit by bit, allocates each text, clones its tables for a request.");
+    println!("The 32 line numbers differ only in their last two digits, the worst for finding one. Plain finds a channel by search.");
+    println!();
+    println!("| call | message | Rattle ns | plain ns | judged ns | to plain | to judged |");
+    println!("|---|---|---|---|---|---|---|");
+    for case in cases::all() {
+        let [rattle, plain, judged] = compare(&case);
+        let (to_plain, to_judged) = (ratio(&rattle, &plain), ratio(&rattle, &judged));
+        let [rattle, plain, judged] = [rattle, plain, judged].map(median);
+        let length = message_length(&case).map_or(String::new(), |length| length.to_string());
+        let name = &case.name;
+        println!("| {name} | {length} | {rattle:.0} | {plain:.0} | {judged:.0} | {to_plain:.2} | {to_judged:.2} |");
+    }
+}
+
+fn message_length(case: &Case) -> Option<usize> {
+    match &case.call {
+        Call::Take(message) => Some(message.len()),
+        _ => None,
+    }
+}
+
+/// The batches' times of each side, neighbours in time at the same place.
+fn compare(case: &Case) -> [Vec<f64>; 3] {
+    let (mut rattle, mut plain, mut judging) =
+        (cases::rattle(case), cases::plain(case), cases::judging(case));
+    let sides: [&mut dyn Side; 3] = [&mut rattle, &mut plain, &mut judging];
+    let mut sides = sides.map(|side| (calls_in_a_batch(side, case), side, Vec::new()));
+    for _ in 0..BATCHES {
+        for (calls, side, times) in &mut sides {
+            times.push(batch(*side, case, *calls));
+        }
+    }
+    sides.map(|(_, _, times)| times)
+}
+
+/// Nanoseconds for one call.
+fn batch(side: &mut dyn Side, case: &Case, calls: u32) -> f64 {
+    let start = Instant::now();
+    for _ in 0..calls {
+        black_box(side.call(&case.call));
+    }
+    start.elapsed().as_nanos() as f64 / f64::from(calls)
+}
+
+fn calls_in_a_batch(side: &mut dyn Side, case: &Case) -> u32 {
+    let mut calls = 1;
+    while batch(side, case, calls) * f64::from(calls) < BATCH.as_nanos() as f64 {
+        calls *= 2;
+    }
+    calls
+}
+
+/// Taken between neighbours, so that a machine which slows down meanwhile does not count.
+fn ratio(first: &[f64], second: &[f64]) -> f64 {
+    median(first.iter().zip(second).map(|(first, second)| first / second).collect())
+}
+
+pub fn median(mut times: Vec<f64>) -> f64 {
+    times.sort_by(f64::total_cmp);
+    times[times.len() / 2]
+}

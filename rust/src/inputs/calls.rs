@@ -1,0 +1,76 @@
+//! Calls of every kind for one set as it grows, at times with buffers of a wrong size.
+
+use super::random::Random;
+use super::Inputs;
+use crate::reference::export::{EXPORT_ROOM, PARTS};
+use crate::reference::screen::SCRATCH_ROOM;
+use crate::reference::take::REPLY_ROOM;
+
+/// A call and the room of the buffer that it writes to.
+#[derive(Clone, Debug, PartialEq, Eq)]
+pub enum Call {
+    Take { message: Vec<u8>, room: usize },
+    Export { part: u32, room: usize },
+    Row { table: u32, row: u32, room: usize },
+}
+
+pub struct Calls {
+    random: Random,
+    inputs: Inputs,
+}
+
+impl Calls {
+    pub fn new(seed: u64) -> Self {
+        Calls { random: Random::new(!seed), inputs: Inputs::new(seed) }
+    }
+
+    pub fn call(&mut self) -> Call {
+        match self.random.below(3) {
+            0 => Call::Take { message: self.inputs.message(), room: self.room(REPLY_ROOM) },
+            1 => Call::Export { part: self.part(), room: self.room(EXPORT_ROOM) },
+            _ => {
+                let (table, row) = self.row();
+                Call::Row { table, row, room: self.room(SCRATCH_ROOM) }
+            }
+        }
+    }
+
+    /// The right size of a store, or now and then another.
+    pub fn store_size(&mut self, right: usize) -> usize {
+        let wrong = [0, 1, right - 1, right + 1, right / 2, right * 2];
+        if self.random.percent(5) {
+            self.random.pick(&wrong)
+        } else {
+            right
+        }
+    }
+
+    /// Mostly enough, and often just so.
+    fn room(&mut self, least: usize) -> usize {
+        match self.random.below(20) {
+            0 => self.random.below(least),
+            1 => least - 1,
+            2..=9 => least,
+            _ => least + self.random.below(50),
+        }
+    }
+
+    fn part(&mut self) -> u32 {
+        if self.random.percent(90) {
+            return self.random.within(1..=usize::from(PARTS)) as u32;
+        }
+        // The last two are parts in their low byte or half.
+        self.random.pick(&[0, 8, 9, 255, u32::MAX, 0x101, 0x1_0001])
+    }
+
+    fn row(&mut self) -> (u32, u32) {
+        let table = self.random.within(1..=5) as u32;
+        let rows = [(0, 34), (0, 66), (30, 100), (0, 18), (0, 18)][table as usize - 1];
+        let row = rows.0 + self.random.below(rows.1) as u32;
+        match self.random.below(40) {
+            0 => (self.random.pick(&[0, 6, 7, u32::MAX, 0x104, 0x1_0004]), row),
+            1 => (table, row + self.random.pick(&[0x100, 0x1_0000, 0x8000_0000])),
+            _ => (table, row),
+        }
+    }
+}
