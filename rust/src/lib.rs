@@ -30,6 +30,11 @@ pub use row::{Row, Slice, Table};
 #[cfg(not(without_archive))]
 pub use store::{Part, Store, EXPORT_ROOM, LONGEST_MESSAGE, REPLY_ROOM, SCRATCH_ROOM, STORE_SIZE};
 
+// The README's snippet is compiled and run with the doc examples.
+#[cfg(all(doctest, not(without_archive)))]
+#[doc = include_str!("../../README.md")]
+struct Readme;
+
 #[cfg(feature = "reference")]
 pub mod inputs;
 #[cfg(feature = "reference")]
