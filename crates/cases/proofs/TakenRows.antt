@@ -25,7 +25,7 @@ use Rattle.tables.proofs.LayoutLaws.{holds-store}
 use Rattle.station.specs.Judge.{kept, done, step, taken as all-taken}
 use Rattle.station.specs.Replies.{reply-bytes}
 use Rattle.station.specs.Taking.{Judged, forget, last-item, replies, settled, taken}
-use Rattle.station.proofs.Determined.{taken-determined}
+use Rattle.demands.proofs.Determined.{taken-determined}
 use Rattle.station.proofs.TakeLaws.{request-answers}
 use Rattle.export.specs.Exported.{request-bytes}
 use Rattle.restoring.proofs.Requests.{request-is, request-in-size}

@@ -24,9 +24,9 @@ use Rattle.tables.specs.Tables.{Tables, fresh}
 use Rattle.tables.proofs.AllowedLaws.{apply-allowed, forget-allowed}
 use Rattle.tables.proofs.FreshLaws.{fresh-allowed}
 use Rattle.tables.proofs.LayoutLaws.{holds-store}
-use Rattle.station.specs.Demands.{InTurn, Passes}
+use Rattle.demands.specs.Demands.{InTurn, Passes}
 use Rattle.station.specs.Taking.{After, AsRequest, AsQuery, Handled, forget, taken}
-use Rattle.station.proofs.Theorems.{taken-leaves, taken-exactly, store-stays}
+use Rattle.demands.proofs.Theorems.{taken-leaves, taken-exactly, store-stays}
 use Rattle.joined.specs.Reached.{Takes, Adds, its-settings, nothing, Reached, from-start, then-message, InOrder}
 use Rattle.screen.proofs.AnswerLaws.{one-tables}
 

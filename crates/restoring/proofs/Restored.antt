@@ -18,7 +18,7 @@ use Rattle.tables.proofs.AllowedLaws.{key-allowed, home-allowed, system-allowed
 use Rattle.tables.proofs.LayoutLaws.{holds-store, layout-one}
 use Rattle.station.specs.Judge.{kept, taken as all-taken}
 use Rattle.station.specs.Taking.{forget, item-of, or-else, LastItem, last-item, After, replies, settled, AsRequest, taken}
-use Rattle.station.proofs.Determined.{taken-determined}
+use Rattle.demands.proofs.Determined.{taken-determined}
 use Rattle.station.proofs.TakeLaws.{request-answers}
 use Rattle.export.specs.declared.parts.Part.{Part}
 use Rattle.export.specs.declared.parts.Part.the-variants.{Lines, Fixed, QuickTexts, Channels, StatusTexts, Groups, Individuals}

@@ -15,9 +15,9 @@ use Rattle.tables.specs.declared.limits.Limits.{Limits}
 use Rattle.tables.specs.Apply.{apply}
 use Rattle.tables.specs.Tables.{Tables}
 use Rattle.tables.proofs.LayoutLaws.{layout-one}
 use Rattle.station.specs.Judge.{Outcome}
 use Rattle.station.specs.Taking.{WrittenIn, Known, Judged, forget, After, settled, Asked, AsRequest, AsQuery, Handled, taken}
-use Rattle.station.proofs.JudgeLaws.{determined}
+use Rattle.demands.proofs.JudgeLaws.{determined}
 
 -- no setting's writing starts another's
 pub one-writing : (s s′ : Setting) (w w′ r r′ : List ℕ) → WrittenIn s w → WrittenIn s′ w′ → w ++ r ≡ w′ ++ r′ → (s ≡ s′) × (w ≡ w′)
