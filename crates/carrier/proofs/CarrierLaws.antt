@@ -12,11 +12,11 @@ use borrow.Author.Tests.{eqb-true, eqb-false, not-true, not-false}
 use Rattle.lists.proofs.Bytes.{Bytes}
 use Rattle.lists.proofs.Seqs.{cut}
 use Rattle.writing.specs.Fields.{bitsOf, Field, Shows, widths}
-use Rattle.writing.specs.Carrier.{start, carrier, States, Carries}
+use Rattle.writing.specs.Carrier.{start, carrier, States, Carries, first-byte, Opens}
 use Rattle.writing.proofs.Bits.{shows-length, length-bitsOf}
 use Rattle.writing.proofs.Ends.{Agree, val-ends, res-ends}
 use Rattle.fields.specs.Places.{PartAt, be}
-use Rattle.carrier.specs.Message.{StartsWith, LengthIs, CarrierIs, first-byte, Opens}
+use Rattle.carrier.specs.Message.{StartsWith, LengthIs, CarrierIs}
 use Rattle.carrier.specs.declared.carrier.CarrierRead.the-variants.{Coding, NotCarried}
 use Rattle.fields.proofs.Heads.{Cut, cut-in, cut-out, head-in, head-out, be-small}
 use Rattle.fields.proofs.Parts.{nothing}

@@ -1,3 +1,4 @@
 pub mod CarrierLaws
 pub mod MessageLaws
 pub mod MessageOne
+pub mod KindLaws

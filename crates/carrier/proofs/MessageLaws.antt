@@ -11,10 +11,10 @@ use Rattle.writing.specs.Fields.{bitsOf, val, res, Shows}
 use Rattle.writing.specs.Settings.{Hash}
 use Rattle.writing.specs.Writing.{request-head}
 use Rattle.writing.specs.Ranges.{HashSize}
-use Rattle.writing.specs.Carrier.{Carries, query, Query}
+use Rattle.writing.specs.Carrier.{Carries, first-byte, Opens, Counted, query, Query, InSize}
 use Rattle.fields.specs.Places.{PartAt, be}
 use Rattle.fields.specs.Hashes.{HashAt}
-use Rattle.carrier.specs.Message.{InSize, first-byte, Opens, Counted, MessageIs}
+use Rattle.carrier.specs.Message.{MessageIs}
 use Rattle.carrier.specs.declared.carrier.Message.the-variants.{NoRequest, Request, NoQuery, Query as AQuery}
 use Rattle.fields.specs.declared.hashes.HashPlace.{HashPlace}
 use Rattle.fields.specs.declared.hashes.HashRead.{HashRead}

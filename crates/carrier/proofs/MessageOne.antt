@@ -14,11 +14,11 @@ use Rattle.writing.specs.Fields.{bits, bitsOf, Field, val, res, Shows, widths}
 use Rattle.writing.specs.Settings.{Hash, unicode16}
 use Rattle.writing.specs.Writing.{request-head}
 use Rattle.writing.specs.Ranges.{HashSize}
-use Rattle.writing.specs.Carrier.{Carries, coding-type, query, Query}
+use Rattle.writing.specs.Carrier.{Carries, coding-type, first-byte, Opens, Counted, query, Query, InSize}
 use Rattle.writing.proofs.Bits.{shows-length, shows-split, widths-map}
 use Rattle.writing.proofs.Ends.{Agree, val-ends, res-ends, vals-end}
 use Rattle.fields.specs.Places.{PartAt}
-use Rattle.carrier.specs.Message.{InSize, first-byte, Opens, Counted, MessageIs}
+use Rattle.carrier.specs.Message.{MessageIs}
 use Rattle.fields.specs.declared.hashes.HashPlace.{HashPlace}
 use Rattle.carrier.specs.declared.carrier.Message.{Message}
 use Rattle.carrier.specs.declared.carrier.Message.the-variants.{Size, Carrier, «Type» as OtherType, Version, NoRequest, Request, NoQuery, Query as AQuery}

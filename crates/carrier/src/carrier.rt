@@ -6,7 +6,8 @@ use fields::hashes::HashRead;
 use fields::hashes::read_hash;
 ghost use Prim.Native.Nat.{ℕ};
 ghost use lib.ListN.{drop};
-ghost use Rattle.carrier.specs.Message.{StartsWith, LengthIs, CarrierIs, InSize, Opens, MessageIs};
+ghost use Rattle.writing.specs.Carrier.{Opens, InSize};
+ghost use Rattle.carrier.specs.Message.{StartsWith, LengthIs, CarrierIs, MessageIs};
 
 // The fixed start bytes: protocol version and service.
 pub const START: [u8; 2] = *b"\x02\x02";

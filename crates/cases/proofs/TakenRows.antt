@@ -1,7 +1,6 @@
 -- Rows of taking: requests of one setting, the reply and the tables that they leave. Assumes nothing.
 use Prim.Native.Nat.{ℕ, _≤_}
 use mathlib.Core.Path.{_≡_, refl, sym, subst}
-use mathlib.Core.Logic.{inr}
 use mathlib.Core.List.{List, [], _∷_, _++_}
 use mathlib.Core.Option.{some}
 use native.Mathlib.Omega.{arith}
@@ -11,24 +10,25 @@ use Rattle.lists.proofs.Bytes.{all-bytes}
 use Rattle.lists.proofs.Every.{all?}
 use Rattle.lists.proofs.Ladder.{Answers}
 use Rattle.writing.specs.Canonical.{canonical}
+use Rattle.writing.specs.Carrier.{RequestOf}
 use Rattle.writing.specs.Ranges.{text-limits, InRange}
 use Rattle.writing.specs.Settings.{Setting, unicode16}
 use Rattle.writing.specs.Writing.{fields}
 use Rattle.writing.proofs.CanonicalLaws.{plain-bytes}
 use Rattle.writing.proofs.Computed.{fits?, written}
-use Rattle.carrier.specs.declared.carrier.Message.the-variants.{Request}
 use Rattle.tables.specs.Allowed.{Allowed}
 use Rattle.tables.specs.Apply.{apply}
 use Rattle.tables.specs.Layout.{layout}
 use Rattle.tables.specs.Limits.{handheld}
 use Rattle.tables.specs.Tables.{Tables, no-hash}
+use Rattle.tables.proofs.LayoutLaws.{holds-store}
 use Rattle.station.specs.Judge.{kept, done, step, taken as all-taken}
 use Rattle.station.specs.Replies.{reply-bytes}
-use Rattle.station.specs.Taking.{Judged, forget, last-item, replies, settled, Handled, taken}
-use Rattle.station.proofs.Determined.{taken-determined}
+use Rattle.station.specs.Taking.{Judged, forget, last-item, replies, settled, taken}
+use Rattle.demands.proofs.Determined.{taken-determined}
+use Rattle.station.proofs.TakeLaws.{request-answers}
 use Rattle.export.specs.Exported.{request-bytes}
-use Rattle.restoring.proofs.ExportedBytes.{holds-store}
-use Rattle.restoring.proofs.Requests.{request-is}
+use Rattle.restoring.proofs.Requests.{request-is, request-in-size}
 use Rattle.cases.specs.Marked.{Only, Holds, taken-is, took, reply-0}
 
 -- a setting that fits, is in range and has room, sent alone to a set with the tables t, makes them u
@@ -47,20 +47,12 @@ module _ (s : Setting) (t u : Tables) (ok : Allowed handheld t) (fit : T (all? f
       settles : took reply-0 u buffer ≡ settled handheld (request-bytes (s ∷ [])) store buffer (kept (s ∷ []) u)
       settles = sym (λ i. replies handheld (request-bytes (s ∷ [])) store buffer 0 0 (plain i .flags .reply) (plain i .flags .reboot) (none-kept i) (layout handheld u))
 
-      handled : Handled handheld (request-bytes (s ∷ [])) store buffer (took reply-0 u buffer)
-      handled =
-          let b : length (request-bytes (s ∷ [])) ≤ 4096 = leb→le _ _ short in
-          record {
-            tables = t;
-            allowed = ok;
-            bytes = holds;
-            kind = Request 1 8;
-            is = request-is 4096 (s ∷ []) (omega arith) (omega arith) b (omega arith);
-            settles = (kept (s ∷ []) u, judged, settles);
-          }
-
       answers : Answers (taken handheld (request-bytes (s ∷ [])) store buffer) (took reply-0 u buffer)
-      answers = inr (λ h. omega arith, inr (λ n. n (holds-store handheld t store (omega arith) (ok, holds)), handled))
+      answers =
+          let b : length (request-bytes (s ∷ [])) ≤ 4096 = leb→le _ _ short in
+          let r : RequestOf 1 (canonical unicode16 s ++ []) (request-bytes (s ∷ [])) = request-is (s ∷ []) (omega arith) (omega arith) (omega arith) in
+          request-answers handheld (request-bytes (s ∷ [])) store buffer (took reply-0 u buffer) long (holds-store handheld t store (omega arith) (ok, holds)) t (ok, holds)
+          (request-in-size 4096 (s ∷ []) b) (1, canonical unicode16 s ++ [], r, kept (s ∷ []) u, judged, settles)
 
     -- TAKEN: so the request is taken, and nothing else is allowed
     pub taken-row : (message : List ℕ) → request-bytes (s ∷ []) ≡ message → Holds (taken-is t message reply-0 u)

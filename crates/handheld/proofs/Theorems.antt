@@ -11,7 +11,7 @@ use Rattle.tables.specs.Limits.{handheld}
 use Rattle.tables.proofs.Theorems.{start-determined}
 use Rattle.station.specs.Answers.{Said, started}
 use Rattle.station.specs.Taking.{After}
-use Rattle.station.proofs.Determined.{taken-determined}
+use Rattle.demands.proofs.Determined.{taken-determined}
 use Rattle.export.specs.Exporting.{Told, After as Exported}
 use Rattle.export.proofs.Determined.{determined as export-determined}
 use Rattle.screen.specs.Rows.{row-named}

@@ -13,6 +13,7 @@ use Rattle.tables.specs.declared.limits.Limits.{Limits}
 use Rattle.tables.specs.Limits.{slot-places}
 use Rattle.tables.specs.Store.{StoreOf, Holds}
 use Rattle.tables.specs.Tables.{Tables, GroupMember, IndividualMember, fresh}
+use Rattle.tables.proofs.LayoutLaws.{holds-store}
 use Rattle.screen.specs.declared.rows.Row.{Row}
 use Rattle.screen.specs.declared.rows.Row.the-variants.{Group, Individual}
 use Rattle.joined.specs.Reached.{Reached, InOrder, all-of, to-group, to-individual, LastSent}
@@ -20,7 +21,7 @@ use Rattle.screen.specs.Rows.{Caption, group, individual, caption, of, Display,
 use Rattle.screen.specs.Screen.{After, bytes-of, unit-bytes, RowBytes, showing, numbering, PartGiven}
 use Rattle.screen.proofs.AnswerLaws.{one-tables}
 use Rattle.screen.proofs.EntryLaws.{within}
-use Rattle.joined.proofs.Reaching.{in-order-one, reached-holds, store-of}
+use Rattle.joined.proofs.Reaching.{in-order-one, reached-holds}
 use Rattle.joined.proofs.Sent.{left-by, Places, group-places, individual-places, left-sent, sent-left, order-left}
 use Rattle.screen.proofs.Theorems.{from-entry, whole-text}
 
@@ -35,7 +36,7 @@ module _ (m : Limits) (log : List (List Setting)) (store : List ℕ) (r : Reache
   reached-tables =
       let (u, roomy, holds, order) = reached-holds m log store r in
       let e : u ≡ t = in-order-one m fresh u t log order o in
-      (store-of m u store roomy holds, subst (λ (x : Tables). Holds m x store) e holds)
+      (holds-store m u store roomy holds, subst (λ (x : Tables). Holds m x store) e holds)
 
   -- JOINED: a row's bytes are the text of the tables after the settings taken, in order, or the row's number
   pub joined : (scratch : List ℕ) (row : Row) (a : After) → 36 ≤ length scratch → Answers (showing m store scratch row) a → RowBytes (caption t row) (bytes-of (a .part) store (a .scratch))

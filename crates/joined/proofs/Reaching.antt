@@ -1,7 +1,7 @@
 -- After any messages from a start the store is that of the tables after the settings taken, in order. Assumes nothing.
 use Prim.Native.Nat.{ℕ, zero, suc, _≤_, _<_}
 use mathlib.Core.Path.{_≡_, refl, sym, ap, _∙_, subst}
-use mathlib.Core.Logic.{inl, inr}
+use mathlib.Core.Logic.{_⊎_, inl, inr}
 use mathlib.Core.Bool.{Bool, true, false}
 use mathlib.Core.List.{List, [], _∷_, _++_, append-nil}
 use mathlib.Core.Option.{Option, Option·some-injective}
@@ -11,13 +11,11 @@ use lib.Dec.{eqb, ltb}
 use lib.ListN.{length}
 use Rattle.lists.proofs.Bytes.{Bytes}
 use Rattle.lists.proofs.Ladder.{Answers}
+use Rattle.writing.specs.Carrier.{InSize}
 use Rattle.writing.specs.Settings.{Setting, unicode16}
 use Rattle.writing.specs.Writing.{WrittenAll}
 use Rattle.writing.proofs.CanonicalLaws.{has-writing}
-use Rattle.carrier.specs.declared.carrier.Message.{Message}
-use Rattle.carrier.specs.declared.carrier.Message.the-variants.{Size, Carrier, «Type» as OtherType, Version, NoRequest, Request, NoQuery, Query as AQuery}
-use Rattle.carrier.specs.Message.{Opens, MessageIs}
-use Rattle.carrier.proofs.MessageOne.{opens-one, counted-opens, query-opens}
+use Rattle.carrier.proofs.KindLaws.{request-opens, opens-no-query, in-size}
 use Rattle.tables.specs.declared.limits.Limits.{Limits}
 use Rattle.tables.specs.Allowed.{Allowed}
 use Rattle.tables.specs.Layout.{Roomy}
@@ -25,11 +23,10 @@ use Rattle.tables.specs.Store.{StoreOf, Holds}
 use Rattle.tables.specs.Tables.{Tables, fresh}
 use Rattle.tables.proofs.AllowedLaws.{apply-allowed, forget-allowed}
 use Rattle.tables.proofs.FreshLaws.{fresh-allowed}
-use Rattle.tables.proofs.LayoutLaws.{layout-length}
-use Rattle.station.specs.Demands.{InTurn, Passes}
-use Rattle.station.specs.Judge.{kept, refused}
-use Rattle.station.specs.Taking.{After, Handled, Settles, forget, taken}
-use Rattle.station.proofs.Theorems.{taken-leaves, taken-exactly}
+use Rattle.tables.proofs.LayoutLaws.{holds-store}
+use Rattle.demands.specs.Demands.{InTurn, Passes}
+use Rattle.station.specs.Taking.{After, AsRequest, AsQuery, Handled, forget, taken}
+use Rattle.demands.proofs.Theorems.{taken-leaves, taken-exactly, store-stays}
 use Rattle.joined.specs.Reached.{Takes, Adds, its-settings, nothing, Reached, from-start, then-message, InOrder}
 use Rattle.screen.proofs.AnswerLaws.{one-tables}
 
@@ -71,41 +68,42 @@ module _ (m : Limits) (message store reply : List ℕ) (b : Bytes message) (s : 
       go true e = absurd (h (ltb-true (length reply) 20 e))
       go false e = ltb-false (length reply) 20 e
 
-  -- a request to this store that is counted passes the checks
-  request-passes : 20 ≤ length reply → (h : Handled m message store reply x) (count at : ℕ) → MessageIs (m .message) message (Request count at)
-      → (d : List ℕ) × Passes m message store reply (h .tables) d
-  request-passes big h count at z = (z .1, record { buffer = big; store-is = s; holds = (h .allowed, h .bytes); in-size = z .0; opens = counted-opens (z .2) (z .3) })
+  -- a message that is answered 0 passes every test
+  answered-0 : x .answer .number ≡ 0 → Answers (taken m message store reply) x → (20 ≤ length reply) × InSize (m .message) message × Handled m message store reply x
+  answered-0 n (inl (_, e)) = absurd (omega (arith, n, ap (λ (y : After). y .answer .number) e))
+  answered-0 n (inr (_, inl (_, e))) = absurd (omega (arith, n, ap (λ (y : After). y .answer .number) e))
+  answered-0 n (inr (_, inr (_, inl (_, e)))) = absurd (omega (arith, n, ap (λ (y : After). y .answer .number) e))
+  answered-0 n (inr (_, inr (_, inr (_, inl (_, e))))) = absurd (omega (arith, n, ap (λ (y : After). y .answer .number) e))
+  answered-0 n (inr (_, inr (_, inr (_, inr (_, inl (_, e)))))) = absurd (omega (arith, n, ap (λ (y : After). y .answer .number) e))
+  answered-0 n (inr (_, inr (_, inr (_, inr (_, inr (_, inl (_, e))))))) = absurd (omega (arith, n, ap (λ (y : After). y .answer .number) e))
+  answered-0 n (inr (_, inr (_, inr (_, inr (_, inr (_, inr (_, inl (_, e)))))))) = absurd (omega (arith, n, ap (λ (y : After). y .answer .number) e))
+  answered-0 n (inr (big, inr (_, inr (sized, inr (_, inr (_, inr (_, inr (_, h)))))))) = (big-enough big, in-size (m .message) message sized, h)
 
   module _ (a : Answers (taken m message store reply) x) where
-    -- a request that passes the checks and is answered 0 is taken
-    takes-it : (t : Tables) (d : List ℕ) → Passes m message store reply t d → x .answer .number ≡ 0 → (l : List Setting) × Takes m message store reply l
-    takes-it t d p e =
-        let (l, u, w, z) = taken-exactly m message store reply b t d p x a .0 e in
-        (l, record { before = t; after = u; data-bytes = d; passes = p; written = w; in-turn = z })
+    -- a request that is answered 0 is taken
+    takes-it : x .answer .number ≡ 0 → (h : Handled m message store reply x) → AsRequest m message store reply (h .tables) x → (l : List Setting) × Takes m message store reply l
+    takes-it n h (count, settings, r, _, _, _) =
+        let (big, sized, _) = answered-0 n a in
+        let p : Passes m message store reply (h .tables) (r .data-bytes)
+        = record { buffer = big; store-is = s; holds = h .holds; in-size = sized; opens = request-opens r } in
+        let (l, u, w, z) = taken-exactly m message store reply b (h .tables) (r .data-bytes) p x a .0 n in
+        (l, record { before = h .tables; after = u; data-bytes = r .data-bytes; passes = p; written = w; in-turn = z })
 
     -- what takes none leaves the store
     pub nothing-changed : ((l : List Setting) → Takes m message store reply l → ⊥) → x .store ≡ store
-    nothing-changed never = by a
+    nothing-changed never = by (eqb (x .answer .number) 0) refl
       where
-        kind-stays : 20 ≤ length reply → (h : Handled m message store reply x) (k : Message) → MessageIs (m .message) message k → Settles m message store reply (h .tables) k x → x .store ≡ store
-        kind-stays big h Size z e = ap (λ (y : After). y .store) e
-        kind-stays big h Carrier z e = ap (λ (y : After). y .store) e
-        kind-stays big h OtherType z e = ap (λ (y : After). y .store) e
-        kind-stays big h Version z e = ap (λ (y : After). y .store) e
-        kind-stays big h NoRequest z e = ap (λ (y : After). y .store) e
-        kind-stays big h NoQuery z e = ap (λ (y : After). y .store) e
-        kind-stays big h (AQuery p) z (_, _, inl (_, _, e)) = ap (λ (y : After). y .store) e
-        kind-stays big h (AQuery p) z (_, _, inr (_, e)) = ap (λ (y : After). y .store) e
-        kind-stays big h (Request count at) z (refused number failed, j, e) = ap (λ (y : After). y .store) e
-        kind-stays big h (Request count at) z (kept l u, j, e) =
-            let (d, p) = request-passes big h count at z in
-            let (k, w) = takes-it (h .tables) d p (ap (λ (y : After). y .answer .number) e) in
-            absurd (never k w)
+        by-kind : x .answer .number ≡ 0 → (h : Handled m message store reply x) → AsRequest m message store reply (h .tables) x ⊎ AsQuery m message store reply (h .tables) x → x .store ≡ store
+        by-kind n h (inl r) = let (l, k) = takes-it n h r in absurd (never l k)
+        by-kind n h (inr (_, _, inl (_, _, e))) = ap (λ (y : After). y .store) e
+        by-kind n h (inr (_, _, inr (_, e))) = ap (λ (y : After). y .store) e
 
-        by : Answers (taken m message store reply) x → x .store ≡ store
-        by (inl (l, e)) = ap (λ (y : After). y .store) e
-        by (inr (l, inl (n, e))) = ap (λ (y : After). y .store) e
-        by (inr (l, inr (n, h))) = kind-stays (big-enough l) h (h .kind) (h .is) (h .settles)
+        by : (c : Bool) → eqb (x .answer .number) 0 ≡ c → x .store ≡ store
+        by false e = store-stays m message store reply x a (eqb-false (x .answer .number) 0 e)
+        by true e =
+            let n : x .answer .number ≡ 0 = eqb-true (x .answer .number) 0 e in
+            let (_, _, h) = answered-0 n a in
+            by-kind n h (h .comes-to)
 
     -- and what takes settings leaves the tables after them
     pub tables-after : (l : List Setting) (k : Takes m message store reply l) → Holds m (k .after) (x .store)
@@ -117,44 +115,28 @@ module _ (m : Limits) (message store reply : List ℕ) (b : Bytes message) (s : 
 
     -- ADDS ALWAYS: every message takes settings or nothing
     pub adds-always : (added : List (List Setting)) × Adds m message store reply added
-    adds-always = by (eqb (x .answer .number) 0) refl a
+    adds-always = by (eqb (x .answer .number) 0) refl
       where
         Goal : Type 0
         Goal = (added : List (List Setting)) × Adds m message store reply added
 
         -- a request that is taken is answered 0
-        answered-0 : (l : List Setting) → Takes m message store reply l → x .answer .number ≡ 0
-        answered-0 l k = taken-exactly m message store reply b (k .before) (k .data-bytes) (k .passes) x a .1 (l, k .after, k .written, k .in-turn)
+        taken-0 : (l : List Setting) → Takes m message store reply l → x .answer .number ≡ 0
+        taken-0 l k = taken-exactly m message store reply b (k .before) (k .data-bytes) (k .passes) x a .1 (l, k .after, k .written, k .in-turn)
 
         -- answered 0: a request, or a query that matches
-        by-kind : 20 ≤ length reply → x .answer .number ≡ 0 → (h : Handled m message store reply x) (k : Message) → MessageIs (m .message) message k → Settles m message store reply (h .tables) k x → Goal
-        by-kind big n h Size z e = absurd (omega (arith, n, ap (λ (y : After). y .answer .number) e))
-        by-kind big n h Carrier z e = absurd (omega (arith, n, ap (λ (y : After). y .answer .number) e))
-        by-kind big n h OtherType z e = absurd (omega (arith, n, ap (λ (y : After). y .answer .number) e))
-        by-kind big n h Version z e = absurd (omega (arith, n, ap (λ (y : After). y .answer .number) e))
-        by-kind big n h NoRequest z e = absurd (omega (arith, n, ap (λ (y : After). y .answer .number) e))
-        by-kind big n h NoQuery z e = absurd (omega (arith, n, ap (λ (y : After). y .answer .number) e))
-        by-kind big n h (AQuery p) z e = ([], nothing (λ l k. absurd (omega (arith, opens-one (k .passes .opens) (query-opens (z .2)) .1))))
-        by-kind big n h (Request count at) z e =
-            let (d, p) = request-passes big h count at z in
-            let (l, k) = takes-it (h .tables) d p n in
-            (l ∷ [], its-settings k)
+        by-kind : x .answer .number ≡ 0 → (h : Handled m message store reply x) → AsRequest m message store reply (h .tables) x ⊎ AsQuery m message store reply (h .tables) x → Goal
+        by-kind n h (inl r) = let (l, k) = takes-it n h r in (l ∷ [], its-settings k)
+        by-kind n h (inr (k, q, _)) = ([], nothing (λ l y. opens-no-query (y .passes .opens) refl k q))
 
-        by : (c : Bool) → eqb (x .answer .number) 0 ≡ c → Answers (taken m message store reply) x → Goal
-        by false e y = ([], nothing (λ l k. eqb-false (x .answer .number) 0 e (answered-0 l k)))
-        by true e (inl (l, d)) = absurd (omega (arith, eqb-true (x .answer .number) 0 e, ap (λ (y : After). y .answer .number) d))
-        by true e (inr (l, inl (n, d))) = absurd (omega (arith, eqb-true (x .answer .number) 0 e, ap (λ (y : After). y .answer .number) d))
-        by true e (inr (l, inr (n, h))) = by-kind (big-enough l) (eqb-true (x .answer .number) 0 e) h (h .kind) (h .is) (h .settles)
+        by : (c : Bool) → eqb (x .answer .number) 0 ≡ c → Goal
+        by false e = ([], nothing (λ l k. eqb-false (x .answer .number) 0 e (taken-0 l k)))
+        by true e =
+            let n : x .answer .number ≡ 0 = eqb-true (x .answer .number) 0 e in
+            let (_, _, h) = answered-0 n a in
+            by-kind n h (h .comes-to)
 
 -- ---- any messages
-
--- tables that fit make a store
-pub store-of : (m : Limits) (t : Tables) (s : List ℕ) → Roomy m → Holds m t s → StoreOf m s
-store-of m t s roomy holds = record {
-  size = ap length (holds .1) ∙ layout-length m t roomy (holds .0);
-  roomy = roomy;
-  store = record { tables = t; allowed = holds .0; bytes-are = holds .1 };
-}
 
 -- REACHED: the store is that of the tables after the settings taken, in order
 pub reached-holds : (m : Limits) (log : List (List Setting)) (store : List ℕ) → Reached m log store → (t : Tables) × Roomy m × Holds m t store × InOrder m fresh log t
@@ -169,4 +151,4 @@ reached-holds m log store (then-message {log = old} {store = was} {message} {rep
     )
 reached-holds m log store (then-message {log = old} {store = was} {message} {reply} x r b a (nothing never)) =
     let (t, roomy, holds, order) = reached-holds m old was r in
-    (t, roomy, (holds .0, nothing-changed m message was reply b (store-of m t was roomy holds) x a never ∙ holds .1), subst (λ (y : List (List Setting)). InOrder m fresh y t) (sym (append-nil old)) order)
+    (t, roomy, (holds .0, nothing-changed m message was reply b (holds-store m t was roomy holds) x a never ∙ holds .1), subst (λ (y : List (List Setting)). InOrder m fresh y t) (sym (append-nil old)) order)

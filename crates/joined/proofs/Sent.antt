@@ -1,6 +1,6 @@
 -- What stands in a slot is what the last setting for it sent. Assumes nothing.
 use Prim.Native.Nat.{ℕ, zero, suc, _<_}
-use mathlib.Core.Path.{_≡_, refl, sym, ap, _∙_, subst}
+use mathlib.Core.Path.{_≡_, refl, sym, ap, _∙_, subst, subst⁻¹}
 use mathlib.Core.Logic.{_⊎_, inl, inr}
 use mathlib.Core.Bool.{Bool, true, false, cond}
 use mathlib.Core.List.{List, [], _∷_, _++_}
@@ -10,12 +10,17 @@ use lib.Dec.{eqb}
 use lib.ListN.{length, getD, set, length-set}
 use lib.Seq.{getD-set-same, getD-set-other}
 use Rattle.lists.proofs.Every.{All}
-use Rattle.writing.specs.Settings.{Setting, kind, lines, key, quick-texts, home, channels, system, status-texts, group, individual, last}
+use Rattle.plan.specs.declared.numbers.GroupAddress.{GroupAddress}
+use Rattle.plan.specs.declared.numbers.IndividualAddress.{IndividualAddress}
+use Rattle.writing.specs.declared.GroupFlags.{GroupFlags}
+use Rattle.writing.specs.declared.IndividualFlags.{IndividualFlags}
+use Rattle.writing.specs.declared.Operation.{Operation}
+use Rattle.writing.specs.Settings.{Setting, Slot, kind, lines, key, quick-texts, home, channels, system, status-texts, group, individual, last}
 use Rattle.tables.specs.declared.limits.Limits.{Limits}
 use Rattle.tables.specs.Apply.{apply, slot-after}
 use Rattle.tables.specs.Tables.{Tables, GroupMember, IndividualMember, with-groups, with-individuals}
 use Rattle.tables.proofs.RoomSentences.{with-own, own-table}
-use Rattle.station.specs.Demands.{InTurn}
+use Rattle.demands.specs.Demands.{InTurn}
 use Rattle.station.specs.Taking.{forget, or-else}
 use Rattle.joined.specs.Reached.{InOrder, all-of, to-group, to-individual, LastSent}
 
@@ -116,44 +121,47 @@ is-set os ps j i o e = (ap length e ∙ length-set os j o, λ h. ap (λ k. getD 
     go h true e = rw (e, eqb-true j i e) (getD-set-same os i o none h)
     go h false e = rw e (getD-set-other os j i o none (λ q. eqb-false j i e (sym q)))
 
-pub group-places : Places (λ t. t .groups) to-group
-group-places = record { forgets = λ t. refl; step = step }
-  where
-    -- what another setting leaves has the groups as they were
-    other : (m : Limits) (s : Setting) (t u : Tables) → apply m s t ≡ some u → with-own (kind s) t u .groups ≡ t .groups → u .groups ≡ t .groups
-    other m s t u e k = ap (λ x. x .groups) (own-table m s t u e) ∙ k
+-- what a setting is to the slots: one for a group's, one for an individual's, or for neither
+data ForSlot : Setting → Type 0 where
+  a-group : {o : Operation} {f : GroupFlags} {s : Slot GroupAddress} → ForSlot (group o f s)
+  an-individual : {o : Operation} {f : IndividualFlags} {s : Slot IndividualAddress} → ForSlot (individual o f s)
+  neither : {s : Setting} → ((t u : Tables) → with-own (kind s) t u .groups ≡ t .groups) → ((t u : Tables) → with-own (kind s) t u .individuals ≡ t .individuals)
+      → ((i : ℕ) → to-group i s ≡ none) → ((i : ℕ) → to-individual i s ≡ none) → ForSlot s
 
-    step : (m : Limits) (s : Setting) (t u : Tables) (i : ℕ) → apply m s t ≡ some u → Step (to-group i s) (t .groups) (u .groups) i
-    step m (lines o f es) t u i e = stays (t .groups) (u .groups) i (other m (lines o f es) t u e refl)
-    step m (key x f) t u i e = stays (t .groups) (u .groups) i (other m (key x f) t u e refl)
-    step m (quick-texts o es) t u i e = stays (t .groups) (u .groups) i (other m (quick-texts o es) t u e refl)
-    step m (home h) t u i e = stays (t .groups) (u .groups) i (other m (home h) t u e refl)
-    step m (channels o ns) t u i e = stays (t .groups) (u .groups) i (other m (channels o ns) t u e refl)
-    step m (system x) t u i e = stays (t .groups) (u .groups) i (other m (system x) t u e refl)
-    step m (status-texts o es) t u i e = stays (t .groups) (u .groups) i (other m (status-texts o es) t u e refl)
-    step m (group o f s) t u i e =
+for-slot : (s : Setting) → ForSlot s
+for-slot (lines o f es) = neither (λ t u. refl) (λ t u. refl) (λ i. refl) (λ i. refl)
+for-slot (key x f) = neither (λ t u. refl) (λ t u. refl) (λ i. refl) (λ i. refl)
+for-slot (quick-texts o es) = neither (λ t u. refl) (λ t u. refl) (λ i. refl) (λ i. refl)
+for-slot (home h) = neither (λ t u. refl) (λ t u. refl) (λ i. refl) (λ i. refl)
+for-slot (channels o ns) = neither (λ t u. refl) (λ t u. refl) (λ i. refl) (λ i. refl)
+for-slot (system x) = neither (λ t u. refl) (λ t u. refl) (λ i. refl) (λ i. refl)
+for-slot (status-texts o es) = neither (λ t u. refl) (λ t u. refl) (λ i. refl) (λ i. refl)
+for-slot (group o f s) = a-group
+for-slot (individual o f s) = an-individual
+for-slot (last f h) = neither (λ t u. refl) (λ t u. refl) (λ i. refl) (λ i. refl)
+
+-- a setting that is for no place of a table leaves it
+not-for : {A : Type 0} (of : Tables → List (Option A)) (m : Limits) (s : Setting) (t u : Tables) (i : ℕ) (o : Option (Option A))
+    → apply m s t ≡ some u → of (with-own (kind s) t u) ≡ of t → o ≡ none → Step o (of t) (of u) i
+not-for {A} of m s t u i o e k n =
+    subst⁻¹ (λ (x : Option (Option A)). Step x (of t) (of u) i) n (stays (of t) (of u) i (ap of (own-table m s t u e) ∙ k))
+
+pub group-places : Places (λ t. t .groups) to-group
+group-places = record { forgets = λ t. refl; step = λ m s t u i e. by m s (for-slot s) t u i e }
+  where
+    by : (m : Limits) (s : Setting) → ForSlot s → (t u : Tables) (i : ℕ) → apply m s t ≡ some u → Step (to-group i s) (t .groups) (u .groups) i
+    by m s (neither g _ n _) t u i e = not-for (λ x. x .groups) m s t u i (to-group i s) e (g t u) (n i)
+    by m (individual o f s) an-individual t u i e = not-for (λ x. x .groups) m (individual o f s) t u i none e refl refl
+    by m (group o f s) a-group t u i e =
         let g : Option GroupMember = slot-after o (record { flags = f; address = s .address; text = s .text }) in
         is-set (t .groups) (u .groups) (s .index) i g (sym (ap (λ x. x .groups) (Option·some-injective (with-groups t (set (t .groups) (s .index) g)) u e)))
-    step m (individual o f s) t u i e = stays (t .groups) (u .groups) i (other m (individual o f s) t u e refl)
-    step m (last f h) t u i e = stays (t .groups) (u .groups) i (other m (last f h) t u e refl)
 
 pub individual-places : Places (λ t. t .individuals) to-individual
-individual-places = record { forgets = λ t. refl; step = step }
+individual-places = record { forgets = λ t. refl; step = λ m s t u i e. by m s (for-slot s) t u i e }
   where
-    -- what another setting leaves has the individuals as they were
-    other : (m : Limits) (s : Setting) (t u : Tables) → apply m s t ≡ some u → with-own (kind s) t u .individuals ≡ t .individuals → u .individuals ≡ t .individuals
-    other m s t u e k = ap (λ x. x .individuals) (own-table m s t u e) ∙ k
-
-    step : (m : Limits) (s : Setting) (t u : Tables) (i : ℕ) → apply m s t ≡ some u → Step (to-individual i s) (t .individuals) (u .individuals) i
-    step m (lines o f es) t u i e = stays (t .individuals) (u .individuals) i (other m (lines o f es) t u e refl)
-    step m (key x f) t u i e = stays (t .individuals) (u .individuals) i (other m (key x f) t u e refl)
-    step m (quick-texts o es) t u i e = stays (t .individuals) (u .individuals) i (other m (quick-texts o es) t u e refl)
-    step m (home h) t u i e = stays (t .individuals) (u .individuals) i (other m (home h) t u e refl)
-    step m (channels o ns) t u i e = stays (t .individuals) (u .individuals) i (other m (channels o ns) t u e refl)
-    step m (system x) t u i e = stays (t .individuals) (u .individuals) i (other m (system x) t u e refl)
-    step m (status-texts o es) t u i e = stays (t .individuals) (u .individuals) i (other m (status-texts o es) t u e refl)
-    step m (group o f s) t u i e = stays (t .individuals) (u .individuals) i (other m (group o f s) t u e refl)
-    step m (individual o f s) t u i e =
+    by : (m : Limits) (s : Setting) → ForSlot s → (t u : Tables) (i : ℕ) → apply m s t ≡ some u → Step (to-individual i s) (t .individuals) (u .individuals) i
+    by m s (neither _ g _ n) t u i e = not-for (λ x. x .individuals) m s t u i (to-individual i s) e (g t u) (n i)
+    by m (group o f s) a-group t u i e = not-for (λ x. x .individuals) m (group o f s) t u i none e refl refl
+    by m (individual o f s) an-individual t u i e =
         let g : Option IndividualMember = slot-after o (record { flags = f; address = s .address; text = s .text }) in
         is-set (t .individuals) (u .individuals) (s .index) i g (sym (ap (λ x. x .individuals) (Option·some-injective (with-individuals t (set (t .individuals) (s .index) g)) u e)))
-    step m (last f h) t u i e = stays (t .individuals) (u .individuals) i (other m (last f h) t u e refl)

@@ -16,7 +16,7 @@ use Rattle.tables.specs.declared.start.Started.the-variants.{Fresh}
 use Rattle.tables.specs.Apply.{slot-after}
 use Rattle.tables.specs.Store.{StartedAs}
 use Rattle.tables.specs.Tables.{Tables, GroupMember, IndividualMember}
-use Rattle.station.specs.Demands.{InTurn, Passes}
+use Rattle.demands.specs.Demands.{InTurn, Passes}
 use Rattle.station.specs.Taking.{After, forget, taken}
 
 -- ---- messages, one after another

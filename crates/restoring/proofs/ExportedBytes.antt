@@ -9,21 +9,13 @@ use lib.Seq.{take-append-seam}
 use Rattle.lists.proofs.Ladder.{Answers}
 use Rattle.tables.specs.declared.limits.Limits.{Limits}
 use Rattle.tables.specs.Layout.{Roomy}
-use Rattle.tables.specs.Store.{StoreOf, Holds}
+use Rattle.tables.specs.Store.{Holds}
 use Rattle.tables.specs.Tables.{Tables}
-use Rattle.tables.proofs.LayoutLaws.{layout-length, layout-one}
+use Rattle.tables.proofs.LayoutLaws.{holds-store, layout-one}
 use Rattle.export.specs.declared.parts.Part.{Part}
 use Rattle.export.specs.Exported.{part-number, exported, request-bytes}
 use Rattle.export.proofs.Determined.{one-part}
 use Rattle.export.specs.Exporting.{After, writes, Exports, exporting}
-
--- bytes that hold allowed tables, where these have room, are a store
-pub holds-store : (m : Limits) (t : Tables) (store : List ℕ) → Roomy m → Holds m t store → StoreOf m store
-holds-store m t store room holds = record {
-  size = ap length (holds .1) ∙ layout-length m t room (holds .0);
-  roomy = room;
-  store = record { tables = t; allowed = holds .0; bytes-are = holds .1 };
-}
 
 module _ (m : Limits) (part : ℕ) (store buffer : List ℕ) where
   -- the foot of exporting allows one outcome

@@ -4,14 +4,12 @@ use mathlib.Core.Path.{_≡_, refl}
 use mathlib.Core.Logic.{inr}
 use mathlib.Core.List.{List}
 use native.Mathlib.Omega.{arith}
-use lib.ListN.{length, drop}
+use lib.ListN.{length}
 use Rattle.writing.specs.Canonical.{plain, canonical-all}
-use Rattle.writing.specs.Carrier.{carrier, Carries, coding-type}
+use Rattle.writing.specs.Carrier.{carrier, Carries, coding-type, Counted, RequestOf, InSize}
 use Rattle.writing.specs.Settings.{Setting, unicode16}
 use Rattle.writing.specs.Writing.{request-head}
 use Rattle.writing.proofs.CanonicalLaws.{plain-shows}
-use Rattle.carrier.specs.declared.carrier.Message.the-variants.{Request}
-use Rattle.carrier.specs.Message.{Counted, MessageIs}
 use Rattle.tables.specs.declared.limits.Limits.{Limits}
 use Rattle.tables.specs.Allowed.{Allowed}
 use Rattle.tables.specs.Limits.{handheld}
@@ -29,14 +27,10 @@ use Rattle.restoring.proofs.Fitting.{exported-readable, exported-count}
 pub request-length : (ss : List Setting) → length (request-bytes ss) ≡ 8 + length (canonical-all unicode16 ss)
 request-length ss = omega arith
 
--- and they follow
-pub request-rest : (ss : List Setting) → drop 8 (request-bytes ss) ≡ canonical-all unicode16 ss
-request-rest ss = refl
-
--- 1 to 255 settings are a request, where its length is inside the limit and has 16 bits
-pub request-is : (most : ℕ) (ss : List Setting) → 1 ≤ length ss → length ss ≤ 255 → length (request-bytes ss) ≤ most → length (request-bytes ss) ≤ 65535
-    → MessageIs most (request-bytes ss) (Request (length ss) 8)
-request-is most ss some few in-size short =
+-- 1 to 255 settings are a request, where its length has 16 bits
+pub request-is : (ss : List Setting) → 1 ≤ length ss → length ss ≤ 255 → length (request-bytes ss) ≤ 65535
+    → RequestOf (length ss) (canonical-all unicode16 ss) (request-bytes ss)
+request-is ss some few short =
     let k : Carries (coding-type unicode16) (data-bytes ss) (request-bytes ss) = record {
       stated = 2 + length (data-bytes ss);
       header = plain (carrier (2 + length (data-bytes ss)) (coding-type unicode16));
@@ -44,13 +38,17 @@ request-is most ss some few in-size short =
       fields = plain-shows (carrier (2 + length (data-bytes ss)) 7) 4 refl (omega arith, (omega arith, (tt, (omega arith, tt))));
       length-field = inr refl;
     } in
-    let c : Counted (length ss) (drop 8 (request-bytes ss)) (data-bytes ss) = record {
+    let c : Counted (length ss) (canonical-all unicode16 ss) (data-bytes ss) = record {
       head = plain (request-head (length ss));
       parts = refl;
       says = plain-shows (request-head (length ss)) 2 refl (omega arith, (omega arith, (omega arith, tt)));
       some-setting = some;
     } in
-    (omega arith, data-bytes ss, k, c, refl)
+    record { data-bytes = data-bytes ss; carried = k; counted = c }
+
+-- and in size, where it is inside the limit
+pub request-in-size : (most : ℕ) (ss : List Setting) → length (request-bytes ss) ≤ most → InSize most (request-bytes ss)
+request-in-size most ss l = (omega (arith, request-length ss), l)
 
 -- ---- the parts
 
@@ -69,12 +67,18 @@ module _ (m : Limits) (x : Exportable m) (t : Tables) (ok : Allowed m t) (p : Pa
   pub exported-length : length (request-bytes (exported p t)) ≤ longest m p
   exported-length = omega (arith, request-length (exported p t), exported-readable m x t ok p .small)
 
-  -- EXPORTED IS: a part's bytes are a request of as many settings
-  pub exported-is : MessageIs (m .message) (request-bytes (exported p t)) (Request (length (exported p t)) 8)
+  -- EXPORTED IS: a part's bytes are a request of as many settings, and its settings are what follows
+  pub exported-is : RequestOf (length (exported p t)) (canonical-all unicode16 (exported p t)) (request-bytes (exported p t))
   exported-is =
       let (some, few) = exported-count m x t ok p in
       let b : length (request-bytes (exported p t)) ≤ longest m p = exported-length in
-      request-is (m .message) (exported p t) some few (omega (arith, longest-fits m x p .0)) (omega (arith, longest-fits m x p .1))
+      request-is (exported p t) some few (omega (arith, longest-fits m x p .1))
+
+  -- IN SIZE: every set reads so long a message
+  pub exported-in-size : InSize (m .message) (request-bytes (exported p t))
+  exported-in-size =
+      let b : length (request-bytes (exported p t)) ≤ longest m p = exported-length in
+      request-in-size (m .message) (exported p t) (omega (arith, longest-fits m x p .0))
 
 -- ---- the handheld's limits
 

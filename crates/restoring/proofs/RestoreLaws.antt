@@ -12,6 +12,7 @@ use Rattle.tables.specs.Layout.{Roomy}
 use Rattle.tables.specs.Limits.{handheld}
 use Rattle.tables.specs.Store.{Holds}
 use Rattle.tables.specs.Tables.{Tables, no-hash}
+use Rattle.tables.proofs.LayoutLaws.{holds-store}
 use Rattle.station.specs.declared.answers.Answer.{Answer}
 use Rattle.station.specs.Replies.{reply-bytes, written-over}
 use Rattle.station.specs.Taking.{forget, leaves, taken, After as TakeAfter}
@@ -22,11 +23,11 @@ use Rattle.export.specs.declared.parts.NoExport.{NoExport}
 use Rattle.export.specs.declared.parts.NoExport.the-variants.{Buffer, NotAStore, NoPart}
 use Rattle.export.specs.Exported.{part-number, exported, request-bytes}
 use Rattle.export.specs.Exporting.{After, told, writes, exporting}
-use Rattle.restoring.specs.Restored.{with-part, with-parts, seven, requests}
+use Rattle.restoring.specs.Restored.{with-part, seven, requests}
 use Rattle.restoring.specs.Restoring.{written-in-turn, restores, PartMoved, Moved}
-use Rattle.restoring.proofs.ExportedBytes.{holds-store, exports-one}
+use Rattle.restoring.proofs.ExportedBytes.{exports-one}
 use Rattle.restoring.proofs.Requests.{handheld-exportable}
-use Rattle.restoring.proofs.Restored.{after-part, part-taken, after-holds}
+use Rattle.restoring.proofs.Restored.{with-parts, after-part, part-taken, after-holds}
 
 -- the handheld has room for its tables
 roomy : Roomy handheld

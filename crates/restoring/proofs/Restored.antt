@@ -1,35 +1,33 @@
 -- RESTORED: the seven exported requests, taken by any other set, give it the same tables. Assumes nothing.
 use Prim.Native.Nat.{ℕ, _≤_}
 use mathlib.Core.Path.{_≡_, refl, sym, ap, _∙_}
-use mathlib.Core.Logic.{inr}
 use mathlib.Core.Bool.{false}
 use mathlib.Core.List.{List, [], _∷_}
 use mathlib.Core.Option.{Option, none}
-use native.Mathlib.Omega.{arith}
 use lib.ListN.{length}
 use Rattle.lists.proofs.Every.{All}
 use Rattle.lists.proofs.Ladder.{Answers}
-use Rattle.writing.specs.Settings.{Setting}
-use Rattle.carrier.specs.declared.carrier.Message.the-variants.{Request}
+use Rattle.writing.specs.Canonical.{canonical-all}
+use Rattle.writing.specs.Settings.{Setting, unicode16}
 use Rattle.tables.specs.declared.limits.Limits.{Limits}
 use Rattle.tables.specs.Allowed.{Allowed}
 use Rattle.tables.specs.Layout.{layout, Roomy}
 use Rattle.tables.specs.Store.{Holds}
 use Rattle.tables.specs.Tables.{Tables, no-hash, with-key, with-home}
 use Rattle.tables.proofs.AllowedLaws.{key-allowed, home-allowed, system-allowed, quick-allowed, status-allowed, groups-allowed, individuals-allowed, channels-allowed, lines-allowed, forget-allowed}
-use Rattle.tables.proofs.LayoutLaws.{layout-one}
+use Rattle.tables.proofs.LayoutLaws.{holds-store, layout-one}
 use Rattle.station.specs.Judge.{kept, taken as all-taken}
-use Rattle.station.specs.Taking.{forget, item-of, or-else, LastItem, last-item, After, replies, settled, Handled, taken}
-use Rattle.station.proofs.Determined.{taken-determined}
+use Rattle.station.specs.Taking.{forget, item-of, or-else, LastItem, last-item, After, replies, settled, AsRequest, taken}
+use Rattle.demands.proofs.Determined.{taken-determined}
+use Rattle.station.proofs.TakeLaws.{request-answers}
 use Rattle.export.specs.declared.parts.Part.{Part}
 use Rattle.export.specs.declared.parts.Part.the-variants.{Lines, Fixed, QuickTexts, Channels, StatusTexts, Groups, Individuals}
 use Rattle.export.specs.Exported.{exported, request-bytes}
 use Rattle.export.specs.Exportable.{Exportable}
-use Rattle.restoring.specs.Restored.{with-part, with-parts, SameTables, seven, requests, TakenInTurn}
-use Rattle.restoring.proofs.ExportedBytes.{holds-store}
+use Rattle.restoring.specs.Restored.{with-part, SameTables, seven, requests, TakenInTurn}
 use Rattle.restoring.proofs.Fitting.{exported-readable}
 use Rattle.restoring.proofs.PartRuns.{part-runs}
-use Rattle.restoring.proofs.Requests.{exported-is}
+use Rattle.restoring.proofs.Requests.{exported-is, exported-in-size}
 
 -- ---- one part
 
@@ -61,6 +59,11 @@ part-allowed m StatusTexts t u ok old = status-allowed m u old (t .status) (ok .
 part-allowed m Groups t u ok old = groups-allowed m u old (t .groups) (ok .groups)
 part-allowed m Individuals t u ok old = individuals-allowed m u old (t .individuals) (ok .individuals)
 
+-- what taking these parts of t in turn makes of the tables u: each request forgets the hash kept before
+abbrev pub with-parts : Tables → List Part → Tables → Tables
+with-parts t [] u = u
+with-parts t (p ∷ ps) u = with-parts t ps (with-part p t (forget u))
+
 module _ (m : Limits) (x : Exportable m) (room : Roomy m) (t : Tables) (ok : Allowed m t) where
   module _ (u : Tables) (store : List ℕ) (holds : Holds m u store) (reply : List ℕ) (long : 20 ≤ length reply) (p : Part) where
     -- what taking the part's request leaves
@@ -74,19 +77,21 @@ module _ (m : Limits) (x : Exportable m) (room : Roomy m) (t : Tables) (ok : All
         let h : with-part p t (forget u) .hash ≡ no-hash = part-hash p t (forget u) in
         sym (λ i. replies m (request-bytes (exported p t)) store reply 0 0 (f i .flags .reply) (f i .flags .reboot) (h i) (layout m (with-part p t (forget u))))
 
-    handled-part : Handled m (request-bytes (exported p t)) store reply after-part
-    handled-part = record {
-      tables = u;
-      allowed = holds .0;
-      bytes = holds .1;
-      kind = Request (length (exported p t)) 8;
-      is = exported-is m x t ok p;
-      settles = (kept (exported p t) (with-part p t (forget u)), all-taken refl (part-runs m t (forget u) ok (forget-allowed m u (holds .0)) x p), settled-part);
-    }
+    -- the part's request comes to it
+    part-request : AsRequest m (request-bytes (exported p t)) store reply u after-part
+    part-request = (
+      length (exported p t),
+      canonical-all unicode16 (exported p t),
+      exported-is m x t ok p,
+      kept (exported p t) (with-part p t (forget u)),
+      all-taken refl (part-runs m t (forget u) ok (forget-allowed m u (holds .0)) x p),
+      settled-part,
+    )
 
     -- the contract of taking allows it
     pub part-answers : Answers (taken m (request-bytes (exported p t)) store reply) after-part
-    part-answers = inr (λ h. omega arith, inr (λ n. n (holds-store m u store room holds), handled-part))
+    part-answers =
+        request-answers m (request-bytes (exported p t)) store reply after-part long (holds-store m u store room holds) u holds (exported-in-size m x t ok p) part-request
 
     -- and nothing else
     pub part-taken : (a : After) → Answers (taken m (request-bytes (exported p t)) store reply) a → a ≡ after-part

@@ -21,11 +21,6 @@ with-part StatusTexts t u = with-status u (t .status)
 with-part Groups t u = with-groups u (t .groups)
 with-part Individuals t u = with-individuals u (t .individuals)
 
--- what taking these parts of t in turn makes of the tables u: each request forgets the hash kept before
-abbrev pub with-parts : Tables → List Part → Tables → Tables
-with-parts t [] u = u
-with-parts t (p ∷ ps) u = with-parts t ps (with-part p t (forget u))
-
 -- "The same tables" leaves the kept hash aside
 abbrev pub SameTables : Tables → Tables → Type 0
 SameTables t u = forget t ≡ forget u

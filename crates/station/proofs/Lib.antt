@@ -1,9 +1,5 @@
-pub mod JudgeLaws
 pub mod ReplyLaws
 pub mod QueryLaws
 pub mod RunLaws
 pub mod Steps
 pub mod TakeLaws
-pub mod Demand
-pub mod Determined
-pub mod Theorems

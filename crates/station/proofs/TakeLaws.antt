@@ -1,20 +1,23 @@
 -- A message handled step by step comes to what the contract of taking says. Assumes nothing.
-use Prim.Native.Nat.{ℕ, _≤_}
-use mathlib.Core.Path.{_≡_, sym, ap, ap₂, _∙_, subst}
+use Prim.Native.Nat.{ℕ, _≤_, _<_}
+use mathlib.Core.Path.{_≡_, refl, sym, ap, ap₂, _∙_, subst}
 use mathlib.Core.Logic.{_⊎_, inl, inr}
 use mathlib.Core.List.{List, _++_}
 use mathlib.Core.Bool.{Bool, true, false}
 use native.Mathlib.Omega.{arith}
 use borrow.Rule.Slice.PartMut.{midOf, putMid, mid-len}
 use lib.ListN.{length, take, drop}
-use Rattle.lists.proofs.Ladder.{Answers}
+use Rattle.lists.proofs.Ladder.{Ladder, rung, foot, Answers}
 use Rattle.slots.proofs.Runs.{copy-whole}
 use Rattle.writing.specs.declared.LastFlags.{LastFlags}
 use Rattle.writing.specs.Ranges.{no-hash as of-no-value}
-use Rattle.writing.specs.Settings.{Hash}
+use Rattle.writing.specs.Settings.{Setting, Hash}
+use Rattle.writing.specs.Carrier.{Opens, InSize, NothingCarried, OtherType, OtherVersion, NoRequest, NoQuery}
 use Rattle.carrier.specs.Message.{MessageIs}
 use Rattle.carrier.specs.declared.carrier.Message.{Message}
-use Rattle.carrier.specs.declared.carrier.Message.the-variants.{Request}
+use Rattle.carrier.specs.declared.carrier.Message.the-variants.{Size, Carrier, «Type» as AnotherType, Version, NoRequest as NotRequest, Request, NoQuery as NotQuery, Query as AQuery}
+use Rattle.carrier.proofs.KindLaws.{request-opens, other-type, other-version, opens-no-query, opens-no-request, uncounted}
+use Rattle.carrier.proofs.MessageOne.{query-opens}
 use Rattle.fields.specs.declared.hashes.HashPlace.{HashPlace}
 use Rattle.tables.specs.declared.limits.Limits.{Limits}
 use Rattle.tables.specs.Allowed.{HashOk}
@@ -28,11 +31,11 @@ use Rattle.station.specs.declared.answers.Answer.{Answer}
 use Rattle.station.specs.declared.answers.Answer.the-variants.{Replied}
 use Rattle.station.specs.declared.run.Run.the-variants.{Good, Fault as RunFault}
 use Rattle.station.specs.Handling.{TurnedDown, Queried}
-use Rattle.station.specs.Judge.{kept, refused}
+use Rattle.station.specs.Judge.{Outcome, kept, refused}
 use Rattle.station.specs.Queries.{SameAs, HashSame}
 use Rattle.station.specs.Replies.{ReplyWritten}
 use Rattle.station.specs.Running.{RunIs}
-use Rattle.station.specs.Taking.{After, leaves, replies, Asked, Settles, forget, taken}
+use Rattle.station.specs.Taking.{Judged, forget, After, leaves, stays, turned-down, replies, settled, Asked, AsRequest, AsQuery, Handled, taken}
 
 -- no hash is a hash that may be kept
 pub no-hash-ok : HashOk no-hash
@@ -100,16 +103,19 @@ module _ (m : Limits) (store work copy : List ℕ) (s : StoreOf m store) (l : le
       (forget-allowed m t ok, ap₂ (putMid 0 11) (copy-is ∙ is) (e copy-part) ∙ hash-put m t ok no-hash)
 
 module _ (m : Limits) (message : List ℕ) (count at : ℕ) (store reply : List ℕ) (s : StoreOf m store) (t : Tables) (w v : List ℕ) (h : Holds m (forget t) w) where
+  -- what the settings from a place on come to
+  abbrev Settled : After → Type 0
+  Settled a = (o : Outcome Setting Tables) × Judged m count (forget t) (drop at message) o × (a ≡ settled m message store reply o)
+
   -- a fault turns it down
   pub request-refused : (number failed : ℕ) (after : List ℕ) (a : Answer) → RunIs m count message at w v (RunFault number failed)
-      → TurnedDown number failed reply after a → Settles m message store reply t (Request count at) (leaves a store after)
+      → TurnedDown number failed reply after a → Settled (leaves a store after)
   request-refused number failed after a r d = (refused number failed, r (forget t) (s .roomy) h, d m message store)
 
   -- all good: the copy is the store, and the reply carries the hash that is kept now
   pub request-taken : (f : LastFlags) (n : ℕ) (store-after after : List ℕ) → RunIs m count message at w v (Good f)
       → store-after ≡ take (length store) v ++ drop (length v) store → ReplyWritten 0 0 (midOf 0 11 store-after) reply after n
-      → Settles m message store reply t (Request count at)
-      (leaves (Replied (record { result = 0; failed = 0; send = f .reply; reboot = f .reboot; length = n })) store-after after)
+      → Settled (leaves (Replied (record { result = 0; failed = 0; send = f .reply; reboot = f .reboot; length = n })) store-after after)
   request-taken f n store-after after r c x =
       let z = r (forget t) (s .roomy) h in
       let (ok, is) = z .holds in
@@ -124,22 +130,68 @@ module _ (m : Limits) (message : List ℕ) (count at : ℕ) (store reply : List 
 
 -- ---- a message
 
--- a message to a store, by what it is
-pub handled : (m : Limits) (message store reply : List ℕ) (k : Message) (x : After) → 20 ≤ length reply → StoreOf m store → MessageIs (m .message) message k
-    → ((t : Tables) → Holds m t store → Settles m message store reply t k x) → Answers (taken m message store reply) x
-handled m message store reply k x l s is f =
-    let a = s .store in
-    inr (
-      (λ h. omega arith),
-      inr (
-        (λ n. n s),
-        record {
-          tables = a .tables;
-          allowed = a .allowed;
-          bytes = a .bytes-are;
-          kind = k;
-          is = is;
-          settles = f (a .tables) (a .allowed, a .bytes-are);
-        },
-      ),
-    )
+module _ (m : Limits) (message store reply : List ℕ) where
+  -- the ladder from the rung of 4 on, from that of 1 on, and from that of 12 on
+  abbrev from-4 : Ladder After
+  from-4 = rung (NoRequest message × NoQuery message) (turned-down m message store reply 4 0) (foot (Handled m message store reply))
+
+  abbrev from-1 : Ladder After
+  from-1 = rung (OtherVersion message) (turned-down m message store reply 1 0) from-4
+
+  abbrev from-12 : Ladder After
+  from-12 =
+      rung (InSize (m .message) message → ⊥) (stays m message store reply 12)
+      (rung (NothingCarried message) (stays m message store reply 13)
+      (rung (OtherType message) (stays m message store reply 14) from-1))
+
+module _ (m : Limits) (message store reply : List ℕ) (x : After) (big : 20 ≤ length reply) (s : StoreOf m store) where
+  -- what comes after 10 and 11
+  past-11 : Answers (from-12 m message store reply) x → Answers (taken m message store reply) x
+  past-11 a = inr (λ h. omega arith, inr (λ n. n s, a))
+
+  -- where a message opens as a request or a query, what comes after 14
+  past-14 : {v k c : ℕ} {d : List ℕ} → InSize (m .message) message → Opens v k c d message → (k ≡ 0) ⊎ (k ≡ 5)
+      → Answers (from-1 m message store reply) x → Answers (taken m message store reply) x
+  past-14 {v} {k} {c} {d} i o t a = past-11 (inr (λ n. n i, inr (λ n. n c d (o .carried), inr (λ n. n v k c d t o, a))))
+
+  -- with version 1, what comes after 1
+  past-1 : {k c : ℕ} {d : List ℕ} → InSize (m .message) message → Opens 1 k c d message → (k ≡ 0) ⊎ (k ≡ 5)
+      → Answers (from-4 m message store reply) x → Answers (taken m message store reply) x
+  past-1 {k} {c} {d} i o t a = past-14 i o t (inr (λ n. n k c d o, a))
+
+  -- REQUEST ANSWERS: a request in size is answered as its settings come to, from the tables of the store
+  pub request-answers : (t : Tables) → Holds m t store → InSize (m .message) message → AsRequest m message store reply t x → Answers (taken m message store reply) x
+  request-answers t h i r = past-1 i (request-opens (r .2)) (inl refl) (inr (λ n. n .0 (r .0) (r .1) (r .2), record { tables = t; holds = h; comes-to = inl r }))
+
+  -- a query in size, as its hash and the one kept say
+  query-answers : (t : Tables) → Holds m t store → InSize (m .message) message → AsQuery m message store reply t x → Answers (taken m message store reply) x
+  query-answers t h i q = past-1 i (query-opens (q .1)) (inr refl) (inr (λ n. n .1 (q .0) (q .1), record { tables = t; holds = h; comes-to = inr q }))
+
+  -- what each kind comes to, as it was read
+  abbrev pub ByKind : Tables → Message → Type 0
+  ByKind t Size = x ≡ stays m message store reply 12
+  ByKind t Carrier = x ≡ stays m message store reply 13
+  ByKind t AnotherType = x ≡ stays m message store reply 14
+  ByKind t Version = x ≡ turned-down m message store reply 1 0
+  ByKind t NotRequest = x ≡ turned-down m message store reply 4 0
+  ByKind t NotQuery = x ≡ turned-down m message store reply 4 0
+  ByKind t (AQuery p) = AsQuery m message store reply t x
+  ByKind t (Request count at) = (o : Outcome Setting Tables) × Judged m count (forget t) (drop at message) o × (x ≡ settled m message store reply o)
+
+  by-kind : (t : Tables) → Holds m t store → (k : Message) → MessageIs (m .message) message k → ByKind t k → Answers (taken m message store reply) x
+  by-kind t h Size z e = past-11 (inl (z, e))
+  by-kind t h Carrier z e = past-11 (inr (λ n. n (z .0), inl (z .1, e)))
+  by-kind t h AnotherType z e = past-11 (inr (λ n. n (z .0), inr (λ n. n (z .3) (z .4) (z .5 .carried), inl (other-type (z .5) (z .6) (z .7), e))))
+  by-kind t h Version z e = past-14 (z .0) (z .5) (z .6) (inl (other-version (z .5) (z .7), e))
+  by-kind t h NotRequest z e = past-1 (z .0) (z .3) (inl refl) (inl ((uncounted (z .3) (z .4), opens-no-query (z .3) refl), e))
+  by-kind t h NotQuery z e = past-1 (z .0) (z .3) (inr refl) (inl ((opens-no-request (z .3) refl, z .4), e))
+  by-kind t h (AQuery p) z e = query-answers t h (z .0) e
+  by-kind t h (Request count at) z e =
+      request-answers t h (z .0) (count, drop at message, record { data-bytes = z .1; carried = z .2; counted = z .3 }, e .0, e .1, e .2)
+
+  -- HANDLED: a message to a store, by what it was read as
+  pub handled : (k : Message) → MessageIs (m .message) message k → ((t : Tables) → Holds m t store → ByKind t k) → Answers (taken m message store reply) x
+  handled k is f =
+      let a = s .store in
+      let h : Holds m (a .tables) store = (a .allowed, a .bytes-are) in
+      by-kind (a .tables) h k is (f (a .tables) h)

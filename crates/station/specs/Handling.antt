@@ -2,14 +2,17 @@
 use Prim.Native.Nat.{ℕ}
 use mathlib.Core.Path.{_≡_}
 use mathlib.Core.List.{List}
+use lib.ListN.{drop}
 use Rattle.carrier.specs.Message.{MessageIs}
 use Rattle.fields.specs.declared.hashes.HashPlace.{HashPlace}
-use Rattle.carrier.specs.declared.carrier.Message.the-variants.{Request, Query as AQuery}
+use Rattle.carrier.specs.declared.carrier.Message.the-variants.{Query as AQuery}
+use Rattle.writing.specs.Settings.{Setting}
 use Rattle.tables.specs.declared.limits.Limits.{Limits}
 use Rattle.tables.specs.Store.{Holds}
 use Rattle.tables.specs.Tables.{Tables}
 use Rattle.station.specs.declared.answers.Answer.{Answer}
-use Rattle.station.specs.Taking.{leaves, turned-down, Settles}
+use Rattle.station.specs.Judge.{Outcome}
+use Rattle.station.specs.Taking.{Judged, forget, leaves, turned-down, settled, AsQuery}
 
 -- a message that was turned down with this number and failed ID
 abbrev pub TurnedDown : (number failed : ℕ) → List ℕ → List ℕ → Answer → Type 0
@@ -20,9 +23,10 @@ TurnedDown number failed reply after a =
 abbrev pub Queried : List ℕ → HashPlace → List ℕ → List ℕ → List ℕ → Answer → Type 0
 Queried message place store reply after a =
     (m : Limits) (t : Tables) → Holds m t store → MessageIs (m .message) message (AQuery place)
-    → Settles m message store reply t (AQuery place) (leaves a store after)
+    → AsQuery m message store reply t (leaves a store after)
 
--- a request that was judged
+-- a request of so many settings from a place on that was judged
 abbrev pub Requested : Limits → List ℕ → (count at : ℕ) → List ℕ → List ℕ → List ℕ → List ℕ → Answer → Type 0
 Requested m message count at store store-after reply reply-after a =
-    (t : Tables) → Holds m t store → Settles m message store reply t (Request count at) (leaves a store-after reply-after)
+    (t : Tables) → Holds m t store
+    → (o : Outcome Setting Tables) × Judged m count (forget t) (drop at message) o × (leaves a store-after reply-after ≡ settled m message store reply o)

@@ -1,5 +1,4 @@
 pub mod Answers
-pub mod Demands
 pub mod Handling
 pub mod Judge
 pub mod Queries

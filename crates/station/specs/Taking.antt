@@ -5,23 +5,19 @@ use mathlib.Core.Logic.{_≢_, _⊎_}
 use mathlib.Core.Bool.{Bool, true, false}
 use mathlib.Core.List.{List, [], _∷_}
 use mathlib.Core.Option.{Option, none, some}
-use lib.ListN.{length, drop}
+use lib.ListN.{length}
 use Rattle.lists.proofs.Bytes.{Bytes}
 use Rattle.lists.proofs.Ladder.{Ladder, rung, foot}
 use Rattle.writing.specs.declared.Kind.{Kind}
 use Rattle.writing.specs.declared.LastFlags.{LastFlags}
-use Rattle.writing.specs.Carrier.{Query}
+use Rattle.writing.specs.Carrier.{RequestOf, Query, InSize, NothingCarried, OtherType, OtherVersion, NoRequest, NoQuery}
 use Rattle.writing.specs.Ranges.{text-limits, InRange}
 use Rattle.writing.specs.Settings.{Setting, Hash, unicode16, lines, key, quick-texts, home, channels, system, status-texts, group, individual, last}
 use Rattle.writing.specs.Writing.{Written, type-byte}
-use Rattle.carrier.specs.Message.{MessageIs}
-use Rattle.carrier.specs.declared.carrier.Message.{Message}
-use Rattle.carrier.specs.declared.carrier.Message.the-variants.{Size, Carrier, «Type» as OtherType, Version, NoRequest, Request, NoQuery, Query as AQuery}
 use Rattle.tables.specs.declared.limits.Limits.{Limits}
-use Rattle.tables.specs.Allowed.{Allowed}
 use Rattle.tables.specs.Apply.{apply}
 use Rattle.tables.specs.Layout.{layout}
-use Rattle.tables.specs.Store.{StoreOf}
+use Rattle.tables.specs.Store.{StoreOf, Holds}
 use Rattle.tables.specs.Tables.{Tables, no-hash, with-hash}
 use Rattle.station.specs.declared.answers.Answer.{Answer}
 use Rattle.station.specs.Answers.{Said, said, refused-with}
@@ -123,29 +119,29 @@ module _ (m : Limits) (message store reply : List ℕ) where
       ((h .code ≢ 0) × (h ≡ k) × (a ≡ replies 0 0 true false k store))
       ⊎ ((h .code ≢ 0 → h ≡ k → ⊥) × (a ≡ replies 5 0 true false k store))
 
-  -- what each kind of message comes to, from the tables of the store
-  abbrev pub Settles : Tables → Message → After → Type 0
-  Settles t Size a = a ≡ stays 12
-  Settles t Carrier a = a ≡ stays 13
-  Settles t OtherType a = a ≡ stays 14
-  Settles t Version a = a ≡ turned-down 1 0
-  Settles t NoRequest a = a ≡ turned-down 4 0
-  Settles t NoQuery a = a ≡ turned-down 4 0
-  Settles t (AQuery p) a = (h : Hash) × Query h message × Asked h (t .hash) a
-  Settles t (Request count at) a = (o : Outcome Setting Tables) × Judged m count (forget t) (drop at message) o × (a ≡ settled o)
+  -- a counted request: what its settings come to, from the tables of the store
+  abbrev pub AsRequest : Tables → After → Type 0
+  AsRequest t a =
+      (count : ℕ) × (settings : List ℕ) × RequestOf count settings message × (o : Outcome Setting Tables) × Judged m count (forget t) settings o × (a ≡ settled o)
 
-  -- a message to a store: what it is says what it comes to
+  -- a result query: its hash and the one kept
+  abbrev pub AsQuery : Tables → After → Type 0
+  AsQuery t a = (h : Hash) × Query h message × Asked h (t .hash) a
+
+  -- a message to a store that none of the tests turns down
   pub record Handled (a : After) : Type 0 where
     pub tables : Tables
-    pub allowed : Allowed m tables
-    pub bytes : store ≡ layout m tables
-    pub kind : Message
-    pub is : MessageIs (m .message) message kind
-    pub settles : Settles tables kind a
+    pub holds : Holds m tables store
+    pub comes-to : AsRequest tables a ⊎ AsQuery tables a
 
-  -- "Order for a message: 10, 11, 12, 13, 14, 1; then .."
+  -- "Order for a message: 10, 11, 12, 13, 14, 1; then ParamSum missing or 0, or coding type (4, failed ID 0)"; "A malformed query gives 4, ID 0"
   abbrev pub taken : Ladder After
   taken =
       rung (length reply < 20) (stays 10)
       (rung (StoreOf m store → ⊥) (stays 11)
-      (foot Handled))
+      (rung (InSize (m .message) message → ⊥) (stays 12)
+      (rung (NothingCarried message) (stays 13)
+      (rung (OtherType message) (stays 14)
+      (rung (OtherVersion message) (turned-down 1 0)
+      (rung (NoRequest message × NoQuery message) (turned-down 4 0)
+      (foot Handled)))))))

@@ -16,6 +16,7 @@ use Rattle.writing.specs.Ranges.{InChannel}
 use Rattle.tables.specs.declared.limits.Limits.{Limits}
 use Rattle.tables.specs.Allowed.{Allowed, QuickOk, StatusOk, GroupOk, IndividualOk, LineOk}
 use Rattle.tables.specs.Layout.{parts, part-widths, used-size, layout, Roomy, quick-bytes, status-bytes, group-bytes, individual-bytes, line-bytes, quick-width, status-width, member-width, channel-width, line-width}
+use Rattle.tables.specs.Store.{StoreOf, Holds}
 use Rattle.tables.specs.Tables.{Tables}
 use Rattle.tables.proofs.EntryBytes.{quick-are-bytes, status-are-bytes, group-are-bytes, individual-are-bytes, channel-are-bytes, line-are-bytes, hash-are-bytes, key-are-bytes, home-are-bytes, system-are-bytes}
 use Rattle.tables.proofs.EntryCodes.{quick-code, quick-shown, status-code, status-shown, group-code, group-shown, individual-code, individual-shown, channel-code, channel-shown, line-code, line-shown}
@@ -44,6 +45,14 @@ parts-wide m t ok =
 pub layout-length : (m : Limits) (t : Tables) → Roomy m → Allowed m t → length (layout m t) ≡ m .size
 unfolding layout
 layout-length m t r ok = omega (arith, flat-length (parts m t), ap sum (parts-wide m t ok))
+
+-- HOLDS-STORE: so the bytes that hold allowed tables, where these have room, are a store
+pub holds-store : (m : Limits) (t : Tables) (store : List ℕ) → Roomy m → Holds m t store → StoreOf m store
+holds-store m t store room holds = record {
+  size = ap length (holds .1) ∙ layout-length m t room (holds .0);
+  roomy = room;
+  store = record { tables = t; allowed = holds .0; bytes-are = holds .1 };
+}
 
 -- ---- bytes
 

@@ -1,4 +1,5 @@
--- What makes a message's bytes a carried request, result query or reply: document 01, "The carrier".
+-- What makes a message's bytes a carried request, result query or reply, and what makes them none: document 01, "The carrier" and the order of
+-- "Numbers returned".
 use Prim.Native.Nat.{ℕ, _+_, _≤_}
 use mathlib.Core.Path.{_≡_}
 use mathlib.Core.Logic.{_⊎_}
@@ -7,7 +8,9 @@ use lib.ListN.{length}
 use Rattle.writing.specs.Fields.{bitsOf, Field, val, res, Shows}
 use Rattle.writing.specs.Ranges.{HashSize}
 use Rattle.writing.specs.Settings.{Setting, Hash, Coding, unicode16}
-use Rattle.writing.specs.Writing.{hash, WrittenAs}
+use Rattle.writing.specs.Writing.{hash, request-head, WrittenAs}
+
+-- ---- the carrier
 
 -- "The fixed start bytes 02 02": protocol version and service
 abbrev pub start : List ℕ
@@ -33,9 +36,32 @@ pub record Carries (coding-type : ℕ) (data-bytes message : List ℕ) : Type 0 
 abbrev pub coding-type : Coding → ℕ
 coding-type unicode16 = 7
 
+-- ---- requests, result queries and replies
+
 -- "The first data byte has OTAPVer (5 bits; house: 1) and MsgType (3 bits): 0 request, 1 reply, 5 result query"
-abbrev pub message-type : ℕ → List Field
-message-type t = val 5 1 ∷ val 3 t ∷ []
+abbrev pub first-byte : ℕ → ℕ → List Field
+first-byte version kind = val 5 version ∷ val 3 kind ∷ []
+
+-- the message carries these data bytes, of which the first says this version and type
+pub record Opens (version kind coding : ℕ) (data-bytes message : List ℕ) : Type 0 where
+  pub carried : Carries coding data-bytes message
+  pub first : ℕ
+  pub rest : List ℕ
+  pub parts : data-bytes ≡ first ∷ rest
+  pub says : Shows (first-byte version kind) (bitsOf (first ∷ []))
+
+-- "ParamSum (8 bits, 1 to 255)" counts the settings that these bytes after it should be
+pub record Counted (count : ℕ) (settings data-bytes : List ℕ) : Type 0 where
+  pub head : List ℕ
+  pub parts : data-bytes ≡ head ++ settings
+  pub says : Shows (request-head count) (bitsOf head)
+  pub some-setting : 1 ≤ count
+
+-- the message is a request: "Coding type must be 0111"; that its settings are good is not said
+pub record RequestOf (count : ℕ) (settings message : List ℕ) : Type 0 where
+  pub data-bytes : List ℕ
+  pub carried : Carries (coding-type unicode16) data-bytes message
+  pub counted : Counted count settings data-bytes
 
 -- "Request: ParamSum (8 bits, 1 to 255), then that many settings"
 pub record Request (c : Coding) (ss : List Setting) (message : List ℕ) : Type 0 where
@@ -63,3 +89,29 @@ pub record Reply (result failed : ℕ) (h : Hash) (message : List ℕ) : Type 0 
   pub carried : Carries 0 data-bytes message
   pub written : Shows (reply result failed h) (bitsOf data-bytes)
   pub in-range : HashSize (h .code) (length (h .value))
+
+-- ---- messages that are neither a request nor a result query, in the order of "Numbers returned"
+
+-- 12, "message under 7 or over 4,096 bytes", is out of size; the most is a set's
+abbrev pub InSize : ℕ → List ℕ → Type 0
+InSize most message = (7 ≤ length message) × (length message ≤ most)
+
+-- 13, "carrier field or length wrong": it carries nothing
+abbrev pub NothingCarried : List ℕ → Type 0
+NothingCarried message = (coding : ℕ) (data-bytes : List ℕ) → Carries coding data-bytes message → ⊥
+
+-- 14, "MsgType not 0 or 5", whatever the version
+abbrev pub OtherType : List ℕ → Type 0
+OtherType message = (version kind coding : ℕ) (data-bytes : List ℕ) → (kind ≡ 0) ⊎ (kind ≡ 5) → Opens version kind coding data-bytes message → ⊥
+
+-- 1, "OTAPVer is not 1", whatever the type
+abbrev pub OtherVersion : List ℕ → Type 0
+OtherVersion message = (kind coding : ℕ) (data-bytes : List ℕ) → Opens 1 kind coding data-bytes message → ⊥
+
+-- 4, "ParamSum missing or 0, or coding type"
+abbrev pub NoRequest : List ℕ → Type 0
+NoRequest message = (count : ℕ) (settings : List ℕ) → RequestOf count settings message → ⊥
+
+-- 4, "A malformed query"
+abbrev pub NoQuery : List ℕ → Type 0
+NoQuery message = (h : Hash) → Query h message → ⊥

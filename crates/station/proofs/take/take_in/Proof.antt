@@ -80,7 +80,7 @@ same-length-2 c = search needs
 returns-3 : tie.Need-returns-3
 returns-3 c =
     let a = c .before .before .before .before .before .before .before .before .before .before .before .args in
-    handled (a .limits) (a .m .now) (a .store .now) (a .reply .now) Size _ (c .before .before .before .before .before .before .if1 .left) (was-said (c .before .before .before .before .is-store .result) (c .before .before .before .before .is-store .ensures) (c .before .before .before .if2 .left)) (subst (MessageIs (a .limits .message) (a .m .now)) (c .enum-told .given .1) (c .before .before .read-message .ensures)) (λ t h. refl)
+    handled (a .limits) (a .m .now) (a .store .now) (a .reply .now) _ (c .before .before .before .before .before .before .if1 .left) (was-said (c .before .before .before .before .is-store .result) (c .before .before .before .before .is-store .ensures) (c .before .before .before .if2 .left)) Size (subst (MessageIs (a .limits .message) (a .m .now)) (c .enum-told .given .1) (c .before .before .read-message .ensures)) (λ t h. refl)
 
 same-length-3 : tie.Need-same-length-3
 same-length-3 c = search needs
@@ -88,7 +88,7 @@ same-length-3 c = search needs
 returns-4 : tie.Need-returns-4
 returns-4 c =
     let a = c .before .before .before .before .before .before .before .before .before .before .before .args in
-    handled (a .limits) (a .m .now) (a .store .now) (a .reply .now) Carrier _ (c .before .before .before .before .before .before .if1 .left) (was-said (c .before .before .before .before .is-store .result) (c .before .before .before .before .is-store .ensures) (c .before .before .before .if2 .left)) (subst (MessageIs (a .limits .message) (a .m .now)) (c .enum-told2 .given .1) (c .before .before .read-message .ensures)) (λ t h. refl)
+    handled (a .limits) (a .m .now) (a .store .now) (a .reply .now) _ (c .before .before .before .before .before .before .if1 .left) (was-said (c .before .before .before .before .is-store .result) (c .before .before .before .before .is-store .ensures) (c .before .before .before .if2 .left)) Carrier (subst (MessageIs (a .limits .message) (a .m .now)) (c .enum-told2 .given .1) (c .before .before .read-message .ensures)) (λ t h. refl)
 
 same-length-4 : tie.Need-same-length-4
 same-length-4 c = search needs
@@ -96,7 +96,7 @@ same-length-4 c = search needs
 returns-5 : tie.Need-returns-5
 returns-5 c =
     let a = c .before .before .before .before .before .before .before .before .before .before .before .args in
-    handled (a .limits) (a .m .now) (a .store .now) (a .reply .now) OtherType _ (c .before .before .before .before .before .before .if1 .left) (was-said (c .before .before .before .before .is-store .result) (c .before .before .before .before .is-store .ensures) (c .before .before .before .if2 .left)) (subst (MessageIs (a .limits .message) (a .m .now)) (c .enum-told3 .given .1) (c .before .before .read-message .ensures)) (λ t h. refl)
+    handled (a .limits) (a .m .now) (a .store .now) (a .reply .now) _ (c .before .before .before .before .before .before .if1 .left) (was-said (c .before .before .before .before .is-store .result) (c .before .before .before .before .is-store .ensures) (c .before .before .before .if2 .left)) OtherType (subst (MessageIs (a .limits .message) (a .m .now)) (c .enum-told3 .given .1) (c .before .before .read-message .ensures)) (λ t h. refl)
 
 same-length-5 : tie.Need-same-length-5
 same-length-5 c = search needs
@@ -107,7 +107,7 @@ same-length-6 c = search needs
 returns-6 : tie.Need-returns-6
 returns-6 c =
     let a = c .before .before .before .before .before .before .before .before .before .before .before .before .before .before .before .args in
-    handled (a .limits) (a .m .now) (a .store .now) (a .reply .now) Version _ (c .before .before .before .before .before .before .before .before .before .before .if1 .left) (was-said (c .before .before .before .before .before .before .before .before .is-store .result) (c .before .before .before .before .before .before .before .before .is-store .ensures) (c .before .before .before .before .before .before .before .if2 .left)) (subst (MessageIs (a .limits .message) (a .m .now)) (c .before .before .before .before .enum-told4 .given .1) (c .before .before .before .before .before .before .read-message .ensures)) (λ t h. c .before .before .turn-down .ensures (a .limits) (a .m .now) (a .store .now))
+    handled (a .limits) (a .m .now) (a .store .now) (a .reply .now) _ (c .before .before .before .before .before .before .before .before .before .before .if1 .left) (was-said (c .before .before .before .before .before .before .before .before .is-store .result) (c .before .before .before .before .before .before .before .before .is-store .ensures) (c .before .before .before .before .before .before .before .if2 .left)) Version (subst (MessageIs (a .limits .message) (a .m .now)) (c .before .before .before .before .enum-told4 .given .1) (c .before .before .before .before .before .before .read-message .ensures)) (λ t h. c .before .before .turn-down .ensures (a .limits) (a .m .now) (a .store .now))
 
 same-length-7 : tie.Need-same-length-7
 same-length-7 c = search needs
@@ -118,7 +118,7 @@ same-length-8 c = search needs
 returns-7 : tie.Need-returns-7
 returns-7 c =
     let a = c .before .before .before .before .before .before .before .before .before .before .before .before .before .before .before .args in
-    handled (a .limits) (a .m .now) (a .store .now) (a .reply .now) NoRequest _ (c .before .before .before .before .before .before .before .before .before .before .if1 .left) (was-said (c .before .before .before .before .before .before .before .before .is-store .result) (c .before .before .before .before .before .before .before .before .is-store .ensures) (c .before .before .before .before .before .before .before .if2 .left)) (subst (MessageIs (a .limits .message) (a .m .now)) (c .before .before .before .before .enum-told5 .given .1) (c .before .before .before .before .before .before .read-message .ensures)) (λ t h. c .before .before .turn-down2 .ensures (a .limits) (a .m .now) (a .store .now))
+    handled (a .limits) (a .m .now) (a .store .now) (a .reply .now) _ (c .before .before .before .before .before .before .before .before .before .before .if1 .left) (was-said (c .before .before .before .before .before .before .before .before .is-store .result) (c .before .before .before .before .before .before .before .before .is-store .ensures) (c .before .before .before .before .before .before .before .if2 .left)) NoRequest (subst (MessageIs (a .limits .message) (a .m .now)) (c .before .before .before .before .enum-told5 .given .1) (c .before .before .before .before .before .before .read-message .ensures)) (λ t h. c .before .before .turn-down2 .ensures (a .limits) (a .m .now) (a .store .now))
 
 same-length-9 : tie.Need-same-length-9
 same-length-9 c = search needs
@@ -129,7 +129,7 @@ same-length-10 c = search needs
 returns-8 : tie.Need-returns-8
 returns-8 c =
     let a = c .before .before .before .before .before .before .before .before .before .before .before .before .before .before .before .args in
-    handled (a .limits) (a .m .now) (a .store .now) (a .reply .now) NoQuery _ (c .before .before .before .before .before .before .before .before .before .before .if1 .left) (was-said (c .before .before .before .before .before .before .before .before .is-store .result) (c .before .before .before .before .before .before .before .before .is-store .ensures) (c .before .before .before .before .before .before .before .if2 .left)) (subst (MessageIs (a .limits .message) (a .m .now)) (c .before .before .before .before .enum-told6 .given .1) (c .before .before .before .before .before .before .read-message .ensures)) (λ t h. c .before .before .turn-down3 .ensures (a .limits) (a .m .now) (a .store .now))
+    handled (a .limits) (a .m .now) (a .store .now) (a .reply .now) _ (c .before .before .before .before .before .before .before .before .before .before .if1 .left) (was-said (c .before .before .before .before .before .before .before .before .is-store .result) (c .before .before .before .before .before .before .before .before .is-store .ensures) (c .before .before .before .before .before .before .before .if2 .left)) NoQuery (subst (MessageIs (a .limits .message) (a .m .now)) (c .before .before .before .before .enum-told6 .given .1) (c .before .before .before .before .before .before .read-message .ensures)) (λ t h. c .before .before .turn-down3 .ensures (a .limits) (a .m .now) (a .store .now))
 
 same-length-11 : tie.Need-same-length-11
 same-length-11 c = search needs
@@ -141,7 +141,7 @@ returns-9 : tie.Need-returns-9
 returns-9 c =
     let a = c .before .before .before .before .before .before .before .before .before .before .before .before .before .before .before .before .before .args in
     let q = subst (MessageIs (a .limits .message) (a .m .now)) (c .before .before .before .before .before .before .message .given .1) (c .before .before .before .before .before .before .before .before .read-message .ensures) in
-    handled (a .limits) (a .m .now) (a .store .now) (a .reply .now) (AQuery (c .before .before .before .before .before .before .message .given .0 .0)) _ (c .before .before .before .before .before .before .before .before .before .before .before .before .if1 .left) (was-said (c .before .before .before .before .before .before .before .before .before .before .is-store .result) (c .before .before .before .before .before .before .before .before .before .before .is-store .ensures) (c .before .before .before .before .before .before .before .before .before .if2 .left)) q (λ t h. c .before .before .answer-query .ensures (a .limits) t h q)
+    handled (a .limits) (a .m .now) (a .store .now) (a .reply .now) _ (c .before .before .before .before .before .before .before .before .before .before .before .before .if1 .left) (was-said (c .before .before .before .before .before .before .before .before .before .before .is-store .result) (c .before .before .before .before .before .before .before .before .before .before .is-store .ensures) (c .before .before .before .before .before .before .before .before .before .if2 .left)) (AQuery (c .before .before .before .before .before .before .message .given .0 .0)) q (λ t h. c .before .before .answer-query .ensures (a .limits) t h q)
 
 same-length-13 : tie.Need-same-length-13
 same-length-13 c = search needs
@@ -155,7 +155,7 @@ same-length-15 c = search needs
 returns-10 : tie.Need-returns-10
 returns-10 c =
     let a = c .before .before .before .before .before .before .before .before .before .before .before .before .before .before .before .before .before .before .before .before .before .before .args in
-    handled (a .limits) (a .m .now) (a .store .now) (a .reply .now) (Request (c .before .before .before .before .before .before .before .before .before .before .before .message2 .given .0 .0) (c .before .before .before .before .before .before .before .before .before .before .before .message2 .given .0 .1 .0)) _ (c .before .before .before .before .before .before .before .before .before .before .before .before .before .before .before .before .before .if1 .left) (was-said (c .before .before .before .before .before .before .before .before .before .before .before .before .before .before .before .is-store .result) (c .before .before .before .before .before .before .before .before .before .before .before .before .before .before .before .is-store .ensures) (c .before .before .before .before .before .before .before .before .before .before .before .before .before .before .if2 .left)) (subst (MessageIs (a .limits .message) (a .m .now)) (c .before .before .before .before .before .before .before .before .before .before .before .message2 .given .1) (c .before .before .before .before .before .before .before .before .before .before .before .before .before .read-message .ensures)) (λ t h. c .before .before .before .before .before .before .take-request .ensures t h)
+    handled (a .limits) (a .m .now) (a .store .now) (a .reply .now) _ (c .before .before .before .before .before .before .before .before .before .before .before .before .before .before .before .before .before .if1 .left) (was-said (c .before .before .before .before .before .before .before .before .before .before .before .before .before .before .before .is-store .result) (c .before .before .before .before .before .before .before .before .before .before .before .before .before .before .before .is-store .ensures) (c .before .before .before .before .before .before .before .before .before .before .before .before .before .before .if2 .left)) (Request (c .before .before .before .before .before .before .before .before .before .before .before .message2 .given .0 .0) (c .before .before .before .before .before .before .before .before .before .before .before .message2 .given .0 .1 .0)) (subst (MessageIs (a .limits .message) (a .m .now)) (c .before .before .before .before .before .before .before .before .before .before .before .message2 .given .1) (c .before .before .before .before .before .before .before .before .before .before .before .before .before .read-message .ensures)) (λ t h. c .before .before .before .before .before .before .take-request .ensures t h)
 
 pub take-in-spec : {M : Type 1} → statement M
 take-in-spec =

@@ -6,15 +6,14 @@ use mathlib.Core.Option.{some}
 use mathlib.Core.Logic.{_≢_, _⊎_}
 use lib.ListN.{length}
 use Rattle.writing.specs.Ranges.{text-limits, InRange}
-use Rattle.writing.specs.Carrier.{coding-type}
+use Rattle.writing.specs.Carrier.{coding-type, Opens, Counted, InSize}
 use Rattle.writing.specs.Settings.{Setting, unicode16}
 use Rattle.writing.specs.Writing.{WrittenAll}
-use Rattle.carrier.specs.Message.{InSize, Opens, Counted}
 use Rattle.tables.specs.declared.limits.Limits.{Limits}
 use Rattle.tables.specs.Apply.{apply}
 use Rattle.tables.specs.Store.{StoreOf, Holds}
 use Rattle.tables.specs.Tables.{Tables}
 use Rattle.station.specs.Taking.{Fault}
 
 -- "every setting in turn is in range and has room", where n are counted: they make the tables t the tables u
 abbrev pub InTurn : Limits → ℕ → Tables → List Setting → Tables → Type 0

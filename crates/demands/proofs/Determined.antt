@@ -1,32 +1,23 @@
 -- Two outcomes that taking allows for one message, store and reply buffer are equal. Assumes nothing.
-use Prim.Native.Nat.{ℕ, zero, suc, _+_, _<_}
-use mathlib.Core.Path.{_≡_, refl, sym, ap, _∙_, subst}
-use mathlib.Core.Logic.{_≢_, _⊎_, inl, inr}
-use mathlib.Core.List.{List, [], _∷_, _++_}
-use lib.ListN.{length, drop}
-use Rattle.lists.proofs.Bytes.{Bytes}
-use Rattle.lists.proofs.Every.{All}
+use Prim.Native.Nat.{ℕ}
+use mathlib.Core.Path.{_≡_, sym, ap, _∙_, subst, subst₂}
+use mathlib.Core.Logic.{_⊎_, inl, inr}
+use mathlib.Core.List.{List, _∷_, _++_}
+use Rattle.lists.proofs.Bytes.{bytes-all}
 use Rattle.lists.proofs.Ladder.{Answers, one-answer}
-use Rattle.writing.specs.Carrier.{Query}
 use Rattle.writing.specs.Ranges.{text-limits, InRange}
 use Rattle.writing.specs.Settings.{Setting, Hash, unicode16, kind}
 use Rattle.writing.proofs.Unique.{unique}
 use Rattle.writing.proofs.Whole.{headed}
-use Rattle.carrier.specs.declared.carrier.Message.{Message}
-use Rattle.carrier.specs.declared.carrier.Message.the-variants.{Size, Carrier, «Type» as OtherType, Version, NoRequest, Request, NoQuery, Query as AQuery}
-use Rattle.carrier.proofs.MessageOne.{message-determined, query-hash}
+use Rattle.carrier.proofs.KindLaws.{request-one, not-both}
+use Rattle.carrier.proofs.MessageOne.{query-hash}
 use Rattle.tables.specs.declared.limits.Limits.{Limits}
 use Rattle.tables.specs.Apply.{apply}
 use Rattle.tables.specs.Tables.{Tables}
 use Rattle.tables.proofs.LayoutLaws.{layout-one}
 use Rattle.station.specs.Judge.{Outcome}
-use Rattle.station.specs.Taking.{WrittenIn, Known, Judged, After, Asked, Settles, Handled, taken, settled}
-use Rattle.station.proofs.JudgeLaws.{determined}
-
--- bytes are below 256, each of them
-bytes-all : (l : List ℕ) → Bytes l → All (_< 256) l
-bytes-all [] b = tt
-bytes-all (x ∷ l) b = (b 0, bytes-all l (λ i. b (suc i)))
+use Rattle.station.specs.Taking.{WrittenIn, Known, Judged, forget, After, settled, Asked, AsRequest, AsQuery, Handled, taken}
+use Rattle.demands.proofs.JudgeLaws.{determined}
 
 -- no setting's writing starts another's
 pub one-writing : (s s′ : Setting) (w w′ r r′ : List ℕ) → WrittenIn s w → WrittenIn s′ w′ → w ++ r ≡ w′ ++ r′ → (s ≡ s′) × (w ≡ w′)
@@ -49,25 +40,23 @@ module _ (m : Limits) (message store reply : List ℕ) where
   one-asked h k a b (inr (never, e)) (inl (n, s, d)) = absurd (never n s)
   one-asked h k a b (inr (_, e)) (inr (_, d)) = e ∙ sym d
 
-  -- each kind of message comes to one thing
-  one-settled : (t : Tables) (x : Message) (a b : After) → Settles m message store reply t x a → Settles m message store reply t x b → a ≡ b
-  one-settled t Size a b p q = p ∙ sym q
-  one-settled t Carrier a b p q = p ∙ sym q
-  one-settled t OtherType a b p q = p ∙ sym q
-  one-settled t Version a b p q = p ∙ sym q
-  one-settled t NoRequest a b p q = p ∙ sym q
-  one-settled t NoQuery a b p q = p ∙ sym q
-  one-settled t (AQuery place) a b (h, x, p) (k, y, q) =
+  -- a message comes to one thing
+  one-outcome : (t : Tables) (a b : After) → AsRequest m message store reply t a ⊎ AsQuery m message store reply t a
+      → AsRequest m message store reply t b ⊎ AsQuery m message store reply t b → a ≡ b
+  one-outcome t a b (inl (count, settings, r, o, x, p)) (inl (count′, settings′, r′, o′, y, q)) =
+      let (n, s) = request-one r r′ in
+      let z : Judged m count′ (forget t) settings′ o = subst₂ (λ (i : ℕ) (l : List ℕ). Judged m i (forget t) l o) n s x in
+      p ∙ ap (settled m message store reply) (judged-determined m count′ _ _ o o′ z y) ∙ sym q
+  one-outcome t a b (inl (count, settings, r, o, x, p)) (inr (h, y, q)) = absurd (not-both r y)
+  one-outcome t a b (inr (h, x, p)) (inl (count, settings, r, o, y, q)) = absurd (not-both r x)
+  one-outcome t a b (inr (h, x, p)) (inr (k, y, q)) =
       one-asked k (t .hash) a b (subst (λ (z : Hash). Asked m message store reply z (t .hash) a) (query-hash x y) p) q
-  one-settled t (Request count at) a b (o, x, p) (r, y, q) =
-      p ∙ ap (settled m message store reply) (judged-determined m count _ _ o r x y) ∙ sym q
 
   one-handled : (a b : After) → Handled m message store reply a → Handled m message store reply b → a ≡ b
   one-handled a b p q =
-      let t : p .tables ≡ q .tables = layout-one m (p .tables) (q .tables) (p .allowed) (q .allowed) (sym (p .bytes) ∙ q .bytes) in
-      let x : p .kind ≡ q .kind = message-determined (m .message) message (p .kind) (q .kind) (p .is) (q .is) in
-      one-settled (q .tables) (q .kind) a b
-      (subst (λ (z : Message). Settles m message store reply (q .tables) z a) x (subst (λ (z : Tables). Settles m message store reply z (p .kind) a) t (p .settles))) (q .settles)
+      let t : p .tables ≡ q .tables = layout-one m (p .tables) (q .tables) (p .holds .0) (q .holds .0) (sym (p .holds .1) ∙ q .holds .1) in
+      one-outcome (q .tables) a b
+      (subst (λ (z : Tables). AsRequest m message store reply z a ⊎ AsQuery m message store reply z a) t (p .comes-to)) (q .comes-to)
 
   -- DETERMINED: the contract of taking allows one answer, one store and one reply buffer
   pub taken-determined : (a b : After) → Answers (taken m message store reply) a → Answers (taken m message store reply) b → a ≡ b

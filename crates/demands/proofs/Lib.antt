@@ -1,0 +1,4 @@
+pub mod JudgeLaws
+pub mod Determined
+pub mod Demand
+pub mod Theorems

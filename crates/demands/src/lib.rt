@@ -1,0 +1,1 @@
+// Demands 1 to 3 for taking a message: laws only.
