@@ -21,11 +21,11 @@ use Rattle.writing.specs.Canonical.{Fits}
 use Rattle.writing.specs.Ranges.{text-limits, InRange}
 use Rattle.writing.specs.Settings.{Setting, Hash, unicode16}
 use Rattle.fields.specs.declared.hashes.HashPlace.{HashPlace}
-use Rattle.wire.specs.declared.settings.Entries.{Entries}
-use Rattle.wire.specs.declared.settings.GroupPlace.{GroupPlace}
-use Rattle.wire.specs.declared.settings.IndividualPlace.{IndividualPlace}
-use Rattle.wire.specs.declared.settings.Setting.{Setting as Read}
-use Rattle.wire.specs.declared.settings.Setting.the-variants.{Lines, Key, QuickTexts, Home, Channels, System, StatusTexts, Group, Individual, Last}
+use Rattle.settings.specs.declared.settings.Entries.{Entries}
+use Rattle.settings.specs.declared.settings.GroupPlace.{GroupPlace}
+use Rattle.settings.specs.declared.settings.IndividualPlace.{IndividualPlace}
+use Rattle.settings.specs.declared.settings.Setting.{Setting as Read}
+use Rattle.settings.specs.declared.settings.Setting.the-variants.{Lines, Key, QuickTexts, Home, Channels, System, StatusTexts, Group, Individual, Last}
 use Rattle.tables.specs.declared.limits.Limits.{Limits}
 use Rattle.tables.specs.Allowed.{Allowed, TargetOk}
 use Rattle.tables.specs.Apply.{apply, with-room, slot-after, lines-after, quick-after, status-after, channels-after}

@@ -1,17 +1,17 @@
 // The whole store: a setting that was read is applied to its part.
-use listed::channels::apply_channels;
 use listed::lines::apply_lines;
-use tables::fixed::put_hash;
-use tables::fixed::put_home;
-use tables::fixed::put_key;
-use tables::fixed::put_system;
+use placed::fixed::put_hash;
+use placed::fixed::put_home;
+use placed::fixed::put_key;
+use placed::fixed::put_system;
+use placed::members::apply_group;
+use placed::members::apply_individual;
+use placed::quick::apply_quick;
+use placed::status::apply_status;
+use scan_channels::apply_channels;
+use settings::settings::Setting;
 use tables::limits::Limits;
 use tables::limits::roomy;
-use tables::members::apply_group;
-use tables::members::apply_individual;
-use tables::quick::apply_quick;
-use tables::status::apply_status;
-use wire::settings::Setting;
 ghost use Rattle.tables.specs.Store.{Applied};
 
 // Whether there was room. Bytes that are no store of these limits may be left as they were.

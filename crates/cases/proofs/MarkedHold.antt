@@ -4,7 +4,7 @@ use mathlib.Core.Path.{refl}
 use native.Mathlib.Omega.{arith}
 use lib.Dec.{lit≤}
 use Rattle.lists.proofs.Every.{All}
-use Rattle.plan.specs.Frequencies.{simplex, paired}
+use Rattle.frequencies.specs.Frequencies.{simplex, paired}
 use Rattle.plan.specs.Numbers.{IndividualShort, of-700, of-350, GroupShort, of-100}
 use Rattle.plan.proofs.NumberLaws.{individuals, groups}
 use Rattle.writing.specs.Ranges.{text-limits, InRange}

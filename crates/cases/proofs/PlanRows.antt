@@ -5,10 +5,10 @@ use mathlib.Core.Bool.{_&&_}
 use lib.Dec.{T, leb, leb→le}
 use Rattle.lists.proofs.Every.{both}
 use Rattle.plan.specs.Answers.{Answered, has, given}
-use Rattle.plan.specs.Frequencies.{Transmits}
+use Rattle.frequencies.specs.Frequencies.{Transmits}
 use Rattle.plan.specs.Numbers.{Numbered}
 use Rattle.plan.proofs.AnswerLaws.{One, had-value}
-use Rattle.plan.proofs.FrequencyLaws.{one-transmit}
+use Rattle.frequencies.proofs.FrequencyLaws.{one-transmit}
 use Rattle.plan.proofs.NumberLaws.{Sound, one-address}
 use Rattle.cases.specs.Marked.{Only}
 

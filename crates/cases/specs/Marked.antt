@@ -7,7 +7,7 @@ use lib.ListN.{length}
 use Rattle.lists.proofs.Every.{All}
 use Rattle.lists.proofs.Ladder.{Answers}
 use Rattle.plan.specs.Answers.{Answered, given}
-use Rattle.plan.specs.Frequencies.{Transmits}
+use Rattle.frequencies.specs.Frequencies.{Transmits}
 use Rattle.plan.specs.Numbers.{Individual, Group}
 use Rattle.writing.specs.declared.LineFlags.{LineFlags}
 use Rattle.writing.specs.declared.Operation.the-variants.{Add, Replace}

@@ -13,7 +13,7 @@ use lib.Seq.{getD-drop, getD-take, length-take-le}
 use Rattle.lists.proofs.Bytes.{Bytes, bytes-drop, bytes-take}
 use Rattle.slots.specs.Slots.{u16, u24, EntryOf}
 use Rattle.slots.proofs.Numbers.{u16-of, u16-one, u24-of, u24-one}
-use Rattle.wire.proofs.BodyLaws.{flag-bit}
+use Rattle.settings.proofs.BodyLaws.{flag-bit}
 use Rattle.writing.specs.Writing.{bit}
 use Rattle.tables.specs.Layout.{line-flags, group-flags, individual-flags}
 use Rattle.tables.proofs.EntryCodes.{bit-small}

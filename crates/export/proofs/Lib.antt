@@ -1,16 +1,4 @@
-pub mod ChannelWriting
 pub mod Determined
-pub mod EntryWriting
 pub mod ExportLaws
-pub mod FixedWriting
-pub mod LineWriting
-pub mod MemberWriting
-pub mod NumberWriting
-pub mod PairLaws
 pub mod PartWriting
-pub mod PlainLaws
-pub mod StartLaws
-pub mod TextLists
-pub mod TextSettings
-pub mod TextWriting
-pub mod WroteLaws
+pub mod RequestLaws

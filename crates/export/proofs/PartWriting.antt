@@ -19,18 +19,20 @@ use Rattle.tables.specs.Layout.{layout, key-bytes, home-bytes, system-bytes, li
 use Rattle.tables.specs.Store.{Holds}
 use Rattle.tables.specs.Tables.{Tables}
 use Rattle.tables.proofs.Frames.{key-get, home-get, system-get, quick-placed, status-placed, groups-placed, individuals-placed, channels-listed, lines-listed}
-use Rattle.export.specs.declared.members.Members.{Members}
-use Rattle.export.specs.declared.members.Members.the-variants.{OfGroups, OfIndividuals}
+use Rattle.text_writers.specs.declared.members.Members.{Members}
+use Rattle.text_writers.specs.declared.members.Members.the-variants.{OfGroups, OfIndividuals}
 use Rattle.export.specs.declared.parts.Part.{Part}
 use Rattle.export.specs.declared.parts.Part.the-variants.{Lines, Fixed, QuickTexts, Channels, StatusTexts, Groups, Individuals}
-use Rattle.export.specs.declared.writers.Settings.{Settings}
+use Rattle.writers.specs.declared.writers.Settings.{Settings}
 use Rattle.export.specs.Exportable.{Exportable}
-use Rattle.export.specs.Exported.{part-number, no-line-flags, line-add, exported, entries}
-use Rattle.export.specs.MemberWriters.{MemberIn, member-settings}
+use Rattle.export.specs.Exported.{part-number, exported}
+use Rattle.line_writers.specs.LineSettings.{no-line-flags, line-add}
+use Rattle.text_writers.specs.EntrySettings.{entries}
+use Rattle.text_writers.specs.MemberWriters.{MemberIn, member-settings}
 use Rattle.export.specs.PartWriters.{PartWritten}
-use Rattle.export.specs.Writers.{Wrote, Writes, WritesAll, Kept, ListIn}
-use Rattle.export.proofs.MemberWriting.{TableIn}
-use Rattle.export.proofs.TextSettings.{QuicksIn, quick-settings}
+use Rattle.writers.specs.Writers.{Wrote, Writes, WritesAll, Kept, ListIn}
+use Rattle.text_writers.proofs.MemberWriting.{TableIn}
+use Rattle.text_writers.proofs.TextSettings.{QuicksIn, quick-settings}
 
 -- ---- parts by their number
 

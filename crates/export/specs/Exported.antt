@@ -1,19 +1,15 @@
 -- Which settings each part exports, and their request's bytes: document 01, "Export parts".
-use Prim.Native.Nat.{ℕ, suc, _+_}
-use mathlib.Core.Bool.{false}
+use Prim.Native.Nat.{ℕ, _+_}
 use mathlib.Core.List.{List, [], _∷_, _++_, map}
-use mathlib.Core.Option.{Option, none, some}
 use lib.ListN.{length, take, drop}
-use Rattle.writing.specs.declared.LineFlags.{LineFlags}
-use Rattle.writing.specs.declared.GroupFlags.{GroupFlags}
-use Rattle.writing.specs.declared.IndividualFlags.{IndividualFlags}
-use Rattle.writing.specs.declared.Operation.{Operation}
-use Rattle.writing.specs.declared.Operation.the-variants.{Add, Delete, Replace}
+use Rattle.writing.specs.declared.Operation.the-variants.{Replace}
 use Rattle.writing.specs.Canonical.{plain, canonical-all}
 use Rattle.writing.specs.Carrier.{start, carrier, coding-type}
-use Rattle.writing.specs.Settings.{Text, Entry, Slot, Setting, lines, key, quick-texts, home, channels, system, status-texts, group, individual, unicode16}
+use Rattle.writing.specs.Settings.{Setting, lines, key, quick-texts, home, channels, system, status-texts, group, individual, unicode16}
 use Rattle.writing.specs.Writing.{request-head}
-use Rattle.tables.specs.Tables.{Line, Member, Tables}
+use Rattle.tables.specs.Tables.{Tables}
+use Rattle.line_writers.specs.LineSettings.{no-line-flags, line-add}
+use Rattle.text_writers.specs.EntrySettings.{entries, quick-add, no-group-flags, no-individual-flags, slots}
 use Rattle.export.specs.declared.parts.Part.{Part}
 use Rattle.export.specs.declared.parts.Part.the-variants.{Lines, Fixed, QuickTexts, Channels, StatusTexts, Groups, Individuals}
 
@@ -26,45 +22,6 @@ part-number Channels = 4
 part-number StatusTexts = 5
 part-number Groups = 6
 part-number Individuals = 7
-
--- ---- lines
-
-abbrev pub no-line-flags : LineFlags
-no-line-flags = record { encryption = false; emergency = false; priority = 0; pabx = false }
-
--- "one add per contact"
-abbrev pub line-add : Line → Setting
-line-add l = lines Add (l .flags) (record { number = l .number; text = l .text } ∷ [])
-
--- ---- texts
-
--- the texts that are there, each with its index or code, where the first place has this one
-abbrev pub entries : ℕ → List (Option Text) → List Entry
-entries i [] = []
-entries i (none ∷ l) = entries (suc i) l
-entries i (some us ∷ l) = record { index = i; text = us } ∷ entries (suc i) l
-
--- "and one add if there are 64"
-abbrev pub quick-add : Entry → Setting
-quick-add e = quick-texts Add (e ∷ [])
-
--- ---- slots
-
-abbrev pub no-group-flags : GroupFlags
-no-group-flags = record { attribute = 0; broadcast = false; encryption = false; ovcm = false; emergency = false; priority = 0 }
-
-abbrev pub no-individual-flags : IndividualFlags
-no-individual-flags = record { encryption = false; emergency = false; priority = 0 }
-
--- "sixteen settings by index, add or delete; a delete's other fields 0", from this index on
-abbrev pub slots : {Flags Address : Type 0} → (Operation → Flags → Slot Address → Setting) → Flags → Address
-    → ℕ → List (Option (Member Flags Address)) → List Setting
-slots setting f a i [] = []
-slots setting f a i (none ∷ l) = setting Delete f (record { index = i; address = a; text = [] }) ∷ slots setting f a (suc i) l
-slots setting f a i (some x ∷ l) =
-    setting Add (x .flags) (record { index = i; address = x .address; text = x .text }) ∷ slots setting f a (suc i) l
-
--- ---- the parts
 
 -- "1 lines (a replace with flags and Count 0, then one add per contact in order), 2 CB, CD, CF, 3 quick texts (replace with the first 63
 -- by index, and one add if there are 64), 4 channels in order, 5 status texts by code (each part a single replace with all entries), 6 groups, 7 individuals"

@@ -1,27 +1,35 @@
 // Exports a part of a store as a request.
-use super::channels::write_channels;
-use super::fixed::write_fixed;
-use super::lines::write_lines;
-use super::members::Members;
-use super::members::write_members;
 use super::parts::Export;
 use super::parts::NoExport;
 use super::parts::Part;
-use super::text_lists::write_quick;
-use super::text_lists::write_status;
-use super::writers::Settings;
-use super::writers::start_request;
+use carrier::carrier::START;
+use carrier::carrier::UNICODE16;
 use checks::checks::is_store;
+use line_writers::lines::export_lines;
 use tables::limits::Limits;
+use text_writers::members::Members;
+use text_writers::parts::export_members;
+use text_writers::parts::export_quick;
+use text_writers::parts::export_status;
+use writers::parts::export_channels;
+use writers::parts::export_fixed;
+use writers::shared::bytes_at;
+use writers::writers::Settings;
 ghost use mathlib.Core.Path.{_≡_};
-ghost use Prim.Native.Nat.{_≤_};
+ghost use Prim.Native.Nat.{_≤_, _<_};
 ghost use lib.ListN.{length};
 ghost use Rattle.lists.proofs.Ladder.{Answers};
 ghost use Rattle.tables.specs.Layout.{Roomy};
 ghost use Rattle.tables.specs.Limits.{handheld};
 ghost use Rattle.export.specs.Exportable.{Exportable};
 ghost use Rattle.export.specs.Exporting.{exporting, told};
-ghost use Rattle.export.specs.PartWriters.{FoundAs, PartWritten};
+ghost use Rattle.export.specs.PartWriters.{FoundAs, PartWritten, Headed};
+
+// The manufacturer that the carrier names.
+const MFID: u8 = 0x08;
+
+// OTAPVer 1 and MsgType 0.
+const REQUEST: u8 = 0b0000_1000;
 
 // A part by its number.
 pub(crate) enum FoundPart {
@@ -52,29 +60,49 @@ fn write_part(buffer: &mut [u8], part: Part, store: &[u8], limits: Limits) -> Se
     let lines = 7286 + limits.channels * 2;
     let spare = lines + limits.lines * 51;
     match part {
-        Part::Lines => write_lines(buffer, 8, &store[lines..spare]),
+        Part::Lines => export_lines(buffer, &store[lines..spare]),
         Part::Fixed => Settings {
-            end: write_fixed(buffer, 8, &store[11..22]),
+            end: export_fixed(buffer, &store[11..22]),
             count: 3,
         },
-        Part::QuickTexts => write_quick(buffer, 8, &store[22..2966]),
+        Part::QuickTexts => export_quick(buffer, &store[22..2966]),
         Part::Channels => Settings {
-            end: write_channels(buffer, 8, &store[7286..lines]),
+            end: export_channels(buffer, &store[7286..lines]),
             count: 1,
         },
         Part::StatusTexts => Settings {
-            end: write_status(buffer, 8, &store[2966..6134]),
+            end: export_status(buffer, &store[2966..6134]),
             count: 1,
         },
         Part::Groups => Settings {
-            end: write_members(buffer, 8, Members::OfGroups, &store[6134..6710]),
+            end: export_members(buffer, Members::OfGroups, &store[6134..6710]),
             count: 16,
         },
         Part::Individuals => Settings {
-            end: write_members(buffer, 8, Members::OfIndividuals, &store[6710..7286]),
+            end: export_members(buffer, Members::OfIndividuals, &store[6710..7286]),
             count: 16,
         },
     }
+}
+
+// The carrier and the first data bytes of a request whose settings were written up to end.
+fn start_request(buffer: &mut [u8], count: u8, end: usize) -> usize
+    requires { ⌜ (8 ≤ end) × (end ≤ length (now buffer)) × (end < 65540) ⌝ }
+    ensures { λ r. ⌜ Headed count end (now (buffer .entry)) (now (buffer .exit)) r ⌝ }
+{
+    let length = end - 4;
+    let start = [
+        START[0],
+        START[1],
+        (length / 256) as u8,
+        (length % 256) as u8,
+        MFID,
+        UNICODE16,
+        REQUEST,
+        count,
+    ];
+    bytes_at(buffer, 0, &start);
+    end
 }
 
 // The request that exports a part of a store of a set with these limits; or why there is none, and the buffer stays.

@@ -19,7 +19,7 @@ pub fn remaining(m: &[u8], at: usize) -> usize
 }
 
 // The number that k bytes make, highest first.
-pub fn number(m: &[u8], at: usize, k: usize) -> u64
+fn joined(m: &[u8], at: usize, k: usize) -> u64
     requires { ⌜ (k ≤ 8) × (at + k ≤ length (now m)) ⌝ }
     ensures { λ r. ⌜ r ≡ be 0 (take k (drop at (now (m .entry)))) ⌝ }
 {
@@ -30,6 +30,22 @@ pub fn number(m: &[u8], at: usize, k: usize) -> u64
         i += 1;
     }
     n
+}
+
+// The same for any place: 0 where k bytes do not stand there, or make too large a number.
+pub fn number(m: &[u8], at: usize, k: usize) -> u64
+    ensures { λ r. ⌜ ((k ≤ 8) × (at + k ≤ length (now (m .entry))) → r ≡ be 0 (take k (drop at (now (m .entry))))) ⌝ }
+{
+    if 8 < k {
+        return 0;
+    }
+    if m.len() < at {
+        return 0;
+    }
+    if m.len() - at < k {
+        return 0;
+    }
+    joined(m, at, k)
 }
 
 // The lowest bit.

@@ -1,9 +1,9 @@
 // Dialled numbers, addresses and channels. Bits 0 to 7 of an answer are the number, 8 to 39 the value.
+use frequencies::channel_of_transmit;
+use frequencies::receive;
+use frequencies::transmit;
 use plan::frequencies::ChannelAnswer;
 use plan::frequencies::FrequencyAnswer;
-use plan::frequencies::channel_of_transmit;
-use plan::frequencies::receive;
-use plan::frequencies::transmit;
 use plan::numbers::DialledAnswer;
 use plan::numbers::GroupAddress;
 use plan::numbers::GroupAnswer;
@@ -15,7 +15,7 @@ use plan::numbers::group_of_dialled;
 use plan::numbers::individual_of_dialled;
 ghost use Rattle.plan.specs.Answers.{Back, given, answer as plan-answer, individual, group, dialled, frequency, channel};
 ghost use Rattle.plan.specs.Numbers.{Individual, Group};
-ghost use Rattle.plan.specs.Frequencies.{Transmits, Receives};
+ghost use Rattle.frequencies.specs.Frequencies.{Transmits, Receives};
 ghost use Rattle.handheld.specs.Packing.{PacksValue, Converts};
 
 fn pack(value: u32) -> u64

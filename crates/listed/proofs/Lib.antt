@@ -1,3 +1,2 @@
-pub mod ChannelLaws
 pub mod DigitLaws
 pub mod LineLaws

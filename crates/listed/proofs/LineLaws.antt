@@ -27,9 +27,9 @@ use Rattle.writing.proofs.Whole.{contact-whole}
 use Rattle.fields.specs.declared.entries.ContactPlace.{ContactPlace}
 use Rattle.fields.specs.declared.entries.ContactRead.{ContactRead}
 use Rattle.fields.specs.declared.entries.ContactRead.the-variants.{Contact as AContact, NoContact}
-use Rattle.wire.specs.declared.settings.Entries.{Entries}
+use Rattle.settings.specs.declared.settings.Entries.{Entries}
 use Rattle.fields.specs.Entries.{ContactIs, ContactAt}
-use Rattle.wire.specs.Settings.{EntriesAre}
+use Rattle.settings.specs.Settings.{EntriesAre}
 use Rattle.tables.specs.Allowed.{LineOk}
 use Rattle.tables.specs.Apply.{in-turn, has-number, line-of, line-step}
 use Rattle.tables.specs.Changes.{TextPut}

@@ -1,4 +1,3 @@
-// The tables that are lists, in lent bytes: lines and channels stand at the front of their part, and can be full.
-pub mod channels;
+// The table of lines in lent bytes: lines stand at the front of their part, and can be full.
 mod line_slots;
 pub mod lines;

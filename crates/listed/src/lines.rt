@@ -2,11 +2,11 @@
 use super::line_slots::line_slot;
 use fields::entries::ContactRead;
 use fields::entries::read_contact;
+use settings::settings::Entries;
 use slots::bytes::copy;
 use slots::bytes::wipe;
 use slots::slots::place_of;
 use slots::slots::remove_all;
-use wire::settings::Entries;
 use writing::LineFlags;
 use writing::Operation;
 ghost use mathlib.Core.Path.{_≡_};

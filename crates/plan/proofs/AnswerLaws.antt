@@ -1,7 +1,7 @@
 -- Which answers are right: one at most, and the same under another name of the question. Assumes nothing.
 use Prim.Native.Nat.{ℕ}
 use mathlib.Core.Path.{_≡_, sym, ap, _∙_}
-use Rattle.plan.specs.Answers.{Answer, Answered, has, none, given, refused}
+use Rattle.plan.specs.Answers.{Answer, Answered, has, none, given, refused, Back, BothWays}
 
 -- x has one value at most
 abbrev pub One : (ℕ → ℕ → Type 0) → Type 0
@@ -29,3 +29,12 @@ value-had Has refusal x a h (none n e) z = absurd (h (sym (ap (λ (r : Answer). 
 pub had-value : (Has : ℕ → ℕ → Type 0) → One Has → (refusal x y : ℕ) (a : Answer) → Answered Has refusal x a → Has x y → a ≡ given y
 had-value Has one refusal x y a (has z p e) q = e ∙ ap given (one x z y p q)
 had-value Has one refusal x y a (none n e) q = absurd (n y q)
+
+-- one value each way is all that going both ways needs
+pub both-ways : (Has : ℕ → ℕ → Type 0) (r b : ℕ) → (r ≡ 0 → ⊥) → (b ≡ 0 → ⊥) → One Has → One (Back Has) → BothWays Has r b
+both-ways Has r b hr hb one back = record {
+  there = λ x y a p e. rw e at (value-had Has r x a hr p (ap (λ (z : Answer). z .number) e));
+  comes-back = λ x y a h p. had-value (Back Has) back b y x a p h;
+  back = λ x y a p e. rw e at (value-had (Back Has) b y a hb p (ap (λ (z : Answer). z .number) e));
+  goes-there = λ x y a h p. had-value Has one r x y a p h;
+}

@@ -1,4 +1,3 @@
 pub mod AnswerLaws
-pub mod FrequencyLaws
 pub mod NumberLaws
 pub mod Theorems

@@ -41,7 +41,3 @@ DialledOf area (Of fleet member) (Dialled d) = (32 ≤ area) × (area ≤ 510) �
 DialledOf area (Of fleet member) OutsideKind = 32 ≤ area → area ≤ 510 → ⊥
 DialledOf area Nobody (Dialled d) = ⊥
 DialledOf area Nobody OutsideKind = Unit {0}
-
--- n steps of 125 units
-abbrev pub Steps : ℕ → ℕ → Type 0
-Steps frequency n = frequency ≡ 125 * n

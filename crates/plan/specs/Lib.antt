@@ -1,4 +1,3 @@
 pub mod Answers
-pub mod Frequencies
 pub mod Inner
 pub mod Numbers

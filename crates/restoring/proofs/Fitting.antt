@@ -18,7 +18,9 @@ use Rattle.tables.specs.Tables.{Member, Tables}
 use Rattle.station.specs.Taking.{item-of}
 use Rattle.export.specs.declared.parts.Part.{Part}
 use Rattle.export.specs.declared.parts.Part.the-variants.{Lines, Fixed, QuickTexts, Channels, StatusTexts, Groups, Individuals}
-use Rattle.export.specs.Exported.{line-add, entries, quick-add, no-group-flags, no-individual-flags, slots, exported}
+use Rattle.line_writers.specs.LineSettings.{line-add}
+use Rattle.text_writers.specs.EntrySettings.{entries, quick-add, no-group-flags, no-individual-flags, slots}
+use Rattle.export.specs.Exported.{exported}
 use Rattle.export.specs.Exportable.{Exportable}
 use Rattle.restoring.specs.Restored.{longest-settings}
 use Rattle.restoring.proofs.Readable.{Readable, QuickEntry, StatusEntry, lines-readable, line-readable, key-readable, home-readable, system-readable, quick-replace-readable, quick-add-readable, status-readable, channels-readable, group-readable, no-group-readable, individual-readable, no-individual-readable}

@@ -24,7 +24,9 @@ use Rattle.station.specs.Judge.{done, step}
 use Rattle.station.specs.Taking.{Runs}
 use Rattle.export.specs.declared.parts.Part.{Part}
 use Rattle.export.specs.declared.parts.Part.the-variants.{Lines, Fixed, QuickTexts, Channels, StatusTexts, Groups, Individuals}
-use Rattle.export.specs.Exported.{line-add, entries, quick-add, no-group-flags, no-individual-flags, slots, exported}
+use Rattle.line_writers.specs.LineSettings.{line-add}
+use Rattle.text_writers.specs.EntrySettings.{entries, quick-add, no-group-flags, no-individual-flags, slots}
+use Rattle.export.specs.Exported.{exported}
 use Rattle.export.specs.Exportable.{Exportable}
 use Rattle.restoring.specs.Restored.{with-part}
 use Rattle.restoring.proofs.Fitting.{AllReadable, exported-readable}

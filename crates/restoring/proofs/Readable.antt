@@ -28,7 +28,8 @@ use Rattle.writing.proofs.Whole.{text-widths}
 use Rattle.tables.specs.Allowed.{TextOk, QuickOk, LineOk, GroupOk, IndividualOk, TargetOk, HomeOk, SystemOk}
 use Rattle.tables.specs.Tables.{Line, GroupMember, IndividualMember}
 use Rattle.station.specs.Taking.{item-of}
-use Rattle.export.specs.Exported.{no-line-flags, line-add, quick-add, no-group-flags, no-individual-flags}
+use Rattle.line_writers.specs.LineSettings.{no-line-flags, line-add}
+use Rattle.text_writers.specs.EntrySettings.{quick-add, no-group-flags, no-individual-flags}
 
 -- a setting that has a writing of at most so many bytes, is in range wherever it stands, and is no FF
 pub record Readable (most : ℕ) (s : Setting) : Type 0 where

@@ -17,9 +17,9 @@ use Rattle.writing.proofs.CanonicalLaws.{has-writing}
 use Rattle.writing.proofs.Whole.{length-written}
 use Rattle.fields.specs.declared.hashes.HashPlace.{HashPlace}
 use Rattle.wire.specs.declared.reader.SettingRead.the-variants.{Taken}
-use Rattle.wire.specs.declared.settings.Setting.{Setting as Read}
-use Rattle.wire.proofs.settings.Setting.{the-type}
-use Rattle.wire.specs.declared.settings.Setting.the-variants.{Lines, Key, QuickTexts, Home, Channels, System, StatusTexts, Group, Individual, Last}
+use Rattle.settings.specs.declared.settings.Setting.{Setting as Read}
+use Rattle.settings.proofs.settings.Setting.{the-type}
+use Rattle.settings.specs.declared.settings.Setting.the-variants.{Lines, Key, QuickTexts, Home, Channels, System, StatusTexts, Group, Individual, Last}
 use Rattle.fields.specs.Places.{StandsAt}
 use Rattle.wire.specs.Settings.{SettingAt}
 use Rattle.tables.specs.declared.limits.Limits.{Limits}

@@ -7,9 +7,9 @@ use lib.ListN.{drop}
 use Rattle.writing.specs.declared.LastFlags.{LastFlags}
 use Rattle.writing.specs.Ranges.{text-limits, InRange}
 use Rattle.writing.specs.Settings.{Setting, unicode16}
-use Rattle.wire.specs.declared.settings.Setting.{Setting as Read}
+use Rattle.settings.specs.declared.settings.Setting.{Setting as Read}
 use Rattle.fields.specs.Places.{StandsAt}
-use Rattle.wire.specs.Settings.{Meant}
+use Rattle.settings.specs.Settings.{Meant}
 use Rattle.tables.specs.declared.limits.Limits.{Limits}
 use Rattle.tables.specs.Apply.{apply}
 use Rattle.tables.specs.Layout.{Roomy}

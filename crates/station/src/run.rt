@@ -1,9 +1,9 @@
 // The settings of a request, read and applied in turn on a working copy of the store.
 use applying::store::apply;
+use settings::settings::Setting;
 use tables::limits::Limits;
 use wire::reader::SettingRead;
 use wire::reader::read_setting;
-use wire::settings::Setting;
 use writing::LastFlags;
 ghost use Rattle.station.specs.Running.{FlagsAre, StepIs, RunIs};
 

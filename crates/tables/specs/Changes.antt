@@ -20,12 +20,12 @@ use Rattle.writing.specs.Writing.{quick-text, status-text}
 use Rattle.fields.specs.Entries.{EntryIs}
 use Rattle.fields.specs.Parts.{TextIs}
 use Rattle.fields.specs.Places.{PartAt}
-use Rattle.wire.specs.Settings.{EntriesAre}
+use Rattle.settings.specs.Settings.{EntriesAre}
 use Rattle.fields.specs.declared.entries.EntryPlace.{EntryPlace}
 use Rattle.fields.specs.declared.hashes.HashPlace.{HashPlace}
-use Rattle.wire.specs.declared.settings.Entries.{Entries}
-use Rattle.wire.specs.declared.settings.GroupPlace.{GroupPlace}
-use Rattle.wire.specs.declared.settings.IndividualPlace.{IndividualPlace}
+use Rattle.settings.specs.declared.settings.Entries.{Entries}
+use Rattle.settings.specs.declared.settings.GroupPlace.{GroupPlace}
+use Rattle.settings.specs.declared.settings.IndividualPlace.{IndividualPlace}
 use Rattle.fields.specs.declared.texts.TextPlace.{TextPlace}
 use Rattle.tables.specs.Allowed.{QuickOk, StatusOk, GroupOk, IndividualOk}
 use Rattle.tables.specs.Apply.{if-absent, quick-step, quick-after, status-step, status-after, slot-after}

@@ -15,10 +15,10 @@ use Rattle.writing.specs.Settings.{Contact, Number, unicode16}
 use Rattle.writing.specs.Writing.{contact}
 use Rattle.fields.specs.declared.entries.ContactPlace.{ContactPlace}
 use Rattle.fields.specs.declared.numbers.NumberPlace.{NumberPlace}
-use Rattle.wire.specs.declared.settings.Entries.{Entries}
+use Rattle.settings.specs.declared.settings.Entries.{Entries}
 use Rattle.fields.specs.Entries.{channel-list, ContactIs}
 use Rattle.fields.specs.Parts.{NumberIs}
-use Rattle.wire.specs.Settings.{EntriesAre}
+use Rattle.settings.specs.Settings.{EntriesAre}
 use Rattle.tables.specs.Allowed.{LineOk}
 use Rattle.tables.specs.Apply.{channel-step, channels-after, line-of, put-line, drop-line, lines-after}
 use Rattle.tables.specs.Layout.{channel-width, line-bytes, line-width}

@@ -7,8 +7,8 @@ use lib.ListN.{length}
 use Rattle.writing.specs.Canonical.{Fits}
 use Rattle.writing.specs.Ranges.{text-limits, InRange}
 use Rattle.writing.specs.Settings.{Setting, unicode16}
-use Rattle.wire.specs.declared.settings.Setting.{Setting as Read}
-use Rattle.wire.specs.Settings.{Meant}
+use Rattle.settings.specs.declared.settings.Setting.{Setting as Read}
+use Rattle.settings.specs.Settings.{Meant}
 use Rattle.tables.specs.declared.limits.Limits.{Limits}
 use Rattle.tables.specs.declared.start.Started.{Started}
 use Rattle.tables.specs.declared.start.Started.the-variants.{Fresh, WrongSize}

@@ -1,11 +1,5 @@
-// The tables of a set in lent bytes: what each setting does to them.
-pub mod fixed;
+// The tables of a set in lent bytes: their limits, a fresh store, and how a head and a text are kept.
 pub mod heads;
 pub mod limits;
-pub mod members;
-mod overwriting;
-pub mod quick;
-mod replacing;
 pub mod start;
-pub mod status;
 pub mod texts;

@@ -1,4 +1,2 @@
-pub mod BodyLaws
-pub mod RowLaws
 pub mod SettingLaws
 pub mod Theorems

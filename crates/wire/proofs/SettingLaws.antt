@@ -20,16 +20,17 @@ use Rattle.writing.proofs.Lengths.{within-row}
 use Rattle.writing.proofs.Unique.{one-kind, Sized, body-ends}
 use Rattle.writing.proofs.Whole.{body-whole}
 use Rattle.fields.specs.Places.{PartAt, StandsAt, be}
-use Rattle.wire.specs.Rows.{RowIs, RowAt, most-of}
-use Rattle.wire.specs.Settings.{BodyAt, SettingAt}
-use Rattle.wire.specs.declared.rows.Row.{Row}
-use Rattle.wire.specs.declared.rows.RowRead.{RowRead}
-use Rattle.wire.specs.declared.rows.RowRead.the-variants.{Found, Unknown as NoRow}
-use Rattle.wire.specs.declared.settings.Setting.{Setting as Read}
-use Rattle.wire.specs.declared.settings.BodyRead.{BodyRead}
-use Rattle.wire.specs.declared.settings.BodyRead.the-variants.{Body, NoBody}
+use Rattle.settings.specs.Rows.{RowIs, RowAt, most-of}
+use Rattle.settings.specs.Settings.{BodyAt}
+use Rattle.wire.specs.Settings.{SettingAt}
+use Rattle.settings.specs.declared.rows.Row.{Row}
+use Rattle.settings.specs.declared.rows.RowRead.{RowRead}
+use Rattle.settings.specs.declared.rows.RowRead.the-variants.{Found, Unknown as NoRow}
+use Rattle.settings.specs.declared.settings.Setting.{Setting as Read}
+use Rattle.settings.specs.declared.settings.BodyRead.{BodyRead}
+use Rattle.settings.specs.declared.settings.BodyRead.the-variants.{Body, NoBody}
 use Rattle.wire.specs.declared.reader.SettingRead.the-variants.{Taken, Unknown, Field as BadField}
-use Rattle.wire.proofs.BodyLaws.{last-head}
+use Rattle.fixed_settings.proofs.FixedLaws.{last-head}
 use Rattle.fields.proofs.HashLaws.{one-size}
 use Rattle.fields.proofs.Heads.{head-in, head-out, three-bytes, be-small}
 use Rattle.fields.proofs.Walk.{agree-at, ends-at}

@@ -13,11 +13,12 @@ use Rattle.writing.proofs.Ends.{Ends, each-ends, vals-end, regroup}
 use Rattle.writing.proofs.Unique.{text-ends, contact-ends, quick-ends, status-ends, setting-ends}
 use Rattle.fields.specs.Entries.{channel-list}
 use Rattle.fields.specs.Places.{StandsAt}
-use Rattle.wire.specs.Settings.{EntriesAre, TextOf, Meant, SettingAt}
+use Rattle.settings.specs.Settings.{EntriesAre, TextOf, Meant}
+use Rattle.wire.specs.Settings.{SettingAt}
 use Rattle.fields.specs.declared.texts.TextPlace.{TextPlace}
-use Rattle.wire.specs.declared.settings.Entries.{Entries}
-use Rattle.wire.specs.declared.settings.Setting.{Setting as Read}
-use Rattle.wire.specs.declared.settings.Setting.the-variants.{Lines, Key, QuickTexts, Home, Channels, System, StatusTexts, Group, Individual, Last}
+use Rattle.settings.specs.declared.settings.Entries.{Entries}
+use Rattle.settings.specs.declared.settings.Setting.{Setting as Read}
+use Rattle.settings.specs.declared.settings.Setting.the-variants.{Lines, Key, QuickTexts, Home, Channels, System, StatusTexts, Group, Individual, Last}
 use Rattle.wire.specs.declared.reader.SettingRead.{SettingRead}
 use Rattle.wire.specs.declared.reader.SettingRead.the-variants.{Taken, Missing, Unknown, Field as BadField}
 use Rattle.fields.proofs.HashLaws.{one-size}

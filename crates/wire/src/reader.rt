@@ -1,23 +1,24 @@
 // The setting at a place of a message: type byte, DataLength, fields.
-use super::fixed_settings::read_group;
-use super::fixed_settings::read_home;
-use super::fixed_settings::read_individual;
-use super::fixed_settings::read_key;
-use super::fixed_settings::read_last;
-use super::fixed_settings::read_system;
-use super::list_settings::read_channels;
-use super::list_settings::read_lines;
-use super::list_settings::read_quick_texts;
-use super::list_settings::read_status_texts;
-use super::rows::Row;
-use super::rows::RowRead;
-use super::rows::row_of;
-use super::settings::BodyRead;
-use super::settings::Setting;
 use fields::bytes::number;
 use fields::bytes::remaining;
-ghost use Rattle.wire.specs.Rows.{RowIs};
-ghost use Rattle.wire.specs.Settings.{BodyAt, SettingAt};
+use fixed_settings::read_home;
+use fixed_settings::read_key;
+use fixed_settings::read_last;
+use fixed_settings::read_system;
+use list_settings::read_channels;
+use list_settings::read_lines;
+use list_settings::read_quick_texts;
+use list_settings::read_status_texts;
+use settings::rows::Row;
+use settings::rows::RowRead;
+use settings::rows::row_of;
+use settings::settings::BodyRead;
+use settings::settings::Setting;
+use slot_settings::read_group;
+use slot_settings::read_individual;
+ghost use Rattle.settings.specs.Rows.{RowIs};
+ghost use Rattle.settings.specs.Settings.{BodyAt};
+ghost use Rattle.wire.specs.Settings.{SettingAt};
 ghost use Rattle.writing.specs.declared.Kind.{Kind};
 
 // The setting with the place after it; no type byte (4); a type not among the ten (3); a bad field or length (4).

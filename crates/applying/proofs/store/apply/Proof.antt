@@ -4,7 +4,7 @@ use Prim.Native.Nat.{_+_, _*_, _-_, _≤_}
 use mathlib.Core.Path.{_≡_}
 use mathlib.Core.Bool.{true}
 use lib.ListN.{length}
-use Rattle.wire.specs.declared.settings.Setting.the-variants.{Lines, Key, QuickTexts, Home, Channels, System, StatusTexts, Group, Individual, Last}
+use Rattle.settings.specs.declared.settings.Setting.the-variants.{Lines, Key, QuickTexts, Home, Channels, System, StatusTexts, Group, Individual, Last}
 use Rattle.tables.specs.Layout.{used-size}
 use Rattle.tables.proofs.AnswerLaws.{not-said, was-said}
 use Rattle.applying.proofs.StoreLaws.{as-read, no-store, store-key, store-home, store-system, store-hash, store-quick, store-status, store-group, store-individual, store-channels, store-lines}

@@ -32,11 +32,11 @@ states-requires c κs = search needs
 returns-3 : tie.Need-returns-3
 returns-3 c =
     let s = c .before .states in
-    not-carried (c .before .before .before .before .before .before .before .args .m .now) (λ i. (c .before .before .before .before .before .before .shared-slice-known .given i) .fits) (c .before .before .number .ensures)
+    not-carried (c .before .before .before .before .before .before .before .args .m .now) (λ i. (c .before .before .before .before .before .before .shared-slice-known .given i) .fits) (c .before .before .number .ensures (omega arith, omega arith))
     (λ coding k. length-wrong _ _ _ (s .result) (s .ensures) (omega arith) (c .if3 .taken) (k .length-field))
 
 returns-4 : tie.Need-returns-4
-returns-4 c = not-carried (c .before .before .before .before .before .before .before .before .args .m .now) (λ i. (c .before .before .before .before .before .before .before .shared-slice-known .given i) .fits) (c .before .before .before .number .ensures) (λ coding k. omega (arith, k .mfid))
+returns-4 c = not-carried (c .before .before .before .before .before .before .before .before .args .m .now) (λ i. (c .before .before .before .before .before .before .before .shared-slice-known .given i) .fits) (c .before .before .before .number .ensures (omega arith, omega arith)) (λ coding k. omega (arith, k .mfid))
 
 cast-coding : tie.Need-cast-coding
 cast-coding c = search needs
@@ -47,7 +47,7 @@ returns-5 c =
     let n = c .before .before .before .number in
     let s = c .before .before .states in
     let b = c .before .before .before .before .before .starts in
-    carries-in m (λ i. (c .before .before .before .before .before .before .before .shared-slice-known .given i) .fits) (n .ensures) _ (record {
+    carries-in m (λ i. (c .before .before .before .before .before .before .before .shared-slice-known .given i) .fits) (n .ensures (omega arith, omega arith)) _ (record {
       room = omega arith;
       starts = subst (StartsWith m) (not-false (b .result) (c .before .before .before .before .if2 .left)) (b .ensures);
       length-field = length-right _ _ _ (s .result) (s .ensures) (omega arith) (c .before .if3 .left);

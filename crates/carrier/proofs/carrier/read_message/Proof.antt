@@ -34,21 +34,21 @@ returns-4 c =
     let m = c .before .before .before .before .before .before .before .before .before .args .m .now in
     let n = c .before .number in
     let k = subst (CarrierIs m) (c .before .before .before .carrier .given .1) (c .before .before .before .before .before .read-carrier .ensures) in
-    ((omega arith, omega arith), _, _, _, _, opens-in m _ _ _ (λ i. (c .before .before .before .before .before .before .before .before .shared-slice-known .given i) .fits) (n .ensures) (omega arith) k refl refl, λ e. c .match2 .rest .0 .1 e, λ e. c .match2 .rest .1 e)
+    ((omega arith, omega arith), _, _, _, _, opens-in m _ _ _ (λ i. (c .before .before .before .before .before .before .before .before .shared-slice-known .given i) .fits) (n .ensures (omega arith, omega arith)) (omega arith) k refl refl, λ e. c .match2 .rest .0 .1 e, λ e. c .match2 .rest .1 e)
 
 returns-5 : tie.Need-returns-5
 returns-5 c =
     let m = c .before .before .before .before .before .before .before .before .before .before .args .m .now in
     let n = c .before .before .number in
     let k = subst (CarrierIs m) (c .before .before .before .before .carrier .given .1) (c .before .before .before .before .before .before .read-carrier .ensures) in
-    ((omega arith, omega arith), _, _, _, _, opens-in m _ _ _ (λ i. (c .before .before .before .before .before .before .before .before .before .shared-slice-known .given i) .fits) (n .ensures) (omega arith) k refl refl, ⊎-elim (λ w. inl (w .keys1)) (λ w. inr (w .keys2)) (c .before .match2 .came), c .if3 .taken)
+    ((omega arith, omega arith), _, _, _, _, opens-in m _ _ _ (λ i. (c .before .before .before .before .before .before .before .before .before .shared-slice-known .given i) .fits) (n .ensures (omega arith, omega arith)) (omega arith) k refl refl, ⊎-elim (λ w. inl (w .keys1)) (λ w. inr (w .keys2)) (c .before .match2 .came), c .if3 .taken)
 
 read-request-requires : tie.Need-read-request-requires
 read-request-requires c κs =
     let m = c .before .before .before .before .before .before .before .before .before .before .before .args .m .now in
     let n = c .before .before .before .number in
     let k = subst (CarrierIs m) (c .before .before .before .before .before .carrier .given .1) (c .before .before .before .before .before .before .before .read-carrier .ensures) in
-    opens-in m _ _ _ (λ i. (c .before .before .before .before .before .before .before .before .before .before .shared-slice-known .given i) .fits) (n .ensures) (omega arith) k (c .before .if3 .left) (c .if4 .taken)
+    opens-in m _ _ _ (λ i. (c .before .before .before .before .before .before .before .before .before .before .shared-slice-known .given i) .fits) (n .ensures (omega arith, omega arith)) (omega arith) k (c .before .if3 .left) (c .if4 .taken)
 
 read-query-requires : tie.Need-read-query-requires
 read-query-requires c κs =
@@ -56,7 +56,7 @@ read-query-requires c κs =
     let n = c .before .before .before .number in
     let k = subst (CarrierIs m) (c .before .before .before .before .before .carrier .given .1) (c .before .before .before .before .before .before .before .read-carrier .ensures) in (
       _,
-      opens-in m _ _ _ (λ i. (c .before .before .before .before .before .before .before .before .before .before .shared-slice-known .given i) .fits) (n .ensures) (omega arith) k (c .before .if3 .left)
+      opens-in m _ _ _ (λ i. (c .before .before .before .before .before .before .before .before .before .before .shared-slice-known .given i) .fits) (n .ensures (omega arith, omega arith)) (omega arith) k (c .before .if3 .left)
           (⊎-elim (λ w. absurd (c .if4 .left (w .keys1))) (λ w. w .keys2) (c .before .before .match2 .came)),
     )
 

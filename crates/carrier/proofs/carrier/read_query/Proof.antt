@@ -28,13 +28,13 @@ enum-told : tie.Need-enum-told
 enum-told c = search needs
 
 returns-2 : tie.Need-returns-2
-returns-2 c = λ most. no-query-value (c .before .before .before .before .before .before .before .args .m .now) (λ i. (c .before .before .before .before .before .before .shared-slice-known .given i) .fits) _ (c .before .before .before .number .ensures) most (c .before .before .before .before .before .before .before .pre .1) (c .before .before .read-hash .ensures) (c .enum-told .given .1)
+returns-2 c = λ most. no-query-value (c .before .before .before .before .before .before .before .args .m .now) (λ i. (c .before .before .before .before .before .before .shared-slice-known .given i) .fits) _ (c .before .before .before .number .ensures (omega arith, omega arith)) most (c .before .before .before .before .before .before .before .pre .1) (c .before .before .read-hash .ensures) (c .enum-told .given .1)
 
 returns-3 : tie.Need-returns-3
-returns-3 c = λ most. query-goes-on (c .before .before .before .before .before .before .before .before .before .args .m .now) (λ i. (c .before .before .before .before .before .before .before .before .shared-slice-known .given i) .fits) _ (c .before .before .before .before .before .number .ensures) most _ _ (c .before .before .before .before .before .before .before .before .before .pre .1) (c .before .before .before .before .read-hash .ensures) (c .before .before .value .given .1) (λ e. omega arith)
+returns-3 c = λ most. query-goes-on (c .before .before .before .before .before .before .before .before .before .args .m .now) (λ i. (c .before .before .before .before .before .before .before .before .shared-slice-known .given i) .fits) _ (c .before .before .before .before .before .number .ensures (omega arith, omega arith)) most _ _ (c .before .before .before .before .before .before .before .before .before .pre .1) (c .before .before .before .before .read-hash .ensures) (c .before .before .value .given .1) (λ e. omega arith)
 
 returns-4 : tie.Need-returns-4
-returns-4 c = λ most. the-query (c .before .before .before .before .before .before .before .before .before .args .m .now) (λ i. (c .before .before .before .before .before .before .before .before .shared-slice-known .given i) .fits) _ (c .before .before .before .before .before .number .ensures) most _ _ (c .before .before .before .before .before .before .before .before .before .pre .1) (c .before .before .before .before .read-hash .ensures) (c .before .before .value .given .1) (omega arith) (omega arith)
+returns-4 c = λ most. the-query (c .before .before .before .before .before .before .before .before .before .args .m .now) (λ i. (c .before .before .before .before .before .before .before .before .shared-slice-known .given i) .fits) _ (c .before .before .before .before .before .number .ensures (omega arith, omega arith)) most _ _ (c .before .before .before .before .before .before .before .before .before .pre .1) (c .before .before .before .before .read-hash .ensures) (c .before .before .value .given .1) (omega arith) (omega arith)
 
 pub read-query-spec : {M : Type 1} → statement M
 read-query-spec =

@@ -22,10 +22,10 @@ cast-count : tie.Need-cast-count
 cast-count c = search needs
 
 returns-3 : tie.Need-returns-3
-returns-3 c = λ most. no-request (c .before .before .before .before .before .before .args .m .now) (λ i. (c .before .before .before .before .before .shared-slice-known .given i) .fits) _ (c .before .number .ensures) most (c .before .before .before .before .before .before .pre) (λ count e r n l. omega arith)
+returns-3 c = λ most. no-request (c .before .before .before .before .before .before .args .m .now) (λ i. (c .before .before .before .before .before .shared-slice-known .given i) .fits) _ (c .before .number .ensures (omega arith, omega arith)) most (c .before .before .before .before .before .before .pre) (λ count e r n l. omega arith)
 
 returns-4 : tie.Need-returns-4
-returns-4 c = λ most. the-request (c .before .before .before .before .before .before .args .m .now) (λ i. (c .before .before .before .before .before .shared-slice-known .given i) .fits) _ (c .before .number .ensures) most (c .before .before .before .before .before .before .pre) (c .before .before .before .before .if1 .left) (omega arith) (omega arith)
+returns-4 c = λ most. the-request (c .before .before .before .before .before .before .args .m .now) (λ i. (c .before .before .before .before .before .shared-slice-known .given i) .fits) _ (c .before .number .ensures (omega arith, omega arith)) most (c .before .before .before .before .before .before .pre) (c .before .before .before .before .if1 .left) (omega arith) (omega arith)
 
 pub read-request-spec : {M : Type 1} → statement M
 read-request-spec =

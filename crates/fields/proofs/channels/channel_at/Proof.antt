@@ -29,7 +29,7 @@ cast-result : tie.Need-cast-result
 cast-result c = search needs
 
 returns-3 : tie.Need-returns-3
-returns-3 c = λ es next x l. let z = channel-here (c .before .before .before .before .before .before .before .args .m .now) (λ k. (c .before .before .before .before .before .before .shared-slice-known .given k) .fits) (c .before .before .before .before .before .before .before .args .i) es (c .before .before .before .before .before .before .before .args .start) next x l in even-is (c .before .before .before .before .before .before .before .args .m .now) (λ k. (c .before .before .before .before .before .before .shared-slice-known .given k) .fits) z (c .before .if3 .taken) (c .number .ensures)
+returns-3 c = λ es next x l. let z = channel-here (c .before .before .before .before .before .before .before .args .m .now) (λ k. (c .before .before .before .before .before .before .shared-slice-known .given k) .fits) (c .before .before .before .before .before .before .before .args .i) es (c .before .before .before .before .before .before .before .args .start) next x l in even-is (c .before .before .before .before .before .before .before .args .m .now) (λ k. (c .before .before .before .before .before .before .shared-slice-known .given k) .fits) z (c .before .if3 .taken) (c .number .ensures (omega arith, omega arith))
 
 remaining-requires-3 : tie.Need-remaining-requires-3
 remaining-requires-3 c κs = search needs
@@ -47,7 +47,7 @@ cast-result-2 : tie.Need-cast-result-2
 cast-result-2 c = search needs
 
 returns-5 : tie.Need-returns-5
-returns-5 c = λ es next x l. let z = channel-here (c .before .before .before .before .before .before .before .before .before .args .m .now) (λ k. (c .before .before .before .before .before .before .before .before .shared-slice-known .given k) .fits) (c .before .before .before .before .before .before .before .before .before .args .i) es (c .before .before .before .before .before .before .before .before .before .args .start) next x l in odd-is (c .before .before .before .before .before .before .before .before .before .args .m .now) (λ k. (c .before .before .before .before .before .before .before .before .shared-slice-known .given k) .fits) z (c .before .before .before .if3 .left) (c .number2 .ensures)
+returns-5 c = λ es next x l. let z = channel-here (c .before .before .before .before .before .before .before .before .before .args .m .now) (λ k. (c .before .before .before .before .before .before .before .before .shared-slice-known .given k) .fits) (c .before .before .before .before .before .before .before .before .before .args .i) es (c .before .before .before .before .before .before .before .before .before .args .start) next x l in odd-is (c .before .before .before .before .before .before .before .before .before .args .m .now) (λ k. (c .before .before .before .before .before .before .before .before .shared-slice-known .given k) .fits) z (c .before .before .before .if3 .left) (c .number2 .ensures (omega arith, omega arith))
 
 pub channel-at-spec : {M : Type 1} → statement M
 channel-at-spec =

@@ -33,7 +33,7 @@ returns-2 : tie.Need-returns-2 Inv-loop μ-loop
 returns-2 c =
     let n = c .before .before .number in
     let never = subst (OutOfRange (n .result / 4096)) (c .if2 .taken) (c .before .out-of-range .ensures) in
-    no-pair _ _ _ _ _ (λ i. (c .before .before .before .before .before .before .before .shared-slice-known .given i) .fits) (c .before .before .before .before .before .before .loop .inv) (omega arith) (λ r i j. never (subst (λ x. InChannel (x / 4096)) (sym (n .ensures)) i))
+    no-pair _ _ _ _ _ (λ i. (c .before .before .before .before .before .before .before .shared-slice-known .given i) .fits) (c .before .before .before .before .before .before .loop .inv) (omega arith) (λ r i j. never (subst (λ x. InChannel (x / 4096)) (sym (n .ensures (omega arith, omega arith))) i))
 
 out-of-range-requires-2 : tie.Need-out-of-range-requires-2 Inv-loop μ-loop
 out-of-range-requires-2 c κs = search needs
@@ -42,7 +42,7 @@ returns-3 : tie.Need-returns-3 Inv-loop μ-loop
 returns-3 c =
     let n = c .before .before .before .before .number in
     let never = subst (OutOfRange (n .result % 4096)) (c .if3 .taken) (c .before .out-of-range2 .ensures) in
-    no-pair _ _ _ _ _ (λ i. (c .before .before .before .before .before .before .before .before .before .shared-slice-known .given i) .fits) (c .before .before .before .before .before .before .before .before .loop .inv) (omega arith) (λ r i j. never (subst (λ x. InChannel (x % 4096)) (sym (n .ensures)) j))
+    no-pair _ _ _ _ _ (λ i. (c .before .before .before .before .before .before .before .before .before .shared-slice-known .given i) .fits) (c .before .before .before .before .before .before .before .before .loop .inv) (omega arith) (λ r i j. never (subst (λ x. InChannel (x % 4096)) (sym (n .ensures (omega arith, omega arith))) j))
 
 add-p : tie.Need-add-p Inv-loop μ-loop
 add-p c = omega arith
@@ -55,7 +55,7 @@ loop-again c =
     let n = c .before .before .before .before .number in
     let i = subst (OutOfRange (n .result / 4096)) (c .before .before .if2 .left) (c .before .before .before .out-of-range .ensures) in
     let j = subst (OutOfRange (n .result % 4096)) (c .if3 .left) (c .before .out-of-range2 .ensures) in
-    pair-passed _ _ _ _ _ (λ i. (c .before .before .before .before .before .before .before .before .before .shared-slice-known .given i) .fits) (c .before .before .before .before .before .before .before .before .loop .inv) (omega arith) (omega arith) (subst (λ x. InChannel (x / 4096)) (n .ensures) i) (subst (λ x. InChannel (x % 4096)) (n .ensures) j)
+    pair-passed _ _ _ _ _ (λ i. (c .before .before .before .before .before .before .before .before .before .shared-slice-known .given i) .fits) (c .before .before .before .before .before .before .before .before .loop .inv) (omega arith) (omega arith) (subst (λ x. InChannel (x / 4096)) (n .ensures (omega arith, omega arith)) i) (subst (λ x. InChannel (x % 4096)) (n .ensures (omega arith, omega arith)) j)
 
 returns-4 : tie.Need-returns-4 Inv-loop μ-loop
 returns-4 c = channels-end _ _ _ _ _ (λ i. (c .before .before .before .shared-slice-known .given i) .fits) (c .before .before .loop .inv) (c .if4 .taken)
@@ -72,7 +72,7 @@ number-requires-2 c κs = search needs
 returns-6 : tie.Need-returns-6 Inv-loop μ-loop
 returns-6 c =
     let n = c .before .number2 in
-    no-last _ _ _ _ _ (λ i. (c .before .before .before .before .before .before .before .shared-slice-known .given i) .fits) (c .before .before .before .before .before .before .loop .inv) (omega arith) (λ r f i. omega arith)
+    no-last _ _ _ _ _ (λ i. (c .before .before .before .before .before .before .before .shared-slice-known .given i) .fits) (c .before .before .before .before .before .before .loop .inv) (omega arith) (λ r f i. omega (arith, n .ensures (omega arith, omega arith)))
 
 out-of-range-requires-3 : tie.Need-out-of-range-requires-3 Inv-loop μ-loop
 out-of-range-requires-3 c κs = search needs
@@ -81,7 +81,7 @@ returns-7 : tie.Need-returns-7 Inv-loop μ-loop
 returns-7 c =
     let n = c .before .before .before .number2 in
     let never = subst (OutOfRange (n .result / 16)) (c .if7 .taken) (c .before .out-of-range3 .ensures) in
-    no-last _ _ _ _ _ (λ i. (c .before .before .before .before .before .before .before .before .before .shared-slice-known .given i) .fits) (c .before .before .before .before .before .before .before .before .loop .inv) (omega arith) (λ r f i. never (subst (λ x. InChannel (x / 16)) (sym (n .ensures)) i))
+    no-last _ _ _ _ _ (λ i. (c .before .before .before .before .before .before .before .before .before .shared-slice-known .given i) .fits) (c .before .before .before .before .before .before .before .before .loop .inv) (omega arith) (λ r f i. never (subst (λ x. InChannel (x / 16)) (sym (n .ensures (omega arith, omega arith))) i))
 
 add-t14 : tie.Need-add-t14 Inv-loop μ-loop
 add-t14 c = omega arith
@@ -90,7 +90,7 @@ returns-8 : tie.Need-returns-8 Inv-loop μ-loop
 returns-8 c =
     let n = c .before .before .before .number2 in
     let i = subst (OutOfRange (n .result / 16)) (c .if7 .left) (c .before .out-of-range3 .ensures) in
-    last-ends _ _ _ _ _ (λ i. (c .before .before .before .before .before .before .before .before .before .shared-slice-known .given i) .fits) (c .before .before .before .before .before .before .before .before .loop .inv) (omega arith) (omega arith) (omega arith) (subst (λ x. InChannel (x / 16)) (n .ensures) i)
+    last-ends _ _ _ _ _ (λ i. (c .before .before .before .before .before .before .before .before .before .shared-slice-known .given i) .fits) (c .before .before .before .before .before .before .before .before .loop .inv) (omega arith) (omega arith) (omega (arith, n .ensures (omega arith, omega arith))) (subst (λ x. InChannel (x / 16)) (n .ensures (omega arith, omega arith)) i)
 
 pub walk-channels-spec : {M : Type 1} → statement M
 walk-channels-spec =

@@ -49,7 +49,7 @@ returns-2 : tie.Need-returns-2 Inv-loop μ-loop
 returns-2 c =
     let l = c .before .before .before .before .before .before .before .before in
     let d = subst (DigitsAre (c .before .before .before .before .number .result)) (c .before .enum-told2 .given .1) (c .before .before .before .digits-in .ensures) in
-    one-digit-ends _ _ _ _ (λ i. (l .before .shared-slice-known .given i) .fits) (l .loop .inv) (omega arith) (c .before .before .before .before .number .ensures) (c .ended .result) (d .0) (d .1) (c .ended .ensures)
+    one-digit-ends _ _ _ _ (λ i. (l .before .shared-slice-known .given i) .fits) (l .loop .inv) (omega arith) (c .before .before .before .before .number .ensures (omega arith, omega arith)) (c .ended .result) (d .0) (d .1) (c .ended .ensures)
 
 enum-told-3 : tie.Need-enum-told-3 Inv-loop μ-loop
 enum-told-3 c = search needs
@@ -64,7 +64,7 @@ returns-3 : tie.Need-returns-3 Inv-loop μ-loop
 returns-3 c =
     let l = c .before .before .before .before .before .before .before .before in
     let d = subst (DigitsAre (c .before .before .before .before .number .result)) (c .before .enum-told3 .given .1) (c .before .before .before .digits-in .ensures) in
-    no-digit-ends _ _ _ _ (λ i. (l .before .shared-slice-known .given i) .fits) (l .loop .inv) (omega arith) (c .before .before .before .before .number .ensures) (c .ended2 .result) d (c .ended2 .ensures)
+    no-digit-ends _ _ _ _ (λ i. (l .before .shared-slice-known .given i) .fits) (l .loop .inv) (omega arith) (c .before .before .before .before .number .ensures (omega arith, omega arith)) (c .ended2 .result) d (c .ended2 .ensures)
 
 enum-told-4 : tie.Need-enum-told-4 Inv-loop μ-loop
 enum-told-4 c = search needs
@@ -73,7 +73,7 @@ returns-4 : tie.Need-returns-4 Inv-loop μ-loop
 returns-4 c =
     let l = c .before .before .before .before .before .before .before in
     let d = subst (DigitsAre (c .before .before .before .number .result)) (c .enum-told4 .given .1) (c .before .before .digits-in .ensures) in
-    bad-digits _ _ _ _ (λ i. (l .before .shared-slice-known .given i) .fits) (l .loop .inv) (omega arith) (c .before .before .before .number .ensures) d
+    bad-digits _ _ _ _ (λ i. (l .before .shared-slice-known .given i) .fits) (l .loop .inv) (omega arith) (c .before .before .before .number .ensures (omega arith, omega arith)) d
 
 add-count : tie.Need-add-count Inv-loop μ-loop
 add-count c = omega arith
@@ -88,7 +88,7 @@ loop-again : tie.Need-loop-again Inv-loop μ-loop
 loop-again c =
     let l = c .before .before .before .before .before .before .before in
     let d = subst (DigitsAre (c .before .before .before .number .result)) (c .enum-told .given .1) (c .before .before .digits-in .ensures) in
-    digits-passed _ _ _ _ (λ i. (l .before .shared-slice-known .given i) .fits) (l .loop .inv) (omega arith) (c .before .before .before .number .ensures) (d .0) (d .1)
+    digits-passed _ _ _ _ (λ i. (l .before .shared-slice-known .given i) .fits) (l .loop .inv) (omega arith) (c .before .before .before .number .ensures (omega arith, omega arith)) (d .0) (d .1)
 
 returns-5 : tie.Need-returns-5 Inv-loop μ-loop
 returns-5 c = let l = c .before in too-many-digits _ _ _ _ (λ i. (l .before .shared-slice-known .given i) .fits) (l .loop .inv) (omega arith)

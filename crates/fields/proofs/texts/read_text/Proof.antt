@@ -31,7 +31,7 @@ add-t10 c = omega arith
 returns-2 : tie.Need-returns-2 Inv-loop μ-loop
 returns-2 c =
     let l = c .before .before .before .before .before in
-    text-ended _ _ _ _ (λ i. (l .before .shared-slice-known .given i) .fits) (l .loop .inv) (omega arith) (c .before .number .ensures) _ (c .if2 .taken) (omega arith)
+    text-ended _ _ _ _ (λ i. (l .before .shared-slice-known .given i) .fits) (l .loop .inv) (omega arith) (c .before .number .ensures (omega arith, omega arith)) _ (c .if2 .taken) (omega arith)
 
 add-units : tie.Need-add-units Inv-loop μ-loop
 add-units c = let l = c .before .before .before .before .before in omega (arith, l .loop .inv .inside, l .loop .inv .place)
@@ -45,7 +45,7 @@ loop-less c = omega arith
 loop-again : tie.Need-loop-again Inv-loop μ-loop
 loop-again c =
     let l = c .before .before .before .before .before in
-    unit-passed _ _ _ _ (λ i. (l .before .shared-slice-known .given i) .fits) (l .loop .inv) (omega arith) (c .before .number .ensures) (c .if2 .left)
+    unit-passed _ _ _ _ (λ i. (l .before .shared-slice-known .given i) .fits) (l .loop .inv) (omega arith) (c .before .number .ensures (omega arith, omega arith)) (c .if2 .left)
 
 returns-3 : tie.Need-returns-3 Inv-loop μ-loop
 returns-3 c = let l = c .before in too-many _ _ _ _ (λ i. (l .before .shared-slice-known .given i) .fits) (l .loop .inv) _ (omega arith)

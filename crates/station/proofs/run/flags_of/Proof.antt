@@ -1,6 +1,6 @@
 use borrow.Author.Needs.{needs}
 use mathlib.Core.Path.{subst⁻¹}
-use Rattle.wire.specs.declared.settings.Setting.{Setting as Read}
+use Rattle.settings.specs.declared.settings.Setting.{Setting as Read}
 use Rattle.station.specs.Running.{FlagsAre}
 use Rattle.station.proofs.Steps.{flags-last, flags-none}
 use Rattle.station.proofs.run.flags_of.Statement.{statement}

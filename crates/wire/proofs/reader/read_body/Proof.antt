@@ -1,6 +1,6 @@
 use borrow.Author.Needs.{needs}
 use native.Mathlib.Omega.{arith}
-use Rattle.wire.proofs.RowLaws.{one-of-ten}
+use Rattle.settings.proofs.RowLaws.{one-of-ten}
 use Rattle.wire.proofs.SettingLaws.{by-row}
 use Rattle.writing.specs.declared.Kind.the-variants.{Lines, Key, QuickTexts, Home, Channels, System, StatusTexts, Group, Individual, Last}
 use Rattle.wire.proofs.reader.read_body.Statement.{statement}

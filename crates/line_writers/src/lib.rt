@@ -1,0 +1,2 @@
+// Writes line contacts as settings.
+pub mod lines;

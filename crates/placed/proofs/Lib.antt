@@ -1,0 +1,6 @@
+mod FixedLaws
+mod IndexedLaws
+mod MemberLaws
+mod OverwriteLaws
+mod QuickLaws
+mod StatusLaws

@@ -1,0 +1,7 @@
+// The parts of a store that have a place for each entry: what each setting does to them.
+pub mod fixed;
+pub mod members;
+mod overwriting;
+pub mod quick;
+mod replacing;
+pub mod status;

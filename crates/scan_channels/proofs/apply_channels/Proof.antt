@@ -1,0 +1,65 @@
+use borrow.Author.Needs.{needs}
+use Rattle.scan_channels.proofs.ChannelLaws.{channels-replaced}
+use Rattle.scan_channels.proofs.apply_channels.Statement.{statement}
+use Rattle.scan_channels.proofs.apply_channels.Tie as tie
+
+enum-told : tie.Need-enum-told
+enum-told c = search needs
+
+add-channels-requires : tie.Need-add-channels-requires
+add-channels-requires c κs = search needs
+
+enum-told-2 : tie.Need-enum-told-2
+enum-told-2 c = search needs
+
+delete-channels-requires : tie.Need-delete-channels-requires
+delete-channels-requires c κs = search needs
+
+enum-told-3 : tie.Need-enum-told-3
+enum-told-3 c = search needs
+
+wipe-requires : tie.Need-wipe-requires
+wipe-requires c κs = search needs
+
+add-channels-requires-2 : tie.Need-add-channels-requires-2
+add-channels-requires-2 c κs = search needs
+
+same-length : tie.Need-same-length
+same-length c = search needs
+
+returns : tie.Need-returns
+returns c = rw (c .before .before .before .before .enum-told .given .1) (c .before .before .add-channels .ensures)
+
+same-length-2 : tie.Need-same-length-2
+same-length-2 c = search needs
+
+returns-2 : tie.Need-returns-2
+returns-2 c = rw (c .before .before .before .before .enum-told2 .given .1) (c .before .before .delete-channels .ensures)
+
+same-length-3 : tie.Need-same-length-3
+same-length-3 c = search needs
+
+returns-3 : tie.Need-returns-3
+returns-3 c =
+    let a = c .before .before .before .before .before .before .before .before .before .before .before .before .args in
+    let w = c .before .before .before .before .before .before .wipe in
+    let k = c .before .before .add-channels2 in
+    rw (c .before .before .before .before .before .before .before .before .enum-told3 .given .1) (channels-replaced (a .m .now) (a .entries) (a .part .now) (w .last .0) (k .last .0) (k .result) (w .ensures) (k .ensures))
+
+pub apply-channels-spec : {M : Type 1} → statement M
+apply-channels-spec =
+    tie.close
+    (tie.spec
+    enum-told
+    add-channels-requires
+    enum-told-2
+    delete-channels-requires
+    enum-told-3
+    wipe-requires
+    add-channels-requires-2
+    same-length
+    returns
+    same-length-2
+    returns-2
+    same-length-3
+    returns-3)

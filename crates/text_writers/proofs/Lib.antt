@@ -1,0 +1,4 @@
+pub mod EntryWriting
+pub mod MemberWriting
+pub mod TextLists
+pub mod TextSettings

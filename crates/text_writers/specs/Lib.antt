@@ -1,0 +1,3 @@
+pub mod EntrySettings
+pub mod EntryWriters
+pub mod MemberWriters
