@@ -3,7 +3,7 @@ use super::checks_fixed::fixed_ok;
 use super::checks_lists::channels_ok;
 use super::checks_lists::lines_ok;
 use super::checks_tables::indexed_ok;
-use slots::bytes::is_zeros;
+use slots::bytes::is_clear;
 use tables::limits::Limits;
 use tables::limits::roomy;
 ghost use mathlib.Core.Path.{_≡_};
@@ -32,7 +32,7 @@ fn parts_ok(store: &[u8], limits: Limits) -> bool
     if !lines_ok(&store[lines..spare]) {
         return false;
     }
-    is_zeros(&store[spare..])
+    is_clear(&store[spare..])
 }
 
 // Whether the bytes are those of tables and a kept hash that the rules allow, in a store with room for them.

@@ -1,4 +1,5 @@
 // Whether a slot's bytes are an entry's: texts, digits, addresses, and what holds them.
+use slots::bytes::is_clear;
 use slots::bytes::is_zeros;
 use slots::slots::used;
 ghost use mathlib.Core.Path.{_≡_};
@@ -25,7 +26,7 @@ pub(crate) fn text_ok(s: &[u8]) -> bool
     ensures { λ r. ⌜ ((n : ℕ) → length (now (s .entry)) ≡ n * 2 → (r ≡ true) ↔ EntryOf (TextOk n) (text-bytes n) (now (s .entry))) ⌝ }
 {
     let units = used(s, 2);
-    is_zeros(&s[units..])
+    is_clear(&s[units..])
 }
 
 // Whether every byte is at most 10.

@@ -5,6 +5,7 @@ use super::checks_entries::individual_ok;
 use super::checks_entries::line_ok;
 use super::checks_entries::quick_ok;
 use super::checks_entries::status_ok;
+use slots::bytes::is_clear;
 use slots::bytes::is_zeros;
 use slots::slots::used;
 ghost use mathlib.Core.Path.{_≡_};
@@ -78,7 +79,7 @@ pub(crate) fn list_ok(t: Table, s: &[u8]) -> bool
         return false;
     }
     let end = used(s, width(t));
-    is_zeros(&s[end..])
+    is_clear(&s[end..])
 }
 
 // The four indexed tables.

@@ -15,6 +15,18 @@ use Rattle.lists.proofs.Bools.{is-false, and-parts}
 use Rattle.slots.specs.Slots.{pad, zeros?, same?}
 use Rattle.slots.proofs.Pads.{pad-is}
 
+-- ---- comparing to the end
+
+-- one byte more is looked at by a loop that looks at all
+pub still-more : (so-far b rest : Bool) → (so-far && (b && rest)) ≡ ((so-far && b) && rest)
+still-more true b rest = refl
+still-more false b rest = refl
+
+-- and after the last byte its answer is what it saw
+pub still-all : (so-far : Bool) → (so-far && true) ≡ so-far
+still-all true = refl
+still-all false = refl
+
 -- ---- copying
 
 -- one byte more is copied, counted from 1

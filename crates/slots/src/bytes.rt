@@ -1,7 +1,9 @@
 // Runs of bytes: copied, wiped and compared. Every length is taken.
 ghost use mathlib.Core.Path.{_≡_};
+ghost use mathlib.Core.Bool.{_&&_};
 ghost use mathlib.Core.List.{_++_};
 ghost use Prim.Native.Nat.{min};
+ghost use lib.Dec.{eqb};
 ghost use lib.ListN.{length, take, drop, replicate};
 ghost use Rattle.slots.specs.Slots.{pad, zeros?, same?};
 
@@ -73,4 +75,40 @@ pub fn same(a: &[u8], b: &[u8]) -> bool
         i += 1;
     }
     true
+}
+
+// Whether two bytes are the same, and all before them were.
+fn still(before: bool, x: u8, y: u8) -> bool
+    ensures { λ r. ⌜ r ≡ (before && eqb x y) ⌝ }
+{
+    if before { x == y } else { false }
+}
+
+// Whether every byte of a long run is 0: no byte ends the loop, so that the compiler takes many at a time.
+pub fn is_clear(s: &[u8]) -> bool
+    ensures { λ r. ⌜ r ≡ zeros? (now (s .entry)) ⌝ }
+{
+    let mut clear = true;
+    let mut i = 0;
+    while i < s.len() {
+        clear = still(clear, s[i], 0);
+        i += 1;
+    }
+    clear
+}
+
+// The same as same, for long keys that differ late: no byte ends the loop.
+pub fn alike(a: &[u8], b: &[u8]) -> bool
+    ensures { λ r. ⌜ r ≡ same? (now (a .entry)) (now (b .entry)) ⌝ }
+{
+    if a.len() != b.len() {
+        return false;
+    }
+    let mut all = true;
+    let mut i = 0;
+    while i < a.len() {
+        all = still(all, a[i], b[i]);
+        i += 1;
+    }
+    all
 }

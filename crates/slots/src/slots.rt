@@ -1,4 +1,5 @@
 // Bytes as slots of w bytes, which are taken where a whole one is left.
+use super::bytes::alike;
 use super::bytes::is_zeros;
 use super::bytes::same;
 use super::bytes::wipe;
@@ -52,7 +53,7 @@ pub fn place_of(s: &[u8], w: usize, o: usize, key: &[u8]) -> usize
         let a = at + o;
         let b = a + key.len();
         let e = at + w;
-        if same(&s[a..b], key) {
+        if alike(&s[a..b], key) {
             return at;
         }
         if is_zeros(&s[at..e]) {

@@ -86,17 +86,17 @@ returns-4 c =
     let m = c .before .before .before .before .before .before .before .before .before .before .before .before .before .before .before .args .limits in
     refused (λ x. not-said (c .before .lines-ok .result) (c .before .lines-ok .ensures (m .lines) (slot-wide s (7286 + m .channels * 2) (m .lines * 51) (omega arith))) (c .if4 .taken) (store-is m s (c .before .before .before .before .before .before .before .before .before .before .before .before .before .before .before .pre .0) (c .before .before .before .before .before .before .before .before .before .before .before .before .before .before .before .pre .1) .1 x .1 .1 .1 .0))
 
-sub-is-zeros : tie.Need-sub-is-zeros
-sub-is-zeros c = search needs
+sub-is-clear : tie.Need-sub-is-clear
+sub-is-clear c = search needs
 
-part-is-zeros-start : tie.Need-part-is-zeros-start
-part-is-zeros-start c = search needs
+part-is-clear-start : tie.Need-part-is-clear-start
+part-is-clear-start c = search needs
 
-part-is-zeros-end : tie.Need-part-is-zeros-end
-part-is-zeros-end c = search needs
+part-is-clear-end : tie.Need-part-is-clear-end
+part-is-clear-end c = search needs
 
-is-zeros-requires : tie.Need-is-zeros-requires
-is-zeros-requires c κs = search needs
+is-clear-requires : tie.Need-is-clear-requires
+is-clear-requires c κs = search needs
 
 returns-5 : tie.Need-returns-5
 returns-5 c =
@@ -107,7 +107,7 @@ returns-5 c =
     let i = was-said (c .before .before .before .before .before .before .before .before .before .before .before .indexed-ok .result) (c .before .before .before .before .before .before .before .before .before .before .before .indexed-ok .ensures) (c .before .before .before .before .before .before .before .before .before .before .if2 .left) in
     let h = was-said (c .before .before .before .before .before .before .before .channels-ok .result) (c .before .before .before .before .before .before .before .channels-ok .ensures (m .channels) (slot-wide s 7286 (m .channels * 2) (omega arith))) (c .before .before .before .before .before .before .if3 .left) in
     let l = was-said (c .before .before .before .lines-ok .result) (c .before .before .before .lines-ok .ensures (m .lines) (slot-wide s (7286 + m .channels * 2) (m .lines * 51) (omega arith))) (c .before .before .if4 .left) in
-    (λ e. t .0 (f, (i, (h, (l, sym (c .is-zeros .ensures) ∙ e)))), λ x. c .is-zeros .ensures ∙ t .1 x .1 .1 .1 .1)
+    (λ e. t .0 (f, (i, (h, (l, sym (c .is-clear .ensures) ∙ e)))), λ x. c .is-clear .ensures ∙ t .1 x .1 .1 .1 .1)
 
 pub parts-ok-spec : {M : Type 1} → statement M
 parts-ok-spec =
@@ -137,8 +137,8 @@ parts-ok-spec =
     part-lines-ok-end
     lines-ok-requires
     returns-4
-    sub-is-zeros
-    part-is-zeros-start
-    part-is-zeros-end
-    is-zeros-requires
+    sub-is-clear
+    part-is-clear-start
+    part-is-clear-end
+    is-clear-requires
     returns-5)

@@ -18,23 +18,23 @@ width-requires c κs = search needs
 used-requires : tie.Need-used-requires
 used-requires c κs = search needs
 
-sub-is-zeros : tie.Need-sub-is-zeros
-sub-is-zeros c = search needs
+sub-is-clear : tie.Need-sub-is-clear
+sub-is-clear c = search needs
 
-part-is-zeros-start : tie.Need-part-is-zeros-start
-part-is-zeros-start c = search needs
+part-is-clear-start : tie.Need-part-is-clear-start
+part-is-clear-start c = search needs
 
-part-is-zeros-end : tie.Need-part-is-zeros-end
-part-is-zeros-end c = search needs
+part-is-clear-end : tie.Need-part-is-clear-end
+part-is-clear-end c = search needs
 
-is-zeros-requires : tie.Need-is-zeros-requires
-is-zeros-requires c κs = search needs
+is-clear-requires : tie.Need-is-clear-requires
+is-clear-requires c κs = search needs
 
 returns-2 : tie.Need-returns-2
 returns-2 c =
     λ n l.
     list-is (c .before .before .before .before .before .before .before .args .t) n (c .before .before .before .before .before .before .before .args .s .now) (c .before .before .before .width .result) (c .before .before .used .result) (c .before .before .before .width .ensures) (c .before .before .used .ensures)
-    (was-said (c .before .before .before .before .before .places-ok .result) (c .before .before .before .before .before .places-ok .ensures n l) (c .before .before .before .before .if1 .left)) (c .is-zeros .result) (c .is-zeros .ensures)
+    (was-said (c .before .before .before .before .before .places-ok .result) (c .before .before .before .before .before .places-ok .ensures n l) (c .before .before .before .before .if1 .left)) (c .is-clear .result) (c .is-clear .ensures)
 
 pub list-ok-spec : {M : Type 1} → statement M
 list-ok-spec =
@@ -44,8 +44,8 @@ list-ok-spec =
     returns
     width-requires
     used-requires
-    sub-is-zeros
-    part-is-zeros-start
-    part-is-zeros-end
-    is-zeros-requires
+    sub-is-clear
+    part-is-clear-start
+    part-is-clear-end
+    is-clear-requires
     returns-2)

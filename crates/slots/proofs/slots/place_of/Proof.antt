@@ -42,23 +42,23 @@ add-b c = search needs
 add-e : tie.Need-add-e Inv-loop μ-loop
 add-e c = search needs
 
-sub-same : tie.Need-sub-same Inv-loop μ-loop
-sub-same c = search needs
+sub-alike : tie.Need-sub-alike Inv-loop μ-loop
+sub-alike c = search needs
 
-part-same-start : tie.Need-part-same-start Inv-loop μ-loop
-part-same-start c = search needs
+part-alike-start : tie.Need-part-alike-start Inv-loop μ-loop
+part-alike-start c = search needs
 
-part-same-end : tie.Need-part-same-end Inv-loop μ-loop
-part-same-end c = search needs
+part-alike-end : tie.Need-part-alike-end Inv-loop μ-loop
+part-alike-end c = search needs
 
-same-requires : tie.Need-same-requires Inv-loop μ-loop
-same-requires c κs = search needs
+alike-requires : tie.Need-alike-requires Inv-loop μ-loop
+alike-requires c κs = search needs
 
 returns-2 : tie.Need-returns-2 Inv-loop μ-loop
 returns-2 c =
     let l = c .before .before .before .before .loop in
     let a = c .before .before .before .before .before .before .before .before .before .args in
-    let t = fit-hit (a .s .now) (l .at) (a .w) (a .o) (a .key .now) (omega arith) (omega arith) (sym (c .before .same .ensures) ∙ c .if2 .taken) in
+    let t = fit-hit (a .s .now) (l .at) (a .w) (a .o) (a .key .now) (omega arith) (omega arith) (sym (c .before .alike .ensures) ∙ c .if2 .taken) in
     record {
       within = omega arith;
       first = λ k xs q e. search-stop (fit (a .o) (a .key .now)) (a .s .now) (a .w) (l .at) xs (l .inv .1 .1 xs q e) (omega arith) (omega arith) t;
@@ -81,7 +81,7 @@ returns-3 : tie.Need-returns-3 Inv-loop μ-loop
 returns-3 c =
     let l = c .before .before .before .before .before .before .before .loop in
     let a = c .before .before .before .before .before .before .before .before .before .before .before .before .args in
-    let t = fit-miss (a .s .now) (l .at) (a .w) (a .o) (a .key .now) (omega arith) (omega arith) (sym (c .before .before .before .before .same .ensures) ∙ c .before .before .before .if2 .left) (sym (c .before .is-zeros .ensures) ∙ c .if3 .taken) in
+    let t = fit-miss (a .s .now) (l .at) (a .w) (a .o) (a .key .now) (omega arith) (omega arith) (sym (c .before .before .before .before .alike .ensures) ∙ c .before .before .before .if2 .left) (sym (c .before .is-zeros .ensures) ∙ c .if3 .taken) in
     record {
       within = omega arith;
       first = λ k xs q e. search-stop (fit (a .o) (a .key .now)) (a .s .now) (a .w) (l .at) xs (l .inv .1 .1 xs q e) (omega arith) (omega arith) t;
@@ -95,7 +95,7 @@ loop-again : tie.Need-loop-again Inv-loop μ-loop
 loop-again c =
     let l = c .before .before .before .before .before .before .before .loop in
     let a = c .before .before .before .before .before .before .before .before .before .before .before .before .args in
-    let t = fit-miss (a .s .now) (l .at) (a .w) (a .o) (a .key .now) (omega arith) (omega arith) (sym (c .before .before .before .before .same .ensures) ∙ c .before .before .before .if2 .left) (sym (c .before .is-zeros .ensures) ∙ c .if3 .left) in
+    let t = fit-miss (a .s .now) (l .at) (a .w) (a .o) (a .key .now) (omega arith) (omega arith) (sym (c .before .before .before .before .alike .ensures) ∙ c .before .before .before .if2 .left) (sym (c .before .is-zeros .ensures) ∙ c .if3 .left) in
     (omega arith, (l .inv .1 .0, λ xs q e. search-more (fit (a .o) (a .key .now)) (a .s .now) (a .w) (l .at) xs (l .inv .1 .1 xs q e) (omega arith) (omega arith) t))
 
 returns-4 : tie.Need-returns-4 Inv-loop μ-loop
@@ -121,10 +121,10 @@ place-of-spec =
     add-a
     add-b
     add-e
-    sub-same
-    part-same-start
-    part-same-end
-    same-requires
+    sub-alike
+    part-alike-start
+    part-alike-end
+    alike-requires
     returns-2
     sub-is-zeros
     part-is-zeros-start
