@@ -1,0 +1,54 @@
+use borrow.Author.Needs.{needs}
+use Prim.Native.Nat.{ℕ, zero, suc, _≤_, _<_, _-_, _+_, _*_, _/_, _%_}
+use mathlib.Core.Path.{_≡_, refl, sym, ap, _∙_}
+use mathlib.Core.Bool.{Bool, true, false, cond}
+use mathlib.Core.List.{List, [], _∷_, _++_}
+use native.Mathlib.Omega.{arith}
+use lib.ListN.{length, getD, drop, take, set, replicate}
+use Rattle.shift.proofs.utf8.show_text.Statement.{statement}
+use Rattle.shift.proofs.utf8.show_text.Tie as tie
+use Rattle.shift.proofs.utf8.show_text.Reads as reads
+use Rattle.shift.proofs.utf8.show_text.Lts as lts
+use Rattle.shift.proofs.utf8.character_at.Reads as character-at-reads
+use Rattle.shift.proofs.utf8.show_character.Reads as show-character-reads
+
+abbrev Inv-loop : tie.InvT-loop
+Inv-loop units at₀ at = at ≤ length units
+
+abbrev μ-loop : tie.MeasureT-loop
+μ-loop units at₀ at = length units - at
+
+loop-holds : tie.Need-loop-holds Inv-loop μ-loop
+loop-holds c = omega arith
+
+sub-loop : tie.Need-sub-loop Inv-loop μ-loop
+sub-loop c = search needs
+
+character-at-requires : tie.Need-character-at-requires Inv-loop μ-loop
+character-at-requires c κs = search needs
+
+show-character-requires : tie.Need-show-character-requires Inv-loop μ-loop
+show-character-requires c κs = search needs
+
+loop-less : tie.Need-loop-less Inv-loop μ-loop
+loop-less c = search needs
+
+loop-again : tie.Need-loop-again Inv-loop μ-loop
+loop-again c = search needs
+
+returns : tie.Need-returns Inv-loop μ-loop
+returns c = tt
+
+pub show-text-spec : {M : Type 1} → statement M
+show-text-spec =
+    tie.close
+    (tie.spec
+    Inv-loop
+    μ-loop
+    loop-holds
+    sub-loop
+    character-at-requires
+    show-character-requires
+    loop-less
+    loop-again
+    returns)
