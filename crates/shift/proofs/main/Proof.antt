@@ -1,18 +1,10 @@
+-- `shift::main` meets its contract. Assumes nothing.
 use borrow.Author.Needs.{needs}
-use Prim.Native.Nat.{ℕ, zero, suc, _≤_, _<_, _-_, _+_, _*_, _/_, _%_}
-use mathlib.Core.Path.{_≡_, refl, sym, ap, _∙_}
-use mathlib.Core.Bool.{Bool, true, false, cond}
-use mathlib.Core.List.{List, [], _∷_, _++_}
-use native.Mathlib.Omega.{arith}
-use lib.ListN.{length, getD, drop, take, set, replicate}
+use Prim.Native.Nat.{_-_}
+use mathlib.Core.Path.{_≡_, refl}
+use lib.ListN.{length}
 use Rattle.shift.proofs.main.Statement.{statement}
 use Rattle.shift.proofs.main.Tie as tie
-use Rattle.shift.proofs.main.Reads as reads
-use Rattle.shift.proofs.main.Lts as lts
-use Rattle.shift.proofs.next.Reads as next-reads
-use Rattle.shift.proofs.printing.text.Reads as text-reads
-use Rattle.shift.proofs.rows.rows.Reads as rows-reads
-use Rattle.station.proofs.handheld.start.Reads as start-reads
 
 abbrev Inv-loop : tie.InvT-loop
 Inv-loop buffer₀ store₀ reply₀ n₀ buffer store reply n = (length buffer ≡ 4096) × (length store ≡ 12288) × (length reply ≡ 20)

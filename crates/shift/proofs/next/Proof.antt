@@ -1,20 +1,11 @@
+-- `shift::next` meets its contract. Assumes nothing.
 use borrow.Author.Needs.{needs}
-use Prim.Native.Nat.{ℕ, zero, suc, _≤_, _<_, _-_, _+_, _*_, _/_, _%_}
-use mathlib.Core.Path.{_≡_, refl, sym, ap, _∙_}
-use mathlib.Core.Bool.{Bool, true, false, cond}
-use mathlib.Core.List.{List, [], _∷_, _++_}
-use native.Mathlib.Omega.{arith}
-use lib.ListN.{length, getD, drop, take, set, replicate}
+use Prim.Native.Nat.{_≤_}
+use mathlib.Core.Path.{subst}
+use lib.ListN.{length}
+use Rattle.records.specs.Records.{Within}
 use Rattle.shift.proofs.next.Statement.{statement}
 use Rattle.shift.proofs.next.Tie as tie
-use Rattle.shift.proofs.next.Reads as reads
-use Rattle.shift.proofs.next.Lts as lts
-use mathlib.Core.Path.{subst}
-use Rattle.records.specs.Records.{Within}
-use Rattle.records.proofs.read_record.Reads as read-record-reads
-use Rattle.shift.proofs.messages.tell.Reads as tell-reads
-use Rattle.shift.proofs.printing.text.Reads as text-reads
-use Rattle.shift.proofs.receive.Reads as receive-reads
 
 read-record-requires : tie.Need-read-record-requires
 read-record-requires c κs = search needs

@@ -1,15 +1,9 @@
+-- `shift::printing::hex` meets its contract. Assumes nothing.
 use borrow.Author.Needs.{needs}
-use Prim.Native.Nat.{ℕ, zero, suc, _≤_, _<_, _-_, _+_, _*_, _/_, _%_}
-use mathlib.Core.Path.{_≡_, refl, sym, ap, _∙_}
-use mathlib.Core.Bool.{Bool, true, false, cond}
-use mathlib.Core.List.{List, [], _∷_, _++_}
-use native.Mathlib.Omega.{arith}
-use lib.ListN.{length, getD, drop, take, set, replicate}
+use Prim.Native.Nat.{_-_}
+use lib.ListN.{length}
 use Rattle.shift.proofs.printing.hex.Statement.{statement}
 use Rattle.shift.proofs.printing.hex.Tie as tie
-use Rattle.shift.proofs.printing.hex.Reads as reads
-use Rattle.shift.proofs.printing.hex.Lts as lts
-use Rattle.shift.proofs.printing.byte.Reads as byte-reads
 
 abbrev Inv-loop : tie.InvT-loop
 Inv-loop bytes count i₀ i = Unit {0}

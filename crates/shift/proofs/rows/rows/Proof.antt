@@ -1,16 +1,10 @@
+-- `shift::rows::rows` meets its contract. Assumes nothing.
 use borrow.Author.Needs.{needs}
-use Prim.Native.Nat.{ℕ, zero, suc, _≤_, _<_, _-_, _+_, _*_, _/_, _%_}
-use mathlib.Core.Path.{_≡_, refl, sym, ap, _∙_}
-use mathlib.Core.Bool.{Bool, true, false, cond}
-use mathlib.Core.List.{List, [], _∷_, _++_}
+use Prim.Native.Nat.{_≤_, _-_, _+_}
+use mathlib.Core.Path.{_≡_}
 use native.Mathlib.Omega.{arith}
-use lib.ListN.{length, getD, drop, take, set, replicate}
 use Rattle.shift.proofs.rows.rows.Statement.{statement}
 use Rattle.shift.proofs.rows.rows.Tie as tie
-use Rattle.shift.proofs.rows.rows.Reads as reads
-use Rattle.shift.proofs.rows.rows.Lts as lts
-use Rattle.shift.proofs.printing.text.Reads as text-reads
-use Rattle.shift.proofs.rows.table_rows.Reads as table-rows-reads
 
 abbrev Inv-loop : tie.InvT-loop
 Inv-loop store none₀ table₀ places₀ t6 none table places = (places ≤ 5) × (table ≡ places + 1)

@@ -1,18 +1,8 @@
+-- `shift::rows::table_rows` meets its contract. Assumes nothing.
 use borrow.Author.Needs.{needs}
-use Prim.Native.Nat.{ℕ, zero, suc, _≤_, _<_, _-_, _+_, _*_, _/_, _%_}
-use mathlib.Core.Path.{_≡_, refl, sym, ap, _∙_}
-use mathlib.Core.Bool.{Bool, true, false, cond}
-use mathlib.Core.List.{List, [], _∷_, _++_}
-use native.Mathlib.Omega.{arith}
-use lib.ListN.{length, getD, drop, take, set, replicate}
+use Prim.Native.Nat.{_-_}
 use Rattle.shift.proofs.rows.table_rows.Statement.{statement}
 use Rattle.shift.proofs.rows.table_rows.Tie as tie
-use Rattle.shift.proofs.rows.table_rows.Reads as reads
-use Rattle.shift.proofs.rows.table_rows.Lts as lts
-use Rattle.shift.proofs.printing.text.Reads as text-reads
-use Rattle.shift.proofs.rows.before.Reads as before-reads
-use Rattle.shift.proofs.rows.is_there.Reads as is-there-reads
-use Rattle.shift.proofs.rows.row.Reads as row-reads
 
 abbrev Inv-loop : tie.InvT-loop
 Inv-loop store table start end first₀ place₀ t7 first place = Unit {0}

@@ -1,20 +1,13 @@
+-- `shift::utf8::character_at` meets its contract. Assumes nothing.
 use borrow.Author.Needs.{needs}
-use Prim.Native.Nat.{ℕ, zero, suc, _≤_, _<_, _-_, _+_, _*_, _/_, _%_}
-use mathlib.Core.Path.{_≡_, refl, sym, ap, _∙_}
-use mathlib.Core.Bool.{Bool, true, false, cond}
-use mathlib.Core.List.{List, [], _∷_, _++_}
+use Prim.Native.Nat.{_+_}
+use mathlib.Core.Path.{_≡_, sym, _∙_}
+use mathlib.Core.Bool.{true, false}
 use native.Mathlib.Omega.{arith}
-use lib.ListN.{length, getD, drop, take, set, replicate}
 use Rattle.shift.specs.Utf8.{pair?}
 use Rattle.shift.proofs.TextLaws.{last-read, no-unit, pair-read, one-read}
 use Rattle.shift.proofs.utf8.character_at.Statement.{statement}
 use Rattle.shift.proofs.utf8.character_at.Tie as tie
-use Rattle.shift.proofs.utf8.character_at.Reads as reads
-use Rattle.shift.proofs.utf8.character_at.Lts as lts
-use Rattle.shift.proofs.utf8.alone.Reads as alone-reads
-use Rattle.shift.proofs.utf8.is_pair.Reads as is-pair-reads
-use Rattle.shift.proofs.utf8.joined.Reads as joined-reads
-use Rattle.shift.proofs.utf8.unit.Reads as unit-reads
 
 unit-requires : tie.Need-unit-requires
 unit-requires c κs = search needs

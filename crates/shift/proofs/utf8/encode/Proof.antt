@@ -1,16 +1,9 @@
+-- `shift::utf8::encode` meets its contract. Assumes nothing.
 use borrow.Author.Needs.{needs}
-use Prim.Native.Nat.{ℕ, zero, suc, _≤_, _<_, _-_, _+_, _*_, _/_, _%_}
-use mathlib.Core.Path.{_≡_, refl, sym, ap, _∙_}
-use mathlib.Core.Bool.{Bool, true, false, cond}
-use mathlib.Core.List.{List, [], _∷_, _++_}
 use native.Mathlib.Omega.{arith}
-use lib.ListN.{length, getD, drop, take, set, replicate}
 use Rattle.shift.proofs.TextLaws.{one-byte, two-bytes, three-bytes, four-bytes}
 use Rattle.shift.proofs.utf8.encode.Statement.{statement}
 use Rattle.shift.proofs.utf8.encode.Tie as tie
-use Rattle.shift.proofs.utf8.encode.Reads as reads
-use Rattle.shift.proofs.utf8.encode.Lts as lts
-use Rattle.shift.proofs.utf8.following.Reads as following-reads
 
 cast-t5 : tie.Need-cast-t5
 cast-t5 c = search needs

@@ -1,15 +1,8 @@
-use borrow.Author.Needs.{needs}
-use Prim.Native.Nat.{ℕ, zero, suc, _≤_, _<_, _-_, _+_, _*_, _/_, _%_}
-use mathlib.Core.Path.{_≡_, refl, sym, ap, _∙_}
-use mathlib.Core.Bool.{Bool, true, false, cond}
-use mathlib.Core.List.{List, [], _∷_, _++_}
+-- `shift::utf8::is_pair` meets its contract. Assumes nothing.
 use native.Mathlib.Omega.{arith}
-use lib.ListN.{length, getD, drop, take, set, replicate}
 use Rattle.shift.proofs.TextLaws.{pair-second, no-pair}
 use Rattle.shift.proofs.utf8.is_pair.Statement.{statement}
 use Rattle.shift.proofs.utf8.is_pair.Tie as tie
-use Rattle.shift.proofs.utf8.is_pair.Reads as reads
-use Rattle.shift.proofs.utf8.is_pair.Lts as lts
 
 returns : tie.Need-returns
 returns c = pair-second (c .before .args .high) (c .before .args .low) (omega arith)

@@ -1,16 +1,10 @@
+-- `shift::utf8::show_text` meets its contract. Assumes nothing.
 use borrow.Author.Needs.{needs}
-use Prim.Native.Nat.{ℕ, zero, suc, _≤_, _<_, _-_, _+_, _*_, _/_, _%_}
-use mathlib.Core.Path.{_≡_, refl, sym, ap, _∙_}
-use mathlib.Core.Bool.{Bool, true, false, cond}
-use mathlib.Core.List.{List, [], _∷_, _++_}
+use Prim.Native.Nat.{_≤_, _-_}
 use native.Mathlib.Omega.{arith}
-use lib.ListN.{length, getD, drop, take, set, replicate}
+use lib.ListN.{length}
 use Rattle.shift.proofs.utf8.show_text.Statement.{statement}
 use Rattle.shift.proofs.utf8.show_text.Tie as tie
-use Rattle.shift.proofs.utf8.show_text.Reads as reads
-use Rattle.shift.proofs.utf8.show_text.Lts as lts
-use Rattle.shift.proofs.utf8.character_at.Reads as character-at-reads
-use Rattle.shift.proofs.utf8.show_character.Reads as show-character-reads
 
 abbrev Inv-loop : tie.InvT-loop
 Inv-loop units at₀ at = at ≤ length units

@@ -1,16 +1,9 @@
+-- `shift::utf8::unit` meets its contract. Assumes nothing.
 use borrow.Author.Needs.{needs}
-use Prim.Native.Nat.{ℕ, zero, suc, _≤_, _<_, _-_, _+_, _*_, _/_, _%_}
-use mathlib.Core.Path.{_≡_, refl, sym, ap, _∙_}
-use mathlib.Core.Bool.{Bool, true, false, cond}
-use mathlib.Core.List.{List, [], _∷_, _++_}
 use native.Mathlib.Omega.{arith}
-use lib.ListN.{length, getD, drop, take, set, replicate}
 use Rattle.shift.proofs.TextLaws.{unit-stands}
 use Rattle.shift.proofs.utf8.unit.Statement.{statement}
 use Rattle.shift.proofs.utf8.unit.Tie as tie
-use Rattle.shift.proofs.utf8.unit.Reads as reads
-use Rattle.shift.proofs.utf8.unit.Lts as lts
-use Rattle.shift.proofs.utf8.wide.Reads as wide-reads
 
 add-low : tie.Need-add-low
 add-low c = search needs
