@@ -1,0 +1,55 @@
+// A shift: takes the messages of the records on standard input, from a fresh store, and prints what each comes to and the screen's rows after it.
+mod messages;
+mod printing;
+mod rows;
+mod utf8;
+
+use messages::tell;
+use printing::text;
+use records::Record;
+use records::read_record;
+use rows::rows;
+use station::answers::Answer;
+use station::answers::Refusal;
+use station::handheld::start;
+use station::handheld::take;
+
+// Takes a message and prints its line; the rows after it.
+fn receive(n: u64, message: &[u8], store: &mut [u8], reply: &mut [u8]) {
+    let answer = take(message, store, reply);
+    tell(n, message, answer, reply);
+    rows(store);
+}
+
+// Takes message n, the next record: is there another?
+fn next(n: u64, buffer: &mut [u8], store: &mut [u8], reply: &mut [u8]) -> bool {
+    let record = read_record(buffer);
+    match record {
+        Record::End => false,
+        Record::Cut => {
+            text(b"\nThe input ends within a record.\n");
+            false
+        }
+        Record::TooLong(_) => {
+            tell(n, b"", Answer::Untouched(Refusal::MessageSize), reply);
+            true
+        }
+        Record::Whole(_, length) => {
+            receive(n, &buffer[0..length], store, reply);
+            true
+        }
+    }
+}
+
+fn main() {
+    let mut buffer = [0u8; 4096];
+    let mut store = [0u8; 12288];
+    let mut reply = [0u8; 20];
+    start(&mut store);
+    text(b"A fresh store\n");
+    rows(&store);
+    let mut n: u64 = 1;
+    while n < u64::MAX && next(n, &mut buffer, &mut store, &mut reply) {
+        n += 1;
+    }
+}

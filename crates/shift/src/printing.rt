@@ -1,0 +1,29 @@
+// Writes bytes and numbers to standard output.
+use libc::STDOUT_FILENO;
+
+// The hexadecimal digits.
+const HEX: [u8; 16] = *b"0123456789ABCDEF";
+
+pub(crate) fn text(bytes: &[u8]) {
+    io::write_all(STDOUT_FILENO, bytes);
+}
+
+pub(crate) fn decimal(n: u64) {
+    io::print_decimal(STDOUT_FILENO, n);
+}
+
+// A space and two hexadecimal digits.
+fn byte(b: u8) {
+    let high = (b / 16) as usize;
+    let low = (b % 16) as usize;
+    text(&[b' ', HEX[high], HEX[low]]);
+}
+
+// The first bytes, as many as are counted.
+pub(crate) fn hex(bytes: &[u8], count: usize) {
+    let mut i = 0;
+    while i < bytes.len() && i < count {
+        byte(bytes[i]);
+        i += 1;
+    }
+}
