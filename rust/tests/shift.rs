@@ -1,4 +1,5 @@
 //! The stored test of the program `shift`: its input is what the binary `shift` writes, and its output what the reference shows of it.
+#![cfg(feature = "reference")]
 
 use otap::records::{Record, Records};
 use otap::reference::screen::{row_part, Row, Shown, SCRATCH_ROOM};
@@ -8,7 +9,8 @@ use std::fs::read;
 use std::process::Command;
 
 fn stored(part: &str) -> Vec<u8> {
-    read(format!("{}/../crates/shift/{part}", env!("CARGO_MANIFEST_DIR"))).expect("the program has a stored test")
+    read(format!("{}/../crates/shift/{part}", env!("CARGO_MANIFEST_DIR")))
+        .expect("the program has a stored test")
 }
 
 /// A row as the screen shows it; a surrogate that is in no pair is U+FFFD.
@@ -36,7 +38,11 @@ fn rows(set: &Set) -> String {
             out.push_str(&format!("  {name:<14}{}\n", shown.join(", ")));
         }
     }
-    if out.is_empty() { "  no rows\n".to_string() } else { out }
+    if out.is_empty() {
+        "  no rows\n".to_string()
+    } else {
+        out
+    }
 }
 
 fn words(answer: &Answer, query: bool) -> &'static str {
@@ -59,7 +65,8 @@ fn message_lines(answer: &Answer, query: bool, reply: &[u8]) -> String {
     }
     let send = if answer.send { "send" } else { "keep" };
     let restart = if answer.reboot { "restart" } else { "no restart" };
-    let hex: Vec<String> = reply[..answer.length].iter().map(|byte| format!("{byte:02X}")).collect();
+    let hex: Vec<String> =
+        reply[..answer.length].iter().map(|byte| format!("{byte:02X}")).collect();
     out + &format!("; {send} the reply; {restart}\n  reply         {}\n", hex.join(" "))
 }
 
@@ -67,7 +74,9 @@ fn shift_prints(input: &[u8]) -> String {
     let mut set = Set::default();
     let mut out = format!("A fresh store\n{}", rows(&set));
     for (place, record) in Records::new(input).enumerate() {
-        let Record::Whole { message, .. } = record else { panic!("the stored shift has whole records") };
+        let Record::Whole { message, .. } = record else {
+            panic!("the stored shift has whole records")
+        };
         let mut reply = [0; REPLY_ROOM];
         let answer = take(message, &mut set, &mut reply);
         let told = message_lines(&answer, message[6] & 7 == 5, &reply);

@@ -32,7 +32,13 @@ fn group_slot(index: u8, dialled: u32, name: &str) -> Setting {
 
 fn individual_slot(index: u8, dialled: u32, name: &str) -> Setting {
     let address = individual(dialled).expect("the number is an individual's");
-    let slot = IndividualSlot { encryption: false, emergency: false, priority: 0, address, text: units(name) };
+    let slot = IndividualSlot {
+        encryption: false,
+        emergency: false,
+        priority: 0,
+        address,
+        text: units(name),
+    };
     Setting::Individual { index, slot: Some(slot) }
 }
 
@@ -41,7 +47,11 @@ fn lines(operation: Operation, contacts: &[(&str, &str)]) -> Setting {
         digits: number.bytes().map(|digit| digit - b'0').collect(),
         text: units(name),
     };
-    Setting::Lines { operation, flags: LineFlags::default(), entries: contacts.iter().map(entry).collect() }
+    Setting::Lines {
+        operation,
+        flags: LineFlags::default(),
+        entries: contacts.iter().map(entry).collect(),
+    }
 }
 
 fn texts(entries: &[(u8, &str)]) -> Vec<TextEntry> {
@@ -100,7 +110,9 @@ fn evening() -> Vec<u8> {
 /// The messages in order; the last two are a query for the hash kept, and another set's reply.
 fn shift() -> Vec<u8> {
     let mut out = Vec::new();
-    for message in [morning(), rename(), faulty(), evening(), query(&EVENING), reply(0, 0, &EVENING)] {
+    for message in
+        [morning(), rename(), faulty(), evening(), query(&EVENING), reply(0, 0, &EVENING)]
+    {
         push_record(&mut out, 0, &message);
     }
     out
