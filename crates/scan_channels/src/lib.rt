@@ -9,7 +9,7 @@ use writing::Operation;
 ghost use mathlib.Core.Path.{_≡_};
 ghost use mathlib.Core.Bool.{true};
 ghost use Rattle.slots.specs.Slots.{u16};
-ghost use Rattle.writing.specs.declared.Operation.the-variants.{Add, Delete};
+ghost use Rattle.writing.specs.declared.Operation.the-variants.{Add, Delete, Replace};
 ghost use Rattle.tables.specs.Lists.{ChannelApplied, ChannelsApplied};
 
 // The two bytes of a slot.
@@ -66,6 +66,25 @@ fn delete_channels(part: &mut [u8], m: &[u8], entries: Entries)
     }
 }
 
+// Empties the part, and puts channel i in place i: a list that starts empty needs no search for its end.
+fn replace_channels(part: &mut [u8], m: &[u8], entries: Entries) -> bool
+    ensures { λ r. ⌜ ChannelsApplied Replace (now (m .entry)) entries (now (part .entry)) (now (part .exit)) r ⌝ }
+{
+    if part.len() / 2 < entries.count {
+        return false;
+    }
+    wipe(part);
+    let mut i = 0;
+    while i < entries.count {
+        let slot = channel_slot(channel_at(m, entries.start, i));
+        let at = i * 2;
+        let e = at + 2;
+        copy(&mut part[at..e], &slot);
+        i += 1;
+    }
+    true
+}
+
 // Applies the channels of a setting in order: was there room?
 pub fn apply_channels(part: &mut [u8], m: &[u8], operation: Operation, entries: Entries) -> bool
     ensures { λ r. ⌜ ChannelsApplied operation (now (m .entry)) entries (now (part .entry)) (now (part .exit)) r ⌝ }
@@ -76,9 +95,6 @@ pub fn apply_channels(part: &mut [u8], m: &[u8], operation: Operation, entries: 
             delete_channels(part, m, entries);
             true
         }
-        Operation::Replace => {
-            wipe(part);
-            add_channels(part, m, entries)
-        }
+        Operation::Replace => replace_channels(part, m, entries),
     }
 }

@@ -1,5 +1,4 @@
 use borrow.Author.Needs.{needs}
-use Rattle.scan_channels.proofs.ChannelLaws.{channels-replaced}
 use Rattle.scan_channels.proofs.apply_channels.Statement.{statement}
 use Rattle.scan_channels.proofs.apply_channels.Tie as tie
 
@@ -18,11 +17,8 @@ delete-channels-requires c κs = search needs
 enum-told-3 : tie.Need-enum-told-3
 enum-told-3 c = search needs
 
-wipe-requires : tie.Need-wipe-requires
-wipe-requires c κs = search needs
-
-add-channels-requires-2 : tie.Need-add-channels-requires-2
-add-channels-requires-2 c κs = search needs
+replace-channels-requires : tie.Need-replace-channels-requires
+replace-channels-requires c κs = search needs
 
 same-length : tie.Need-same-length
 same-length c = search needs
@@ -40,11 +36,7 @@ same-length-3 : tie.Need-same-length-3
 same-length-3 c = search needs
 
 returns-3 : tie.Need-returns-3
-returns-3 c =
-    let a = c .before .before .before .before .before .before .before .before .before .before .before .before .args in
-    let w = c .before .before .before .before .before .before .wipe in
-    let k = c .before .before .add-channels2 in
-    rw (c .before .before .before .before .before .before .before .before .enum-told3 .given .1) (channels-replaced (a .m .now) (a .entries) (a .part .now) (w .last .0) (k .last .0) (k .result) (w .ensures) (k .ensures))
+returns-3 c = rw (c .before .before .before .before .enum-told3 .given .1) (c .before .before .replace-channels .ensures)
 
 pub apply-channels-spec : {M : Type 1} → statement M
 apply-channels-spec =
@@ -55,8 +47,7 @@ apply-channels-spec =
     enum-told-2
     delete-channels-requires
     enum-told-3
-    wipe-requires
-    add-channels-requires-2
+    replace-channels-requires
     same-length
     returns
     same-length-2
