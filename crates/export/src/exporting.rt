@@ -6,6 +6,7 @@ use carrier::carrier::START;
 use carrier::carrier::UNICODE16;
 use checks::checks::is_store;
 use line_writers::lines::export_lines;
+use station::handheld::HANDHELD;
 use tables::limits::Limits;
 use text_writers::members::Members;
 use text_writers::parts::export_members;
@@ -127,11 +128,5 @@ pub(crate) fn export_in(part: u32, store: &[u8], buffer: &mut [u8], limits: Limi
 pub fn export(part: u32, store: &[u8], buffer: &mut [u8]) -> Export
     ensures { λ r. ⌜ Answers (exporting handheld part (now (store .entry)) (now (buffer .entry))) (record { answer = told r; buffer = now (buffer .exit) }) ⌝ }
 {
-    let limits = Limits {
-        lines: 32,
-        channels: 64,
-        message: 4096,
-        size: 12288,
-    };
-    export_in(part, store, buffer, limits)
+    export_in(part, store, buffer, HANDHELD)
 }

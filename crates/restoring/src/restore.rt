@@ -47,7 +47,7 @@ pub fn restore(from: &[u8], to: &mut [u8], buffer: &mut [u8], reply: &mut [u8]) 
     if !is_store(to, HANDHELD) {
         return Restored::NotAStore;
     }
-    if buffer.len() < 4096 {
+    if buffer.len() < HANDHELD.message {
         return Restored::Buffer;
     }
     if !is_store(from, HANDHELD) {

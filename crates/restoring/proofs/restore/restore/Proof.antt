@@ -27,7 +27,7 @@ same-length-2 c = search needs
 
 returns-3 : tie.Need-returns-3
 returns-3 c =
-    inr ((λ h. omega (arith, c .before .before .before .before .if1 .left)), inr ((λ n. n (was-said (c .before .before .is-store .result) (c .before .before .is-store .ensures) (c .before .if2 .left))), inl (c .if3 .taken, refl)))
+    inr ((λ h. omega (arith, c .before .before .before .before .before .if1 .left)), inr ((λ n. n (was-said (c .before .before .before .is-store .result) (c .before .before .before .is-store .ensures) (c .before .before .if2 .left))), inl (c .if3 .taken, refl)))
 
 is-store-requires-2 : tie.Need-is-store-requires-2
 is-store-requires-2 c κs = search needs
@@ -37,7 +37,7 @@ same-length-3 c = search needs
 
 returns-4 : tie.Need-returns-4
 returns-4 c =
-    inr ((λ h. omega (arith, c .before .before .before .before .before .before .if1 .left)), inr ((λ n. n (was-said (c .before .before .before .before .is-store .result) (c .before .before .before .before .is-store .ensures) (c .before .before .before .if2 .left))), inr ((λ h. omega (arith, c .before .before .if3 .left)), inl (not-said (c .before .is-store2 .result) (c .before .is-store2 .ensures) (c .if4 .taken), refl))))
+    inr ((λ h. omega (arith, c .before .before .before .before .before .before .before .if1 .left)), inr ((λ n. n (was-said (c .before .before .before .before .before .is-store .result) (c .before .before .before .before .before .is-store .ensures) (c .before .before .before .before .if2 .left))), inr ((λ h. omega (arith, c .before .before .if3 .left)), inl (not-said (c .before .is-store2 .result) (c .before .is-store2 .ensures) (c .if4 .taken), refl))))
 
 move-parts-requires : tie.Need-move-parts-requires
 move-parts-requires c κs = search needs
@@ -53,11 +53,11 @@ same-length-6 c = search needs
 
 returns-5 : tie.Need-returns-5
 returns-5 c =
-    let there = was-said (c .before .before .before .before .before .before .before .before .before .before .before .before .before .before .is-store .result) (c .before .before .before .before .before .before .before .before .before .before .before .before .before .before .is-store .ensures) (c .before .before .before .before .before .before .before .before .before .before .before .before .before .if2 .left) in
+    let there = was-said (c .before .before .before .before .before .before .before .before .before .before .before .before .before .before .before .is-store .result) (c .before .before .before .before .before .before .before .before .before .before .before .before .before .before .before .is-store .ensures) (c .before .before .before .before .before .before .before .before .before .before .before .before .before .before .if2 .left) in
     let here = was-said (c .before .before .before .before .before .before .before .before .before .before .before .is-store2 .result) (c .before .before .before .before .before .before .before .before .before .before .before .is-store2 .ensures) (c .before .before .before .before .before .before .before .before .before .before .if4 .left) in
     let t = here .store .tables in
-    let h : Holds handheld t (c .before .before .before .before .before .before .before .before .before .before .before .before .before .before .before .before .before .before .before .before .before .args .from .now) = (here .store .allowed, here .store .bytes-are) in
-    inr ((λ n. omega (arith, c .before .before .before .before .before .before .before .before .before .before .before .before .before .before .before .before .if1 .left)), inr ((λ n. n there), inr ((λ n. omega (arith, c .before .before .before .before .before .before .before .before .before .before .before .before .if3 .left)), inr ((λ n. n here), (t, h, c .before .before .before .before .before .before .move-parts .ensures t (there .store .tables) h (there .store .allowed, there .store .bytes-are) (c .before .before .before .before .before .before .before .before .before .before .before .before .before .before .before .before .if1 .left) (c .before .before .before .before .before .before .before .before .before .before .before .before .if3 .left))))))
+    let h : Holds handheld t (c .before .before .before .before .before .before .before .before .before .before .before .before .before .before .before .before .before .before .before .before .before .before .args .from .now) = (here .store .allowed, here .store .bytes-are) in
+    inr ((λ n. omega (arith, c .before .before .before .before .before .before .before .before .before .before .before .before .before .before .before .before .before .if1 .left)), inr ((λ n. n there), inr ((λ n. omega (arith, c .before .before .before .before .before .before .before .before .before .before .before .before .if3 .left)), inr ((λ n. n here), (t, h, c .before .before .before .before .before .before .move-parts .ensures t (there .store .tables) h (there .store .allowed, there .store .bytes-are) (c .before .before .before .before .before .before .before .before .before .before .before .before .before .before .before .before .before .if1 .left) (c .before .before .before .before .before .before .before .before .before .before .before .before .if3 .left))))))
 
 pub restore-spec : {M : Type 1} → statement M
 restore-spec =
