@@ -26,7 +26,7 @@ returns-3 : tie.Need-returns-3
 returns-3 c = rw (c .enum-told2 .given .1) tt
 
 returns-4 : tie.Need-returns-4
-returns-4 c = rw (c .enum-told3 .given .1) (λ i. i)
+returns-4 c = rw (c .enum-told3 .given .1) (search needs)
 
 pub group-refused-spec : {M : Type 1} → statement M
 group-refused-spec =
