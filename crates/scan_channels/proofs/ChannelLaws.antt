@@ -171,7 +171,7 @@ module _ (m : List ℕ) (p : Entries) (s w : List ℕ) (z : w ≡ replicate (len
       let b : x ≡ getD ns i 0 = is ns (p .next) (d .stands) k in
       let v : y ≡ u16 (getD ns i 0) = slot-copied t slot y (i * 2) 2 (omega (arith, wiped-long)) (ap length e) copied ∙ e ∙ ap u16 b in
       let f : ChannelTable n (take i ns ++ (getD ns i 0 ∷ [])) (putMid (length (take i ns) * 2) 2 t y)
-          = channel-behind n (take i ns) t y (getD ns i 0) (g n ns l d q) (omega (arith, wiped-long, channel-places n [] w l)) (all-get InChannel ns i 0 q k) v in
+      = channel-behind n (take i ns) t y (getD ns i 0) (g n ns l d q) (omega (arith, wiped-long, channel-places n [] w l)) (all-get InChannel ns i 0 q k) v in
       let j : i * 2 + 2 - i * 2 ≡ 2 = omega arith in
       rw (j, add-one, take-suc ns i 0 k) (subst (λ (c : ℕ). ChannelTable n (take i ns ++ (getD ns i 0 ∷ [])) (putMid (c * 2) 2 t y)) a f)
 
