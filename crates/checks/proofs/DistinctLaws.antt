@@ -12,7 +12,7 @@ use lib.Seq.{drop-drop, length-take-le, take-add, take-all, take-at}
 use Rattle.lists.proofs.Every.{All, all-made, all-turn}
 use Rattle.lists.proofs.Seqs.{cut}
 use Rattle.slots.specs.Slots.{flat, front, indexOf, pad, places, same?, zeros?, fit, Found, KeyAt, Listed}
-use Rattle.slots.proofs.Keys.{key-at, used-at}
+use Rattle.slots.proofs.Keys.{key-at, found-known, used-at}
 use Rattle.slots.proofs.Pads.{pad-is}
 use Rattle.slots.proofs.Parts.{slots-length}
 use Rattle.slots.proofs.Runs.{same-not, same-refl}
@@ -138,7 +138,7 @@ module _ (s : List ℕ) (at end : ℕ) (ls : List Line) (fits : end ≤ length s
         ap (λ (i : ℕ). take i (drop (at + 1) s)) k ∙ ap (take 18) (sym (drop-drop 1 at s) ∙ ap (drop 1) e ∙ append-assoc (digit-bytes (l .number)) _ (drop 51 (drop at s)))
         ∙ take-at (digit-bytes (l .number)) _ 18 (digits-length (l .number))
 
-    module _ (r : ℕ) (found : Found (KeyAt 51 1 (midOf (at + 1) (at + 1 + 18 - (at + 1)) s)) (fit 1 (midOf (at + 1) (at + 1 + 18 - (at + 1)) s)) 51 (midOf (at + 51) (end - (at + 51)) s) r) where
+    module _ (r : ℕ) (found : Found (KeyAt 51 1 (midOf (at + 1) (at + 1 + 18 - (at + 1)) s) × (length (midOf (at + 1) (at + 1 + 18 - (at + 1)) s) ≡ 18)) (fit 1 (midOf (at + 1) (at + 1 + 18 - (at + 1)) s)) 51 (midOf (at + 51) (end - (at + 51)) s) r) where
       -- the search ends at the first line behind that has the number
       key-found : r ≡ indexOf (has-number (next h .line .number)) (next h .later) * 51
       key-found =
@@ -148,7 +148,8 @@ module _ (s : List ℕ) (at end : ℕ) (ls : List Line) (fits : end ≤ length s
           key-at LineOk 51 line-bytes 1 18 (λ l. digit-bytes (l .number)) line-keyed (digit-bytes d) (digits-length d) (digits-shown d (o .0)) (has-number d)
           (λ a p. digits-same (a .number) d (p .number .1) (o .1)) (length (n .later)) (n .later) (midOf (at + 51) (end - (at + 51)) s)
           (full-listed LineOk 51 line-bytes (line-code .long) (n .later) (midOf (at + 51) (end - (at + 51)) s) (n .each .1) (line-cut .1)) r
-          (subst (λ (k : List ℕ). Found (KeyAt 51 1 k) (fit 1 k) 51 (midOf (at + 51) (end - (at + 51)) s) r) line-key found)
+          (subst (λ (k : List ℕ). Found (KeyAt 51 1 k) (fit 1 k) 51 (midOf (at + 51) (end - (at + 51)) s) r) line-key
+          (found-known 51 1 18 _ (midOf (at + 51) (end - (at + 51)) s) _ r (ap length line-key ∙ digits-length d) found))
 
       -- at the end where none has it
       key-none : (r ≡ end - (at + 51)) ↔ All (λ x. x .number ≢ next h .line .number) (next h .later)

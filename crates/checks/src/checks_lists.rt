@@ -25,7 +25,7 @@ fn lines_distinct(s: &[u8]) -> bool
         let next = at + 51;
         let a = at + 1;
         let b = a + 18;
-        if place_of(&s[next..end], 51, 1, &s[a..b]) != end - next {
+        if place_of(&s[next..end], 51, 1, 18, &s[a..b]) != end - next {
             return false;
         }
         at = next;

@@ -11,7 +11,7 @@ use lib.ListN.{length, take, drop, replicate, length-append}
 use Rattle.lists.proofs.Bytes.{Bytes}
 use Rattle.lists.proofs.Every.{All}
 use Rattle.slots.specs.Slots.{same?, fit, indexOf, putAt, KeyAt, Found, Removed}
-use Rattle.slots.proofs.Keys.{key-removed, key-room, key-full, key-put}
+use Rattle.slots.proofs.Keys.{key-removed, key-room, key-full, key-put, found-known}
 use Rattle.slots.proofs.Pads.{pad-length}
 use Rattle.slots.proofs.Parts.{put-part, get-part}
 use Rattle.slots.proofs.Tables.{slot-copied}
@@ -79,10 +79,11 @@ module _ (l : Line) (ok : LineOk l) (x : List ℕ) (e : x ≡ line-bytes l) wher
 
 -- ---- one line
 
-module _ (x s : List ℕ) (r : ℕ) (long : length x ≡ 51) (found : Found (KeyAt 51 1 (midOf 1 18 x)) (fit 1 (midOf 1 18 x)) 51 s r) where
+module _ (x s : List ℕ) (r : ℕ) (long : length x ≡ 51) (found : Found (KeyAt 51 1 (midOf 1 18 x) × (length (midOf 1 18 x) ≡ 18)) (fit 1 (midOf 1 18 x)) 51 s r) where
   -- the place that was found is that of the line's key
   found-key : (l : Line) → LineOk l → x ≡ line-bytes l → Found (KeyAt 51 1 (key l)) (fit 1 (key l)) 51 s r
-  found-key l ok e = subst (λ (k : List ℕ). Found (KeyAt 51 1 k) (fit 1 k) 51 s r) (key-read l ok x e) found
+  found-key l ok e = subst (λ (k : List ℕ). Found (KeyAt 51 1 k) (fit 1 k) 51 s r) (key-read l ok x e)
+      (found-known 51 1 18 (midOf 1 18 x) s (fit 1 (midOf 1 18 x)) r (ap length (key-read l ok x e) ∙ digits-length (l .number)) found)
 
   -- a line's slot where its number was, or in the first free place
   pub line-added : (y : List ℕ) → (length s - r < 51 → ⊥) → y ≡ take (length (midOf r (r + 51 - r) s)) x ++ drop (length x) (midOf r (r + 51 - r) s)

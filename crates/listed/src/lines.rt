@@ -20,7 +20,7 @@ fn put_line(part: &mut [u8], slot: &[u8]) -> bool
     requires { ⌜ length (now slot) ≡ 51 ⌝ }
     ensures { λ r. ⌜ LinePut (now (slot .entry)) (now (part .entry)) (now (part .exit)) r ⌝ }
 {
-    let at = place_of(part, 51, 1, &slot[1..19]);
+    let at = place_of(part, 51, 1, 18, &slot[1..19]);
     if part.len() - at < 51 {
         return false;
     }

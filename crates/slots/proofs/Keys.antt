@@ -192,3 +192,9 @@ module _ {A : Type 0} (P : A → Type 0) (w : ℕ) (f : A → List ℕ) (o m : �
     -- an entry's bytes there put it in place of the one that has the key, or add it at the end
     pub key-put : (a : A) (y : List ℕ) → P a → w ≤ length s - r → y ≡ f a → Listed P w f n (putAt (indexOf e ls) a ls) (putMid r (r + w - r) s y)
     key-put = sought-put P w f e n ls s r (key-sought r found)
+
+-- ---- a key whose length was said
+
+-- a search with the key's true length is a search with the key
+pub found-known : (w o n : ℕ) (key s : List ℕ) (p : List ℕ → Bool) (r : ℕ) → length key ≡ n → Found (KeyAt w o key × (length key ≡ n)) p w s r → Found (KeyAt w o key) p w s r
+found-known w o n key s p r e f = record { within = f .within; first = λ k. f .first (k, e); cannot = λ h. f .cannot (λ k. h (k .0)) }

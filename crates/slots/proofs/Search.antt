@@ -1,5 +1,5 @@
 -- A search among slots, from the front: what is left to look at, and what a slot shows. Assumes nothing.
-use mathlib.Core.Path.{_≡_, sym, ap, _∙_}
+use mathlib.Core.Path.{_≡_, sym, ap, _∙_, subst}
 use mathlib.Core.Bool.{Bool, true, false, not, true≢false}
 use mathlib.Core.Logic.{_↔_}
 use mathlib.Core.List.{List, [], _∷_, _++_}
@@ -98,7 +98,16 @@ module _ (s : List ℕ) (at w o : ℕ) (key : List ℕ) (h : o + length key ≤ 
   pub fit-miss : {b : Bool} → same? (midOf (at + o) (at + o + length key - (at + o)) s) key ≡ false → zeros? (midOf at (at + w - at) s) ≡ b → fit o key (take w (drop at s)) ≡ b
   fit-miss e z = rw (part-hit s at w o key h k e) (part-zeros s at w z)
 
+-- the same said of the key's own length
+pub said-of : (n : ℕ) (key s : List ℕ) (at o : ℕ) → length key ≡ n → {b : Bool} → same? (midOf (at + o) (at + o + n - (at + o)) s) key ≡ b
+    → same? (midOf (at + o) (at + o + length key - (at + o)) s) key ≡ b
+said-of n key s at o e {b} h = subst (λ (k : ℕ). same? (midOf (at + o) (at + o + k - (at + o)) s) key ≡ b) (sym e) h
+
 -- ---- whether the key fits the slots
+
+-- what was said of n bytes is said of a key of n bytes
+pub fits-said : (w o n : ℕ) (key : List ℕ) {b : Bool} → length key ≡ n → (b ≡ true) ↔ ((0 < w) × (o + n ≤ w)) → (b ≡ true) ↔ ((0 < w) × (o + length key ≤ w))
+fits-said w o n key {b} e h = subst (λ (k : ℕ). (b ≡ true) ↔ ((0 < w) × (o + k ≤ w))) (sym e) h
 
 module _ (w o : ℕ) (key : List ℕ) (b : Bool) (is : (b ≡ true) ↔ ((0 < w) × (o + length key ≤ w))) where
   -- it was not turned away

@@ -101,7 +101,7 @@ pub fn is_clear(s: &[u8]) -> bool
 pub fn alike(a: &[u8], b: &[u8]) -> bool
     ensures { λ r. ⌜ r ≡ same? (now (a .entry)) (now (b .entry)) ⌝ }
 {
-    if a.len() != b.len() {
+    if b.len() != a.len() {
         return false;
     }
     let mut all = true;

@@ -41,17 +41,20 @@ fn key_fits(w: usize, o: usize, n: usize) -> bool
     n <= w - o
 }
 
-// Where the first slot starts that has the key at o or is empty, or the end of the slots.
-pub fn place_of(s: &[u8], w: usize, o: usize, key: &[u8]) -> usize
-    ensures { λ r. ⌜ Found (KeyAt w o (now (key .entry))) (fit o (now (key .entry))) w (now (s .entry)) r ⌝ }
+// Where the first slot starts that has the key, of n bytes, at o or is empty, or the end of the slots; n is said apart so that the compiler knows it.
+pub fn place_of(s: &[u8], w: usize, o: usize, n: usize, key: &[u8]) -> usize
+    ensures { λ r. ⌜ Found (KeyAt w o (now (key .entry)) × (length (now (key .entry)) ≡ n)) (fit o (now (key .entry))) w (now (s .entry)) r ⌝ }
 {
-    if !key_fits(w, o, key.len()) {
+    if key.len() != n {
+        return 0;
+    }
+    if !key_fits(w, o, n) {
         return 0;
     }
     let mut at = 0;
     while w <= s.len() - at {
         let a = at + o;
-        let b = a + key.len();
+        let b = a + n;
         let e = at + w;
         if alike(&s[a..b], key) {
             return at;
