@@ -6,12 +6,12 @@ use native.Mathlib.Omega.{arith}
 use Rattle.lists.proofs.Ladder.{Answers}
 use Rattle.tables.specs.Layout.{Roomy}
 use Rattle.tables.specs.Limits.{handheld}
+use Rattle.row_names.specs.declared.rows.Refusal.{Refusal}
+use Rattle.row_names.specs.declared.rows.Row.{Row}
+use Rattle.row_names.specs.Rows.{row-named}
 use Rattle.screen.specs.declared.answers.Answer.{Answer}
 use Rattle.screen.specs.declared.answers.Place.{Place}
 use Rattle.screen.specs.declared.answers.Place.the-variants.{Store, Scratch, Refused as NoPlace}
-use Rattle.screen.specs.declared.answers.Refusal.{Refusal}
-use Rattle.screen.specs.declared.rows.Row.{Row}
-use Rattle.screen.specs.Rows.{row-named}
 use Rattle.screen.specs.Screen.{number, leaves, showing, numbering}
 use Rattle.screen.proofs.PartLaws.{part-fits}
 use Rattle.handheld.specs.Packing.{PacksPart, Shows, Numbers}

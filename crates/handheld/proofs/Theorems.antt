@@ -14,7 +14,7 @@ use Rattle.station.specs.Taking.{After}
 use Rattle.demands.proofs.Determined.{taken-determined}
 use Rattle.export.specs.Exporting.{Told, After as Exported}
 use Rattle.export.proofs.Determined.{determined as export-determined}
-use Rattle.screen.specs.Rows.{row-named}
+use Rattle.row_names.specs.Rows.{row-named}
 use Rattle.screen.specs.Screen.{Part, of-store, of-scratch, After as Row}
 use Rattle.screen.proofs.Determined.{shown-determined, number-determined}
 use Rattle.handheld.specs.Packing.{Starts, packed, Packs, Takes, packed-export, PacksExport, Exports, Numbers, packed-part, start-of, length-of, PacksPart, Shows, packed-value, PacksValue, Converts}

@@ -11,7 +11,7 @@ use Rattle.tables.specs.Store.{StartedAs}
 use Rattle.station.specs.Answers.{Said, started}
 use Rattle.station.specs.Taking.{taken}
 use Rattle.export.specs.Exporting.{Told, exporting}
-use Rattle.screen.specs.Rows.{row-named}
+use Rattle.row_names.specs.Rows.{row-named}
 use Rattle.screen.specs.Screen.{Part, of-store, of-scratch, showing, numbering}
 
 -- ---- starting

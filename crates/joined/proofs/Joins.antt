@@ -14,16 +14,16 @@ use Rattle.tables.specs.Limits.{slot-places}
 use Rattle.tables.specs.Store.{StoreOf, Holds}
 use Rattle.tables.specs.Tables.{Tables, GroupMember, IndividualMember, fresh}
 use Rattle.tables.proofs.LayoutLaws.{holds-store}
-use Rattle.screen.specs.declared.rows.Row.{Row}
-use Rattle.screen.specs.declared.rows.Row.the-variants.{Group, Individual}
-use Rattle.joined.specs.Reached.{Reached, InOrder, all-of, to-group, to-individual, LastSent}
-use Rattle.screen.specs.Rows.{Caption, group, individual, caption, of, Display, units, text-or}
-use Rattle.screen.specs.Screen.{After, bytes-of, unit-bytes, RowBytes, showing, numbering, PartGiven}
+use Rattle.row_names.specs.declared.rows.Row.{Row}
+use Rattle.row_names.specs.declared.rows.Row.the-variants.{Group, Individual}
+use Rattle.row_names.specs.Rows.{Caption, group, individual, caption, of, Display, units, text-or, unit-bytes}
+use Rattle.row_names.proofs.EntryLaws.{within}
+use Rattle.screen.specs.Screen.{After, bytes-of, RowBytes, showing, numbering, PartGiven}
 use Rattle.screen.proofs.AnswerLaws.{one-tables}
-use Rattle.screen.proofs.EntryLaws.{within}
+use Rattle.screen.proofs.Theorems.{from-entry, whole-text}
+use Rattle.joined.specs.Reached.{Reached, InOrder, all-of, to-group, to-individual, LastSent}
 use Rattle.joined.proofs.Reaching.{in-order-one, reached-holds}
 use Rattle.joined.proofs.Sent.{left-by, Places, group-places, individual-places, left-sent, sent-left, order-left}
-use Rattle.screen.proofs.Theorems.{from-entry, whole-text}
 
 -- the number of a row that is there, and of one that is not
 abbrev pub RowNumber : Option Caption → ℕ → Type 0

@@ -11,8 +11,8 @@ use Rattle.plan.proofs.AnswerLaws.{One}
 use Rattle.plan.proofs.NumberLaws.{individuals, groups, one-dialled}
 use Rattle.writing.specs.Settings.{Text}
 use Rattle.tables.specs.declared.limits.Limits.{Limits}
-use Rattle.screen.specs.declared.rows.Row.{Row}
-use Rattle.screen.specs.Rows.{Caption, text, line, group, individual, caption, ascii, digits, AddressText, dialled, outside, Display, written, text-or, Shows}
+use Rattle.row_names.specs.declared.rows.Row.{Row}
+use Rattle.row_names.specs.Rows.{Caption, text, line, group, individual, caption, ascii, digits, AddressText, dialled, outside, Display, written, text-or, Shows}
 use Rattle.screen.specs.Screen.{After, shows, RowShown, showing, numbering, points-to, bytes-of, PartGiven}
 use Rattle.screen.proofs.AnswerLaws.{one-tables}
 

@@ -1,12 +1,8 @@
 pub mod AnswerLaws
 pub mod Determined
-pub mod EntryLaws
-pub mod NameLaws
 pub mod NumberLaws
 pub mod PartLaws
 pub mod RowLaws
 pub mod Scratch
-pub mod SeenLaws
 pub mod ShowLaws
-pub mod SlotLaws
 pub mod Theorems

@@ -1,3 +1,2 @@
-pub mod Naming
-pub mod Rows
 pub mod Screen
+pub mod Steps

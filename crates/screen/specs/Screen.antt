@@ -1,46 +1,22 @@
 -- What the screen's two calls answer, for every store, scratch and row: document 01, "Numbers, channels, screen" and "Numbers returned".
-use Prim.Native.Nat.{ℕ, _+_, _*_, _-_, _<_}
+use Prim.Native.Nat.{ℕ, _+_, _*_}
 use mathlib.Core.Path.{_≡_}
-use mathlib.Core.List.{List, [], _++_, map}
+use mathlib.Core.List.{List, [], _++_}
 use mathlib.Core.Option.{Option, none, some}
 use denote.Ref.{RefT}
 use lib.ListN.{length, take, drop}
-use Rattle.lists.proofs.Ladder.{Ladder, rung, foot, Answers}
-use Rattle.slots.specs.Slots.{flat, u16}
-use Rattle.slots.proofs.Parts.{sum}
-use Rattle.writing.specs.Settings.{Text}
+use Rattle.lists.proofs.Ladder.{Ladder, Answers}
 use Rattle.tables.specs.declared.limits.Limits.{Limits}
-use Rattle.tables.specs.Layout.{part-widths, quick-width, status-width, member-width, line-width}
-use Rattle.tables.specs.Store.{StoreOf, Holds}
+use Rattle.tables.specs.Store.{Holds}
 use Rattle.tables.specs.Tables.{Tables}
+use Rattle.row_names.specs.declared.rows.Refusal.{Refusal}
+use Rattle.row_names.specs.declared.rows.Refusal.the-variants.{ScratchSize, NotAStore, Absent}
+use Rattle.row_names.specs.declared.rows.Row.{Row}
+use Rattle.row_names.specs.Rows.{Caption, caption, Shows, Display, stored, written, units, text-start, unit-bytes, judged}
 use Rattle.screen.specs.declared.answers.Answer.{Answer}
 use Rattle.screen.specs.declared.answers.Answer.the-variants.{Shown, Refused}
 use Rattle.screen.specs.declared.answers.Place.{Place}
 use Rattle.screen.specs.declared.answers.Place.the-variants.{Store, Scratch, Refused as NoPlace}
-use Rattle.screen.specs.declared.answers.Refusal.{Refusal}
-use Rattle.screen.specs.declared.answers.Refusal.the-variants.{ScratchSize, NotAStore, Absent}
-use Rattle.screen.specs.declared.rows.Row.{Row}
-use Rattle.screen.specs.declared.rows.Row.the-variants.{Line, QuickText, StatusText, Group, Individual, NoTable}
-use Rattle.screen.specs.Rows.{Caption, caption, Shows, Display, stored, written, units}
-
--- ---- where a row's text stands
-
--- where part k of the store starts
-abbrev pub part-start : Limits → ℕ → ℕ
-part-start m k = sum (take k (part-widths m))
-
--- the first byte of a row's text: the part's, the slots before it, and what its slot has before the text
-abbrev pub text-start : Limits → Row → ℕ
-text-start m (Line n) = part-start m 9 + n * line-width + 19
-text-start m (QuickText n) = part-start m 4 + n * quick-width
-text-start m (StatusText n) = part-start m 5 + (n - 32) * status-width + 1
-text-start m (Group n) = part-start m 6 + n * member-width + 4
-text-start m (Individual n) = part-start m 7 + n * member-width + 4
-text-start m NoTable = 0
-
--- "Text units and digits (as ASCII codes) are 16 bits, high byte first, without the end unit"
-abbrev pub unit-bytes : Text → List ℕ
-unit-bytes us = flat (map u16 us)
 
 -- ---- what is answered and left
 
@@ -81,10 +57,6 @@ abbrev pub shows : Limits → List ℕ → Row → Display → After
 shows m scratch row (stored us) = record { number = 0; part = of-store (text-start m row) (2 * length us); scratch = scratch }
 shows m scratch row (written us) = record { number = 0; part = of-scratch (2 * length us); scratch = unit-bytes us ++ drop (2 * length us) scratch }
 
--- no tables that this is the store of have the row
-abbrev pub NoRow : Limits → List ℕ → Row → Type 0
-NoRow m store row = (t : Tables) → Holds m t store → caption t row ≡ none
-
 -- the store is that of tables that have the row, and it is shown
 pub record RowShown (m : Limits) (store scratch : List ℕ) (row : Row) (a : After) : Type 0 where
   pub tables : Tables
@@ -94,14 +66,6 @@ pub record RowShown (m : Limits) (store scratch : List ℕ) (row : Row) (a : Aft
   pub display : Display
   pub shown : Shows row-is display
   pub after : a ≡ shows m scratch row display
-
--- "Screen: 15, 11, 17": the tests of both calls, by the scratch's size
-abbrev pub judged : {A : Type 0} → Limits → List ℕ → ℕ → Row → (Refusal → A) → (A → Type 0) → Ladder A
-judged m store room row refuse There =
-    rung (room < 36) (refuse ScratchSize)
-    (rung (StoreOf m store → ⊥) (refuse NotAStore)
-    (rung (NoRow m store row) (refuse Absent)
-    (foot There)))
 
 -- what a row comes to
 abbrev pub showing : Limits → List ℕ → List ℕ → Row → Ladder After

@@ -1,13 +1,7 @@
 // What asking for a row answers.
+use row_names::rows::Refusal;
 ghost use mathlib.Core.Path.{_≡_};
 ghost use Rattle.screen.specs.Screen.{number};
-
-// Why no row is shown.
-pub enum Refusal {
-    ScratchSize,
-    NotAStore,
-    Absent,
-}
 
 pub enum Answer {
     Shown,

@@ -1,10 +1,10 @@
 // The calls of the handheld's screen.
 use super::answers::Answer;
 use super::answers::Place;
-use super::rows::Row;
 use super::show::number_in;
 use super::show::part_in;
 use super::show::place_in;
+use row_names::rows::Row;
 use station::handheld::HANDHELD;
 ghost use Rattle.lists.proofs.Ladder.{Answers};
 ghost use Rattle.tables.specs.Limits.{handheld};

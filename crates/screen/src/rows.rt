@@ -1,16 +1,7 @@
-// Which row of the screen is asked for.
+// Which row plain numbers name.
+use row_names::rows::Row;
 ghost use mathlib.Core.Path.{_≡_};
-ghost use Rattle.screen.specs.Rows.{row-named};
-
-// A table and a place in it: a line's position from 0, a quick text's index, a status text's code, a slot's index.
-pub enum Row {
-    Line(usize),
-    QuickText(usize),
-    StatusText(usize),
-    Group(usize),
-    Individual(usize),
-    NoTable,
-}
+ghost use Rattle.row_names.specs.Rows.{row-named};
 
 // The row of plain numbers: tables 1 to 5 in this order, any other is no table.
 pub fn row_of(table: u32, place: u32) -> Row

@@ -1,11 +1,11 @@
--- `screen::names::slot_of` meets its contract. Assumes nothing.
+-- `row_names::names::slot_of` meets its contract. Assumes nothing.
 use Prim.Native.Nat.{_+_, _*_}
 use borrow.Author.Needs.{needs}
 use native.Mathlib.Omega.{arith}
-use Rattle.screen.specs.declared.names.SlotPlace.the-variants.{Beyond}
-use Rattle.screen.proofs.SlotLaws.{slot-row, slot-line, slot-status}
-use Rattle.screen.proofs.names.slot_of.Statement.{statement}
-use Rattle.screen.proofs.names.slot_of.Tie as tie
+use Rattle.row_names.specs.declared.names.SlotPlace.the-variants.{Beyond}
+use Rattle.row_names.proofs.SlotLaws.{slot-row, slot-line, slot-status}
+use Rattle.row_names.proofs.names.slot_of.Statement.{statement}
+use Rattle.row_names.proofs.names.slot_of.Tie as tie
 
 enum-known-row : tie.Need-enum-known-row
 enum-known-row c = search needs

@@ -24,15 +24,14 @@ use Rattle.tables.specs.Tables.{Tables, Line as LineEntry}
 use Rattle.tables.proofs.EntryCodes.{quick-code, quick-shown, status-code, status-shown, group-code, group-shown, individual-code, individual-shown, line-code, line-shown}
 use Rattle.tables.proofs.Frames.{quick-placed, status-placed, groups-placed, individuals-placed, lines-listed}
 use Rattle.tables.proofs.TextCodes.{digits-length, text-length}
-use Rattle.screen.specs.declared.names.Slot.{Slot}
-use Rattle.screen.specs.declared.names.SlotPlace.the-variants.{At}
-use Rattle.screen.specs.declared.rows.Row.{Row}
-use Rattle.screen.specs.declared.rows.Row.the-variants.{Line, QuickText, StatusText, Group, Individual, NoTable}
-use Rattle.screen.specs.Naming.{Slotted, SlotIs}
-use Rattle.screen.specs.Rows.{Caption, text, line, group, individual, caption, text-of, of}
-use Rattle.screen.specs.Screen.{part-start, unit-bytes}
-use Rattle.screen.proofs.SeenLaws.{Texted, slot-none, slot-some, front-get, behind, before}
-use Rattle.screen.proofs.SlotLaws.{slot-within}
+use Rattle.row_names.specs.declared.names.Slot.{Slot}
+use Rattle.row_names.specs.declared.names.SlotPlace.the-variants.{At}
+use Rattle.row_names.specs.declared.rows.Row.{Row}
+use Rattle.row_names.specs.declared.rows.Row.the-variants.{Line, QuickText, StatusText, Group, Individual, NoTable}
+use Rattle.row_names.specs.Naming.{Slotted, SlotIs}
+use Rattle.row_names.specs.Rows.{Caption, text, line, group, individual, caption, text-of, of, part-start, unit-bytes}
+use Rattle.row_names.proofs.SeenLaws.{Texted, slot-none, slot-some, front-get, behind, before}
+use Rattle.row_names.proofs.SlotLaws.{slot-within}
 
 -- ---- entries with texts
 

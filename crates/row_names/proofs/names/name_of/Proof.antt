@@ -1,12 +1,12 @@
--- `screen::names::name_of` meets its contract. Assumes nothing.
+-- `row_names::names::name_of` meets its contract. Assumes nothing.
 use mathlib.Core.Path.{refl}
 use mathlib.Core.Logic.{inl, inr}
 use borrow.Author.Needs.{needs}
 use native.Mathlib.Omega.{arith}
 use Rattle.tables.proofs.AnswerLaws.{not-said, was-said}
-use Rattle.screen.proofs.AnswerLaws.{name-answers}
-use Rattle.screen.proofs.names.name_of.Statement.{statement}
-use Rattle.screen.proofs.names.name_of.Tie as tie
+use Rattle.row_names.proofs.AnswerLaws.{name-answers}
+use Rattle.row_names.proofs.names.name_of.Statement.{statement}
+use Rattle.row_names.proofs.names.name_of.Tie as tie
 
 returns : tie.Need-returns
 returns c = inl (c .if1 .taken, refl)

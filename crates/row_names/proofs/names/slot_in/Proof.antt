@@ -1,9 +1,9 @@
--- `screen::names::slot_in` meets its contract. Assumes nothing.
+-- `row_names::names::slot_in` meets its contract. Assumes nothing.
 use borrow.Author.Needs.{needs}
 use native.Mathlib.Omega.{arith}
-use Rattle.screen.proofs.SlotLaws.{slot-within}
-use Rattle.screen.proofs.names.slot_in.Statement.{statement}
-use Rattle.screen.proofs.names.slot_in.Tie as tie
+use Rattle.row_names.proofs.SlotLaws.{slot-within}
+use Rattle.row_names.proofs.names.slot_in.Statement.{statement}
+use Rattle.row_names.proofs.names.slot_in.Tie as tie
 
 mul-start : tie.Need-mul-start
 mul-start c = let a = c .before .args in omega (arith, slot-within (a .n) (a .places) (a .width) (omega arith))

@@ -1,10 +1,10 @@
--- `screen::names::name_in` meets its contract. Assumes nothing.
+-- `row_names::names::name_in` meets its contract. Assumes nothing.
 use mathlib.Core.Path.{sym, _∙_}
 use borrow.Author.Needs.{needs}
 use native.Mathlib.Omega.{arith}
-use Rattle.screen.proofs.NameLaws.{named-beyond, found-fits, three-bytes, group-text, individual-text, named-zeros, named-text, named-empty, named-digits, named-group, named-individual}
-use Rattle.screen.proofs.names.name_in.Statement.{statement}
-use Rattle.screen.proofs.names.name_in.Tie as tie
+use Rattle.row_names.proofs.NameLaws.{named-beyond, found-fits, three-bytes, group-text, individual-text, named-zeros, named-text, named-empty, named-digits, named-group, named-individual}
+use Rattle.row_names.proofs.names.name_in.Statement.{statement}
+use Rattle.row_names.proofs.names.name_in.Tie as tie
 
 slot-of-requires : tie.Need-slot-of-requires
 slot-of-requires c κs = search needs

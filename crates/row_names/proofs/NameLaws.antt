@@ -18,19 +18,18 @@ use Rattle.tables.specs.declared.limits.Limits.{Limits}
 use Rattle.tables.specs.Allowed.{Allowed}
 use Rattle.tables.specs.Store.{StoreOf, Holds}
 use Rattle.tables.specs.Tables.{Tables}
-use Rattle.screen.specs.declared.names.Name.the-variants.{Refused, Text as TextAt, Digits, Group as GroupNumber, Individual as IndividualNumber}
-use Rattle.screen.specs.declared.answers.Refusal.the-variants.{Absent}
-use Rattle.screen.specs.declared.names.Slot.{Slot}
-use Rattle.screen.specs.declared.names.SlotPlace.{SlotPlace}
-use Rattle.screen.specs.declared.names.SlotPlace.the-variants.{At, Beyond}
-use Rattle.screen.specs.declared.rows.Row.{Row}
-use Rattle.screen.specs.declared.rows.Row.the-variants.{Line, QuickText, StatusText, Group, Individual, NoTable}
-use Rattle.screen.proofs.rows.Row.{the-type}
-use Rattle.screen.specs.Naming.{SlotIs, NameIs, Named}
-use Rattle.screen.specs.Rows.{Caption, text, line, group, individual, caption, text-of, of, Shows, stored}
-use Rattle.screen.specs.Screen.{text-start}
-use Rattle.screen.proofs.EntryLaws.{OfKind, a-line, a-quick-text, a-status-text, a-group, an-individual, HeadIn, Captioned, row-seen}
-use Rattle.screen.proofs.SlotLaws.{SlotFits, slot-fits}
+use Rattle.row_names.specs.declared.names.Name.the-variants.{Refused, Text as TextAt, Digits, Group as GroupNumber, Individual as IndividualNumber}
+use Rattle.row_names.specs.declared.rows.Refusal.the-variants.{Absent}
+use Rattle.row_names.specs.declared.names.Slot.{Slot}
+use Rattle.row_names.specs.declared.names.SlotPlace.{SlotPlace}
+use Rattle.row_names.specs.declared.names.SlotPlace.the-variants.{At, Beyond}
+use Rattle.row_names.specs.declared.rows.Row.{Row}
+use Rattle.row_names.specs.declared.rows.Row.the-variants.{Line, QuickText, StatusText, Group, Individual, NoTable}
+use Rattle.row_names.proofs.rows.Row.{the-type}
+use Rattle.row_names.specs.Naming.{SlotIs, NameIs, Named}
+use Rattle.row_names.specs.Rows.{Caption, text, line, group, individual, caption, text-of, of, Shows, stored, text-start}
+use Rattle.row_names.proofs.EntryLaws.{OfKind, a-line, a-quick-text, a-status-text, a-group, an-individual, HeadIn, Captioned, row-seen}
+use Rattle.row_names.proofs.SlotLaws.{SlotFits, slot-fits}
 
 -- ---- rows beyond the tables
 

@@ -1,5 +1,5 @@
 // What a row shows: the place of its text, or the number of what it names.
-use super::answers::Refusal;
+use super::rows::Refusal;
 use super::rows::Row;
 use checks::checks::is_store;
 use plan::numbers::GroupAddress;
@@ -14,22 +14,22 @@ ghost use Rattle.lists.proofs.Ladder.{Answers};
 ghost use Rattle.slots.specs.Slots.{u24};
 ghost use Rattle.tables.specs.Layout.{Roomy};
 ghost use Rattle.tables.specs.Store.{StoreOf};
-ghost use Rattle.screen.specs.Naming.{Slotted, SlotIs, NameIs, naming};
+ghost use Rattle.row_names.specs.Naming.{Slotted, SlotIs, NameIs, naming};
 
 // A row's slot in the store, and where its text starts.
-pub(crate) struct Slot {
+pub struct Slot {
     pub start: usize,
     pub text: usize,
     pub end: usize,
 }
 
-pub(crate) enum SlotPlace {
+pub enum SlotPlace {
     At(Slot),
     Beyond,
 }
 
 // A text in the store, digits in the store, or an address whose number is to be written.
-pub(crate) enum Name {
+pub enum Name {
     Refused(Refusal),
     Text(usize, usize),
     Digits(usize),
@@ -118,7 +118,7 @@ fn name_in(store: &[u8], row: Row, limits: Limits) -> Name
 }
 
 // What stands in a row, where scratch and store are what they have to be.
-pub(crate) fn name_of(store: &[u8], room: usize, row: Row, limits: Limits) -> Name
+pub fn name_of(store: &[u8], room: usize, row: Row, limits: Limits) -> Name
     ensures { λ r. ⌜ Answers (naming limits (now (store .entry)) room row) r ⌝ }
 {
     if room < 36 {

@@ -1,18 +1,26 @@
--- What stands in a row of the screen, and what is shown of it: document 01, "Numbers, channels, screen".
-use Prim.Native.Nat.{ℕ, zero, suc, _+_, _-_, _/_, _%_}
+-- What stands in a row of the screen, what is shown of it, where its text stands, and the tests of the calls: document 01, "Numbers, channels, screen".
+use Prim.Native.Nat.{ℕ, zero, suc, _+_, _*_, _-_, _/_, _%_, _<_}
 use mathlib.Core.Path.{_≡_}
 use mathlib.Core.Bool.{cond}
 use mathlib.Core.List.{List, [], _∷_, _++_, map}
 use mathlib.Core.Option.{Option, none, some}
 use lib.Dec.{eqb, ltb}
-use lib.ListN.{getD}
+use lib.ListN.{take, getD}
+use Rattle.lists.proofs.Ladder.{Ladder, rung, foot}
 use Rattle.plan.specs.declared.numbers.GroupAddress.{GroupAddress}
 use Rattle.plan.specs.declared.numbers.IndividualAddress.{IndividualAddress}
 use Rattle.plan.specs.Numbers.{Individual as IndividualPlan, Group as GroupPlan}
+use Rattle.slots.specs.Slots.{flat, u16}
+use Rattle.slots.proofs.Parts.{sum}
 use Rattle.writing.specs.Settings.{Text, Number}
+use Rattle.tables.specs.declared.limits.Limits.{Limits}
+use Rattle.tables.specs.Layout.{part-widths, quick-width, status-width, member-width, line-width}
+use Rattle.tables.specs.Store.{StoreOf, Holds}
 use Rattle.tables.specs.Tables.{Tables}
-use Rattle.screen.specs.declared.rows.Row.{Row}
-use Rattle.screen.specs.declared.rows.Row.the-variants.{Line, QuickText, StatusText, Group, Individual, NoTable}
+use Rattle.row_names.specs.declared.rows.Refusal.{Refusal}
+use Rattle.row_names.specs.declared.rows.Refusal.the-variants.{ScratchSize, NotAStore, Absent}
+use Rattle.row_names.specs.declared.rows.Row.{Row}
+use Rattle.row_names.specs.declared.rows.Row.the-variants.{Line, QuickText, StatusText, Group, Individual, NoTable}
 
 -- ---- which row
 
@@ -108,3 +116,36 @@ Shows (individual us a) d = text-or us (NumberText (individual us a)) d
 abbrev pub units : Display → Text
 units (stored us) = us
 units (written us) = us
+
+-- ---- where a row's text stands
+
+-- where part k of the store starts
+abbrev pub part-start : Limits → ℕ → ℕ
+part-start m k = sum (take k (part-widths m))
+
+-- the first byte of a row's text: the part's, the slots before it, and what its slot has before the text
+abbrev pub text-start : Limits → Row → ℕ
+text-start m (Line n) = part-start m 9 + n * line-width + 19
+text-start m (QuickText n) = part-start m 4 + n * quick-width
+text-start m (StatusText n) = part-start m 5 + (n - 32) * status-width + 1
+text-start m (Group n) = part-start m 6 + n * member-width + 4
+text-start m (Individual n) = part-start m 7 + n * member-width + 4
+text-start m NoTable = 0
+
+-- "Text units and digits (as ASCII codes) are 16 bits, high byte first, without the end unit"
+abbrev pub unit-bytes : Text → List ℕ
+unit-bytes us = flat (map u16 us)
+
+-- ---- the tests
+
+-- no tables that this is the store of have the row
+abbrev pub NoRow : Limits → List ℕ → Row → Type 0
+NoRow m store row = (t : Tables) → Holds m t store → caption t row ≡ none
+
+-- "Screen: 15, 11, 17": the tests of both calls, by the scratch's size
+abbrev pub judged : {A : Type 0} → Limits → List ℕ → ℕ → Row → (Refusal → A) → (A → Type 0) → Ladder A
+judged m store room row refuse There =
+    rung (room < 36) (refuse ScratchSize)
+    (rung (StoreOf m store → ⊥) (refuse NotAStore)
+    (rung (NoRow m store row) (refuse Absent)
+    (foot There)))

@@ -17,7 +17,7 @@ use Rattle.writing.specs.Settings.{Text}
 use Rattle.tables.specs.Allowed.{TextOk}
 use Rattle.tables.specs.Layout.{text-bytes}
 use Rattle.tables.proofs.TextCodes.{text-length}
-use Rattle.screen.specs.Screen.{unit-bytes}
+use Rattle.row_names.specs.Rows.{unit-bytes}
 
 -- ---- parts of parts
 

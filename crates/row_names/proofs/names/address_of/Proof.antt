@@ -1,8 +1,8 @@
--- `screen::names::address_of` meets its contract. Assumes nothing.
+-- `row_names::names::address_of` meets its contract. Assumes nothing.
 use borrow.Author.Needs.{needs}
-use Rattle.screen.proofs.SlotLaws.{address-is}
-use Rattle.screen.proofs.names.address_of.Statement.{statement}
-use Rattle.screen.proofs.names.address_of.Tie as tie
+use Rattle.row_names.proofs.SlotLaws.{address-is}
+use Rattle.row_names.proofs.names.address_of.Statement.{statement}
+use Rattle.row_names.proofs.names.address_of.Tie as tie
 
 shared-slice-read-wide : tie.Need-shared-slice-read-wide
 shared-slice-read-wide c = search needs
