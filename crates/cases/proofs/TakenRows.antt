@@ -22,9 +22,10 @@ use Rattle.tables.specs.Layout.{layout}
 use Rattle.tables.specs.Limits.{handheld}
 use Rattle.tables.specs.Tables.{Tables, no-hash}
 use Rattle.tables.proofs.LayoutLaws.{holds-store}
-use Rattle.station.specs.Judge.{kept, done, step, taken as all-taken}
-use Rattle.station.specs.Replies.{reply-bytes}
-use Rattle.station.specs.Taking.{Judged, forget, last-item, replies, settled, taken}
+use Rattle.running.specs.Judge.{kept, done, step, taken as all-taken}
+use Rattle.replies.specs.Replies.{reply-bytes}
+use Rattle.running.specs.Requests.{Judged, forget, last-item}
+use Rattle.station.specs.Taking.{replies, settled, taken}
 use Rattle.demands.proofs.Determined.{taken-determined}
 use Rattle.station.proofs.TakeLaws.{request-answers}
 use Rattle.export.specs.Exported.{request-bytes}

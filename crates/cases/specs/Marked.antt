@@ -19,7 +19,7 @@ use Rattle.writing.specs.Writing.{number, Written}
 use Rattle.tables.specs.Layout.{layout}
 use Rattle.tables.specs.Limits.{handheld}
 use Rattle.tables.specs.Tables.{Line, Tables, fresh, with-channels, with-lines}
-use Rattle.station.specs.Replies.{written-over}
+use Rattle.replies.specs.Replies.{written-over}
 use Rattle.station.specs.Taking.{After, taken}
 
 pub data Case : Type 0 where

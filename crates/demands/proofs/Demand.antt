@@ -18,9 +18,9 @@ use Rattle.tables.specs.Apply.{apply}
 use Rattle.tables.specs.Tables.{Tables, no-hash, with-hash}
 use Rattle.tables.proofs.RoomSentences.{own-table}
 use Rattle.demands.specs.Demands.{InTurn}
-use Rattle.station.specs.Judge.{done, step}
-use Rattle.station.proofs.RunLaws.{not-ff}
-use Rattle.station.specs.Taking.{Runs, LastItem, item-of, or-else, last-item}
+use Rattle.running.specs.Judge.{done, step}
+use Rattle.running.proofs.RunLaws.{not-ff}
+use Rattle.running.specs.Requests.{Runs, LastItem, item-of, or-else, last-item}
 
 module _ (m : Limits) where
   -- a run's settings are written at the start, and can be taken in turn

@@ -15,8 +15,9 @@ use Rattle.tables.specs.declared.limits.Limits.{Limits}
 use Rattle.tables.specs.Apply.{apply}
 use Rattle.tables.specs.Tables.{Tables}
 use Rattle.tables.proofs.LayoutLaws.{layout-one}
-use Rattle.station.specs.Judge.{Outcome}
-use Rattle.station.specs.Taking.{WrittenIn, Known, Judged, forget, After, settled, Asked, AsRequest, AsQuery, Handled, taken}
+use Rattle.running.specs.Judge.{Outcome}
+use Rattle.running.specs.Requests.{WrittenIn, Known, Judged, forget}
+use Rattle.station.specs.Taking.{After, settled, Asked, AsRequest, AsQuery, Handled, taken}
 use Rattle.demands.proofs.JudgeLaws.{determined}
 
 -- no setting's writing starts another's

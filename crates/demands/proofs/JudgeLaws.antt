@@ -7,8 +7,8 @@ use Prim.Native.Nat.{ℕ, zero, suc, _+_, _-_, _≤_, _<_}
 use native.Mathlib.Omega.{arith}
 use lib.ListN.{length, length-append}
 use Rattle.lists.proofs.Seqs.{append-cancel}
-use Rattle.station.specs.Judge as J
-use Rattle.station.specs.Judge.{Outcome, kept, refused, done, step, missing, unknown, field, room, taken, over, fault}
+use Rattle.running.specs.Judge as J
+use Rattle.running.specs.Judge.{Outcome, kept, refused, done, step, missing, unknown, field, room, taken, over, fault}
 
 module _ (Setting Tables : Type 0)
     (Written : Setting → List ℕ → Type 0)

@@ -24,9 +24,10 @@ use Rattle.tables.proofs.AllowedLaws.{forget-allowed}
 use Rattle.tables.specs.Tables.{Tables, no-hash}
 use Rattle.tables.proofs.LayoutLaws.{layout-one, holds-store}
 use Rattle.demands.specs.Demands.{InTurn, Stand, Passes, Refused, no-count, left-over, at-setting}
-use Rattle.station.specs.Judge as J
-use Rattle.station.specs.Judge.{Outcome, kept, refused}
-use Rattle.station.specs.Taking.{WrittenIn, Known, Runs, Judged, forget, last-item, After, settled, replies, stays, turned-down, AsRequest, AsQuery, taken}
+use Rattle.running.specs.Judge as J
+use Rattle.running.specs.Judge.{Outcome, kept, refused}
+use Rattle.running.specs.Requests.{WrittenIn, Known, Runs, Judged, forget, last-item}
+use Rattle.station.specs.Taking.{After, settled, replies, stays, turned-down, AsRequest, AsQuery, taken}
 use Rattle.demands.proofs.Demand.{run-allowed, run-written, written-runs, hash-own}
 use Rattle.demands.proofs.Determined.{judged-determined, one-writing, type-first}
 use Rattle.demands.proofs.JudgeLaws.{Says, Stands, judged-says, RefusedWith, refused-number}

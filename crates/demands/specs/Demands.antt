@@ -13,7 +13,7 @@ use Rattle.tables.specs.declared.limits.Limits.{Limits}
 use Rattle.tables.specs.Apply.{apply}
 use Rattle.tables.specs.Store.{StoreOf, Holds}
 use Rattle.tables.specs.Tables.{Tables}
-use Rattle.station.specs.Taking.{Fault}
+use Rattle.running.specs.Requests.{Fault}
 
 -- "every setting in turn is in range and has room", where n are counted: they make the tables t the tables u
 abbrev pub InTurn : Limits → ℕ → Tables → List Setting → Tables → Type 0

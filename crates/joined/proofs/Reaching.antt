@@ -25,7 +25,8 @@ use Rattle.tables.proofs.AllowedLaws.{apply-allowed, forget-allowed}
 use Rattle.tables.proofs.FreshLaws.{fresh-allowed}
 use Rattle.tables.proofs.LayoutLaws.{holds-store}
 use Rattle.demands.specs.Demands.{InTurn, Passes}
-use Rattle.station.specs.Taking.{After, AsRequest, AsQuery, Handled, forget, taken}
+use Rattle.running.specs.Requests.{forget}
+use Rattle.station.specs.Taking.{After, AsRequest, AsQuery, Handled, taken}
 use Rattle.demands.proofs.Theorems.{taken-leaves, taken-exactly, store-stays}
 use Rattle.joined.specs.Reached.{Takes, Adds, its-settings, nothing, Reached, from-start, then-message, InOrder}
 use Rattle.screen.proofs.AnswerLaws.{one-tables}

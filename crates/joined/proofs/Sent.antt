@@ -21,7 +21,7 @@ use Rattle.tables.specs.Apply.{apply, slot-after}
 use Rattle.tables.specs.Tables.{Tables, GroupMember, IndividualMember, with-groups, with-individuals}
 use Rattle.tables.proofs.RoomSentences.{with-own, own-table}
 use Rattle.demands.specs.Demands.{InTurn}
-use Rattle.station.specs.Taking.{forget, or-else}
+use Rattle.running.specs.Requests.{forget, or-else}
 use Rattle.joined.specs.Reached.{InOrder, all-of, to-group, to-individual, LastSent}
 
 -- ---- the last of a list

@@ -17,7 +17,8 @@ use Rattle.tables.specs.Apply.{slot-after}
 use Rattle.tables.specs.Store.{StartedAs}
 use Rattle.tables.specs.Tables.{Tables, GroupMember, IndividualMember}
 use Rattle.demands.specs.Demands.{InTurn, Passes}
-use Rattle.station.specs.Taking.{After, forget, taken}
+use Rattle.running.specs.Requests.{forget}
+use Rattle.station.specs.Taking.{After, taken}
 
 -- ---- messages, one after another
 

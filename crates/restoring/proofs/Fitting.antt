@@ -15,7 +15,7 @@ use Rattle.writing.specs.Settings.{Text, Entry, Slot, Setting, group, individua
 use Rattle.tables.specs.declared.limits.Limits.{Limits}
 use Rattle.tables.specs.Allowed.{Allowed, QuickOk, StatusOk, LineOk, GroupOk, IndividualOk}
 use Rattle.tables.specs.Tables.{Member, Tables}
-use Rattle.station.specs.Taking.{item-of}
+use Rattle.running.specs.Requests.{item-of}
 use Rattle.export.specs.declared.parts.Part.{Part}
 use Rattle.export.specs.declared.parts.Part.the-variants.{Lines, Fixed, QuickTexts, Channels, StatusTexts, Groups, Individuals}
 use Rattle.line_writers.specs.LineSettings.{line-add}

@@ -20,8 +20,8 @@ use Rattle.tables.specs.Allowed.{Allowed, Distinct}
 use Rattle.tables.specs.Apply.{and-then, in-turn, with-room, quick-step, status-step, channel-step, slot-after, apply}
 use Rattle.tables.specs.Tables.{Line, Member, Tables, with-lines, with-quick, with-groups, with-individuals, with-status, with-channels}
 use Rattle.tables.proofs.Sentences.{line-add-new, others-without, channel-add, quick-add-free}
-use Rattle.station.specs.Judge.{done, step}
-use Rattle.station.specs.Taking.{Runs}
+use Rattle.running.specs.Judge.{done, step}
+use Rattle.running.specs.Requests.{Runs}
 use Rattle.export.specs.declared.parts.Part.{Part}
 use Rattle.export.specs.declared.parts.Part.the-variants.{Lines, Fixed, QuickTexts, Channels, StatusTexts, Groups, Individuals}
 use Rattle.line_writers.specs.LineSettings.{line-add}

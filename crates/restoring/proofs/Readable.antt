@@ -27,7 +27,7 @@ use Rattle.writing.proofs.CanonicalLaws.{canonical-length}
 use Rattle.writing.proofs.Whole.{text-widths}
 use Rattle.tables.specs.Allowed.{TextOk, QuickOk, LineOk, GroupOk, IndividualOk, TargetOk, HomeOk, SystemOk}
 use Rattle.tables.specs.Tables.{Line, GroupMember, IndividualMember}
-use Rattle.station.specs.Taking.{item-of}
+use Rattle.running.specs.Requests.{item-of}
 use Rattle.line_writers.specs.LineSettings.{no-line-flags, line-add}
 use Rattle.text_writers.specs.EntrySettings.{quick-add, no-group-flags, no-individual-flags}
 

@@ -14,8 +14,9 @@ use Rattle.tables.specs.Store.{Holds}
 use Rattle.tables.specs.Tables.{Tables, no-hash}
 use Rattle.tables.proofs.LayoutLaws.{holds-store}
 use Rattle.station.specs.declared.answers.Answer.{Answer}
-use Rattle.station.specs.Replies.{reply-bytes, written-over}
-use Rattle.station.specs.Taking.{forget, leaves, taken, After as TakeAfter}
+use Rattle.replies.specs.Replies.{reply-bytes, written-over}
+use Rattle.running.specs.Requests.{forget}
+use Rattle.station.specs.Taking.{leaves, taken, After as TakeAfter}
 use Rattle.export.specs.declared.parts.Part.{Part}
 use Rattle.export.specs.declared.parts.Part.the-variants.{Lines}
 use Rattle.export.specs.declared.parts.Export.the-variants.{Written, Untouched}

@@ -16,8 +16,9 @@ use Rattle.tables.specs.Store.{Holds}
 use Rattle.tables.specs.Tables.{Tables, no-hash, with-key, with-home}
 use Rattle.tables.proofs.AllowedLaws.{key-allowed, home-allowed, system-allowed, quick-allowed, status-allowed, groups-allowed, individuals-allowed, channels-allowed, lines-allowed, forget-allowed}
 use Rattle.tables.proofs.LayoutLaws.{holds-store, layout-one}
-use Rattle.station.specs.Judge.{kept, taken as all-taken}
-use Rattle.station.specs.Taking.{forget, item-of, or-else, LastItem, last-item, After, replies, settled, AsRequest, taken}
+use Rattle.running.specs.Judge.{kept, taken as all-taken}
+use Rattle.running.specs.Requests.{forget, item-of, or-else, LastItem, last-item}
+use Rattle.station.specs.Taking.{After, replies, settled, AsRequest, taken}
 use Rattle.demands.proofs.Determined.{taken-determined}
 use Rattle.station.proofs.TakeLaws.{request-answers}
 use Rattle.export.specs.declared.parts.Part.{Part}

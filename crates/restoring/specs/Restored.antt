@@ -6,7 +6,8 @@ use lib.ListN.{length}
 use Rattle.lists.proofs.Ladder.{Answers}
 use Rattle.tables.specs.declared.limits.Limits.{Limits}
 use Rattle.tables.specs.Tables.{Tables, with-key, with-home, with-system, with-quick, with-status, with-groups, with-individuals, with-channels, with-lines}
-use Rattle.station.specs.Taking.{forget, After, taken}
+use Rattle.running.specs.Requests.{forget}
+use Rattle.station.specs.Taking.{After, taken}
 use Rattle.export.specs.declared.parts.Part.{Part}
 use Rattle.export.specs.declared.parts.Part.the-variants.{Lines, Fixed, QuickTexts, Channels, StatusTexts, Groups, Individuals}
 use Rattle.export.specs.Exported.{exported, request-bytes}

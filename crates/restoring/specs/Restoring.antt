@@ -9,8 +9,8 @@ use Rattle.tables.specs.Layout.{layout}
 use Rattle.tables.specs.Limits.{handheld}
 use Rattle.tables.specs.Store.{StoreOf, Holds}
 use Rattle.tables.specs.Tables.{Tables, no-hash}
-use Rattle.station.specs.Replies.{reply-bytes, written-over}
-use Rattle.station.specs.Taking.{forget}
+use Rattle.replies.specs.Replies.{reply-bytes, written-over}
+use Rattle.running.specs.Requests.{forget}
 use Rattle.export.specs.declared.parts.Part.{Part}
 use Rattle.export.specs.Exported.{part-number, exported, request-bytes}
 use Rattle.restoring.specs.declared.restore.Restored.{Restored}

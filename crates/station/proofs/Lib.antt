@@ -1,5 +1,1 @@
-pub mod ReplyLaws
-pub mod QueryLaws
-pub mod RunLaws
-pub mod Steps
 pub mod TakeLaws

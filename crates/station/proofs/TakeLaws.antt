@@ -29,13 +29,14 @@ use Rattle.tables.proofs.Frames.{hash-get, hash-put}
 use Rattle.tables.proofs.LayoutLaws.{layout-length}
 use Rattle.station.specs.declared.answers.Answer.{Answer}
 use Rattle.station.specs.declared.answers.Answer.the-variants.{Replied}
-use Rattle.station.specs.declared.run.Run.the-variants.{Good, Fault as RunFault}
+use Rattle.running.specs.declared.run.Run.the-variants.{Good, Fault as RunFault}
 use Rattle.station.specs.Handling.{TurnedDown, Queried}
-use Rattle.station.specs.Judge.{Outcome, kept, refused}
-use Rattle.station.specs.Queries.{SameAs, HashSame}
-use Rattle.station.specs.Replies.{ReplyWritten}
-use Rattle.station.specs.Running.{RunIs}
-use Rattle.station.specs.Taking.{Judged, forget, After, leaves, stays, turned-down, replies, settled, Asked, AsRequest, AsQuery, Handled, taken}
+use Rattle.running.specs.Judge.{Outcome, kept, refused}
+use Rattle.replies.specs.Queries.{SameAs, HashSame}
+use Rattle.replies.specs.Replies.{ReplyWritten}
+use Rattle.running.specs.Running.{RunIs}
+use Rattle.running.specs.Requests.{Judged, forget}
+use Rattle.station.specs.Taking.{After, leaves, stays, turned-down, replies, settled, Asked, AsRequest, AsQuery, Handled, taken}
 
 -- no hash is a hash that may be kept
 pub no-hash-ok : HashOk no-hash

@@ -11,8 +11,9 @@ use Rattle.tables.specs.declared.limits.Limits.{Limits}
 use Rattle.tables.specs.Store.{Holds}
 use Rattle.tables.specs.Tables.{Tables}
 use Rattle.station.specs.declared.answers.Answer.{Answer}
-use Rattle.station.specs.Judge.{Outcome}
-use Rattle.station.specs.Taking.{Judged, forget, leaves, turned-down, settled, AsQuery}
+use Rattle.running.specs.Judge.{Outcome}
+use Rattle.running.specs.Requests.{Judged, forget}
+use Rattle.station.specs.Taking.{leaves, turned-down, settled, AsQuery}
 
 -- a message that was turned down with this number and failed ID
 abbrev pub TurnedDown : (number failed : ℕ) → List ℕ → List ℕ → Answer → Type 0

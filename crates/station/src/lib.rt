@@ -1,7 +1,4 @@
 // Takes requests and answers result queries.
 pub mod answers;
 pub mod handheld;
-mod queries;
-mod replies;
-mod run;
 mod take;

@@ -1,4 +1,5 @@
 use borrow.Author.Needs.{needs}
+use native.Mathlib.Omega.{arith}
 use mathlib.Core.Logic.{inl, inr, ⊎-elim}
 use Rattle.station.proofs.TakeLaws.{queried}
 use Rattle.station.proofs.take.answer_query.Statement.{statement}
@@ -35,7 +36,7 @@ returns : tie.Need-returns
 returns c =
     let a = c .before .before .before .before .before .before .before .before .before .before .before .args in
     let k = c .before .before .before .before .before .before .same-hash in
-    queried (a .m .now) (a .place) (a .store .now) (a .reply .now) _ (c .before .before .before .before .before .if1 .result) _ (k .result) (k .ensures) (⊎-elim (λ w. inl (w .0 .taken, w .1)) (λ w. inr (w .0 .left, w .1)) (c .before .before .before .before .before .if1 .came)) (c .before .before .write-reply .ensures)
+    queried (a .m .now) (a .place) (a .store .now) (a .reply .now) _ (c .before .before .before .before .before .if1 .result) _ (k .result) (k .ensures) (⊎-elim (λ w. inl (w .0 .taken, w .1)) (λ w. inr (w .0 .left, w .1)) (c .before .before .before .before .before .if1 .came)) (c .before .before .write-reply .ensures (omega arith))
 
 pub answer-query-spec : {M : Type 1} → statement M
 answer-query-spec =

@@ -1,6 +1,6 @@
 use borrow.Author.Needs.{needs}
 use mathlib.Core.Path.{subst}
-use Rattle.station.specs.Running.{RunIs}
+use Rattle.running.specs.Running.{RunIs}
 use Rattle.station.proofs.TakeLaws.{forgotten, request-refused, request-taken}
 use Rattle.station.proofs.take.take_request.Statement.{statement}
 use Rattle.station.proofs.take.take_request.Tie as tie
@@ -79,7 +79,7 @@ returns-2 c =
     let k = c .before .before .before .before .before .before .before .before .before .before .before .before .before .before .before .before .take-settings in
     let s = c .before .before .before .before .before .before .before .before .before .before .before .before .before .before .before .before .before .before .before .before .before .before .before .before .before .before .before .before .before .before .before .pre .1 in
     let z = subst (RunIs (a .limits) (a .count) (a .m .now) (a .at) _ (k .last .0)) (c .before .before .before .before .before .before .before .before .before .before .before .before .run2 .given .1) (k .ensures) in
-    λ t h. request-taken (a .limits) (a .m .now) (a .count) (a .at) (a .store .now) (a .reply .now) s t _ (k .last .0) (forgotten (a .limits) (a .store .now) (a .work .now) (c .before .before .before .before .before .before .before .before .before .before .before .before .before .before .before .before .before .before .before .before .before .before .before .before .copy .last .0) s (c .before .before .before .before .before .before .before .before .before .before .before .before .before .before .before .before .before .before .before .before .before .before .before .before .before .before .before .before .before .before .before .pre .2) (c .before .before .before .before .before .before .before .before .before .before .before .before .before .before .before .before .before .before .before .before .before .before .before .before .copy .ensures) t (c .before .before .before .before .before .before .before .before .before .before .before .before .before .before .before .before .before .before .before .before .clear-hash .last .0) h (c .before .before .before .before .before .before .before .before .before .before .before .before .before .before .before .before .before .before .before .before .clear-hash .ensures)) (c .before .before .before .before .before .before .before .before .before .before .before .before .run2 .given .0 .0) _ _ _ z (c .before .before .before .before .before .before .before .before .copy2 .ensures) (c .before .before .write-reply .ensures)
+    λ t h. request-taken (a .limits) (a .m .now) (a .count) (a .at) (a .store .now) (a .reply .now) s t _ (k .last .0) (forgotten (a .limits) (a .store .now) (a .work .now) (c .before .before .before .before .before .before .before .before .before .before .before .before .before .before .before .before .before .before .before .before .before .before .before .before .copy .last .0) s (c .before .before .before .before .before .before .before .before .before .before .before .before .before .before .before .before .before .before .before .before .before .before .before .before .before .before .before .before .before .before .before .pre .2) (c .before .before .before .before .before .before .before .before .before .before .before .before .before .before .before .before .before .before .before .before .before .before .before .before .copy .ensures) t (c .before .before .before .before .before .before .before .before .before .before .before .before .before .before .before .before .before .before .before .before .clear-hash .last .0) h (c .before .before .before .before .before .before .before .before .before .before .before .before .before .before .before .before .before .before .before .before .clear-hash .ensures)) (c .before .before .before .before .before .before .before .before .before .before .before .before .run2 .given .0 .0) _ _ _ z (c .before .before .before .before .before .before .before .before .copy2 .ensures) (c .before .before .write-reply .ensures (c .before .before .before .before .before .before .before .before .before .before .before .before .before .before .before .before .before .before .before .before .before .before .before .before .before .before .before .before .before .before .before .pre .0))
 
 pub take-request-spec : {M : Type 1} → statement M
 take-request-spec =

@@ -1,4 +1,5 @@
 use borrow.Author.Needs.{needs}
+use native.Mathlib.Omega.{arith}
 use mathlib.Core.Path.{refl}
 use mathlib.Core.Bool.{true, false}
 use Rattle.tables.specs.Tables.{no-hash}
@@ -18,7 +19,7 @@ same-length c = search needs
 returns : tie.Need-returns
 returns c =
     let a = c .before .before .before .before .before .before .args in
-    λ m message store. replied m message store (a .reply .now) (a .number) (a .failed) true false no-hash store _ _ _ no-hash-ok refl (c .before .before .write-reply .ensures)
+    λ m message store. replied m message store (a .reply .now) (a .number) (a .failed) true false no-hash store _ _ _ no-hash-ok refl (c .before .before .write-reply .ensures (omega arith))
 
 pub turn-down-spec : {M : Type 1} → statement M
 turn-down-spec =

@@ -25,11 +25,11 @@ use Rattle.wire.specs.Settings.{SettingAt}
 use Rattle.tables.specs.declared.limits.Limits.{Limits}
 use Rattle.tables.specs.Store.{Holds, Applied}
 use Rattle.tables.specs.Tables.{Tables}
-use Rattle.station.specs.declared.run.Step.the-variants.{Next, Fault as StepFault}
-use Rattle.station.specs.Judge.{done, taken, over, fault, refused}
-use Rattle.station.specs.Running.{FlagsAre, Stepped, StepIs, Ran}
-use Rattle.station.specs.Taking.{Runs, Fault, Judged, item-of, or-else, LastItem, last-item}
-use Rattle.station.proofs.RunLaws.{one-more, item-end, stands-in, at-full}
+use Rattle.running.specs.declared.run.Step.the-variants.{Next, Fault as StepFault}
+use Rattle.running.specs.Judge.{done, taken, over, fault, refused}
+use Rattle.running.specs.Running.{FlagsAre, Stepped, StepIs, Ran}
+use Rattle.running.specs.Requests.{Runs, Fault, Judged, item-of, or-else, LastItem, last-item}
+use Rattle.running.proofs.RunLaws.{one-more, item-end, stands-in, at-full}
 
 -- ---- FF's bits of a setting that was read
 

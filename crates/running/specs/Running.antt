@@ -15,12 +15,12 @@ use Rattle.tables.specs.Apply.{apply}
 use Rattle.tables.specs.Layout.{Roomy}
 use Rattle.tables.specs.Store.{Holds}
 use Rattle.tables.specs.Tables.{Tables}
-use Rattle.station.specs.declared.run.Step.{Step}
-use Rattle.station.specs.declared.run.Step.the-variants.{Next, Fault as StepFault}
-use Rattle.station.specs.declared.run.Run.{Run}
-use Rattle.station.specs.declared.run.Run.the-variants.{Good, Fault as RunFault}
-use Rattle.station.specs.Judge.{kept, refused}
-use Rattle.station.specs.Taking.{Fault, Judged, item-of, or-else, last-item}
+use Rattle.running.specs.declared.run.Step.{Step}
+use Rattle.running.specs.declared.run.Step.the-variants.{Next, Fault as StepFault}
+use Rattle.running.specs.declared.run.Run.{Run}
+use Rattle.running.specs.declared.run.Run.the-variants.{Good, Fault as RunFault}
+use Rattle.running.specs.Judge.{kept, refused}
+use Rattle.running.specs.Requests.{Fault, Judged, item-of, or-else, last-item}
 
 -- FF's bits of a setting that was read
 abbrev pub FlagsAre : Read → LastFlags → Type 0

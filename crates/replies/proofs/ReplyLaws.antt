@@ -10,7 +10,7 @@ use lib.ListN.{length, getD, take, drop, replicate, length-append, length-drop}
 use lib.Seq.{take-at, drop-at, take-all, drop-drop}
 use Rattle.lists.proofs.Bytes.{Bytes, all-bytes}
 use Rattle.lists.proofs.Every.{All, all-made, all-turn}
-use Rattle.slots.proofs.Pads.{pad-is}
+use Rattle.slots.proofs.Pads.{pad-is, pad-length}
 use Rattle.writing.specs.Canonical.{plain, FitsField}
 use Rattle.writing.specs.Carrier.{carrier, reply}
 use Rattle.writing.specs.Fields.{Field, val, res, widths}
@@ -22,7 +22,7 @@ use Rattle.fields.specs.Hashes.{SizeOf}
 use Rattle.fields.proofs.HashLaws.{shown-bytes, one-size, small-size, small-code}
 use Rattle.tables.specs.Allowed.{HashOk}
 use Rattle.tables.specs.Layout.{hash-bytes}
-use Rattle.station.specs.Replies.{reply-bytes, written-over}
+use Rattle.replies.specs.Replies.{reply-bytes, written-over}
 
 -- a hash value has at most 10 bytes
 pub size-most : {code size : ℕ} → SizeOf code size → size ≤ 10
@@ -73,6 +73,10 @@ reply-is result failed h r f ok =
     ap (λ (l : List ℕ). 2 ∷ 2 ∷ l)
     (plain-append head (map (val 8) (h .value)) 8 n refl (widths-map (val 8) 8 (λ x. refl) (h .value) ∙ omega arith) fit
     ∙ ap₂ (λ (a b : List ℕ). a ++ b) (eight (6 + n) result failed (h .code) (omega arith) r f (omega arith)) (plain-values (h .value) (ok .bytes)))
+
+-- a hash is kept in 11 bytes
+pub kept-length : (h : Hash) (hash : List ℕ) → hash ≡ hash-bytes h → length hash ≡ 11
+kept-length h hash e = ap length e ∙ ap suc (pad-length 0 10 (h .value))
 
 -- the value is cut out of the bytes that keep it
 pub value-cut : (h : Hash) (hash : List ℕ) (size : ℕ) → HashOk h → hash ≡ hash-bytes h → SizeOf (getD hash 0 0) size

@@ -19,10 +19,14 @@ use Rattle.fields.specs.declared.hashes.HashPlace.{HashPlace}
 use Rattle.fields.proofs.HashLaws.{bytes-out, one-size, small-code}
 use Rattle.tables.specs.Allowed.{HashOk}
 use Rattle.tables.specs.Layout.{hash-bytes}
-use Rattle.station.specs.Queries.{SameAs, HashSame}
-use Rattle.station.proofs.ReplyLaws.{value-cut}
+use Rattle.replies.specs.Queries.{SameAs, HashSame}
+use Rattle.replies.proofs.ReplyLaws.{kept-length, value-cut}
 
 module _ (m : List ℕ) (p : HashPlace) (hash : List ℕ) (b : Bytes m) where
+  -- other bytes than 11 keep no hash
+  pub not-kept : (length hash ≡ 11 → ⊥) → HashSame m p hash false
+  not-kept never h k ok e c s x n same = never (kept-length k hash e)
+
   -- code 0 matches nothing
   pub code-0 : p .code ≡ 0 → HashSame m p hash false
   code-0 z h k ok e c s x n same = n (c ∙ z)

@@ -1,10 +1,10 @@
 use borrow.Author.Needs.{needs}
 use mathlib.Core.Path.{subst⁻¹}
 use Rattle.settings.specs.declared.settings.Setting.{Setting as Read}
-use Rattle.station.specs.Running.{FlagsAre}
-use Rattle.station.proofs.Steps.{flags-last, flags-none}
-use Rattle.station.proofs.run.flags_of.Statement.{statement}
-use Rattle.station.proofs.run.flags_of.Tie as tie
+use Rattle.running.specs.Running.{FlagsAre}
+use Rattle.running.proofs.Steps.{flags-last, flags-none}
+use Rattle.running.proofs.run.flags_of.Statement.{statement}
+use Rattle.running.proofs.run.flags_of.Tie as tie
 
 enum-known-setting : tie.Need-enum-known-setting
 enum-known-setting c = search needs

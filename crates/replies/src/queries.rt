@@ -2,16 +2,15 @@
 use fields::hashes::HashPlace;
 use fields::hashes::hash_size;
 use slots::bytes::same;
-ghost use Prim.Native.Nat.{_≤_};
-ghost use mathlib.Core.Path.{_≡_};
-ghost use lib.ListN.{length};
-ghost use Rattle.station.specs.Queries.{HashSame};
+ghost use Rattle.replies.specs.Queries.{HashSame};
 
 // Whether the hash at a place of the message is the one kept in these 11 bytes, and not of code 0.
-pub(crate) fn same_hash(m: &[u8], place: HashPlace, hash: &[u8]) -> bool
-    requires { ⌜ length (now hash) ≡ 11 ⌝ }
+pub fn same_hash(m: &[u8], place: HashPlace, hash: &[u8]) -> bool
     ensures { λ r. ⌜ HashSame (now (m .entry)) place (now (hash .entry)) r ⌝ }
 {
+    if hash.len() != 11 {
+        return false;
+    }
     let code = place.code;
     let start = place.start;
     if code == 0 {

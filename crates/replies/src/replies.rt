@@ -3,15 +3,19 @@ use carrier::carrier::START;
 use fields::hashes::hash_size;
 use slots::bytes::copy;
 ghost use Prim.Native.Nat.{_≤_};
-ghost use mathlib.Core.Path.{_≡_};
 ghost use lib.ListN.{length};
-ghost use Rattle.station.specs.Replies.{ReplyWritten};
+ghost use Rattle.replies.specs.Replies.{ReplyWritten};
 
 // The reply with this result and failed ID that carries the hash kept in these 11 bytes; its length.
-pub(crate) fn write_reply(reply: &mut [u8], result: u8, failed: u8, hash: &[u8]) -> u8
-    requires { ⌜ (20 ≤ length (now reply)) × (length (now hash) ≡ 11) ⌝ }
-    ensures { λ r. ⌜ ReplyWritten result failed (now (hash .entry)) (now (reply .entry)) (now (reply .exit)) r ⌝ }
+pub fn write_reply(reply: &mut [u8], result: u8, failed: u8, hash: &[u8]) -> u8
+    ensures { λ r. ⌜ (20 ≤ length (now (reply .entry)) → ReplyWritten result failed (now (hash .entry)) (now (reply .entry)) (now (reply .exit)) r) ⌝ }
 {
+    if reply.len() < 20 {
+        return 0;
+    }
+    if hash.len() != 11 {
+        return 0;
+    }
     let code = hash[0];
     let size = hash_size(code);
     let length = (size % 16) as u8;

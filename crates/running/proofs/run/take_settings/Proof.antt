@@ -6,10 +6,10 @@ use lib.ListN.{length}
 use Rattle.tables.specs.Layout.{Roomy}
 use Rattle.tables.specs.Store.{Holds}
 use Rattle.tables.specs.Tables.{Tables}
-use Rattle.station.specs.Running.{StepIs}
-use Rattle.station.proofs.Steps.{Along, along-start, along-on, along-fault, along-over, along-end}
-use Rattle.station.proofs.run.take_settings.Statement.{statement}
-use Rattle.station.proofs.run.take_settings.Tie as tie
+use Rattle.running.specs.Running.{StepIs}
+use Rattle.running.proofs.Steps.{Along, along-start, along-on, along-fault, along-over, along-end}
+use Rattle.running.proofs.run.take_settings.Statement.{statement}
+use Rattle.running.proofs.run.take_settings.Tie as tie
 
 abbrev Inv-loop : tie.InvT-loop
 Inv-loop work₀ limits m at count p₀ taken₀ flags₀ work p taken flags =

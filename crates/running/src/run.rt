@@ -5,7 +5,7 @@ use tables::limits::Limits;
 use wire::reader::SettingRead;
 use wire::reader::read_setting;
 use writing::LastFlags;
-ghost use Rattle.station.specs.Running.{FlagsAre, StepIs, RunIs};
+ghost use Rattle.running.specs.Running.{FlagsAre, StepIs, RunIs};
 
 // The place after a setting that was taken, with FF's bits, or the number of its fault.
 pub(crate) enum Step {
@@ -14,7 +14,7 @@ pub(crate) enum Step {
 }
 
 // FF's bits where all settings were taken, or the number of the first fault and the failed ID.
-pub(crate) enum Run {
+pub enum Run {
     Good(LastFlags),
     Fault(u8, u8),
 }
@@ -52,7 +52,7 @@ fn take_setting(work: &mut [u8], limits: Limits, m: &[u8], at: usize, left: usiz
 }
 
 // So many settings from a place to the message's end.
-pub(crate) fn take_settings(work: &mut [u8], limits: Limits, m: &[u8], at: usize, count: u8) -> Run
+pub fn take_settings(work: &mut [u8], limits: Limits, m: &[u8], at: usize, count: u8) -> Run
     ensures { λ r. ⌜ RunIs limits count (now (m .entry)) at (now (work .entry)) (now (work .exit)) r ⌝ }
 {
     let mut p = at;

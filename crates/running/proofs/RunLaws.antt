@@ -16,8 +16,8 @@ use Rattle.fields.proofs.Parts.{bytes-left}
 use Rattle.tables.specs.declared.limits.Limits.{Limits}
 use Rattle.tables.specs.Apply.{apply}
 use Rattle.tables.specs.Tables.{Tables}
-use Rattle.station.specs.Judge.{done, step, missing, unknown, field, room, taken, fault}
-use Rattle.station.specs.Taking.{WrittenIn, Runs, Fault, item-of, or-else, LastItem, last-item}
+use Rattle.running.specs.Judge.{done, step, missing, unknown, field, room, taken, fault}
+use Rattle.running.specs.Requests.{WrittenIn, Runs, Fault, item-of, or-else, LastItem, last-item}
 
 module _ (lim : Limits) where
   -- one setting more at the end

@@ -2,10 +2,10 @@ use borrow.Author.Needs.{needs}
 use mathlib.Core.Path.{subst}
 use borrow.Author.Tests.{not-true, not-false}
 use Rattle.wire.specs.Settings.{SettingAt}
-use Rattle.station.proofs.RunLaws.{at-end, at-unknown, at-field}
-use Rattle.station.proofs.Steps.{step-taken, step-full}
-use Rattle.station.proofs.run.take_setting.Statement.{statement}
-use Rattle.station.proofs.run.take_setting.Tie as tie
+use Rattle.running.proofs.RunLaws.{at-end, at-unknown, at-field}
+use Rattle.running.proofs.Steps.{step-taken, step-full}
+use Rattle.running.proofs.run.take_setting.Statement.{statement}
+use Rattle.running.proofs.run.take_setting.Tie as tie
 
 read-setting-requires : tie.Need-read-setting-requires
 read-setting-requires c κs = search needs

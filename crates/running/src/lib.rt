@@ -1,0 +1,2 @@
+// Takes the settings of a request in turn.
+pub mod run;
