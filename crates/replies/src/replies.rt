@@ -6,7 +6,7 @@ ghost use Prim.Native.Nat.{_≤_};
 ghost use lib.ListN.{length};
 ghost use Rattle.replies.specs.Replies.{ReplyWritten};
 
-// The reply with this result and failed ID that carries the hash kept in these 11 bytes; its length.
+// The reply with this result and failed ID that carries the hash kept in these 11 bytes; its length, or 0 where a buffer is too short for it.
 pub fn write_reply(reply: &mut [u8], result: u8, failed: u8, hash: &[u8]) -> u8
     ensures { λ r. ⌜ (20 ≤ length (now (reply .entry)) → ReplyWritten result failed (now (hash .entry)) (now (reply .entry)) (now (reply .exit)) r) ⌝ }
 {
