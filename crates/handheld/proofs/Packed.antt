@@ -4,6 +4,7 @@ use mathlib.Core.Path.{_≡_, sym, ap, ap₂, _∙_, subst}
 use mathlib.Core.List.{List}
 use native.Mathlib.Omega.{arith}
 use Rattle.plan.specs.Answers.{Said, answer, refused}
+use Rattle.writing.specs.Carrier.{result-number}
 use Rattle.writing.specs.Writing.{bit}
 use Rattle.station.specs.declared.answers.Answer.{Answer as Station}
 use Rattle.station.specs.declared.answers.Answer.the-variants.{Untouched, Replied}
@@ -29,13 +30,13 @@ pub packed-refusal : (a : Station) (x : Refusal) (r : ℕ) → a ≡ Untouched x
 packed-refusal a x r e p h = subst (λ y. Packs (said y) r) (sym e) (record { number = omega (arith, p); failed = omega arith; reply-length = omega arith; bits = omega (arith, p) })
 
 -- all of a reply's values
-pub packed-reply : (a : Station) (x : Reply) (send reboot : ℕ) → a ≡ Replied x → send ≡ bit (x .send) → reboot ≡ bit (x .reboot)
-    → x .result < 256 → x .failed < 256 → x .length < 256
-    → Packs (said a) (x .result + x .failed * 256 + send * 65536 + reboot * 131072 + x .length * 16777216)
-packed-reply a x send reboot e p q hr hf hl =
-    subst (λ y. Packs (said y) (x .result + x .failed * 256 + send * 65536 + reboot * 131072 + x .length * 16777216)) (sym e) (record {
-      number = hr;
+pub packed-reply : (a : Station) (x : Reply) (number send reboot : ℕ) → a ≡ Replied x → number ≡ result-number (x .result) → send ≡ bit (x .send) → reboot ≡ bit (x .reboot)
+    → number < 256 → x .failed < 256 → x .length < 256
+    → Packs (said a) (number + x .failed * 256 + send * 65536 + reboot * 131072 + x .length * 16777216)
+packed-reply a x number send reboot e k p q hr hf hl =
+    subst (λ y. Packs (said y) (number + x .failed * 256 + send * 65536 + reboot * 131072 + x .length * 16777216)) (sym e) (record {
+      number = subst (λ (i : ℕ). i < 256) k hr;
       failed = hf;
       reply-length = hl;
-      bits = ap₂ (λ (i j : ℕ). x .result + x .failed * 256 + i * 65536 + j * 131072 + x .length * 16777216) p q;
+      bits = λ t. k t + x .failed * 256 + p t * 65536 + q t * 131072 + x .length * 16777216;
     })

@@ -3,7 +3,7 @@ use Prim.Native.Nat.{ℕ, _+_, _≤_, _<_}
 use mathlib.Core.Path.{_≡_}
 use mathlib.Core.List.{List, _++_}
 use lib.ListN.{length, getD, take, drop}
-use Rattle.lists.proofs.Every.{All}
+use Rattle.lists.specs.Every.{All}
 use Rattle.slots.specs.Slots.{Listed}
 use Rattle.writing.specs.Canonical.{plain, canonical, canonical-all, FitsField}
 use Rattle.writing.specs.Ranges.{InNumber}

@@ -29,6 +29,16 @@ pub enum Operations {
     AddOrDelete,
 }
 
+// What a reply says of its message: CfgResult.
+pub enum Result {
+    Taken,
+    OtherVersion,
+    NoRoom,
+    UnknownType,
+    BadField,
+    NoMatch,
+}
+
 // Of all line contacts of one setting.
 pub struct LineFlags {
     pub encryption: bool,

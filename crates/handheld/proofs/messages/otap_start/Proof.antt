@@ -1,6 +1,9 @@
 use borrow.Author.Needs.{needs}
-use mathlib.Core.Path.{sym, ap}
-use Rattle.station.specs.Answers.{started}
+use mathlib.Core.Path.{subst}
+use Rattle.lists.specs.Ladder.{Answers}
+use Rattle.tables.specs.declared.start.Started.{Started}
+use Rattle.tables.specs.Limits.{handheld}
+use Rattle.tables.specs.Store.{starting, begins}
 use Rattle.handheld.proofs.messages.otap_start.Statement.{statement}
 use Rattle.handheld.proofs.messages.otap_start.Tie as tie
 
@@ -18,14 +21,14 @@ same-length c = search needs
 
 returns : tie.Need-returns
 returns c =
-    record { did = c .before .before .before .before .start .result; allowed = c .before .before .before .before .start .ensures; number = sym (ap started (c .enum-told .given .1)) }
+    subst (λ (d : Started). Answers (starting handheld _) (begins d _)) (c .enum-told .given .1) (c .before .before .before .before .start .ensures)
 
 same-length-2 : tie.Need-same-length-2
 same-length-2 c = search needs
 
 returns-2 : tie.Need-returns-2
 returns-2 c =
-    record { did = c .before .before .before .before .start .result; allowed = c .before .before .before .before .start .ensures; number = sym (ap started (c .enum-told2 .given .1)) }
+    subst (λ (d : Started). Answers (starting handheld _) (begins d _)) (c .enum-told2 .given .1) (c .before .before .before .before .start .ensures)
 
 pub otap-start-spec : {M : Type 1} → statement M
 otap-start-spec =
