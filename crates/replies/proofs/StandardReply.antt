@@ -4,7 +4,7 @@ use mathlib.Core.Path.{_≡_, refl, ap, _∙_, subst⁻¹}
 use mathlib.Core.List.{List, _++_, map}
 use native.Mathlib.Omega.{arith}
 use lib.ListN.{length}
-use Rattle.lists.proofs.Every.{All}
+use Rattle.lists.specs.Every.{All}
 use Rattle.lists.proofs.Every.{all-map}
 use Rattle.writing.specs.Canonical.{plain, FitsField}
 use Rattle.writing.specs.Carrier.{start, carrier, reply, Reply}

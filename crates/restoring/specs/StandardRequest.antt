@@ -4,7 +4,7 @@ use mathlib.Core.Path.{_≡_}
 use mathlib.Core.List.{List}
 use mathlib.Core.Option.{none}
 use lib.ListN.{length}
-use Rattle.lists.proofs.Every.{All}
+use Rattle.lists.specs.Every.{All}
 use Rattle.writing.specs.Carrier.{Request}
 use Rattle.writing.specs.Settings.{Setting, unicode16}
 use Rattle.running.specs.Requests.{item-of}
