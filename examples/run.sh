@@ -154,6 +154,7 @@ if [ ! -f "$archive" ]; then
 fi
 step "firmware as C" build_and_print firmware_c c c99 "$CC" "$sanitizers"
 step "firmware as C++" build_and_print firmware_cpp c++ c++11 "$CXX" "$sanitizers"
+step "snippet at work" build_and_run snippet_test "$sanitizers"
 step "numbers and constants" build_and_run numbers "$sanitizers"
 step "bounds of the lent bytes" build_and_run bounds "-O1 ${emulator:+-static}"
 step "bounds can fail" sees_outside
