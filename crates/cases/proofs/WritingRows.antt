@@ -45,5 +45,5 @@ out-of-range k s more t e out m left u rest = record { allowed = field (k, refl)
 
     alone : (n : ℕ) → Fault m left u (type-byte k ∷ more ++ rest) n → n ≡ 4
     alone n (unknown strange) = absurd (strange (k, refl))
-    alone n (field known no) = refl
+    alone n (field known unwritten) = refl
     alone n (room {w = w} {s = r} after q x i full) = absurd (never r w after q x i)
