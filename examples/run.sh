@@ -1,4 +1,5 @@
 #!/bin/sh
+# shellcheck disable=SC2086,SC2317,SC2329 # flags are several words, and steps are called by their names
 # examples/run.sh: the C header and the C examples, one named step after the other; ends with 1 if one of them fails.
 # It links $OTAP_ARCHIVE_DIR/libhandheld.a, or target/staticlib/libhandheld.a, which `rt staticlib handheld` writes. CC and CXX name the compilers.
 set -u
