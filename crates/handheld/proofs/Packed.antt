@@ -3,15 +3,19 @@ use Prim.Native.Nat.{ℕ, _+_, _*_, _<_}
 use mathlib.Core.Path.{_≡_, sym, ap, ap₂, _∙_, subst}
 use mathlib.Core.List.{List}
 use native.Mathlib.Omega.{arith}
+use Rattle.lists.specs.Ladder.{Answers}
 use Rattle.plan.specs.Answers.{Said, answer, refused}
 use Rattle.writing.specs.Carrier.{result-number}
 use Rattle.writing.specs.Writing.{bit}
+use Rattle.tables.specs.declared.start.Started.{Started}
+use Rattle.tables.specs.Limits.{handheld}
+use Rattle.tables.specs.Store.{started, begins, starting}
 use Rattle.station.specs.declared.answers.Answer.{Answer as Station}
 use Rattle.station.specs.declared.answers.Answer.the-variants.{Untouched, Replied}
 use Rattle.station.specs.declared.answers.Refusal.{Refusal}
 use Rattle.station.specs.declared.answers.Reply.{Reply}
 use Rattle.station.specs.Answers.{Said as TakeSaid, refusal-number, refused-with, said}
-use Rattle.handheld.specs.Packing.{packed, Packs, PacksValue}
+use Rattle.handheld.specs.Packing.{Starts, packed, Packs, PacksValue}
 
 -- ---- conversions
 
@@ -22,6 +26,12 @@ packed-case say a b r e p = subst (λ x. PacksValue (answer (say x)) r) (sym e) 
 -- a refusal is its number
 pub value-refused : (n : ℕ) → n < 256 → PacksValue (refused n) n
 value-refused n h = record { number = h; value = omega arith; bits = omega arith }
+
+-- ---- starting
+
+-- what starting answered is one case, and so its number
+pub started-as : (before after : List ℕ) (a b : Started) → a ≡ b → Answers (starting handheld before) (begins a after) → Starts before after (started b)
+started-as before after a b e x = subst (λ (d : Started). Starts before after (started d)) e x
 
 -- ---- taking
 

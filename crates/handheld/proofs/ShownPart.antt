@@ -3,7 +3,7 @@ use Prim.Native.Nat.{ℕ, _+_, _*_, _<_}
 use mathlib.Core.Path.{_≡_, refl, sym, ap, _∙_, subst}
 use mathlib.Core.Logic.{_≢_, inl, inr, _↔_}
 use mathlib.Core.List.{List}
-use mathlib.Core.Option.{none≢some, some}
+use mathlib.Core.Option.{some, Option·none-ne-some}
 use native.Mathlib.Omega.{arith}
 use Rattle.lists.specs.Ladder.{Answers}
 use Rattle.tables.specs.Limits.{handheld}
@@ -22,7 +22,7 @@ text-starts-late t (QuickText n) c e = omega arith
 text-starts-late t (StatusText n) c e = omega arith
 text-starts-late t (Group n) c e = omega arith
 text-starts-late t (Individual n) c e = omega arith
-text-starts-late t NoTable c e = absurd (none≢some e)
+text-starts-late t NoTable c e = absurd (Option·none-ne-some c e)
 
 module _ (store scratch : List ℕ) (row : Row) where
   -- the number is 0 exactly where the part is packed as another number than 0
