@@ -19,7 +19,8 @@ per_call() {
 
 echo "| call | Rattle | plain | judged | to plain | to judged |"
 echo "|---|---|---|---|---|---|"
-for name in ${*:-$("$bench" list)}; do
+names=${*:-$("$bench" list)}
+for name in $names; do
     rattle=$(per_call "$name" rattle) plain=$(per_call "$name" plain) judged=$(per_call "$name" judged)
     awk -v n="$name" -v r="$rattle" -v p="$plain" -v j="$judged" \
         'BEGIN { printf "| %s | %d | %d | %d | %.2f | %.2f |\n", n, r, p, j, r / p, r / j }'

@@ -1,6 +1,7 @@
 /*
- * A bit of firmware over libhandheld.a: start a store, take messages, draw the rows, write the settings out and into another set.
- * Every answer is checked; the first that is not what it must be ends the program with 1. examples/firmware.out is what it prints.
+ * A bit of firmware over libhandheld.a: keep a store at power-on or start one, take messages, save, start again, draw the rows, write the settings out
+ * and into another set. Every answer is checked; the first that is not what it must be ends the program with 1. examples/firmware.out is what it prints.
+ * It is one task, so it needs no lock; docs/FIRMWARE.md says where three need one, and how to save so that a power cut loses nothing (banks.c).
  */
 #include "otap.h"
 
@@ -27,17 +28,19 @@ static const uint8_t adding[] = {
     0x41, 0x12, 0x34, 0x56, 0x78        /* no reboot, reply, HashCode 1; the hash value */
 };
 
-/* Another name for group slot 1, and an individual without a name: it is shown by its dialled number. */
+/* Another name for group slot 1, and an individual without a name: it is shown by its dialled number. Then the set is to start again. */
 static const uint8_t renaming[] = {
     0x02, 0x02, 0x00, 0x00,             /* length 0: not stated */
     0x08, 0x07,                         /* MFID, coding type */
-    0x08, 0x02,                         /* request, two settings */
+    0x08, 0x03,                         /* request, three settings */
     0xD1, 0x00, 0x11,                   /* group slot, DataLength 17 */
     0x50, 0x01, 0x10, 0x00, 0x02,       /* add, attribute 01; index 1; address 100002 */
     0x5D, 0xE1, 0x90, 0x3B, 0x4E, 0x09, 0x7E, 0xC4, 0x00, 0x00, /* 巡逻三组, end */
     0xD2, 0x00, 0x09,                   /* individual slot, DataLength 9 */
     0x40, 0x00, 0x10, 0x3C, 0x28,       /* add; index 0; address 103C28 */
-    0x00, 0x00                          /* no text, end */
+    0x00, 0x00,                         /* no text, end */
+    0xFF, 0x00, 0x03,                   /* last item, DataLength 3 */
+    0x80                                /* reboot, no reply, HashCode 0 */
 };
 
 /* Setting 1 is good, setting 2 is not: so that nothing may change. */
@@ -52,6 +55,7 @@ static const uint8_t refused[] = {
     0x07, 0xE4, 0xE0                    /* NZI 15, NP 807: one too many */
 };
 
+static uint8_t flash[OTAP_STORE_BYTES];
 static uint8_t store[OTAP_STORE_BYTES];
 static uint8_t other[OTAP_STORE_BYTES];
 static uint8_t reply[OTAP_REPLY_BYTES];
@@ -106,18 +110,16 @@ static void print_text(const uint8_t *text, size_t length)
     }
 }
 
-/* A task of its own would hold the lock of otap_take from here to the last print_text. */
+/* A task of its own would hold the lock of otap_take from here to the last print_text. Each row is asked for once: 0 is a row that is not shown. */
 static void draw_table(const char *name, uint32_t table, uint32_t first, uint32_t last)
 {
     uint32_t row;
     for (row = first; row <= last; row++) {
-        uint64_t part;
-        uint32_t number = otap_row_number(table, row, store, sizeof store, scratch, sizeof scratch);
-        if (number == OTAP_NO_ROW) {
+        uint64_t part = otap_row_part(table, row, store, sizeof store, scratch, sizeof scratch);
+        if (part == 0) {
+            must_be("why a row is not shown", otap_row_number(table, row, store, sizeof store, scratch, sizeof scratch), OTAP_NO_ROW);
             continue;
         }
-        must_be("the number of a row", number, OTAP_OK);
-        part = otap_row_part(table, row, store, sizeof store, scratch, sizeof scratch);
         printf("  %s %u: ", name, (unsigned)row);
         print_text(otap_part_bytes(part, store, scratch), otap_part_length(part));
         printf("%s\n", otap_part_in_scratch(part) ? " (number)" : "");
@@ -134,16 +136,49 @@ static void draw(const char *title)
     draw_table("individual", OTAP_INDIVIDUALS, 0, OTAP_SLOT_ROWS - 1);
 }
 
-static uint64_t take(const char *what, const uint8_t *message, size_t length)
+/* Keeps what was saved if it is a store, and starts one only where it is none. */
+static int power_on(void)
+{
+    memcpy(store, flash, sizeof store);
+    /* The scratch has its size, so 11 comes before any other refusal of a row: it is answered exactly where the bytes are no store. */
+    if (otap_row_number(OTAP_LINES, 0, store, sizeof store, scratch, sizeof scratch) != OTAP_NO_STORE) {
+        printf("power-on: the store is kept\n");
+        return 1;
+    }
+    must_be("starting a store", otap_start(store, sizeof store), OTAP_OK);
+    printf("power-on: no store in flash, a fresh one is started\n");
+    return 0;
+}
+
+/* A restart: what was not saved is gone. */
+static void restart(void)
+{
+    memset(store, 0, sizeof store);
+    must_be("whether the store was kept", (uint64_t)power_on(), 1);
+}
+
+static void print_answer(const char *what, uint64_t answer)
 {
     size_t at;
-    uint64_t answer = otap_take(message, length, store, sizeof store, reply, sizeof reply);
-    printf("%s: number %u, failed ID %u, %s, reply", what, (unsigned)otap_answer_number(answer),
-           (unsigned)otap_take_failed(answer), otap_take_send(answer) ? "send" : "do not send");
+    printf("%s: number %u, failed ID %u, %s, %s, reply", what, (unsigned)otap_answer_number(answer), (unsigned)otap_take_failed(answer),
+           otap_take_send(answer) ? "send" : "do not send", otap_take_reboot(answer) ? "start again" : "no restart");
     for (at = 0; at < otap_take_reply_length(answer); at++) {
         printf(" %02X", reply[at]);
     }
     printf("\n");
+}
+
+/* What is taken is saved before a reply says so, and before a restart; here printing is sending. */
+static uint64_t take(const char *what, const uint8_t *message, size_t length)
+{
+    uint64_t answer = otap_take(message, length, store, sizeof store, reply, sizeof reply);
+    if (otap_answer_number(answer) == OTAP_OK) {
+        memcpy(flash, store, sizeof flash);
+    }
+    print_answer(what, answer);
+    if (otap_take_reboot(answer)) {
+        restart();
+    }
     return answer;
 }
 
@@ -152,11 +187,13 @@ static void add_and_rename(void)
     uint64_t answer = take("adding", adding, sizeof adding);
     must_be("the number of the adding", otap_answer_number(answer), OTAP_OK);
     must_be("its send", (uint64_t)otap_take_send(answer), 1);
+    must_be("its reboot", (uint64_t)otap_take_reboot(answer), 0);
     must_be("its reply length", otap_take_reply_length(answer), 14);
     draw("rows after the adding");
     answer = take("renaming", renaming, sizeof renaming);
     must_be("the number of the renaming", otap_answer_number(answer), OTAP_OK);
     must_be("its send", (uint64_t)otap_take_send(answer), 0);
+    must_be("its reboot", (uint64_t)otap_take_reboot(answer), 1);
     draw("rows after the renaming");
 }
 
@@ -224,7 +261,8 @@ static void convert(void)
 
 int main(void)
 {
-    must_be("starting a store", otap_start(store, sizeof store), OTAP_OK);
+    memset(flash, 0xFF, sizeof flash);
+    must_be("whether erased flash was kept", (uint64_t)power_on(), 0);
     draw("rows of a fresh store");
     add_and_rename();
     try_refused();

@@ -133,6 +133,42 @@ static void numbers_shown(void)
     same("its digits", 0, (uint64_t)memcmp(scratch, "\0F\0F\0F\0F\0" "1\0" "0", 12), 0);
 }
 
+/* One call is enough for a row: otap_row_part answers 0 exactly where otap_row_number does not. */
+static void asked_once(const uint8_t *bytes, size_t room)
+{
+    uint32_t table, at;
+    for (table = 0; table <= 6; table++) {
+        for (at = 0; at <= OTAP_STATUS_LAST + 1; at++) {
+            uint32_t number = otap_row_number(table, at, bytes, OTAP_STORE_BYTES, scratch, room);
+            uint64_t part = otap_row_part(table, at, bytes, OTAP_STORE_BYTES, scratch, room);
+            same("a row that is shown", number == OTAP_OK, part != 0, part != 0);
+        }
+    }
+}
+
+static void asked_of_stores(void)
+{
+    static uint8_t fresh[OTAP_STORE_BYTES], none[OTAP_STORE_BYTES];
+    same("start", 0, OTAP_OK, otap_start(fresh, sizeof fresh));
+    memset(none, 0xFF, sizeof none);
+    asked_once(store, OTAP_SCRATCH_BYTES);
+    asked_once(store, OTAP_SCRATCH_BYTES - 1);
+    asked_once(fresh, OTAP_SCRATCH_BYTES);
+    asked_once(none, OTAP_SCRATCH_BYTES);
+}
+
+/* The bytes of the full store, summed (FNV-1a). If the layout has changed, OTAP_LAYOUT must be another number, and this sum too. */
+static void layout(void)
+{
+    uint32_t sum = 2166136261u;
+    size_t at;
+    for (at = 0; at < OTAP_STORE_BYTES; at++) {
+        sum = (sum ^ store[at]) * 16777619u;
+    }
+    same("layout", 1, OTAP_LAYOUT, 1);
+    same("sum of a full store of layout 1", 0x228009F5u, sum, sum);
+}
+
 static void conversions(void)
 {
     same("32820200", 0x100001, otap_value(otap_individual_of_dialled(32820200)), otap_individual_of_dialled(32820200) >> 8);
@@ -159,6 +195,8 @@ int main(void)
     exported();
     rows();
     numbers_shown();
+    asked_of_stores();
+    layout();
     conversions();
     printf("every number and constant is as the table says\n");
     return 0;

@@ -1,4 +1,5 @@
 #!/bin/sh
+# shellcheck disable=SC2086,SC2317,SC2329 # flags are several words, and steps are called by their names
 # examples/run.sh: the C header and the C examples, one named step after the other; ends with 1 if one of them fails.
 # It links $OTAP_ARCHIVE_DIR/libhandheld.a, or target/staticlib/libhandheld.a, which `rt staticlib handheld` writes. CC and CXX name the compilers.
 set -u
@@ -38,9 +39,11 @@ header_as() {
     echo '#include "otap.h"' | $compiler -std="$standard" $warnings -fsyntax-only -x "$language" -
 }
 
-# build OUTPUT LANGUAGE STANDARD COMPILER FLAGS SOURCE
+# build OUTPUT LANGUAGE STANDARD COMPILER FLAGS SOURCE..
 build() {
-    $4 -x "$2" -std="$3" $warnings $5 "$6" -x none "$archive" -o "$built/$1"
+    output=$1 language=$2 standard=$3 compiler=$4 flags=$5
+    shift 5
+    $compiler -x "$language" -std="$standard" $warnings $flags "$@" -x none "$archive" -o "$built/$output"
 }
 
 run_built() {
@@ -67,6 +70,54 @@ sees_outside() {
     [ $? -eq 1 ] && grep -q "a byte too many, as asked" "$built/outside"
 }
 
+build_and_run_banks() {
+    build banks c c99 "$CC" "-O2 $sanitizers" examples/banks_test.c examples/banks.c && run_built banks
+}
+
+# sees_wrong_banks PART EDIT: banks.c with the edit is wrong; this part of the test ends with 1, and says what it found.
+sees_wrong_banks() {
+    sed "$2" examples/banks.c > "$built/wrong.c"
+    if cmp -s examples/banks.c "$built/wrong.c"; then
+        echo "the edit changes nothing: $2"
+        return 1
+    fi
+    $CC -std=c99 $warnings -Wno-unused -Iexamples -O2 ${emulator:+-static} "$built/wrong.c" "$built/banks_test.o" "$archive" \
+        -o "$built/wrong" || return 1
+    run_built wrong "$1" > "$built/seen" 2>&1
+    if [ $? -ne 1 ] || ! grep '^banks: ' "$built/seen"; then
+        echo "not seen: $2"
+        return 1
+    fi
+}
+
+# Each line has the part of the test that has to see it, and an edit that makes banks.c wrong. The first has nothing but the order to save it.
+banks_can_fail() {
+    store='put_bytes(next, BANK_HEAD_BYTES, store, OTAP_STORE_BYTES)' head='put_bytes(next, 0, head, sizeof head)'
+    head_first="s/$store/@/;s/$head/$store/;s/@/$head/"
+    no_check='s/return ~check/return 0/'
+    no_store='s/ && is_store(store)//'
+    $CC -std=c99 $warnings -O2 -c examples/banks_test.c -o "$built/banks_test.o" || return 1
+    while read -r part edit; do
+        sees_wrong_banks "$part" "$edit" || return 1
+    done << EDITS
+cuts $head_first;$no_check;$no_store
+cuts s/next = banks->newest == 0/next = banks->newest == 1/
+rest $head_first
+rest $no_check
+rest $no_store
+rest s/(uint8_t)~head/head/
+rest s/(uint8_t)(heads.*) < 128/heads[1][1] > heads[0][1]/
+rest s/memcmp(head, right, sizeof right)/memcmp(head + 1, right + 1, 7)/
+rest s/!is_store(store)/0/
+rest s/otap_start(store, OTAP_STORE_BYTES)/(void)store/
+rest s/heads\\[first\\]\\[1\\]; /0; /
+rest s/banks->newest != NO_BANK/0/
+rest /flash_erase(next)/d
+rest s/return holds(/return 1 || holds(/
+rest /banks->sequence = head/d
+EDITS
+}
+
 # README.md quotes examples/snippet.c: the ```c block after the marker line is the file, byte for byte.
 snippet_quoted() {
     awk '/^<!-- examples\/snippet.c -->$/ { here = 1; next }
@@ -83,7 +134,8 @@ for standard in c++98 c++11 c++17; do
     step "header as $standard" header_as c++ $standard "$CXX"
 done
 step "snippet as C" $CC -std=c99 $warnings -c examples/snippet.c -o "$built/snippet.o"
-step "snippet as C++" $CXX -x c++ -std=c++11 $warnings -c examples/snippet.c -o "$built/snippet.o"
+step "snippet as C++" $CXX -x c++ -std=c++98 $warnings -c examples/snippet.c -o "$built/snippet.o"
+step "banks as C++" $CXX -x c++ -std=c++98 $warnings -c examples/banks.c -o "$built/banks.o"
 if grep -q '^<!-- examples/snippet.c -->$' README.md; then
     step "snippet in README.md" snippet_quoted
 fi
@@ -106,8 +158,11 @@ if [ ! -f "$archive" ]; then
 fi
 step "firmware as C" build_and_print firmware_c c c99 "$CC" "$sanitizers"
 step "firmware as C++" build_and_print firmware_cpp c++ c++11 "$CXX" "$sanitizers"
+step "snippet at work" build_and_run snippet_test "$sanitizers"
 step "numbers and constants" build_and_run numbers "$sanitizers"
 step "bounds of the lent bytes" build_and_run bounds "-O1 ${emulator:+-static}"
 step "bounds can fail" sees_outside
+step "two banks, cut at every byte" build_and_run_banks && show
+step "banks can fail" banks_can_fail && show
 step "stack" build_and_run stack "-O1 ${emulator:+-static}" && show
 exit $failed

@@ -1,23 +1,62 @@
 #include "otap.h"
 
-static uint8_t store[OTAP_STORE_BYTES], reply[OTAP_REPLY_BYTES], scratch[OTAP_SCRATCH_BYTES];
+#include <string.h>
 
-int set_up(void) { return otap_start(store, sizeof store) == OTAP_OK; }
+/* The firmware's own. Each comes back when it is done: the bytes are in flash (docs/FIRMWARE.md says how), the reply is on the air. */
+void read_saved(uint8_t *bytes, size_t length);
+void write_saved(const uint8_t *bytes, size_t length);
+void send_reply(const uint8_t *bytes, size_t length);
+void restart_set(void);
+void draw_row(uint32_t row, const uint8_t *units, size_t length);
+void lock_store(void);
+void unlock_store(void);
 
-/* Takes one message, whole or not at all; answers how many bytes of the reply to send. Call it under the screen's lock. */
-size_t on_message(const uint8_t *message, size_t length)
+static uint8_t store[OTAP_STORE_BYTES], copy[OTAP_STORE_BYTES], reply[OTAP_REPLY_BYTES], scratch[OTAP_SCRATCH_BYTES];
+
+/* Before the tasks start: keeps what was saved if it is a store, and starts one only where it is none (answer 0: the user may want to know). */
+int power_on(void)
 {
-    uint64_t answer = otap_take(message, length, store, sizeof store, reply, sizeof reply);
-    return otap_take_send(answer) ? otap_take_reply_length(answer) : 0;
+    read_saved(store, sizeof store);
+    /* The scratch has its size, so 11 comes before any other refusal of a row: it is answered exactly where the bytes are no store. */
+    if (otap_row_number(OTAP_LINES, 0, store, sizeof store, scratch, sizeof scratch) != OTAP_NO_STORE)
+        return 1;
+    otap_start(store, sizeof store);
+    return 0;
 }
 
-/* Draws a group slot's name, or its number: 16-bit units, high byte first. Call it under the same lock. */
-int draw_group(uint32_t slot, void (*draw)(const uint8_t *units, size_t bytes))
+/* The storage task, when it is asked to save: only the copying holds the lock, so that the screen does not wait for the flash. */
+void save_store(void)
 {
-    uint64_t part;
-    if (otap_row_number(OTAP_GROUPS, slot, store, sizeof store, scratch, sizeof scratch) != OTAP_OK)
-        return 0;
-    part = otap_row_part(OTAP_GROUPS, slot, store, sizeof store, scratch, sizeof scratch);
-    draw(otap_part_bytes(part, store, scratch), otap_part_length(part));
-    return 1;
+    lock_store();
+    memcpy(copy, store, sizeof copy);
+    unlock_store();
+    write_saved(copy, sizeof copy);
+}
+
+/* The radio task: takes one message, whole or not at all. What is taken is saved before a reply says so, and before a restart. */
+void on_message(const uint8_t *message, size_t length)
+{
+    uint64_t answer;
+    lock_store();
+    answer = otap_take(message, length, store, sizeof store, reply, sizeof reply);
+    unlock_store();
+    if (otap_answer_number(answer) == OTAP_OK)
+        save_store();
+    if (otap_take_send(answer))
+        send_reply(reply, otap_take_reply_length(answer));
+    if (otap_take_reboot(answer))
+        restart_set();
+}
+
+/* The screen task: a whole list under one hold of the lock; each row its name, or its number, in 16-bit units, high byte first. */
+void draw_groups(void)
+{
+    uint32_t slot;
+    lock_store();
+    for (slot = 0; slot < OTAP_SLOT_ROWS; slot++) {
+        uint64_t part = otap_row_part(OTAP_GROUPS, slot, store, sizeof store, scratch, sizeof scratch);
+        if (part != 0) /* 0 is no row, and a row that is shown is never 0: one call is enough */
+            draw_row(slot, otap_part_bytes(part, store, scratch), otap_part_length(part));
+    }
+    unlock_store();
 }

@@ -9,8 +9,8 @@
 
 enum { STACK = 256 * 1024, PAINT = 0xA5, CALLS = 6 };
 
-/* A ceiling for each; docs/TESTING.md has what was measured. */
-static const unsigned long most[CALLS] = {256, 14336, 1024, 1024, 1024, 4096};
+/* The header's ceiling for each; it has what was measured beside them, and docs/TESTING.md too. */
+static const unsigned long most[CALLS] = {OTAP_START_STACK, OTAP_TAKE_STACK, OTAP_EXPORT_STACK, OTAP_ROW_STACK, OTAP_ROW_STACK, OTAP_CONVERSION_STACK};
 static const char *const names[CALLS] = {"otap_start", "otap_take", "otap_export", "otap_row_number", "otap_row_part", "a conversion"};
 
 static uint8_t stack[STACK], store[OTAP_STORE_BYTES], filled[OTAP_STORE_BYTES];

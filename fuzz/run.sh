@@ -1,4 +1,5 @@
 #!/bin/sh
+# shellcheck disable=SC2086,SC2317,SC2329 # flags are several words, and engines are called by their names
 # fuzz/run.sh [SECONDS]: fuzzes the C functions for as long (60), with libFuzzer, else AFL++, else a driver of our own, and says which.
 # Ends with 1 on a finding, or if a check cannot fail.
 # FUZZ_WITH=libfuzzer, afl or driver asks for one; FUZZ_SEED (1) is the driver's and libFuzzer's seed. Findings are kept in target/fuzz/.

@@ -10,10 +10,11 @@
  *  - Each pointer is good for as many bytes as its length says, and is not null, also with length 0.
  *  - The buffers of one call do not overlap. This is not checked.
  *  - While one task is in a call, no other task writes its buffers or reads those that the call may change. See "Screens".
- *  - The stack has room: otap_take works on a copy of the store. docs/TESTING.md has measured figures.
+ *  - The stack has room: OTAP_TAKE_STACK and its like, below. otap_take works on a copy of the store there.
  *  - memcpy and memset are there to link with; the archive needs nothing else.
  *
  * Otherwise anything may be lent: any bytes, of any length, as a message, a store or a buffer. What is wrong is refused with a number.
+ * docs/FIRMWARE.md says how firmware calls this: tasks and their lock, power-on, saving a store so that a power cut loses nothing, and updates.
  *
  * Screens. A row's part is not a copy: it is a place in the store, or in the scratch. It is good until the store or the scratch is next written: by
  * otap_take and otap_start (the store), by otap_row_part (the scratch), or by anything else. A screen task that draws a list while another task takes a
@@ -39,6 +40,21 @@ enum {
     OTAP_EXPORT_BYTES = 4096,  /* an export buffer has at least as many */
     OTAP_SCRATCH_BYTES = 36,   /* a scratch has at least as many */
     OTAP_ROW_BYTES = 46        /* a row's part has at most as many: 23 units */
+};
+
+/* The number of a store's layout, docs/STORE.md: it changes where the layout does. No store holds it; firmware saves it beside the store. */
+enum { OTAP_LAYOUT = 1 };
+
+/*
+ * Stack in bytes: a ceiling for each call, which examples/stack.c holds it to, and what that measured (x86-64, gcc 12 and glibc's memcpy). It is tested
+ * on a full store with every kind of message; no theorem bounds it.
+ */
+enum {
+    OTAP_START_STACK = 256,      /* measured 40 */
+    OTAP_TAKE_STACK = 14336,     /* 13,018: 12,288 of them are the working copy of the store */
+    OTAP_EXPORT_STACK = 1024,    /* 458 */
+    OTAP_ROW_STACK = 1024,       /* 378 otap_row_number, 394 otap_row_part */
+    OTAP_CONVERSION_STACK = 4096 /* 2,592 at most, of otap_transmit and otap_receive */
 };
 
 /* The numbers. */
@@ -131,7 +147,8 @@ uint64_t otap_export(uint32_t part,
  *   15  scratch_length is under OTAP_SCRATCH_BYTES
  *   11  not a store
  *   17  no such table, no such row, or nothing in it
- * The first that applies, in this order: 15, 11, 17.
+ * The first that applies, in this order: 15, 11, 17. So, with a scratch of OTAP_SCRATCH_BYTES and any row, 11 is answered exactly where the bytes are
+ * no store: that is how power-on knows whether to keep them or to start.
  */
 uint32_t otap_row_number(uint32_t table, uint32_t row,
                          const uint8_t *store, size_t store_length,
@@ -142,7 +159,8 @@ uint32_t otap_row_number(uint32_t table, uint32_t row,
  * A row with a text shows it, where it stands in the store; no byte is touched. A line, group or individual without one shows its number: it is
  * written at the scratch's start (line digits, eight dialled digits, or six upper-case hex digits), and the scratch's other bytes stay.
  * An empty status text is an empty part of the store.
- * Where otap_row_number does not answer 0, the answer is 0 (an empty part) and no byte is touched. The store is only read.
+ * The answer is 0, and no byte is touched, exactly where otap_row_number would not answer 0. So one call is enough for a row: an answer that is not 0 is
+ * a row that is shown, also where its part is empty, and a program that gets 0 may ask otap_row_number why. The store is only read.
  * The part is good until the store or the scratch is next written: see "Screens" above.
  * Unpack with otap_part_in_scratch, otap_part_offset, otap_part_length, or with otap_part_bytes.
  */

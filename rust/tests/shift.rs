@@ -21,9 +21,12 @@ fn shown(row: Row, set: &Set) -> Option<String> {
     }
 }
 
+/// The row of a table at a place.
+type RowAt = fn(usize) -> Row;
+
 /// A line for each table that has rows.
 fn rows(set: &Set) -> String {
-    let tables: [(&str, fn(usize) -> Row); 5] = [
+    let tables: [(&str, RowAt); 5] = [
         ("lines", Row::Line),
         ("quick texts", Row::Quick),
         ("status texts", Row::Status),

@@ -9,7 +9,7 @@ use lib.Dec.{eqb}
 use lib.ListN.{length, getD, drop, take, length-drop}
 use lib.Seq.{drop-cons, drop-drop, drop-at, drop-append-seam}
 use borrow.Author.Tests.{eqb-true, eqb-false, not-true, not-false}
-use Rattle.lists.proofs.Bytes.{Bytes}
+use Rattle.lists.specs.Bytes.{Bytes}
 use Rattle.lists.proofs.Seqs.{cut}
 use Rattle.writing.specs.Fields.{bitsOf, Field, Shows, widths}
 use Rattle.writing.specs.Carrier.{start, carrier, States, Carries, first-byte, Opens}

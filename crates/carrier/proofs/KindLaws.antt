@@ -9,7 +9,8 @@ use lib.Dec.{ltb}
 use lib.ListN.{length, drop}
 use lib.Seq.{drop-append-seam}
 use borrow.Author.Tests.{ltb-true, ltb-false}
-use Rattle.lists.proofs.Bytes.{Bytes, bytes-drop}
+use Rattle.lists.specs.Bytes.{Bytes}
+use Rattle.lists.proofs.Bytes.{bytes-drop}
 use Rattle.lists.proofs.Seqs.{cut}
 use Rattle.writing.specs.Settings.{Hash, unicode16}
 use Rattle.writing.specs.Writing.{request-head}

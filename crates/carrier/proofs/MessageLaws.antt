@@ -6,7 +6,7 @@ use mathlib.Core.List.{List, [], _∷_, _++_, map, append-nil}
 use native.Mathlib.Omega.{arith}
 use lib.ListN.{length, drop, take, length-drop}
 use lib.Seq.{drop-length}
-use Rattle.lists.proofs.Bytes.{Bytes}
+use Rattle.lists.specs.Bytes.{Bytes}
 use Rattle.writing.specs.Fields.{bitsOf, val, res, Shows}
 use Rattle.writing.specs.Settings.{Hash}
 use Rattle.writing.specs.Writing.{request-head}

@@ -3,9 +3,10 @@ use mathlib.Core.List.{[], _∷_}
 use mathlib.Core.Path.{refl}
 use native.Mathlib.Omega.{arith}
 use lib.Dec.{lit≤}
-use Rattle.lists.proofs.Every.{All}
-use Rattle.frequencies.specs.Frequencies.{simplex, paired}
-use Rattle.plan.specs.Numbers.{IndividualShort, of-700, of-350, GroupShort, of-100}
+use Rattle.lists.specs.Every.{All}
+use Rattle.frequencies.specs.Frequencies.{Transmits, simplex, paired}
+use Rattle.plan.specs.Numbers.{Individual, IndividualShort, of-700, of-350, GroupShort, of-100}
+use Rattle.writing.specs.declared.Kind.the-variants.{Home}
 use Rattle.plan.proofs.NumberLaws.{individuals, groups}
 use Rattle.writing.specs.Ranges.{text-limits, InRange}
 use Rattle.writing.specs.Settings.{home}
@@ -15,7 +16,7 @@ use Rattle.tables.specs.Tables.{fresh, with-channels}
 use Rattle.tables.proofs.AllowedLaws.{channels-allowed}
 use Rattle.tables.proofs.FreshLaws.{fresh-allowed}
 use Rattle.cases.specs.Marked.{Holds, two-channels, one-contact, marked}
-use Rattle.cases.proofs.PlanRows.{member, channel}
+use Rattle.cases.proofs.PlanRows.{member, channel, refusal-only, no-channel-0, no-channel-641, no-fleet-19, no-member-550}
 use Rattle.cases.proofs.TakenRows.{taken-row}
 use Rattle.cases.proofs.WritingRows.{digits, setting, out-of-range}
 
@@ -44,14 +45,18 @@ marked-hold =
     then member IndividualShort individuals 806 89 549 32200 tt (of-350 (lit≤ tt) (lit≤ tt) (lit≤ tt) (lit≤ tt) refl)
     then member GroupShort groups 328 20 900 1 tt (of-100 (lit≤ tt) (lit≤ tt) (lit≤ tt) (lit≤ tt) refl)
     then member GroupShort groups 806 89 999 7000 tt (of-100 (lit≤ tt) (lit≤ tt) (lit≤ tt) (lit≤ tt) refl)
+    then refusal-only Individual 20 _ no-fleet-19
+    then refusal-only Individual 20 _ no-member-550
     then channel 240 3610000 (simplex (lit≤ tt) (lit≤ tt) refl)
     then channel 241 3510125 (paired (lit≤ tt) (lit≤ tt) refl)
     then channel 560 3550000 (paired (lit≤ tt) (lit≤ tt) refl)
     then channel 640 3560000 (paired (lit≤ tt) (lit≤ tt) refl)
+    then refusal-only Transmits 22 _ no-channel-0
+    then refusal-only Transmits 22 _ no-channel-641
     then digits (2 ∷ 3 ∷ 4 ∷ 5 ∷ []) _ tt tt refl
     then digits (1 ∷ 2 ∷ 3 ∷ []) _ tt tt refl
     then setting _ _ tt refl (lit≤ tt)
-    then out-of-range (home (record { nzi = 15; np = 807 })) _ tt refl (λ left. omega arith)
+    then out-of-range Home (home (record { nzi = 15; np = 807 })) _ tt refl (λ left. omega arith)
     then setting _ _ tt refl channels-in-range
     then setting _ _ tt refl contact-in-range
     then taken-row two-channels _ _ channel-300 tt channels-in-range refl refl refl tt _ refl

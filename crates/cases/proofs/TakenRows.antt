@@ -8,7 +8,7 @@ use lib.Dec.{T, leb, leb→le}
 use lib.ListN.{length}
 use Rattle.lists.proofs.Bytes.{all-bytes}
 use Rattle.lists.proofs.Every.{all?}
-use Rattle.lists.proofs.Ladder.{Answers}
+use Rattle.lists.specs.Ladder.{Answers}
 use Rattle.writing.specs.Canonical.{canonical}
 use Rattle.writing.specs.Carrier.{RequestOf}
 use Rattle.writing.specs.Ranges.{text-limits, InRange}
@@ -26,7 +26,7 @@ use Rattle.running.specs.Judge.{kept, done, step, taken as all-taken}
 use Rattle.replies.specs.Replies.{reply-bytes}
 use Rattle.running.specs.Requests.{Judged, forget, last-item}
 use Rattle.station.specs.Taking.{replies, settled, taken}
-use Rattle.demands.proofs.Determined.{taken-determined}
+use Rattle.demands.proofs.Determined.{outcome-determined}
 use Rattle.station.proofs.TakeLaws.{request-answers}
 use Rattle.export.specs.Exported.{request-bytes}
 use Rattle.restoring.proofs.Requests.{request-is, request-in-size}
@@ -60,5 +60,5 @@ module _ (s : Setting) (t u : Tables) (ok : Allowed handheld t) (fit : T (all? f
     taken-row message e store buffer holds long =
         subst (λ (x : List ℕ). Only (Answers (taken handheld x store buffer)) (took reply-0 u buffer)) e (record {
           allowed = answers store buffer holds long;
-          alone = λ a p. taken-determined handheld (request-bytes (s ∷ [])) store buffer a (took reply-0 u buffer) p (answers store buffer holds long);
+          alone = λ a p. outcome-determined handheld (request-bytes (s ∷ [])) store buffer a (took reply-0 u buffer) p (answers store buffer holds long);
         })

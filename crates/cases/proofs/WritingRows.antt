@@ -1,17 +1,20 @@
--- Rows of the writing: numbers, settings, and bytes of no setting. Assumes nothing.
+-- Rows of the writing: numbers, settings, and bytes at fault. Assumes nothing.
 use Prim.Native.Nat.{ℕ}
-use mathlib.Core.Path.{_≡_, refl, subst}
-use mathlib.Core.List.{List, []}
+use mathlib.Core.Path.{_≡_, refl, sym, subst}
+use mathlib.Core.List.{List, [], _∷_, _++_}
 use lib.Dec.{T}
 use Rattle.lists.proofs.Every.{all?}
+use Rattle.writing.specs.declared.Kind.{Kind}
 use Rattle.writing.specs.Canonical.{plain, canonical}
 use Rattle.writing.specs.Ranges.{text-limits, InRange}
 use Rattle.writing.specs.Settings.{Setting, unicode16}
-use Rattle.writing.specs.Writing.{number, fields, Written}
+use Rattle.writing.specs.Writing.{number, fields, type-byte, Written}
 use Rattle.writing.proofs.Computed.{fits?, valued?, shown, shown-once, written}
 use Rattle.writing.proofs.Unique.{unique}
 use Rattle.writing.proofs.Whole.{number-whole}
-use Rattle.cases.specs.Marked.{Only, NumberIn, Holds, setting-is, no-setting}
+use Rattle.running.specs.Judge.{unknown, field, room}
+use Rattle.running.specs.Requests.{WrittenIn, Fault}
+use Rattle.cases.specs.Marked.{Only, NumberIn, Holds, setting-is, refused-setting}
 
 -- the only bytes of a number
 pub digits : (ds bytes : List ℕ) → T (all? fits? (number ds)) → T (all? valued? (number ds)) → plain (number ds) ≡ bytes → Only (NumberIn ds) bytes
@@ -30,7 +33,17 @@ only s bytes t e =
 pub setting : (s : Setting) (bytes : List ℕ) → T (all? fits? (fields unicode16 s)) → canonical unicode16 s ≡ bytes → InRange text-limits 0 s → Holds (setting-is s bytes)
 setting s bytes t e r = (only s bytes t e, e, r)
 
--- bytes of a setting that is out of range
-pub out-of-range : (s : Setting) (bytes : List ℕ) → T (all? fits? (fields unicode16 s)) → canonical unicode16 s ≡ bytes
-    → ((left : ℕ) → InRange text-limits left s → ⊥) → Holds (no-setting bytes)
-out-of-range s bytes t e out r left i w = out left (subst (InRange text-limits left) (only s bytes t e .alone r w) i)
+-- bytes of a setting that is out of range: 4, and nothing else, wherever they stand
+pub out-of-range : (k : Kind) (s : Setting) (more : List ℕ) → T (all? fits? (fields unicode16 s)) → canonical unicode16 s ≡ type-byte k ∷ more
+    → ((left : ℕ) → InRange text-limits left s → ⊥) → Holds (refused-setting (type-byte k ∷ more) 4)
+out-of-range k s more t e out m left u rest = record { allowed = field (k, refl) never; alone = alone }
+  where
+    -- no setting in range is written there
+    never : (r : Setting) (w after : List ℕ) → type-byte k ∷ more ++ rest ≡ w ++ after → WrittenIn r w → InRange text-limits left r → ⊥
+    never r w after q (x, _) i =
+        out left (subst (InRange text-limits left) (unique unicode16 r s w (type-byte k ∷ more) after rest x (written unicode16 s (type-byte k ∷ more) t e) (sym q) .0) i)
+
+    alone : (n : ℕ) → Fault m left u (type-byte k ∷ more ++ rest) n → n ≡ 4
+    alone n (unknown strange) = absurd (strange (k, refl))
+    alone n (field known unwritten) = refl
+    alone n (room {w = w} {s = r} after q x i full) = absurd (never r w after q x i)

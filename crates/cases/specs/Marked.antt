@@ -2,11 +2,11 @@
 use Prim.Native.Nat.{ℕ, _≤_, _<_}
 use mathlib.Core.Bool.{true, false}
 use mathlib.Core.Path.{_≡_}
-use mathlib.Core.List.{List, [], _∷_}
+use mathlib.Core.List.{List, [], _∷_, _++_}
 use lib.ListN.{length}
-use Rattle.lists.proofs.Every.{All}
-use Rattle.lists.proofs.Ladder.{Answers}
-use Rattle.plan.specs.Answers.{Answered, given}
+use Rattle.lists.specs.Every.{All}
+use Rattle.lists.specs.Ladder.{Answers}
+use Rattle.plan.specs.Answers.{Answer, Answered, given, refused}
 use Rattle.frequencies.specs.Frequencies.{Transmits}
 use Rattle.plan.specs.Numbers.{Individual, Group}
 use Rattle.writing.specs.declared.LineFlags.{LineFlags}
@@ -16,19 +16,21 @@ use Rattle.writing.specs.Fields.{bitsOf, Shows}
 use Rattle.writing.specs.Ranges.{text-limits, InRange}
 use Rattle.writing.specs.Settings.{Setting, home, channels, lines, unicode16}
 use Rattle.writing.specs.Writing.{number, Written}
+use Rattle.tables.specs.declared.limits.Limits.{Limits}
 use Rattle.tables.specs.Layout.{layout}
 use Rattle.tables.specs.Limits.{handheld}
 use Rattle.tables.specs.Tables.{Line, Tables, fresh, with-channels, with-lines}
+use Rattle.running.specs.Requests.{Fault}
 use Rattle.replies.specs.Replies.{written-over}
 use Rattle.station.specs.Taking.{After, taken}
 
 pub data Case : Type 0 where
-  individual : (dialled address : ℕ) → Case
-  group : (dialled address : ℕ) → Case
-  transmit : (channel frequency : ℕ) → Case
+  individual : (dialled : ℕ) → Answer → Case  -- the only answer: 0 and an address, or a refusal's number
+  group : (dialled : ℕ) → Answer → Case
+  transmit : (channel : ℕ) → Answer → Case
   digits-are : (digits bytes : List ℕ) → Case  -- a number's only bytes
   setting-is : Setting → (bytes : List ℕ) → Case  -- the only setting written as these bytes, which have reserved bits 0; in range as the last one counted
-  no-setting : (bytes : List ℕ) → Case  -- no setting in range is written as these bytes, whatever is still counted after it
+  refused-setting : (bytes : List ℕ) (number : ℕ) → Case  -- where a setting should stand, these bytes are at fault with this number only, whatever the set and whatever follows
   taken-is : (before : Tables) (message reply : List ℕ) (after : Tables) → Case  -- a request to a set with these tables: its reply, and the tables that it leaves
 
 -- this outcome is allowed, and no other
@@ -50,12 +52,12 @@ took reply after buffer = record {
 
 -- what a case claims
 abbrev pub Holds : Case → Type 0
-Holds (individual dialled address) = Only (Answered Individual 20 dialled) (given address)
-Holds (group dialled address) = Only (Answered Group 20 dialled) (given address)
-Holds (transmit channel frequency) = Only (Answered Transmits 22 channel) (given frequency)
+Holds (individual dialled a) = Only (Answered Individual 20 dialled) a
+Holds (group dialled a) = Only (Answered Group 20 dialled) a
+Holds (transmit channel a) = Only (Answered Transmits 22 channel) a
 Holds (digits-are digits bytes) = Only (NumberIn digits) bytes
 Holds (setting-is s bytes) = Only (λ t. Written unicode16 t bytes) s × (canonical unicode16 s ≡ bytes) × InRange text-limits 0 s
-Holds (no-setting bytes) = (s : Setting) (left : ℕ) → InRange text-limits left s → Written unicode16 s bytes → ⊥
+Holds (refused-setting bytes number) = (m : Limits) (left : ℕ) (t : Tables) (rest : List ℕ) → Only (Fault m left t (bytes ++ rest)) number
 Holds (taken-is before message reply after) =
     (store buffer : List ℕ) → store ≡ layout handheld before → 20 ≤ length buffer → Only (Answers (taken handheld message store buffer)) (took reply after buffer)
 
@@ -81,20 +83,24 @@ reply-0 = 0x02 ∷ 0x02 ∷ 0x00 ∷ 0x06 ∷ 0x08 ∷ 0x00 ∷ 0x09 ∷ 0x00 �
 -- the table
 abbrev pub marked : List Case
 marked =
-    individual 32820200 0x100001  -- 1
-    ∷ individual 32841899 0x103C28  -- 2
-    ∷ individual 32842200 0x103C29  -- 3
-    ∷ individual 80689549 0xFF7DC8  -- 4
-    ∷ group 32820900 0x100001  -- 5
-    ∷ group 80689999 0xFF1B58  -- 6
-    ∷ transmit 240 3610000  -- 7
-    ∷ transmit 241 3510125
-    ∷ transmit 560 3550000
-    ∷ transmit 640 3560000
+    individual 32820200 (given 0x100001)  -- 1
+    ∷ individual 32841899 (given 0x103C28)  -- 2
+    ∷ individual 32842200 (given 0x103C29)  -- 3
+    ∷ individual 80689549 (given 0xFF7DC8)  -- 4
+    ∷ group 32820900 (given 0x100001)  -- 5
+    ∷ group 80689999 (given 0xFF1B58)  -- 6
+    ∷ individual 32819200 (refused 20)
+    ∷ individual 32842550 (refused 20)
+    ∷ transmit 240 (given 3610000)  -- 7
+    ∷ transmit 241 (given 3510125)
+    ∷ transmit 560 (given 3550000)
+    ∷ transmit 640 (given 3560000)
+    ∷ transmit 0 (refused 22)
+    ∷ transmit 641 (refused 22)
     ∷ digits-are (2 ∷ 3 ∷ 4 ∷ 5 ∷ []) (0x23 ∷ 0x45 ∷ 0xFF ∷ [])  -- 8
     ∷ digits-are (1 ∷ 2 ∷ 3 ∷ []) (0x12 ∷ 0x3F ∷ [])
     ∷ setting-is (home (record { nzi = 15; np = 806 })) (0xCD ∷ 0x00 ∷ 0x05 ∷ 0x07 ∷ 0xE4 ∷ 0xC0 ∷ [])  -- 9
-    ∷ no-setting (0xCD ∷ 0x00 ∷ 0x05 ∷ 0x07 ∷ 0xE4 ∷ 0xE0 ∷ [])
+    ∷ refused-setting (0xCD ∷ 0x00 ∷ 0x05 ∷ 0x07 ∷ 0xE4 ∷ 0xE0 ∷ []) 4
     ∷ setting-is two-channels (0xCE ∷ 0x00 ∷ 0x07 ∷ 0xC0 ∷ 0x02 ∷ 0x0F ∷ 0x12 ∷ 0x80 ∷ [])  -- the setting of 10
     ∷ setting-is one-contact (0xCA ∷ 0x00 ∷ 0x09 ∷ 0x42 ∷ 0x01 ∷ 0x23 ∷ 0x45 ∷ 0xFF ∷ 0x00 ∷ 0x00 ∷ [])  -- the setting of 11
     ∷ taken-is (with-channels fresh (300 ∷ []))

@@ -1,4 +1,4 @@
-// Runs the cases that document 01 does not mark, one line each: what it is, the number answered and what was left behind.
+// Runs cases that were worked out by hand, one line each: what it is, the number answered and what was left behind.
 mod building;
 mod carrier_cases;
 mod channel_cases;

@@ -4,6 +4,7 @@ use station::answers::Answer;
 use station::answers::Reply;
 use station::answers::failed_id;
 use station::answers::number;
+use writing::Result;
 
 // The hexadecimal digits.
 const HEX: [u8; 16] = *b"0123456789ABCDEF";
@@ -49,7 +50,7 @@ pub(crate) fn hex(bytes: &[u8], length: usize) {
 fn reply_of(answer: Answer) -> Reply {
     match answer {
         Answer::Untouched(_) => Reply {
-            result: 0,
+            result: Result::Taken,
             failed: 0,
             send: false,
             reboot: false,

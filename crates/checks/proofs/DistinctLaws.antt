@@ -9,7 +9,8 @@ use native.Mathlib.Omega.{arith}
 use borrow.Rule.Slice.PartMut.{midOf}
 use lib.ListN.{length, take, drop, length-drop, length-map, take-append-drop}
 use lib.Seq.{drop-drop, length-take-le, take-add, take-all, take-at}
-use Rattle.lists.proofs.Every.{All, all-made, all-turn}
+use Rattle.lists.specs.Every.{All}
+use Rattle.lists.proofs.Every.{all-made, all-turn}
 use Rattle.lists.proofs.Seqs.{cut}
 use Rattle.slots.specs.Slots.{flat, front, indexOf, pad, places, same?, zeros?, fit, Found, KeyAt, Listed}
 use Rattle.slots.proofs.Keys.{key-at, found-known, used-at}

@@ -8,7 +8,7 @@ use native.Mathlib.Omega.{arith}
 use borrow.Rule.Slice.PartMut.{midOf}
 use lib.Dec.{eqb, leb}
 use lib.ListN.{length, take, drop, getD}
-use Rattle.lists.proofs.Bytes.{Bytes}
+use Rattle.lists.specs.Bytes.{Bytes}
 use Rattle.slots.specs.Slots.{zeros?, u16, u24, EntryOf}
 use Rattle.slots.proofs.Numbers.{u16-shown}
 use Rattle.slots.proofs.Pads.{pad-length}

@@ -9,7 +9,8 @@ use borrow.Rule.Slice.PartMut.{midOf}
 use lib.Dec.{eqb, leb}
 use lib.ListN.{length, take, drop, getD, replicate, length-drop, take-append-drop}
 use lib.Seq.{take-all, drop-at, length-take-le}
-use Rattle.lists.proofs.Bytes.{Bytes, bytes-all, bytes-take}
+use Rattle.lists.specs.Bytes.{Bytes}
+use Rattle.lists.proofs.Bytes.{bytes-all, bytes-take}
 use Rattle.slots.specs.Slots.{pad, zeros?, u16, u24, EntryOf}
 use Rattle.slots.proofs.Pads.{pad-is}
 use Rattle.slots.proofs.Runs.{zeros-all, zeros-are}

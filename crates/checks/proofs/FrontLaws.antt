@@ -8,7 +8,7 @@ use Prim.Native.Nat.{ℕ, zero, suc, _+_, _*_, _-_, _≤_, _<_}
 use native.Mathlib.Nat.{not-suc-le-zero, le-of-suc-le-suc, zero-mul}
 use lib.ListN.{length, drop}
 use lib.Seq.{take-at, drop-at, drop-append-add}
-use Rattle.lists.proofs.Every.{All}
+use Rattle.lists.specs.Every.{All}
 use Rattle.slots.specs.Slots.{slot, places, front, zeros?, bytesBefore, Present, PlacesOf, ListOf, Found}
 use Rattle.slots.proofs.Runs.{zeros-all}
 use Rattle.slots.proofs.Tables.{all-front, front-length, front-nil, places-length, places-nil, table-slots}

@@ -10,7 +10,8 @@ use borrow.Rule.Slice.PartMut.{midOf}
 use lib.Dec.{eqb}
 use lib.ListN.{length, drop, getD, length-drop}
 use lib.Seq.{getD-drop, getD-take, length-take-le}
-use Rattle.lists.proofs.Bytes.{Bytes, bytes-drop, bytes-take}
+use Rattle.lists.specs.Bytes.{Bytes}
+use Rattle.lists.proofs.Bytes.{bytes-drop, bytes-take}
 use Rattle.slots.specs.Slots.{u16, u24, EntryOf}
 use Rattle.slots.proofs.Numbers.{u16-of, u16-one, u24-of, u24-one}
 use Rattle.settings.proofs.BodyLaws.{flag-bit}

@@ -11,8 +11,9 @@ use borrow.Author.Tests.{ne-eqb}
 use borrow.Rule.Slice.PartMut.{midOf}
 use lib.ListN.{length, take, drop, getD, length-drop}
 use lib.Seq.{length-take-le}
-use Rattle.lists.proofs.Bytes.{Bytes, bytes-take, bytes-drop}
-use Rattle.lists.proofs.Every.{All}
+use Rattle.lists.specs.Bytes.{Bytes}
+use Rattle.lists.proofs.Bytes.{bytes-take, bytes-drop}
+use Rattle.lists.specs.Every.{All}
 use Rattle.slots.specs.Slots.{flat, pad, slot, places, front, zeros?, u16, Present, EntryOf, SlotOf, PlacesOf, ListOf, Found}
 use Rattle.slots.proofs.Numbers.{u16-of, u16-shown}
 use Rattle.slots.proofs.Runs.{zeros-are}

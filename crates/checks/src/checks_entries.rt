@@ -7,7 +7,7 @@ ghost use mathlib.Core.Bool.{true};
 ghost use mathlib.Core.Logic.{_↔_};
 ghost use Prim.Native.Nat.{ℕ, _+_, _*_, _≤_, _<_};
 ghost use lib.ListN.{length};
-ghost use Rattle.lists.proofs.Every.{All};
+ghost use Rattle.lists.specs.Every.{All};
 ghost use Rattle.slots.specs.Slots.{EntryOf, u16, u24};
 ghost use Rattle.writing.specs.Ranges.{InNumber, InChannel};
 ghost use Rattle.tables.specs.Allowed.{TextOk, QuickOk, StatusOk, AddressOk, LineOk, GroupOk, IndividualOk};

@@ -5,7 +5,8 @@ use mathlib.Core.List.{List, [], _∷_, _++_, append-assoc}
 use mathlib.Core.Option.{Option, none, some, Option·some-injective}
 use native.Mathlib.Omega.{arith}
 use lib.ListN.{length}
-use Rattle.lists.proofs.Bytes.{Bytes, bytes-drop}
+use Rattle.lists.specs.Bytes.{Bytes}
+use Rattle.lists.proofs.Bytes.{bytes-drop}
 use lib.Seq.{drop-at}
 use Rattle.fields.proofs.Parts.{bytes-left}
 use Rattle.writing.specs.Settings.{Setting, Hash, unicode16, lines, key, quick-texts, home, channels, system, status-texts, group, individual, last}

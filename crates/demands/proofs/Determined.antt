@@ -4,7 +4,8 @@ use mathlib.Core.Path.{_≡_, sym, ap, _∙_, subst, subst₂}
 use mathlib.Core.Logic.{_⊎_, inl, inr}
 use mathlib.Core.List.{List, _∷_, _++_}
 use Rattle.lists.proofs.Bytes.{bytes-all}
-use Rattle.lists.proofs.Ladder.{Answers, one-answer}
+use Rattle.lists.specs.Ladder.{Answers}
+use Rattle.lists.proofs.Ladder.{one-answer}
 use Rattle.writing.specs.Ranges.{text-limits, InRange}
 use Rattle.writing.specs.Settings.{Setting, Hash, unicode16, kind}
 use Rattle.writing.proofs.Unique.{unique}
@@ -17,7 +18,9 @@ use Rattle.tables.specs.Tables.{Tables}
 use Rattle.tables.proofs.LayoutLaws.{layout-one}
 use Rattle.running.specs.Judge.{Outcome}
 use Rattle.running.specs.Requests.{WrittenIn, Known, Judged, forget}
-use Rattle.station.specs.Taking.{After, settled, Asked, AsRequest, AsQuery, Handled, taken}
+use Rattle.station.specs.declared.answers.Answer.{Answer}
+use Rattle.station.specs.Taking.{After, leaves, settled, Asked, AsRequest, AsQuery, Handled, taken}
+use Rattle.station.proofs.AnswerLaws.{said-one}
 use Rattle.demands.proofs.JudgeLaws.{determined}
 
 -- no setting's writing starts another's
@@ -59,6 +62,13 @@ module _ (m : Limits) (message store reply : List ℕ) where
       one-outcome (q .tables) a b
       (subst (λ (z : Tables). AsRequest m message store reply z a ⊎ AsQuery m message store reply z a) t (p .comes-to)) (q .comes-to)
 
-  -- DETERMINED: the contract of taking allows one answer, one store and one reply buffer
-  pub taken-determined : (a b : After) → Answers (taken m message store reply) a → Answers (taken m message store reply) b → a ≡ b
-  taken-determined a b p q = one-answer (taken m message store reply) one-handled a b p q
+  -- one number with its values, one store and one reply buffer
+  pub outcome-determined : (a b : After) → Answers (taken m message store reply) a → Answers (taken m message store reply) b → a ≡ b
+  outcome-determined a b p q = one-answer (taken m message store reply) one-handled a b p q
+
+  -- DETERMINED: the contract of taking allows one answer of the code, one store and one reply buffer
+  pub taken-determined : (a b : Answer) (s t r q : List ℕ) → Answers (taken m message store reply) (leaves a s r) → Answers (taken m message store reply) (leaves b t q)
+      → (a ≡ b) × (s ≡ t) × (r ≡ q)
+  taken-determined a b s t r q x y =
+      let e = outcome-determined (leaves a s r) (leaves b t q) x y in
+      (said-one a b (ap (λ (z : After). z .answer) e), ap (λ (z : After). z .store) e, ap (λ (z : After). z .reply) e)

@@ -6,8 +6,8 @@ use mathlib.Core.Bool.{Bool, true, false}
 use mathlib.Core.List.{List, [], _++_, append-nil, nil≢cons}
 use native.Mathlib.Omega.{arith}
 use lib.ListN.{length}
-use Rattle.lists.proofs.Bytes.{Bytes}
-use Rattle.lists.proofs.Ladder.{Answers}
+use Rattle.lists.specs.Bytes.{Bytes}
+use Rattle.lists.specs.Ladder.{Answers}
 use Rattle.writing.specs.Carrier.{Counted}
 use Rattle.writing.specs.Fields.{bitsOf, Shows}
 use Rattle.writing.specs.Ranges.{text-limits, InRange}

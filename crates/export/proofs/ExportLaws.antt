@@ -6,7 +6,7 @@ use mathlib.Core.List.{List, _++_}
 use native.Mathlib.Nat.{zero-add}
 use native.Mathlib.Omega.{arith}
 use lib.ListN.{length, drop}
-use Rattle.lists.proofs.Ladder.{Answers}
+use Rattle.lists.specs.Ladder.{Answers}
 use Rattle.writing.specs.Settings.{Setting}
 use Rattle.tables.specs.declared.limits.Limits.{Limits}
 use Rattle.tables.specs.Store.{StoreOf, Holds}
@@ -15,9 +15,8 @@ use Rattle.export.specs.declared.parts.Part.{Part}
 use Rattle.writers.specs.declared.writers.Settings.{Settings}
 use Rattle.export.specs.Exported.{part-number, exported, request-bytes}
 use Rattle.export.specs.Exporting.{exporting, stays, writes}
-use Rattle.export.specs.PartWriters.{PartWritten}
+use Rattle.export.specs.PartWriters.{PartWritten, Headed}
 use Rattle.writers.specs.Writers.{Wrote}
-use Rattle.export.specs.PartWriters.{Headed}
 
 module _ (m : Limits) (part : ℕ) (store buffer : List ℕ) where
   -- "15"

@@ -4,7 +4,7 @@ use mathlib.Core.Path.{_≡_, refl, sym, _∙_, subst}
 use mathlib.Core.List.{List, [], _∷_}
 use native.Mathlib.Omega.{arith}
 use lib.ListN.{length, getD, drop, take}
-use Rattle.lists.proofs.Bytes.{Bytes}
+use Rattle.lists.specs.Bytes.{Bytes}
 use Rattle.fields.specs.Places.{PartAt, be}
 use Rattle.fields.specs.Entries.{channel-list}
 use Rattle.fields.proofs.Heads.{be-turn, be-small, three-bytes}

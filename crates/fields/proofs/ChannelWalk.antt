@@ -4,8 +4,9 @@ use mathlib.Core.Path.{_≡_, refl, sym, ap, ap₂, _∙_, subst}
 use mathlib.Core.List.{List, [], _∷_, _++_, append-nil}
 use native.Mathlib.Omega.{arith}
 use lib.ListN.{length, getD, drop, take, length-append}
-use Rattle.lists.proofs.Bytes.{Bytes}
-use Rattle.lists.proofs.Every.{All, all-append, all-right}
+use Rattle.lists.specs.Bytes.{Bytes}
+use Rattle.lists.specs.Every.{All}
+use Rattle.lists.proofs.Every.{all-append, all-right}
 use Rattle.writing.specs.Fields.{Field, val}
 use Rattle.writing.specs.Ranges.{InChannel}
 use Rattle.writing.proofs.Bits.{length-bitsOf}

@@ -5,7 +5,7 @@ use mathlib.Core.List.{List, [], _∷_, _++_}
 use native.Mathlib.Nat.{mod-eq-of-lt}
 use native.Mathlib.Omega.{arith}
 use lib.ListN.{length, drop, take}
-use Rattle.lists.proofs.Bytes.{Bytes}
+use Rattle.lists.specs.Bytes.{Bytes}
 use Rattle.writing.specs.Fields.{Field, val, res, widths}
 use Rattle.writing.specs.Ranges.{TextLimits, InContact, InNumber}
 use Rattle.writing.specs.Settings.{Coding, Contact, Entry, unicode16}

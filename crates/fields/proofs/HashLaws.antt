@@ -6,7 +6,7 @@ use mathlib.Core.List.{List, [], _∷_, _++_, map, nil≢cons}
 use native.Mathlib.Omega.{arith}
 use lib.ListN.{length, drop, take, length-append, length-drop, take-append-drop}
 use lib.Seq.{length-take-le, take-at}
-use Rattle.lists.proofs.Bytes.{Bytes}
+use Rattle.lists.specs.Bytes.{Bytes}
 use Rattle.lists.proofs.Seqs.{cut}
 use Rattle.writing.specs.Fields.{bits, bitsOf, val, Shows}
 use Rattle.writing.specs.Ranges.{HashSize, no-hash, hash-4, hash-10}

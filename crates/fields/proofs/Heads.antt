@@ -9,7 +9,7 @@ use lib.ListN.{length, getD, drop, take, length-append, length-drop, take-append
 use lib.Seq.{length-take-le, take-at, take-suc, getD-drop}
 use lib.Pow.{high, low, pow-add, pow-mono}
 use lib.Arith.{digits-lt}
-use Rattle.lists.proofs.Bytes.{Bytes}
+use Rattle.lists.specs.Bytes.{Bytes}
 use Rattle.writing.specs.Fields.{bits, bitsOf, Field, width, Holds, Shows, widths}
 use Rattle.writing.proofs.Bits.{bits-split, bits-cong, peel, put}
 use Rattle.fields.specs.Places.{PartAt, be}

@@ -4,7 +4,8 @@ use mathlib.Core.Path.{_≡_, refl, sym, ap, _∙_, subst, subst⁻¹}
 use mathlib.Core.List.{List, [], _∷_, _++_, append-assoc, append-nil}
 use native.Mathlib.Omega.{arith}
 use lib.ListN.{length, length-append}
-use Rattle.lists.proofs.Every.{All, all-append, all-right}
+use Rattle.lists.specs.Every.{All}
+use Rattle.lists.proofs.Every.{all-append, all-right}
 use Rattle.writing.specs.Fields.{bitsOf, Field, Shows, widths, each}
 use Rattle.writing.proofs.Bits.{bitsOf-append, length-bitsOf}
 use Rattle.writing.proofs.Ends.{Agree, Ends, all-read}

@@ -4,7 +4,7 @@ use mathlib.Core.Path.{_≡_}
 use mathlib.Core.List.{List, _++_, map}
 use mathlib.Core.Bool.{Bool, true, false}
 use lib.ListN.{length}
-use Rattle.lists.proofs.Every.{All}
+use Rattle.lists.specs.Every.{All}
 use Rattle.writing.specs.Fields.{Field, val, each}
 use Rattle.writing.specs.Settings.{Coding, Contact, Entry}
 use Rattle.writing.specs.Writing.{contact, quick-text, status-text, fill}

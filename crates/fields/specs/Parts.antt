@@ -4,7 +4,7 @@ use mathlib.Core.Path.{_≡_}
 use mathlib.Core.Logic.{_≢_, _⊎_}
 use mathlib.Core.List.{List}
 use lib.ListN.{length}
-use Rattle.lists.proofs.Every.{All}
+use Rattle.lists.specs.Every.{All}
 use Rattle.writing.specs.Fields.{Field, each}
 use Rattle.writing.specs.Settings.{Coding, Contact, Entry, Text, Number}
 use Rattle.writing.specs.Writing.{text, number, contact, quick-text, status-text, fill}

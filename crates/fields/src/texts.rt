@@ -1,4 +1,4 @@
-// Texts at a place of a message. Only this file knows how units are coded.
+// Texts at a place of a message. Of the readers, only this file knows how units are coded.
 use super::bytes::number;
 use super::bytes::remaining;
 ghost use Rattle.fields.specs.Parts.{TextAt};

@@ -5,7 +5,7 @@ use mathlib.Core.Logic.{inl, inr}
 use mathlib.Core.List.{List}
 use native.Mathlib.Omega.{arith}
 use lib.ListN.{length}
-use Rattle.lists.proofs.Ladder.{Answers}
+use Rattle.lists.specs.Ladder.{Answers}
 use Rattle.tables.specs.Limits.{handheld}
 use Rattle.export.specs.declared.parts.Export.{Export}
 use Rattle.export.specs.declared.parts.Export.the-variants.{Written, Untouched}

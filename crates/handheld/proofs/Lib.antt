@@ -2,3 +2,4 @@ pub mod ExportBits
 pub mod Packed
 pub mod RowBits
 pub mod Theorems
+pub mod ShownPart

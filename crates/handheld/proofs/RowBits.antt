@@ -3,7 +3,7 @@ use Prim.Native.Nat.{ℕ, _+_, _*_, _<_}
 use mathlib.Core.Path.{_≡_, sym, subst}
 use mathlib.Core.List.{List}
 use native.Mathlib.Omega.{arith}
-use Rattle.lists.proofs.Ladder.{Answers}
+use Rattle.lists.specs.Ladder.{Answers}
 use Rattle.tables.specs.Layout.{Roomy}
 use Rattle.tables.specs.Limits.{handheld}
 use Rattle.row_names.specs.declared.rows.Refusal.{Refusal}

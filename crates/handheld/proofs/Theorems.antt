@@ -8,15 +8,16 @@ use Rattle.plan.specs.Answers.{Answer}
 use Rattle.plan.proofs.AnswerLaws.{One, determined as value-determined}
 use Rattle.writing.specs.Writing.{bit}
 use Rattle.tables.specs.Limits.{handheld}
-use Rattle.tables.proofs.Theorems.{start-determined}
-use Rattle.station.specs.Answers.{Said, started}
+use Rattle.tables.specs.Store.{Begun}
+use Rattle.tables.proofs.Theorems.{begun-determined}
+use Rattle.station.specs.Answers.{Said}
 use Rattle.station.specs.Taking.{After}
-use Rattle.demands.proofs.Determined.{taken-determined}
+use Rattle.demands.proofs.Determined.{outcome-determined}
 use Rattle.export.specs.Exporting.{Told, After as Exported}
-use Rattle.export.proofs.Determined.{determined as export-determined}
+use Rattle.export.proofs.Determined.{outcome-determined as export-determined}
 use Rattle.row_names.specs.Rows.{row-named}
 use Rattle.screen.specs.Screen.{Part, of-store, of-scratch, After as Row}
-use Rattle.screen.proofs.Determined.{shown-determined, number-determined}
+use Rattle.screen.proofs.Determined.{shown-determined, number-one}
 use Rattle.handheld.specs.Packing.{Starts, packed, Packs, Takes, packed-export, PacksExport, Exports, Numbers, packed-part, start-of, length-of, PacksPart, Shows, packed-value, PacksValue, Converts}
 
 -- ---- one answer
@@ -24,12 +25,12 @@ use Rattle.handheld.specs.Packing.{Starts, packed, Packs, Takes, packed-
 -- STARTING: one number, and one store afterwards
 pub starts-determined : (s t u : List ℕ) (r q : ℕ) → Starts s t r → Starts s u q → (r ≡ q) × (t ≡ u)
 starts-determined s t u r q x y =
-    let (e, d) = start-determined handheld s t u (x .did) (y .did) (x .allowed) (y .allowed) in (x .number ∙ ap started e ∙ sym (y .number), d)
+    let e = begun-determined handheld s _ _ x y in (ap (λ (a : Begun). a .number) e, ap (λ (a : Begun). a .store) e)
 
 -- TAKING: one number, one store and one reply afterwards
 pub takes-determined : (message store reply s t u v : List ℕ) (r q : ℕ) → Takes message store reply s t r → Takes message store reply u v q → (r ≡ q) × (s ≡ u) × (t ≡ v)
 takes-determined message store reply s t u v r q x y =
-    let e = taken-determined handheld message store reply _ _ (x .allowed) (y .allowed) in (
+    let e = outcome-determined handheld message store reply _ _ (x .allowed) (y .allowed) in (
       x .packs .bits ∙ ap (λ (a : After). packed (a .answer)) e ∙ sym (y .packs .bits),
       ap (λ (a : After). a .store) e,
       ap (λ (a : After). a .reply) e,
@@ -45,7 +46,7 @@ exports-determined part store buffer s t r q x y =
 
 -- A ROW'S NUMBER: one
 pub numbers-determined : (table row : ℕ) (store scratch : List ℕ) (r q : ℕ) → Numbers table row store scratch r → Numbers table row store scratch q → r ≡ q
-numbers-determined table row store scratch = number-determined handheld store scratch (row-named table row)
+numbers-determined table row store scratch = number-one handheld store scratch (row-named table row)
 
 -- A ROW: one number, and one scratch afterwards
 pub shows-determined : (table row : ℕ) (store scratch s t : List ℕ) (r q : ℕ) → Shows table row store scratch s r → Shows table row store scratch t q → (r ≡ q) × (s ≡ t)

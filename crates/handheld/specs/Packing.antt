@@ -2,13 +2,12 @@
 use Prim.Native.Nat.{ℕ, _+_, _*_, _<_}
 use mathlib.Core.Path.{_≡_}
 use mathlib.Core.List.{List}
-use Rattle.lists.proofs.Ladder.{Answers}
+use Rattle.lists.specs.Ladder.{Answers}
 use Rattle.plan.specs.Answers.{Answer, Answered}
 use Rattle.writing.specs.Writing.{bit}
 use Rattle.tables.specs.Limits.{handheld}
-use Rattle.tables.specs.declared.start.Started.{Started}
-use Rattle.tables.specs.Store.{StartedAs}
-use Rattle.station.specs.Answers.{Said, started}
+use Rattle.tables.specs.Store.{starting}
+use Rattle.station.specs.Answers.{Said}
 use Rattle.station.specs.Taking.{taken}
 use Rattle.export.specs.Exporting.{Told, exporting}
 use Rattle.row_names.specs.Rows.{row-named}
@@ -16,11 +15,9 @@ use Rattle.screen.specs.Screen.{Part, of-store, of-scratch, showing, numbering}
 
 -- ---- starting
 
--- the number of what starting did
-pub record Starts (before after : List ℕ) (r : ℕ) : Type 0 where
-  pub did : Started
-  pub allowed : StartedAs handheld before after did
-  pub number : r ≡ started did
+-- the number that starting answers
+abbrev pub Starts : (before after : List ℕ) (r : ℕ) → Type 0
+Starts before after r = Answers (starting handheld before) (record { number = r; store = after })
 
 -- ---- taking
 

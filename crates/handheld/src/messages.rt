@@ -1,4 +1,5 @@
 // Stores and messages.
+use replies::replies::result_number;
 use station::answers::Answer;
 use station::answers::refusal_number;
 use station::handheld::start;
@@ -34,7 +35,8 @@ fn pack(answer: Answer) -> u64
     match answer {
         Answer::Untouched(refusal) => refusal_number(refusal) as u64,
         Answer::Replied(reply) => {
-            reply.result as u64
+            let result = reply.result;
+            result_number(result) as u64
                 + reply.failed as u64 * 256
                 + bit_of(reply.send) * 65536
                 + bit_of(reply.reboot) * 131072

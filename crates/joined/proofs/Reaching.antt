@@ -9,8 +9,8 @@ use native.Mathlib.Omega.{arith}
 use borrow.Author.Tests.{eqb-true, eqb-false, ltb-true, ltb-false}
 use lib.Dec.{eqb, ltb}
 use lib.ListN.{length}
-use Rattle.lists.proofs.Bytes.{Bytes}
-use Rattle.lists.proofs.Ladder.{Answers}
+use Rattle.lists.specs.Bytes.{Bytes}
+use Rattle.lists.specs.Ladder.{Answers}
 use Rattle.writing.specs.Carrier.{InSize}
 use Rattle.writing.specs.Settings.{Setting, unicode16}
 use Rattle.writing.specs.Writing.{WrittenAll}
@@ -19,7 +19,7 @@ use Rattle.carrier.proofs.KindLaws.{request-opens, opens-no-query, in-size}
 use Rattle.tables.specs.declared.limits.Limits.{Limits}
 use Rattle.tables.specs.Allowed.{Allowed}
 use Rattle.tables.specs.Layout.{Roomy}
-use Rattle.tables.specs.Store.{StoreOf, Holds}
+use Rattle.tables.specs.Store.{Begun, StoreOf, Holds}
 use Rattle.tables.specs.Tables.{Tables, fresh}
 use Rattle.tables.proofs.AllowedLaws.{apply-allowed, forget-allowed}
 use Rattle.tables.proofs.FreshLaws.{fresh-allowed}
@@ -141,7 +141,8 @@ module _ (m : Limits) (message store reply : List ℕ) (b : Bytes message) (s : 
 
 -- REACHED: the store is that of the tables after the settings taken, in order
 pub reached-holds : (m : Limits) (log : List (List Setting)) (store : List ℕ) → Reached m log store → (t : Tables) × Roomy m × Holds m t store × InOrder m fresh log t
-reached-holds m log store (from-start before (size, roomy, e)) = (fresh, roomy, (fresh-allowed m, e), refl)
+reached-holds m log store (from-start before (inl (_, e))) = absurd (omega (arith, ap (λ (x : Begun). x .number) e))
+reached-holds m log store (from-start before (inr (_, (size, roomy, e)))) = (fresh, roomy, (fresh-allowed m, ap (λ (x : Begun). x .store) e), refl)
 reached-holds m log store (then-message {log = old} {store = was} {message} {reply} x r b a (its-settings {l} k)) =
     let (t, roomy, holds, order) = reached-holds m old was r in
     let e : k .before ≡ t = one-tables m was (k .before) t (k .passes .holds) holds in (

@@ -6,15 +6,15 @@ use mathlib.Core.List.{List, [], _∷_, _++_}
 use mathlib.Core.Option.{Option, none, some}
 use lib.Dec.{eqb}
 use lib.ListN.{length}
-use Rattle.lists.proofs.Bytes.{Bytes}
-use Rattle.lists.proofs.Every.{All}
-use Rattle.lists.proofs.Ladder.{Answers}
+use Rattle.lists.specs.Bytes.{Bytes}
+use Rattle.lists.specs.Every.{All}
+use Rattle.lists.specs.Ladder.{Answers}
 use Rattle.writing.specs.Settings.{Setting, unicode16, lines, key, quick-texts, home, channels, system, status-texts, group, individual, last}
 use Rattle.writing.specs.Writing.{WrittenAs}
 use Rattle.tables.specs.declared.limits.Limits.{Limits}
 use Rattle.tables.specs.declared.start.Started.the-variants.{Fresh}
 use Rattle.tables.specs.Apply.{slot-after}
-use Rattle.tables.specs.Store.{StartedAs}
+use Rattle.tables.specs.Store.{starting, begins}
 use Rattle.tables.specs.Tables.{Tables, GroupMember, IndividualMember}
 use Rattle.demands.specs.Demands.{InTurn, Passes}
 use Rattle.running.specs.Requests.{forget}
@@ -38,7 +38,7 @@ pub data Adds (m : Limits) (message store reply : List ℕ) : List (List Setting
 
 -- "any sequence of messages from a start" took these lists of settings and left this store
 pub data Reached (m : Limits) : List (List Setting) → List ℕ → Type 0 where
-  from-start : (before : List ℕ) {store : List ℕ} → StartedAs m before store Fresh → Reached m [] store
+  from-start : (before : List ℕ) {store : List ℕ} → Answers (starting m before) (begins Fresh store) → Reached m [] store
   then-message : {log added : List (List Setting)} {store message reply : List ℕ} (x : After) → Reached m log store → Bytes message
       → Answers (taken m message store reply) x → Adds m message store reply added → Reached m (log ++ added) (x .store)
 

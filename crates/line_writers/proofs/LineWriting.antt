@@ -9,7 +9,8 @@ use native.Mathlib.Omega.{arith}
 use borrow.Rule.Slice.PartMut.{midOf}
 use lib.ListN.{length, getD, take, drop, drop-of-length-le}
 use lib.Seq.{take-all, drop-at, drop-cons}
-use Rattle.lists.proofs.Every.{All, all-get, all-append}
+use Rattle.lists.specs.Every.{All}
+use Rattle.lists.proofs.Every.{all-get, all-append}
 use Rattle.slots.specs.Slots.{front, slot, zeros?, Listed, Placed, Found}
 use Rattle.slots.proofs.Keys.{used-at}
 use Rattle.slots.proofs.Tables.{all-front, front-length, place-read}

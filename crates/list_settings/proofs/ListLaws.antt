@@ -4,7 +4,8 @@ use mathlib.Core.Path.{_≡_, refl, sym, subst}
 use mathlib.Core.List.{List, [], _∷_}
 use native.Mathlib.Omega.{arith}
 use lib.ListN.{length}
-use Rattle.lists.proofs.Every.{All, all-turn}
+use Rattle.lists.specs.Every.{All}
+use Rattle.lists.proofs.Every.{all-turn}
 use Rattle.writing.specs.declared.Kind.the-variants.{Lines, QuickTexts, Channels, StatusTexts}
 use Rattle.writing.specs.declared.Operation.{Operation}
 use Rattle.writing.specs.declared.Operation.the-variants.{Add, Delete, Replace}

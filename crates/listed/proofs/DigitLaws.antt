@@ -6,7 +6,7 @@ use native.Mathlib.Nat.{not-suc-le-zero, le-of-suc-le-suc}
 use native.Mathlib.Omega.{arith}
 use lib.ListN.{length, take, drop, getD, set, List·getD-eq-default, length-map, drop-of-length-le}
 use lib.Seq.{take-all}
-use Rattle.lists.proofs.Bytes.{Bytes}
+use Rattle.lists.specs.Bytes.{Bytes}
 use Rattle.lists.proofs.Seqs.{getD-map}
 use Rattle.slots.specs.Slots.{pad}
 use Rattle.slots.proofs.Pads.{pad-length}

@@ -8,8 +8,8 @@ use native.Mathlib.Omega.{arith}
 use borrow.Author.Tests.{lt-ltb, le-ltb}
 use borrow.Rule.Slice.PartMut.{putMid, midOf}
 use lib.ListN.{length, take, drop, replicate, length-append}
-use Rattle.lists.proofs.Bytes.{Bytes}
-use Rattle.lists.proofs.Every.{All}
+use Rattle.lists.specs.Bytes.{Bytes}
+use Rattle.lists.specs.Every.{All}
 use Rattle.slots.specs.Slots.{same?, fit, indexOf, putAt, KeyAt, Found, Removed}
 use Rattle.slots.proofs.Keys.{key-removed, key-room, key-full, key-put, found-known}
 use Rattle.slots.proofs.Pads.{pad-length}

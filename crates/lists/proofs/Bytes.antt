@@ -8,11 +8,9 @@ use borrow.Author.Tests.{ltb-true, ltb-false}
 use lib.Dec.{ltb}
 use lib.ListN.{getD, take, drop, replicate, length-take, List·getD-eq-default}
 use lib.Seq.{getD-take, getD-drop}
-use Rattle.lists.proofs.Every.{All, all-replicate}
-
--- every element is a byte
-abbrev pub Bytes : List ℕ → Type 0
-Bytes l = (i : ℕ) → getD l i 0 < 256
+use Rattle.lists.specs.Bytes.{Bytes}
+use Rattle.lists.specs.Every.{All}
+use Rattle.lists.proofs.Every.{all-replicate}
 
 -- what stands from a place on is bytes
 pub bytes-drop : (n : ℕ) (l : List ℕ) → Bytes l → Bytes (drop n l)

@@ -8,11 +8,7 @@ use native.Mathlib.Numerals.{add-one}
 use lib.Dec.{T}
 use lib.ListN.{getD, drop, length, set, take, replicate}
 use lib.Seq.{drop-cons}
-
--- every element of the list has P
-abbrev pub All : {A : Type 0} → (A → Type 0) → List A → Type 0
-All P [] = Unit {0}
-All P (x ∷ xs) = P x × All P xs
+use Rattle.lists.specs.Every.{All}
 
 -- every element of two lists, one after the other
 pub all-append : {A : Type 0} (P : A → Type 0) (a b : List A) → All P a → All P b → All P (a ++ b)

@@ -4,3 +4,4 @@ pub mod Every
 pub mod Table
 pub mod Seqs
 pub mod Ladder
+pub mod OneToOne

@@ -1,1 +1,1 @@
-// Laws on lists and numbers that the kit lacks: proofs/ has them, and there is no code.
+// Ladders of answers and properties of lists (specs/), and laws that the kit lacks (proofs/). There is no code.

@@ -6,7 +6,8 @@ use mathlib.Core.Option.{Option, none}
 use native.Mathlib.Omega.{arith}
 use borrow.Rule.Slice.PartMut.{putMid, midOf}
 use lib.ListN.{length, set, getD, replicate, length-replicate}
-use Rattle.lists.proofs.Every.{All, all-get}
+use Rattle.lists.specs.Every.{All}
+use Rattle.lists.proofs.Every.{all-get}
 use Rattle.slots.specs.Slots.{slot, Present, Placed}
 use Rattle.slots.proofs.Tables.{place-read, place-written, places-length, places-nil, all-front, front-nil}
 use Rattle.writing.specs.declared.Operation.{Operation}

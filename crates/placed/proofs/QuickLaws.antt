@@ -7,8 +7,8 @@ use mathlib.Core.Option.{Option, none, some}
 use native.Mathlib.Omega.{arith}
 use borrow.Rule.Slice.PartMut.{putMid, midOf}
 use lib.ListN.{length, set, getD, replicate}
-use Rattle.lists.proofs.Bytes.{Bytes}
-use Rattle.lists.proofs.Every.{All}
+use Rattle.lists.specs.Bytes.{Bytes}
+use Rattle.lists.specs.Every.{All}
 use Rattle.slots.specs.Slots.{zeros?, Present}
 use Rattle.slots.proofs.Runs.{zeros-all}
 use Rattle.slots.proofs.Tables.{slot-long, place-fits}

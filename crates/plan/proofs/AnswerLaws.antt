@@ -1,7 +1,10 @@
 -- Which answers are right: one at most, and the same under another name of the question. Assumes nothing.
 use Prim.Native.Nat.{ℕ}
 use mathlib.Core.Path.{_≡_, sym, ap, _∙_}
-use Rattle.plan.specs.Answers.{Answer, Answered, has, none, given, refused, Back, BothWays}
+use mathlib.Core.List.{[], _∷_}
+use lib.ListN.{getD}
+use Rattle.lists.proofs.OneToOne.{decoded}
+use Rattle.plan.specs.Answers.{Said, Answer, answer, Answered, has, none, given, refused, Back, BothWays}
 
 -- x has one value at most
 abbrev pub One : (ℕ → ℕ → Type 0) → Type 0
@@ -13,6 +16,16 @@ determined Has one refusal x a b (has y p e) (has z q d) = e ∙ ap given (one x
 determined Has one refusal x a b (has y p e) (none n d) = absurd (n y p)
 determined Has one refusal x a b (none n e) (has z q d) = absurd (n z q)
 determined Has one refusal x a b (none n e) (none k d) = e ∙ sym d
+
+-- the case of an answer with this number and value
+abbrev pub case-of : {A : Type 0} → (ℕ → A) → A → Answer → A
+case-of give refuse a = getD (give (a .value) ∷ []) (a .number) refuse
+
+-- two right answers of the code are the same case, where number and value say which it is
+pub case-determined : (Has : ℕ → ℕ → Type 0) → One Has → (refusal : ℕ) {A : Type 0} (say : A → Said) (give : ℕ → A) (refuse : A)
+    → ((a : A) → case-of give refuse (answer (say a)) ≡ a) → (x : ℕ) (a b : A) → Answered Has refusal x (answer (say a)) → Answered Has refusal x (answer (say b)) → a ≡ b
+case-determined Has one refusal say give refuse back x a b p q =
+    decoded (λ c. answer (say c)) (case-of give refuse) back a b (determined Has one refusal x (answer (say a)) (answer (say b)) p q)
 
 -- a right answer to a question is right of another that has the same values
 pub carried : {Has Has′ : ℕ → ℕ → Type 0} {refusal x x′ : ℕ} {a : Answer}

@@ -7,7 +7,7 @@ use mathlib.Core.List.{List, [], _∷_, map}
 use native.Mathlib.Omega.{arith}
 use borrow.Rule.Slice.PartMut.{midOf}
 use lib.ListN.{length, getD, take, drop}
-use Rattle.lists.proofs.Bytes.{Bytes}
+use Rattle.lists.specs.Bytes.{Bytes}
 use Rattle.slots.specs.Slots.{same?}
 use Rattle.slots.proofs.Runs.{same-are, same-refl}
 use Rattle.writing.specs.Fields.{val}

@@ -8,8 +8,10 @@ use borrow.Rule.Slice.PartMut.{midOf, postOf, putMid, mid-len}
 use Rattle.slots.proofs.Runs.{copy-whole}
 use lib.ListN.{length, getD, take, drop, replicate, length-append, length-drop}
 use lib.Seq.{take-at, drop-at, take-all, drop-drop}
-use Rattle.lists.proofs.Bytes.{Bytes, all-bytes}
-use Rattle.lists.proofs.Every.{All, all-made, all-turn}
+use Rattle.lists.specs.Bytes.{Bytes}
+use Rattle.lists.proofs.Bytes.{all-bytes}
+use Rattle.lists.specs.Every.{All}
+use Rattle.lists.proofs.Every.{all-made, all-turn}
 use Rattle.slots.proofs.Pads.{pad-is, pad-length}
 use Rattle.writing.specs.Canonical.{plain, FitsField}
 use Rattle.writing.specs.Carrier.{carrier, reply}

@@ -2,9 +2,26 @@
 use carrier::carrier::START;
 use fields::hashes::hash_size;
 use slots::bytes::copy;
+use writing::Result;
+ghost use mathlib.Core.Path.{_≡_};
 ghost use Prim.Native.Nat.{_≤_};
 ghost use lib.ListN.{length};
+ghost use Rattle.writing.specs.Carrier.{result-number};
 ghost use Rattle.replies.specs.Replies.{ReplyWritten};
+
+// CfgResult of a result.
+pub fn result_number(result: Result) -> u8
+    ensures { λ r. ⌜ r ≡ result-number result ⌝ }
+{
+    match result {
+        Result::Taken => 0,
+        Result::OtherVersion => 1,
+        Result::NoRoom => 2,
+        Result::UnknownType => 3,
+        Result::BadField => 4,
+        Result::NoMatch => 5,
+    }
+}
 
 // The reply with this result and failed ID that carries the hash kept in these 11 bytes; its length, or 0 where a buffer is too short for it.
 pub fn write_reply(reply: &mut [u8], result: u8, failed: u8, hash: &[u8]) -> u8

@@ -5,7 +5,8 @@ use mathlib.Core.List.{List, [], _∷_, map}
 use mathlib.Core.Option.{Option, none, some}
 use native.Mathlib.Omega.{arith}
 use lib.ListN.{length, take, drop, length-append, length-take, length-drop, length-map, take-append-drop}
-use Rattle.lists.proofs.Every.{All, all-map, all-right, all-take}
+use Rattle.lists.specs.Every.{All}
+use Rattle.lists.proofs.Every.{all-map, all-right, all-take}
 use Rattle.slots.specs.Slots.{Present}
 use Rattle.writing.specs.declared.Operation.{Operation}
 use Rattle.writing.specs.declared.Operation.the-variants.{Add, Delete}

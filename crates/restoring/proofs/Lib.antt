@@ -6,3 +6,4 @@ pub mod Restored
 pub mod ExportedBytes
 pub mod RestoreLaws
 pub mod Determined
+pub mod StandardRequests

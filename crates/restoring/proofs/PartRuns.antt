@@ -7,7 +7,7 @@ use native.Mathlib.Omega.{arith}
 use lib.ListN.{length, set, take, drop, replicate, length-append, take-append-drop}
 use lib.Seq.{append-snoc, set-at, getD-at}
 use Rattle.lists.proofs.Bytes.{all-bytes}
-use Rattle.lists.proofs.Every.{All}
+use Rattle.lists.specs.Every.{All}
 use Rattle.writing.specs.declared.Operation.{Operation}
 use Rattle.writing.specs.declared.Operation.the-variants.{Add, Delete}
 use Rattle.writing.specs.Canonical.{Fits, canonical, canonical-all}

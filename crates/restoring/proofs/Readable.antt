@@ -7,7 +7,8 @@ use mathlib.Core.List.{List, [], _∷_, _++_, map}
 use mathlib.Core.Option.{none}
 use native.Mathlib.Omega.{arith}
 use lib.ListN.{length}
-use Rattle.lists.proofs.Every.{All, all-append, all-map, all-turn}
+use Rattle.lists.specs.Every.{All}
+use Rattle.lists.proofs.Every.{all-append, all-map, all-turn}
 use Rattle.writing.specs.declared.HomeNumbers.{HomeNumbers}
 use Rattle.writing.specs.declared.KeyFlags.{KeyFlags}
 use Rattle.writing.specs.declared.KeyTarget.{KeyTarget}

@@ -7,7 +7,7 @@ use native.Mathlib.Omega.{arith}
 use borrow.Rule.Slice.PartMut.{midOf}
 use lib.ListN.{length, getD, take, drop, length-append}
 use lib.Seq.{take-suc, take-append-seam, drop-append-seam}
-use Rattle.lists.proofs.Ladder.{Answers}
+use Rattle.lists.specs.Ladder.{Answers}
 use Rattle.tables.specs.Layout.{Roomy}
 use Rattle.tables.specs.Limits.{handheld}
 use Rattle.tables.specs.Store.{Holds}

@@ -5,8 +5,8 @@ use mathlib.Core.Bool.{false}
 use mathlib.Core.List.{List, [], _∷_}
 use mathlib.Core.Option.{Option, none}
 use lib.ListN.{length}
-use Rattle.lists.proofs.Every.{All}
-use Rattle.lists.proofs.Ladder.{Answers}
+use Rattle.lists.specs.Every.{All}
+use Rattle.lists.specs.Ladder.{Answers}
 use Rattle.writing.specs.Canonical.{canonical-all}
 use Rattle.writing.specs.Settings.{Setting, unicode16}
 use Rattle.tables.specs.declared.limits.Limits.{Limits}
@@ -19,7 +19,7 @@ use Rattle.tables.proofs.LayoutLaws.{holds-store, layout-one}
 use Rattle.running.specs.Judge.{kept, taken as all-taken}
 use Rattle.running.specs.Requests.{forget, item-of, or-else, LastItem, last-item}
 use Rattle.station.specs.Taking.{After, replies, settled, AsRequest, taken}
-use Rattle.demands.proofs.Determined.{taken-determined}
+use Rattle.demands.proofs.Determined.{outcome-determined}
 use Rattle.station.proofs.TakeLaws.{request-answers}
 use Rattle.export.specs.declared.parts.Part.{Part}
 use Rattle.export.specs.declared.parts.Part.the-variants.{Lines, Fixed, QuickTexts, Channels, StatusTexts, Groups, Individuals}
@@ -96,7 +96,7 @@ module _ (m : Limits) (x : Exportable m) (room : Roomy m) (t : Tables) (ok : All
 
     -- and nothing else
     pub part-taken : (a : After) → Answers (taken m (request-bytes (exported p t)) store reply) a → a ≡ after-part
-    part-taken a h = taken-determined m (request-bytes (exported p t)) store reply a after-part h part-answers
+    part-taken a h = outcome-determined m (request-bytes (exported p t)) store reply a after-part h part-answers
 
     -- EXPORTED TAKEN: the request is taken, asks for no reply, and leaves the set's tables with those of the part
     pub exported-taken : (a : After) → Answers (taken m (request-bytes (exported p t)) store reply) a

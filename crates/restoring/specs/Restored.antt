@@ -3,7 +3,7 @@ use Prim.Native.Nat.{ℕ, _+_, _*_, _/_, _≤_}
 use mathlib.Core.Path.{_≡_}
 use mathlib.Core.List.{List, [], _∷_, map}
 use lib.ListN.{length}
-use Rattle.lists.proofs.Ladder.{Answers}
+use Rattle.lists.specs.Ladder.{Answers}
 use Rattle.tables.specs.declared.limits.Limits.{Limits}
 use Rattle.tables.specs.Tables.{Tables, with-key, with-home, with-system, with-quick, with-status, with-groups, with-individuals, with-channels, with-lines}
 use Rattle.running.specs.Requests.{forget}

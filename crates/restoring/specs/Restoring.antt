@@ -3,7 +3,7 @@ use Prim.Native.Nat.{ℕ, _≤_, _<_}
 use mathlib.Core.Path.{_≡_}
 use mathlib.Core.List.{List, [], _∷_}
 use lib.ListN.{length}
-use Rattle.lists.proofs.Ladder.{Ladder, rung, foot}
+use Rattle.lists.specs.Ladder.{Ladder, rung, foot}
 use Rattle.tables.specs.declared.limits.Limits.{Limits}
 use Rattle.tables.specs.Layout.{layout}
 use Rattle.tables.specs.Limits.{handheld}

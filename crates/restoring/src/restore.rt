@@ -4,7 +4,7 @@ use export::exporting::export;
 use export::parts::Export;
 use station::handheld::HANDHELD;
 use station::handheld::take;
-ghost use Rattle.lists.proofs.Ladder.{Answers};
+ghost use Rattle.lists.specs.Ladder.{Answers};
 ghost use Rattle.tables.specs.Limits.{handheld};
 ghost use Rattle.restoring.specs.Restoring.{number, restoring, Moved, AllMoved};
 

@@ -6,12 +6,11 @@ use mathlib.Core.List.{List, [], _∷_, _++_, map}
 use mathlib.Core.Option.{Option, none, some}
 use lib.Dec.{eqb, ltb}
 use lib.ListN.{take, getD}
-use Rattle.lists.proofs.Ladder.{Ladder, rung, foot}
+use Rattle.lists.specs.Ladder.{Ladder, rung, foot}
 use Rattle.plan.specs.declared.numbers.GroupAddress.{GroupAddress}
 use Rattle.plan.specs.declared.numbers.IndividualAddress.{IndividualAddress}
 use Rattle.plan.specs.Numbers.{Individual as IndividualPlan, Group as GroupPlan}
-use Rattle.slots.specs.Slots.{flat, u16}
-use Rattle.slots.proofs.Parts.{sum}
+use Rattle.slots.specs.Slots.{flat, u16, sum}
 use Rattle.writing.specs.Settings.{Text, Number}
 use Rattle.tables.specs.declared.limits.Limits.{Limits}
 use Rattle.tables.specs.Layout.{part-widths, quick-width, status-width, member-width, line-width}

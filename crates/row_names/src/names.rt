@@ -10,7 +10,7 @@ use tables::limits::Limits;
 ghost use Prim.Native.Nat.{ℕ, _+_, _*_, _^_, _≤_, _<_};
 ghost use mathlib.Core.Path.{_≡_};
 ghost use lib.ListN.{length};
-ghost use Rattle.lists.proofs.Ladder.{Answers};
+ghost use Rattle.lists.specs.Ladder.{Answers};
 ghost use Rattle.slots.specs.Slots.{u24};
 ghost use Rattle.tables.specs.Layout.{Roomy};
 ghost use Rattle.tables.specs.Store.{StoreOf};

@@ -6,7 +6,8 @@ use mathlib.Core.Option.{Option, none, some}
 use native.Mathlib.Omega.{arith}
 use lib.ListN.{length, drop, drop-of-length-le}
 use lib.Seq.{drop-cons, drop-drop, drop-at}
-use Rattle.lists.proofs.Bytes.{Bytes, bytes-drop}
+use Rattle.lists.specs.Bytes.{Bytes}
+use Rattle.lists.proofs.Bytes.{bytes-drop}
 use Rattle.writing.specs.Ranges.{text-limits, InRange}
 use Rattle.writing.specs.Settings.{Setting, unicode16, lines, key, quick-texts, home, channels, system, status-texts, group, individual, last}
 use Rattle.fields.specs.Places.{StandsAt}

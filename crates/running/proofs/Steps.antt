@@ -9,8 +9,9 @@ use denote.Enum.Declared.{tagOf}
 use types.Run.{OneOf, miss}
 use lib.ListN.{length, drop, length-append, length-drop, drop-of-length-le}
 use lib.Seq.{drop-cons}
-use Rattle.lists.proofs.Bytes.{Bytes}
+use Rattle.lists.specs.Bytes.{Bytes}
 use Rattle.writing.specs.declared.LastFlags.{LastFlags}
+use Rattle.writing.specs.declared.Result.the-variants.{NoRoom}
 use Rattle.writing.specs.Canonical.{Fits}
 use Rattle.writing.specs.Settings.{Setting, unicode16}
 use Rattle.writing.proofs.CanonicalLaws.{has-writing}
@@ -74,7 +75,7 @@ module _ (lim : Limits) (m : List ℕ) where
         record { setting = x; tables = u; range = i; stands = stands; applied = q; holds = h; flags = g m x means }
 
     pub step-full : (r : Read) (next : ℕ) (k : Bool) → SettingAt left m at (Taken r next)
-        → Applied lim m r s t k → k ≡ false → StepIs lim left m at s t (StepFault 2)
+        → Applied lim m r s t k → k ≡ false → StepIs lim left m at s t (StepFault NoRoom)
     step-full r next k (x, means, i, stands) a e was roomy holds =
         at-full lim m b left was at x next (stands-within x next stands) i stands (a was x left roomy holds means i (fits x next stands) .full e)
 

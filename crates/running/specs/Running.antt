@@ -5,6 +5,7 @@ use mathlib.Core.List.{List, []}
 use mathlib.Core.Option.{some}
 use lib.ListN.{drop}
 use Rattle.writing.specs.declared.LastFlags.{LastFlags}
+use Rattle.writing.specs.Carrier.{result-number}
 use Rattle.writing.specs.Ranges.{text-limits, InRange}
 use Rattle.writing.specs.Settings.{Setting, unicode16}
 use Rattle.settings.specs.declared.settings.Setting.{Setting as Read}
@@ -39,7 +40,7 @@ pub record Stepped (lim : Limits) (left : ℕ) (m : List ℕ) (at next : ℕ) (w
 -- what taking the setting at a place answers, on a copy that was s and becomes t
 abbrev pub StepIs : Limits → ℕ → List ℕ → ℕ → List ℕ → List ℕ → Step → Type 0
 StepIs lim left m at s t (Next next f) = (was : Tables) → Roomy lim → Holds lim was s → Stepped lim left m at next was t f
-StepIs lim left m at s t (StepFault number) = (was : Tables) → Roomy lim → Holds lim was s → Fault lim left was (drop at m) number
+StepIs lim left m at s t (StepFault result) = (was : Tables) → Roomy lim → Holds lim was s → Fault lim left was (drop at m) (result-number result)
 
 -- all settings counted were taken, and no byte is left
 pub record Ran (lim : Limits) (count : ℕ) (m : List ℕ) (at : ℕ) (was : Tables) (after : List ℕ) (f : LastFlags) : Type 0 where
@@ -52,5 +53,5 @@ pub record Ran (lim : Limits) (count : ℕ) (m : List ℕ) (at : ℕ) (was : Tab
 -- what taking the settings from a place on answers, on a copy that was s and becomes t
 abbrev pub RunIs : Limits → ℕ → List ℕ → ℕ → List ℕ → List ℕ → Run → Type 0
 RunIs lim count m at s t (Good f) = (was : Tables) → Roomy lim → Holds lim was s → Ran lim count m at was t f
-RunIs lim count m at s t (RunFault number failed) =
-    (was : Tables) → Roomy lim → Holds lim was s → Judged lim count was (drop at m) (refused number failed)
+RunIs lim count m at s t (RunFault result failed) =
+    (was : Tables) → Roomy lim → Holds lim was s → Judged lim count was (drop at m) (refused (result-number result) failed)

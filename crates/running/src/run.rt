@@ -5,18 +5,19 @@ use tables::limits::Limits;
 use wire::reader::SettingRead;
 use wire::reader::read_setting;
 use writing::LastFlags;
+use writing::Result;
 ghost use Rattle.running.specs.Running.{FlagsAre, StepIs, RunIs};
 
-// The place after a setting that was taken, with FF's bits, or the number of its fault.
+// The place after a setting that was taken, with FF's bits, or its fault.
 pub(crate) enum Step {
     Next(usize, LastFlags),
-    Fault(u8),
+    Fault(Result),
 }
 
-// FF's bits where all settings were taken, or the number of the first fault and the failed ID.
+// FF's bits where all settings were taken, or the first fault and the failed ID.
 pub enum Run {
     Good(LastFlags),
-    Fault(u8, u8),
+    Fault(Result, u8),
 }
 
 // FF's bits, no and no for another setting.
@@ -41,13 +42,13 @@ fn take_setting(work: &mut [u8], limits: Limits, m: &[u8], at: usize, left: usiz
         SettingRead::Taken(setting, next) => {
             let flags = flags_of(setting);
             if !apply(work, limits, m, setting) {
-                return Step::Fault(2);
+                return Step::Fault(Result::NoRoom);
             }
             Step::Next(next, flags)
         }
-        SettingRead::Missing => Step::Fault(4),
-        SettingRead::Unknown => Step::Fault(3),
-        SettingRead::Field => Step::Fault(4),
+        SettingRead::Missing => Step::Fault(Result::BadField),
+        SettingRead::Unknown => Step::Fault(Result::UnknownType),
+        SettingRead::Field => Step::Fault(Result::BadField),
     }
 }
 
@@ -69,12 +70,12 @@ pub fn take_settings(work: &mut [u8], limits: Limits, m: &[u8], at: usize, count
                 p = next;
                 flags = said;
             }
-            Step::Fault(number) => return Run::Fault(number, taken + 1),
+            Step::Fault(result) => return Run::Fault(result, taken + 1),
         }
         taken += 1;
     }
     if p < m.len() {
-        return Run::Fault(4, 0);
+        return Run::Fault(Result::BadField, 0);
     }
     Run::Good(flags)
 }

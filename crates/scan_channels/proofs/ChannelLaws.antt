@@ -11,7 +11,8 @@ use borrow.Rule.Slice.PartMut.{putMid, midOf}
 use lib.Dec.{eqb, ltb}
 use lib.ListN.{length, take, drop, getD, replicate, length-append, length-replicate}
 use lib.Seq.{drop-cons, length-take-le, take-all, take-suc}
-use Rattle.lists.proofs.Every.{All, all-get}
+use Rattle.lists.specs.Every.{All}
+use Rattle.lists.proofs.Every.{all-get}
 use Rattle.slots.specs.Slots.{u16, zeros?, places, front, Found, Removed}
 use Rattle.slots.proofs.Keys.{Keyed, key-removed, used-room, used-full, used-put}
 use Rattle.slots.proofs.Numbers.{u16-same}

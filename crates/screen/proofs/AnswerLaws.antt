@@ -9,7 +9,7 @@ use native.Mathlib.Omega.{arith}
 use borrow.Author.Tests.{ltb-true, ltb-false}
 use lib.Dec.{ltb}
 use lib.ListN.{length, take, drop, length-append}
-use Rattle.lists.proofs.Ladder.{Answers}
+use Rattle.lists.specs.Ladder.{Answers}
 use Rattle.plan.specs.declared.numbers.DialledAnswer.{DialledAnswer}
 use Rattle.plan.specs.declared.numbers.DialledAnswer.the-variants.{Dialled, OutsideKind}
 use Rattle.plan.specs.declared.numbers.GroupAddress.{GroupAddress}

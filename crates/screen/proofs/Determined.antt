@@ -1,10 +1,13 @@
 -- Two outcomes that the screen's calls allow for one store, scratch and row are equal. Assumes nothing.
-use Prim.Native.Nat.{ℕ}
-use mathlib.Core.Path.{_≡_, sym, ap, _∙_, subst}
+use Prim.Native.Nat.{ℕ, _-_}
+use mathlib.Core.Path.{_≡_, refl, sym, ap, _∙_, subst}
 use mathlib.Core.List.{List, [], _∷_, map}
 use mathlib.Core.Option.{Option·some-injective}
 use denote.Ref.{RefT}
-use Rattle.lists.proofs.Ladder.{Answers, one-answer}
+use lib.ListN.{getD}
+use Rattle.lists.specs.Ladder.{Answers}
+use Rattle.lists.proofs.Ladder.{one-answer}
+use Rattle.lists.proofs.OneToOne.{decoded}
 use Rattle.plan.specs.Answers.{Back}
 use Rattle.plan.specs.Numbers.{IndividualShort, GroupShort, Individual as IndividualPlan, Group as GroupPlan}
 use Rattle.plan.proofs.AnswerLaws.{One}
@@ -13,7 +16,13 @@ use Rattle.writing.specs.Settings.{Text}
 use Rattle.tables.specs.declared.limits.Limits.{Limits}
 use Rattle.row_names.specs.declared.rows.Row.{Row}
 use Rattle.row_names.specs.Rows.{Caption, text, line, group, individual, caption, ascii, digits, AddressText, dialled, outside, Display, written, text-or, Shows}
-use Rattle.screen.specs.Screen.{After, shows, RowShown, showing, numbering, points-to, bytes-of, PartGiven}
+use Rattle.row_names.specs.declared.rows.Refusal.{Refusal}
+use Rattle.row_names.specs.declared.rows.Refusal.the-variants.{ScratchSize, NotAStore, Absent}
+use Rattle.screen.specs.declared.answers.Answer.{Answer}
+use Rattle.screen.specs.declared.answers.Answer.the-variants.{Shown, Refused}
+use Rattle.screen.specs.declared.answers.Place.{Place}
+use Rattle.screen.specs.declared.answers.Place.the-variants.{Store, Scratch, Refused as NoPlace}
+use Rattle.screen.specs.Screen.{After, Part, of-store, of-scratch, refusal, number, leaves, shows, RowShown, showing, numbering, points-to, bytes-of, PartGiven}
 use Rattle.screen.proofs.AnswerLaws.{one-tables}
 
 -- ---- one thing is shown
@@ -37,6 +46,46 @@ shows-one (line us ds) d e p q = text-or-one (λ ns. ns ≡ map ascii ds) (λ a 
 shows-one (group us a) d e p q = text-or-one (AddressText GroupPlan (a .0)) (address-one GroupPlan (one-dialled GroupShort groups) (a .0)) us d e p q
 shows-one (individual us a) d e p q = text-or-one (AddressText IndividualPlan (a .0)) (address-one IndividualPlan (one-dialled IndividualShort individuals) (a .0)) us d e p q
 
+-- ---- what number and part say
+
+-- 15, 11 and 17, counted from 11
+abbrev refusal-at : ℕ → Refusal
+refusal-at n = getD (NotAStore ∷ NotAStore ∷ NotAStore ∷ NotAStore ∷ ScratchSize ∷ []) (n - 11) Absent
+
+refusal-back : (r : Refusal) → refusal-at (refusal r) ≡ r
+refusal-back ScratchSize = refl
+refusal-back NotAStore = refl
+refusal-back Absent = refl
+
+abbrev answer-at : ℕ → Answer
+answer-at n = getD (Shown ∷ []) n (Refused (refusal-at n))
+
+answer-back : (a : Answer) → answer-at (number a) ≡ a
+answer-back Shown = refl
+answer-back (Refused ScratchSize) = refl
+answer-back (Refused NotAStore) = refl
+answer-back (Refused Absent) = refl
+
+-- the place of a part
+abbrev part-place : Part → Place
+part-place (of-store start bytes) = Store start bytes
+part-place (of-scratch bytes) = Scratch bytes
+
+abbrev place-of : After → Place
+place-of a = getD (part-place (a .part) ∷ []) (a .number) (NoPlace (refusal-at (a .number)))
+
+place-back : (p : Place) (s : List ℕ) → place-of (leaves p s) ≡ p
+place-back (Store start bytes) s = refl
+place-back (Scratch bytes) s = refl
+place-back (NoPlace ScratchSize) s = refl
+place-back (NoPlace NotAStore) s = refl
+place-back (NoPlace Absent) s = refl
+
+scratch-back : (p : Place) (s : List ℕ) → leaves p s .scratch ≡ s
+scratch-back (Store start bytes) s = refl
+scratch-back (Scratch bytes) s = refl
+scratch-back (NoPlace r) s = refl
+
 -- ---- the calls
 
 module _ (m : Limits) (store scratch : List ℕ) (row : Row) where
@@ -50,13 +99,23 @@ module _ (m : Limits) (store scratch : List ℕ) (row : Row) where
   one-shown : (a b : After) → RowShown m store scratch row a → RowShown m store scratch row b → a ≡ b
   one-shown a b p q = p .after ∙ ap (shows m scratch row) (one-display scratch a b p q) ∙ sym (q .after)
 
-  -- SHOWN ONE: one number, one part and one scratch afterwards
+  -- one number, one part and one scratch afterwards
   pub shown-determined : (a b : After) → Answers (showing m store scratch row) a → Answers (showing m store scratch row) b → a ≡ b
   shown-determined a b p q = one-answer (showing m store scratch row) one-shown a b p q
 
-  -- NUMBER ONE: one number
-  pub number-determined : (n k : ℕ) → Answers (numbering m store scratch row) n → Answers (numbering m store scratch row) k → n ≡ k
-  number-determined n k p q = one-answer (numbering m store scratch row) (λ x y i j. i ∙ sym j) n k p q
+  -- one number
+  pub number-one : (n k : ℕ) → Answers (numbering m store scratch row) n → Answers (numbering m store scratch row) k → n ≡ k
+  number-one n k p q = one-answer (numbering m store scratch row) (λ x y i j. i ∙ sym j) n k p q
+
+  -- NUMBER: one answer of the code
+  pub number-determined : (a b : Answer) → Answers (numbering m store scratch row) (number a) → Answers (numbering m store scratch row) (number b) → a ≡ b
+  number-determined a b p q = decoded number answer-at answer-back a b (number-one (number a) (number b) p q)
+
+  -- PLACE: one answer of the code, and one scratch afterwards
+  pub place-determined : (a b : Place) (s t : List ℕ) → Answers (showing m store scratch row) (leaves a s) → Answers (showing m store scratch row) (leaves b t) → (a ≡ b) × (s ≡ t)
+  place-determined a b s t p q =
+      let e = shown-determined (leaves a s) (leaves b t) p q in
+      (sym (place-back a s) ∙ ap place-of e ∙ place-back b t, sym (scratch-back a s) ∙ ap (λ (x : After). x .scratch) e ∙ scratch-back b t)
 
 -- PART ONE: one place, and the same bytes there
 pub part-determined : (m : Limits) (store scratch : RefT (List ℕ)) (row : Row) (r q : RefT (List ℕ)) → PartGiven m store scratch row r → PartGiven m store scratch row q

@@ -8,7 +8,7 @@ use denote.Ref.{RefT}
 use native.Mathlib.Omega.{arith}
 use types.Run.{OneOf, miss}
 use lib.ListN.{length, take, drop}
-use Rattle.lists.proofs.Ladder.{Answers}
+use Rattle.lists.specs.Ladder.{Answers}
 use Rattle.slots.specs.Slots.{EntryOf}
 use Rattle.writing.specs.Ranges.{InNumber}
 use Rattle.tables.specs.declared.limits.Limits.{Limits}

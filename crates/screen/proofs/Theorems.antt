@@ -10,7 +10,7 @@ use borrow.Rule.Slice.PartMut.{midOf}
 use denote.Ref.{RefT}
 use lib.ListN.{length, take, drop, getD}
 use lib.Seq.{take-at}
-use Rattle.lists.proofs.Ladder.{Answers}
+use Rattle.lists.specs.Ladder.{Answers}
 use Rattle.slots.specs.Slots.{zeros?}
 use Rattle.writing.specs.Settings.{Text}
 use Rattle.tables.specs.declared.limits.Limits.{Limits}

@@ -5,7 +5,7 @@ use mathlib.Core.List.{List, [], _++_}
 use mathlib.Core.Option.{Option, none, some}
 use denote.Ref.{RefT}
 use lib.ListN.{length, take, drop}
-use Rattle.lists.proofs.Ladder.{Ladder, Answers}
+use Rattle.lists.specs.Ladder.{Ladder, Answers}
 use Rattle.tables.specs.declared.limits.Limits.{Limits}
 use Rattle.tables.specs.Store.{Holds}
 use Rattle.tables.specs.Tables.{Tables}

@@ -4,7 +4,7 @@ use mathlib.Core.Path.{_≡_}
 use mathlib.Core.List.{List, _++_, map}
 use denote.Ref.{RefT}
 use lib.ListN.{length, drop}
-use Rattle.lists.proofs.Ladder.{Answers}
+use Rattle.lists.specs.Ladder.{Answers}
 use Rattle.plan.specs.declared.numbers.DialledAnswer.{DialledAnswer}
 use Rattle.plan.specs.declared.numbers.DialledAnswer.the-variants.{Dialled, OutsideKind}
 use Rattle.writing.specs.Ranges.{InNumber}

@@ -6,7 +6,7 @@ use super::show::part_in;
 use super::show::place_in;
 use row_names::rows::Row;
 use station::handheld::HANDHELD;
-ghost use Rattle.lists.proofs.Ladder.{Answers};
+ghost use Rattle.lists.specs.Ladder.{Answers};
 ghost use Rattle.tables.specs.Limits.{handheld};
 ghost use Rattle.screen.specs.Screen.{number, numbering, showing, leaves, PartGiven};
 

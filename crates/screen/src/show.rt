@@ -9,7 +9,7 @@ use row_names::names::Name;
 use row_names::names::name_of;
 use row_names::rows::Row;
 use tables::limits::Limits;
-ghost use Rattle.lists.proofs.Ladder.{Answers};
+ghost use Rattle.lists.specs.Ladder.{Answers};
 ghost use Rattle.screen.specs.Steps.{Placed, PlaceFits, Picked};
 ghost use Rattle.screen.specs.Screen.{number, numbering, PartGiven};
 

@@ -7,7 +7,7 @@ use native.Mathlib.Omega.{arith}
 use borrow.Author.Tests.{eqb-true, eqb-false}
 use lib.Dec.{eqb}
 use lib.ListN.{length, drop, take}
-use Rattle.lists.proofs.Bytes.{Bytes}
+use Rattle.lists.specs.Bytes.{Bytes}
 use Rattle.writing.specs.declared.Kind.{Kind}
 use Rattle.writing.specs.declared.Operation.{Operation}
 use Rattle.writing.specs.declared.Operation.the-variants.{Add, Delete, Replace}

@@ -5,7 +5,7 @@ use mathlib.Core.List.{List, [], _∷_, _++_}
 use Prim.Native.Nat.{suc, _<_}
 use native.Mathlib.Omega.{arith}
 use lib.ListN.{length, length-append}
-use Rattle.lists.proofs.Every.{All}
+use Rattle.lists.specs.Every.{All}
 use Rattle.slots.specs.Slots.{unless, indexOf, putAt}
 use Rattle.slots.proofs.Tables.{unless-short}
 

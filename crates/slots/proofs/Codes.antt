@@ -7,7 +7,8 @@ use mathlib.Core.List.{List, [], _∷_, map}
 use Prim.Native.Nat.{ℕ, _≤_}
 use native.Mathlib.Omega.{arith}
 use lib.ListN.{length, length-map}
-use Rattle.lists.proofs.Every.{All, all-made}
+use Rattle.lists.specs.Every.{All}
+use Rattle.lists.proofs.Every.{all-made}
 use Rattle.lists.proofs.Seqs.{cut, map-one}
 use Rattle.slots.specs.Slots.{flat, slot, front, zeros?, Present, Placed, Listed}
 use Rattle.slots.proofs.Pads.{pad-one}

@@ -10,7 +10,8 @@ use borrow.Author.Tests.{ltb-true, ltb-false}
 use borrow.Rule.Slice.PartMut.{putMid}
 use lib.Dec.{ltb}
 use lib.ListN.{length, drop, take, replicate}
-use Rattle.lists.proofs.Every.{All, all-turn}
+use Rattle.lists.specs.Every.{All}
+use Rattle.lists.proofs.Every.{all-turn}
 use Rattle.lists.proofs.Bools.{is-false, or-rest}
 use Rattle.slots.specs.Slots.{flat, slot, places, front, bytesBefore, zeros?, same?, hit, fit, removed, unless, indexOf, putAt, Listed, KeyAt, Found, Removed}
 use Rattle.slots.proofs.Runs.{zeros-all, zeros-part, same-are}

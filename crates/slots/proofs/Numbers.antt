@@ -8,7 +8,7 @@ use native.Mathlib.Omega.{arith}
 use borrow.Author.Tests.{eqb-true, eqb-false}
 use lib.Dec.{eqb}
 use Rattle.lists.proofs.Bools.{is-false, and-parts}
-use Rattle.lists.proofs.Bytes.{Bytes}
+use Rattle.lists.specs.Bytes.{Bytes}
 use Rattle.slots.specs.Slots.{u16, u24, zeros?, same?}
 use Rattle.slots.proofs.Codes.{Code}
 use Rattle.slots.proofs.Runs.{same-refl, same-are}

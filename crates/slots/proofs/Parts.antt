@@ -7,10 +7,11 @@ use native.Mathlib.Omega.{arith}
 use borrow.Rule.Slice.PartMut.{putMid, midOf}
 use lib.ListN.{length, set, drop, take, getD, replicate, length-append, replicate-append-replicate}
 use lib.Seq.{take-at, drop-at, split-at, set-split}
-use Rattle.lists.proofs.Bytes.{Bytes, bytes-append, bytes-zeros}
-use Rattle.lists.proofs.Every.{All}
+use Rattle.lists.specs.Bytes.{Bytes}
+use Rattle.lists.proofs.Bytes.{bytes-append, bytes-zeros}
+use Rattle.lists.specs.Every.{All}
 use Rattle.lists.proofs.Seqs.{cut}
-use Rattle.slots.specs.Slots.{flat, Slots}
+use Rattle.slots.specs.Slots.{flat, sum, Slots}
 
 -- the part between pre and post becomes ys
 pub put-part : (pre mid post ys : List ℕ) (a k : ℕ) → length pre ≡ a → length mid ≡ k → putMid a k (pre ++ (mid ++ post)) ys ≡ pre ++ (ys ++ post)
@@ -36,11 +37,6 @@ slots-length w [] q = sym (zero-mul w)
 slots-length w (x ∷ xs) q = omega (arith, length-append x (flat xs), slots-length w xs (q .1), q .0, suc-mul (length xs) w)
 
 -- ---- parts of given widths
-
--- the sum of the widths
-abbrev pub sum : List ℕ → ℕ
-sum [] = 0
-sum (x ∷ xs) = x + sum xs
 
 -- all parts together
 pub flat-length : (xs : List (List ℕ)) → length (flat xs) ≡ sum (map length xs)

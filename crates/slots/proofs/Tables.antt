@@ -8,13 +8,15 @@ use native.Mathlib.Nat.{not-suc-le-zero, le-of-suc-le-suc, suc-mul, zero-mul, ad
 use native.Mathlib.Omega.{arith}
 use borrow.Rule.Slice.PartMut.{putMid, midOf, mid-len}
 use lib.ListN.{length, set, take, drop, getD, replicate, length-set, length-map, length-replicate, replicate-append-replicate}
-use Rattle.lists.proofs.Bytes.{Bytes, bytes-zeros}
-use Rattle.lists.proofs.Every.{All, all-get, all-made, all-map, all-set}
+use Rattle.lists.specs.Bytes.{Bytes}
+use Rattle.lists.proofs.Bytes.{bytes-zeros}
+use Rattle.lists.specs.Every.{All}
+use Rattle.lists.proofs.Every.{all-get, all-made, all-map, all-set}
 use Rattle.lists.proofs.Seqs.{map-set, getD-map}
-use Rattle.slots.specs.Slots.{flat, pad, slot, places, front, Present, Slots, unless, indexOf, putAt, zeros?, Placed}
+use Rattle.slots.specs.Slots.{flat, pad, slot, places, front, Present, Slots, unless, indexOf, putAt, zeros?, Placed, sum}
 use Rattle.slots.proofs.Pads.{pad-length, pad-nil, pad-after}
 use Rattle.slots.proofs.Runs.{copy-whole, zeros-all}
-use Rattle.slots.proofs.Parts.{sum, flat-bytes, getD-length, parts-get, parts-put, slots-length}
+use Rattle.slots.proofs.Parts.{flat-bytes, getD-length, parts-get, parts-put, slots-length}
 
 -- ---- slots, read and changed
 

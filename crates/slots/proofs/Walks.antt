@@ -11,8 +11,9 @@ use borrow.Rule.Slice.PartMut.{midOf}
 use lib.ListN.{length, drop, take, replicate, length-drop, take-append-drop}
 use lib.Seq.{take-at, drop-at, drop-drop, take-all, length-take-le}
 use Rattle.lists.proofs.Bools.{and-parts, and-made}
-use Rattle.lists.proofs.Bytes.{Bytes, bytes-take, bytes-drop}
-use Rattle.lists.proofs.Every.{All}
+use Rattle.lists.specs.Bytes.{Bytes}
+use Rattle.lists.proofs.Bytes.{bytes-take, bytes-drop}
+use Rattle.lists.specs.Every.{All}
 use Rattle.slots.specs.Slots.{slot, places, front, zeros?, Present, EntryOf, SlotOf, PlacesOf, ListOf}
 use Rattle.slots.proofs.Runs.{zeros-all, zeros-are, zeros-split}
 use Rattle.slots.proofs.Tables.{slot-long, front-nil, places-nil}

@@ -6,7 +6,7 @@ use mathlib.Core.List.{List, [], _∷_, _++_, map}
 use mathlib.Core.Option.{Option, none, some}
 use lib.ListN.{length, replicate, take, drop}
 use lib.Dec.{eqb}
-use Rattle.lists.proofs.Every.{All}
+use Rattle.lists.specs.Every.{All}
 
 -- ---- tables as bytes
 
@@ -14,6 +14,11 @@ use Rattle.lists.proofs.Every.{All}
 abbrev pub flat : List (List ℕ) → List ℕ
 flat [] = []
 flat (x ∷ xs) = x ++ flat xs
+
+-- the sum of the slots' widths
+abbrev pub sum : List ℕ → ℕ
+sum [] = 0
+sum (x ∷ xs) = x + sum xs
 
 -- n elements: those of xs, and d where they are fewer
 abbrev pub pad : {A : Type 0} → A → ℕ → List A → List A

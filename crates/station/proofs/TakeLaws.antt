@@ -7,12 +7,14 @@ use mathlib.Core.Bool.{Bool, true, false}
 use native.Mathlib.Omega.{arith}
 use borrow.Rule.Slice.PartMut.{midOf, putMid, mid-len}
 use lib.ListN.{length, take, drop}
-use Rattle.lists.proofs.Ladder.{Ladder, rung, foot, Answers}
+use Rattle.lists.specs.Ladder.{Ladder, rung, foot, Answers}
 use Rattle.slots.proofs.Runs.{copy-whole}
 use Rattle.writing.specs.declared.LastFlags.{LastFlags}
+use Rattle.writing.specs.declared.Result.{Result}
+use Rattle.writing.specs.declared.Result.the-variants.{Taken, NoMatch}
 use Rattle.writing.specs.Ranges.{no-hash as of-no-value}
 use Rattle.writing.specs.Settings.{Setting, Hash}
-use Rattle.writing.specs.Carrier.{Opens, InSize, NothingCarried, OtherType, OtherVersion, NoRequest, NoQuery}
+use Rattle.writing.specs.Carrier.{result-number, Opens, InSize, NothingCarried, OtherType, OtherVersion, NoRequest, NoQuery}
 use Rattle.carrier.specs.Message.{MessageIs}
 use Rattle.carrier.specs.declared.carrier.Message.{Message}
 use Rattle.carrier.specs.declared.carrier.Message.the-variants.{Size, Carrier, «Type» as AnotherType, Version, NoRequest as NotRequest, Request, NoQuery as NotQuery, Query as AQuery}
@@ -44,26 +46,26 @@ no-hash-ok = record { size = of-no-value; bytes = tt }
 
 module _ (m : Limits) (message was reply : List ℕ) where
   -- a reply that was written, with what it says
-  pub replied : (number failed : ℕ) (send reboot : Bool) (h : Hash) (store hash after : List ℕ) (n : ℕ)
-      → HashOk h → hash ≡ hash-bytes h → ReplyWritten number failed hash reply after n
-      → leaves (Replied (record { result = number; failed = failed; send = send; reboot = reboot; length = n })) store after
-      ≡ replies m message was reply number failed send reboot h store
-  replied number failed send reboot h store hash after n ok e w =
-      let (x, y) = w h ok e in
+  pub replied : (result : Result) (number failed : ℕ) (send reboot : Bool) (h : Hash) (store hash after : List ℕ) (n : ℕ)
+      → number ≡ result-number result → HashOk h → hash ≡ hash-bytes h → ReplyWritten number failed hash reply after n
+      → leaves (Replied (record { result = result; failed = failed; send = send; reboot = reboot; length = n })) store after
+      ≡ replies m message was reply (result-number result) failed send reboot h store
+  replied result number failed send reboot h store hash after n is ok e w =
+      let (x, y) = subst (λ (k : ℕ). ReplyWritten k failed hash reply after n) is w h ok e in
       λ i. record {
-        answer = record { number = number; failed = failed; send = send; reboot = reboot; reply-length = y i };
+        answer = record { number = result-number result; failed = failed; send = send; reboot = reboot; reply-length = y i };
         store = store;
         reply = x i;
       }
 
 -- ---- a result query
 
-module _ (message : List ℕ) (place : HashPlace) (store reply after : List ℕ) (result n : ℕ) where
-  -- the number is 0 exactly where the hash is the one kept
-  pub queried : (k : Bool) → HashSame message place (midOf 0 11 store) k → ((k ≡ true) × (result ≡ 0)) ⊎ ((k ≡ false) × (result ≡ 5))
-      → ReplyWritten result 0 (midOf 0 11 store) reply after n
+module _ (message : List ℕ) (place : HashPlace) (store reply after : List ℕ) (result : Result) (number n : ℕ) where
+  -- the query matches exactly where the hash is the one kept
+  pub queried : (k : Bool) → HashSame message place (midOf 0 11 store) k → ((k ≡ true) × (result ≡ Taken)) ⊎ ((k ≡ false) × (result ≡ NoMatch))
+      → number ≡ result-number result → ReplyWritten number 0 (midOf 0 11 store) reply after n
       → Queried message place store reply after (Replied (record { result = result; failed = 0; send = true; reboot = false; length = n }))
-  queried k same which w m t (ok, is) (size, h, q, code, stands) = (h, q, by which)
+  queried k same which numbered w m t (ok, is) (size, h, q, code, stands) = (h, q, by which)
     where
       kept-bytes : midOf 0 11 store ≡ hash-bytes (t .hash)
       kept-bytes = ap (midOf 0 11) is ∙ hash-get m t ok
@@ -71,17 +73,17 @@ module _ (message : List ℕ) (place : HashPlace) (store reply after : List ℕ)
       compared : SameAs h (t .hash) k
       compared = same h (t .hash) (ok .hash) kept-bytes code (q .in-range) stands
 
-      written : (number : ℕ) → result ≡ number
+      written : (said : Result) → result ≡ said
           → leaves (Replied (record { result = result; failed = 0; send = true; reboot = false; length = n })) store after
-          ≡ replies m message store reply number 0 true false (t .hash) store
-      written number e =
-          replied m message store reply result 0 true false (t .hash) store (midOf 0 11 store) after n (ok .hash) kept-bytes w
-          ∙ ap (λ (x : ℕ). replies m message store reply x 0 true false (t .hash) store) e
+          ≡ replies m message store reply (result-number said) 0 true false (t .hash) store
+      written said e =
+          replied m message store reply result number 0 true false (t .hash) store (midOf 0 11 store) after n numbered (ok .hash) kept-bytes w
+          ∙ ap (λ (x : Result). replies m message store reply (result-number x) 0 true false (t .hash) store) e
 
-      by : ((k ≡ true) × (result ≡ 0)) ⊎ ((k ≡ false) × (result ≡ 5))
+      by : ((k ≡ true) × (result ≡ Taken)) ⊎ ((k ≡ false) × (result ≡ NoMatch))
           → Asked m message store reply h (t .hash) (leaves (Replied (record { result = result; failed = 0; send = true; reboot = false; length = n })) store after)
-      by (inl (e, z)) = let (a, b) = subst (SameAs h (t .hash)) e compared in inl (a, b, written 0 z)
-      by (inr (e, z)) = inr (subst (SameAs h (t .hash)) e compared, written 5 z)
+      by (inl (e, z)) = let (a, b) = subst (SameAs h (t .hash)) e compared in inl (a, b, written Taken z)
+      by (inr (e, z)) = inr (subst (SameAs h (t .hash)) e compared, written NoMatch z)
 
 -- ---- a request
 
@@ -109,14 +111,14 @@ module _ (m : Limits) (message : List ℕ) (count at : ℕ) (store reply : List 
   Settled a = (o : Outcome Setting Tables) × Judged m count (forget t) (drop at message) o × (a ≡ settled m message store reply o)
 
   -- a fault turns it down
-  pub request-refused : (number failed : ℕ) (after : List ℕ) (a : Answer) → RunIs m count message at w v (RunFault number failed)
-      → TurnedDown number failed reply after a → Settled (leaves a store after)
-  request-refused number failed after a r d = (refused number failed, r (forget t) (s .roomy) h, d m message store)
+  pub request-refused : (result : Result) (failed : ℕ) (after : List ℕ) (a : Answer) → RunIs m count message at w v (RunFault result failed)
+      → TurnedDown result failed reply after a → Settled (leaves a store after)
+  request-refused result failed after a r d = (refused (result-number result) failed, r (forget t) (s .roomy) h, d m message store)
 
   -- all good: the copy is the store, and the reply carries the hash that is kept now
   pub request-taken : (f : LastFlags) (n : ℕ) (store-after after : List ℕ) → RunIs m count message at w v (Good f)
       → store-after ≡ take (length store) v ++ drop (length v) store → ReplyWritten 0 0 (midOf 0 11 store-after) reply after n
-      → Settled (leaves (Replied (record { result = 0; failed = 0; send = f .reply; reboot = f .reboot; length = n })) store-after after)
+      → Settled (leaves (Replied (record { result = Taken; failed = 0; send = f .reply; reboot = f .reboot; length = n })) store-after after)
   request-taken f n store-after after r c x =
       let z = r (forget t) (s .roomy) h in
       let (ok, is) = z .holds in
@@ -125,7 +127,7 @@ module _ (m : Limits) (message : List ℕ) (count at : ℕ) (store reply : List 
       let b : midOf 0 11 store-after ≡ hash-bytes (z .tables .hash) = ap (midOf 0 11) e ∙ hash-get m (z .tables) ok in (
         kept (z .settings) (z .tables),
         z .judged,
-        replied m message store reply 0 0 (f .reply) (f .reboot) (z .tables .hash) store-after (midOf 0 11 store-after) after n (ok .hash) b x
+        replied m message store reply Taken 0 0 (f .reply) (f .reboot) (z .tables .hash) store-after (midOf 0 11 store-after) after n refl (ok .hash) b x
             ∙ ap₂ (λ (g : LastFlags) (q : List ℕ). replies m message store reply 0 0 (g .reply) (g .reboot) (z .tables .hash) q) (z .flags) e,
       )
 

@@ -1,8 +1,7 @@
--- What taking a message and starting a store answer, in document 01's numbers and values: "Numbers returned".
+-- What taking a message answers, in document 01's numbers and values: "Numbers returned".
 use Prim.Native.Nat.{ℕ}
 use mathlib.Core.Bool.{Bool, false}
-use Rattle.tables.specs.declared.start.Started.{Started}
-use Rattle.tables.specs.declared.start.Started.the-variants.{Fresh, WrongSize}
+use Rattle.writing.specs.Carrier.{result-number}
 use Rattle.station.specs.declared.answers.Refusal.{Refusal}
 use Rattle.station.specs.declared.answers.Refusal.the-variants.{ReplyBuffer, NotAStore, MessageSize, Carrier, MessageType}
 use Rattle.station.specs.declared.answers.Answer.{Answer}
@@ -31,9 +30,4 @@ refused-with n = record { number = n; failed = 0; send = false; reboot = false; 
 -- each case's number and values
 abbrev pub said : Answer → Said
 said (Untouched r) = refused-with (refusal-number r)
-said (Replied r) = record { number = r .result; failed = r .failed; send = r .send; reboot = r .reboot; reply-length = r .length }
-
--- "Starting a store: any 12,288 bytes become fresh, another length is 11"
-abbrev pub started : Started → ℕ
-started Fresh = 0
-started WrongSize = 11
+said (Replied r) = record { number = result-number (r .result); failed = r .failed; send = r .send; reboot = r .reboot; reply-length = r .length }

@@ -6,6 +6,8 @@ use lib.ListN.{drop}
 use Rattle.carrier.specs.Message.{MessageIs}
 use Rattle.fields.specs.declared.hashes.HashPlace.{HashPlace}
 use Rattle.carrier.specs.declared.carrier.Message.the-variants.{Query as AQuery}
+use Rattle.writing.specs.declared.Result.{Result}
+use Rattle.writing.specs.Carrier.{result-number}
 use Rattle.writing.specs.Settings.{Setting}
 use Rattle.tables.specs.declared.limits.Limits.{Limits}
 use Rattle.tables.specs.Store.{Holds}
@@ -15,10 +17,10 @@ use Rattle.running.specs.Judge.{Outcome}
 use Rattle.running.specs.Requests.{Judged, forget}
 use Rattle.station.specs.Taking.{leaves, turned-down, settled, AsQuery}
 
--- a message that was turned down with this number and failed ID
-abbrev pub TurnedDown : (number failed : ℕ) → List ℕ → List ℕ → Answer → Type 0
-TurnedDown number failed reply after a =
-    (m : Limits) (message store : List ℕ) → leaves a store after ≡ turned-down m message store reply number failed
+-- a message that was turned down with this result and failed ID
+abbrev pub TurnedDown : Result → (failed : ℕ) → List ℕ → List ℕ → Answer → Type 0
+TurnedDown result failed reply after a =
+    (m : Limits) (message store : List ℕ) → leaves a store after ≡ turned-down m message store reply (result-number result) failed
 
 -- a result query that was answered
 abbrev pub Queried : List ℕ → HashPlace → List ℕ → List ℕ → List ℕ → Answer → Type 0

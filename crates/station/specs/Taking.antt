@@ -5,7 +5,7 @@ use mathlib.Core.Logic.{_≢_, _⊎_}
 use mathlib.Core.Bool.{Bool, true, false}
 use mathlib.Core.List.{List}
 use lib.ListN.{length}
-use Rattle.lists.proofs.Ladder.{Ladder, rung, foot}
+use Rattle.lists.specs.Ladder.{Ladder, rung, foot}
 use Rattle.writing.specs.Carrier.{RequestOf, Query, InSize, NothingCarried, OtherType, OtherVersion, NoRequest, NoQuery}
 use Rattle.writing.specs.Settings.{Setting, Hash}
 use Rattle.tables.specs.declared.limits.Limits.{Limits}

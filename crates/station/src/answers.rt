@@ -1,4 +1,6 @@
 // What taking a message answers.
+use replies::replies::result_number;
+use writing::Result;
 ghost use mathlib.Core.Path.{_≡_};
 ghost use Rattle.station.specs.Answers.{refusal-number, said};
 
@@ -13,7 +15,7 @@ pub enum Refusal {
 
 // A reply that was written: its result, the number of the first setting at fault, whether to send it and to restart, and its length.
 pub struct Reply {
-    pub result: u8,
+    pub result: Result,
     pub failed: u8,
     pub send: bool,
     pub reboot: bool,
@@ -44,7 +46,10 @@ pub fn number(answer: Answer) -> u8
 {
     match answer {
         Answer::Untouched(refusal) => refusal_number(refusal),
-        Answer::Replied(reply) => reply.result,
+        Answer::Replied(reply) => {
+            let result = reply.result;
+            result_number(result)
+        }
     }
 }
 

@@ -4,8 +4,8 @@ use super::take::take_in;
 use tables::limits::Limits;
 use tables::start::Started;
 use tables::start::start as start_store;
-ghost use Rattle.lists.proofs.Ladder.{Answers};
-ghost use Rattle.tables.specs.Store.{StartedAs};
+ghost use Rattle.lists.specs.Ladder.{Answers};
+ghost use Rattle.tables.specs.Store.{starting, begins};
 ghost use Rattle.tables.specs.Limits.{handheld};
 ghost use Rattle.station.specs.Taking.{leaves, taken};
 
@@ -19,7 +19,7 @@ pub const HANDHELD: Limits = Limits {
 
 // Makes any 12,288 bytes a fresh store.
 pub fn start(store: &mut [u8]) -> Started
-    ensures { λ r. ⌜ StartedAs handheld (now (store .entry)) (now (store .exit)) r ⌝ }
+    ensures { λ r. ⌜ Answers (starting handheld (now (store .entry))) (begins r (now (store .exit))) ⌝ }
 {
     start_store(store, HANDHELD)
 }

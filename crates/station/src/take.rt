@@ -8,28 +8,30 @@ use checks::checks::is_store;
 use fields::hashes::HashPlace;
 use placed::fixed::clear_hash;
 use replies::queries::same_hash;
+use replies::replies::result_number;
 use replies::replies::write_reply;
 use running::run::Run;
 use running::run::take_settings;
 use slots::bytes::copy;
 use tables::limits::Limits;
+use writing::Result;
 ghost use Prim.Native.Nat.{_≤_};
 ghost use mathlib.Core.Path.{_≡_};
 ghost use lib.ListN.{length};
-ghost use Rattle.lists.proofs.Ladder.{Answers};
+ghost use Rattle.lists.specs.Ladder.{Answers};
 ghost use Rattle.tables.specs.Store.{StoreOf};
 ghost use Rattle.station.specs.Handling.{TurnedDown, Queried, Requested};
 ghost use Rattle.station.specs.Taking.{leaves, taken};
 
 // The reply of 1 to 4, which carries no hash.
-fn turn_down(reply: &mut [u8], number: u8, failed: u8) -> Answer
+fn turn_down(reply: &mut [u8], result: Result, failed: u8) -> Answer
     requires { ⌜ 20 ≤ length (now reply) ⌝ }
-    ensures { λ r. ⌜ TurnedDown number failed (now (reply .entry)) (now (reply .exit)) r ⌝ }
+    ensures { λ r. ⌜ TurnedDown result failed (now (reply .entry)) (now (reply .exit)) r ⌝ }
 {
     let none = [0u8; 11];
-    let length = write_reply(reply, number, failed, &none);
+    let length = write_reply(reply, result_number(result), failed, &none);
     Answer::Replied(Reply {
-        result: number,
+        result: result,
         failed: failed,
         send: true,
         reboot: false,
@@ -43,11 +45,11 @@ fn answer_query(m: &[u8], place: HashPlace, store: &[u8], reply: &mut [u8]) -> A
     ensures { λ r. ⌜ Queried (now (m .entry)) place (now (store .entry)) (now (reply .entry)) (now (reply .exit)) r ⌝ }
 {
     let result = if same_hash(m, place, &store[0..11]) {
-        0
+        Result::Taken
     } else {
-        5
+        Result::NoMatch
     };
-    let length = write_reply(reply, result, 0, &store[0..11]);
+    let length = write_reply(reply, result_number(result), 0, &store[0..11]);
     Answer::Replied(Reply {
         result: result,
         failed: 0,
@@ -74,12 +76,12 @@ fn take_request(
     clear_hash(&mut work[0..11]);
     let run = take_settings(work, limits, m, at, count);
     match run {
-        Run::Fault(number, failed) => turn_down(reply, number, failed),
+        Run::Fault(result, failed) => turn_down(reply, result, failed),
         Run::Good(flags) => {
             copy(store, work);
             let length = write_reply(reply, 0, 0, &store[0..11]);
             Answer::Replied(Reply {
-                result: 0,
+                result: Result::Taken,
                 failed: 0,
                 send: flags.reply,
                 reboot: flags.reboot,
@@ -111,9 +113,9 @@ pub(crate) fn take_in(
         Message::Size => Answer::Untouched(Refusal::MessageSize),
         Message::Carrier => Answer::Untouched(Refusal::Carrier),
         Message::Type => Answer::Untouched(Refusal::MessageType),
-        Message::Version => turn_down(reply, 1, 0),
-        Message::NoRequest => turn_down(reply, 4, 0),
-        Message::NoQuery => turn_down(reply, 4, 0),
+        Message::Version => turn_down(reply, Result::OtherVersion, 0),
+        Message::NoRequest => turn_down(reply, Result::BadField, 0),
+        Message::NoQuery => turn_down(reply, Result::BadField, 0),
         Message::Query(place) => answer_query(m, place, store, reply),
         Message::Request(count, at) => take_request(m, count, at, store, reply, limits, work),
     }

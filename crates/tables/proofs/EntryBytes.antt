@@ -2,7 +2,8 @@
 use Prim.Native.Nat.{ℕ, _+_, _*_, _<_}
 use mathlib.Core.List.{[], _∷_, _++_}
 use native.Mathlib.Omega.{arith}
-use Rattle.lists.proofs.Bytes.{Bytes, all-bytes, bytes-append, bytes-cons, bytes-zeros}
+use Rattle.lists.specs.Bytes.{Bytes}
+use Rattle.lists.proofs.Bytes.{all-bytes, bytes-append, bytes-cons, bytes-zeros}
 use Rattle.slots.specs.Slots.{pad, u16, u24}
 use Rattle.slots.proofs.Numbers.{u16-bytes, u24-bytes}
 use Rattle.slots.proofs.Pads.{pad-all}

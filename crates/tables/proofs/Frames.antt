@@ -6,8 +6,8 @@ use mathlib.Core.Option.{Option}
 use native.Mathlib.Omega.{arith}
 use borrow.Rule.Slice.PartMut.{putMid, midOf}
 use lib.ListN.{getD, set, take, replicate}
-use Rattle.slots.specs.Slots.{flat, places, front, u16, Placed, Listed}
-use Rattle.slots.proofs.Parts.{sum, parts-get, parts-put}
+use Rattle.slots.specs.Slots.{flat, places, front, u16, Placed, Listed, sum}
+use Rattle.slots.proofs.Parts.{parts-get, parts-put}
 use Rattle.writing.specs.declared.HomeNumbers.{HomeNumbers}
 use Rattle.writing.specs.declared.SystemCode.{SystemCode}
 use Rattle.writing.specs.Ranges.{InChannel}

@@ -6,9 +6,10 @@ use mathlib.Core.Option.{Option, none}
 use native.Mathlib.Omega.{arith}
 use borrow.Rule.Slice.PartMut.{putMid}
 use lib.ListN.{length, set, replicate, length-replicate, replicate-append-replicate}
-use Rattle.lists.proofs.Every.{All, all-replicate}
-use Rattle.slots.specs.Slots.{flat, places, front, u16, Present}
-use Rattle.slots.proofs.Parts.{sum, flat-zeros, parts-put}
+use Rattle.lists.specs.Every.{All}
+use Rattle.lists.proofs.Every.{all-replicate}
+use Rattle.slots.specs.Slots.{flat, places, front, u16, Present, sum}
+use Rattle.slots.proofs.Parts.{flat-zeros, parts-put}
 use Rattle.slots.proofs.Tables.{front-nil, places-nil}
 use Rattle.writing.specs.Ranges.{no-hash as hash-0}
 use Rattle.tables.specs.declared.limits.Limits.{Limits}

@@ -6,11 +6,12 @@ use mathlib.Core.List.{List, [], _∷_, _++_, map}
 use mathlib.Core.Option.{Option}
 use native.Mathlib.Omega.{arith}
 use lib.ListN.{length, getD, length-replicate}
-use Rattle.lists.proofs.Bytes.{Bytes, bytes-zeros}
-use Rattle.lists.proofs.Every.{All}
-use Rattle.slots.specs.Slots.{places, front, u16, zeros?, Present}
+use Rattle.lists.specs.Bytes.{Bytes}
+use Rattle.lists.proofs.Bytes.{bytes-zeros}
+use Rattle.lists.specs.Every.{All}
+use Rattle.slots.specs.Slots.{places, front, u16, zeros?, Present, sum}
 use Rattle.slots.proofs.Codes.{Code, places-one, list-one}
-use Rattle.slots.proofs.Parts.{sum, flat-bytes, flat-length, parts-one}
+use Rattle.slots.proofs.Parts.{flat-bytes, flat-length, parts-one}
 use Rattle.slots.proofs.Tables.{all-front, front-length, places-bytes, places-length}
 use Rattle.writing.specs.Ranges.{InChannel}
 use Rattle.tables.specs.declared.limits.Limits.{Limits}

@@ -10,7 +10,8 @@ use borrow.Author.Tests.{eq-eqb, lt-ltb, ne-eqb, eqb-false}
 use lib.Dec.{eqb}
 use lib.ListN.{length, getD, set, replicate, length-append, length-set}
 use lib.Seq.{getD-set-same, getD-set-other, set-getD}
-use Rattle.lists.proofs.Every.{All, all-right, all-turn}
+use Rattle.lists.specs.Every.{All}
+use Rattle.lists.proofs.Every.{all-right, all-turn}
 use Rattle.slots.specs.Slots.{indexOf, putAt, same?}
 use Rattle.slots.proofs.Changes.{index-absent, index-found, put-found, unless-absent, unless-append, unless-found, unless-gone}
 use Rattle.slots.proofs.Runs.{same-are, same-not, same-refl}

@@ -9,7 +9,8 @@ use native.Mathlib.Omega.{arith}
 use borrow.Author.Tests.{ltb-true}
 use lib.Dec.{eqb, ltb}
 use lib.ListN.{length, getD, set, length-append, length-set, replicate}
-use Rattle.lists.proofs.Every.{All, all-append, all-get, all-set, all-turn}
+use Rattle.lists.specs.Every.{All}
+use Rattle.lists.proofs.Every.{all-append, all-get, all-set, all-turn}
 use Rattle.slots.specs.Slots.{unless, indexOf, putAt, same?, Present}
 use Rattle.slots.proofs.Runs.{same-are, same-refl}
 use Rattle.slots.proofs.Tables.{put-all, put-short, unless-all, unless-short}

@@ -9,8 +9,10 @@ use borrow.Author.Tests.{eqb-true}
 use lib.Dec.{eqb}
 use lib.ListN.{length, length-map}
 use Rattle.lists.proofs.Bools.{is-false, and-parts}
-use Rattle.lists.proofs.Bytes.{Bytes, all-bytes}
-use Rattle.lists.proofs.Every.{All, all-any, all-made, all-map, all-turn}
+use Rattle.lists.specs.Bytes.{Bytes}
+use Rattle.lists.proofs.Bytes.{all-bytes}
+use Rattle.lists.specs.Every.{All}
+use Rattle.lists.proofs.Every.{all-any, all-made, all-map, all-turn}
 use Rattle.lists.proofs.Seqs.{map-one}
 use Rattle.slots.specs.Slots.{pad, u16, zeros?, same?}
 use Rattle.slots.proofs.Codes.{array-one}

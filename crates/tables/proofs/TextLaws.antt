@@ -7,8 +7,8 @@ use mathlib.Core.List.{List, [], _∷_, _++_, map}
 use native.Mathlib.Omega.{arith}
 use lib.ListN.{length, drop, take, getD}
 use lib.Seq.{drop-cons}
-use Rattle.lists.proofs.Bytes.{Bytes}
-use Rattle.lists.proofs.Every.{All}
+use Rattle.lists.specs.Bytes.{Bytes}
+use Rattle.lists.specs.Every.{All}
 use Rattle.slots.specs.Slots.{flat, pad, u16, zeros?}
 use Rattle.slots.proofs.Numbers.{u16-of, u16-shown}
 use Rattle.slots.proofs.Pads.{pad-length}

@@ -5,7 +5,7 @@ use mathlib.Core.Logic.{_≢_}
 use mathlib.Core.List.{List, [], _∷_}
 use mathlib.Core.Option.{Option}
 use lib.ListN.{length}
-use Rattle.lists.proofs.Every.{All}
+use Rattle.lists.specs.Every.{All}
 use Rattle.slots.specs.Slots.{Present}
 use Rattle.writing.specs.declared.KeyTarget.{KeyTarget}
 use Rattle.writing.specs.declared.KeyTarget.the-variants.{Current, ToGroup, ToIndividual}

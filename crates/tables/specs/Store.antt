@@ -4,6 +4,7 @@ use mathlib.Core.Path.{_≡_}
 use mathlib.Core.Bool.{Bool}
 use mathlib.Core.List.{List}
 use lib.ListN.{length}
+use Rattle.lists.specs.Ladder.{Ladder, rung, foot}
 use Rattle.writing.specs.Canonical.{Fits}
 use Rattle.writing.specs.Ranges.{text-limits, InRange}
 use Rattle.writing.specs.Settings.{Setting, unicode16}
@@ -26,10 +27,25 @@ pub record StoreOf (m : Limits) (bytes : List ℕ) : Type 0 where
   pub roomy : Roomy m
   pub store : IsStore m bytes
 
+-- "11 store not 12,288 bytes"
+abbrev pub started : Started → ℕ
+started Fresh = 0
+started WrongSize = 11
+
+-- the number that starting answers, and the bytes afterwards
+pub record Begun : Type 0 where
+  pub number : ℕ
+  pub store : List ℕ
+
+-- an answer of the code, with the bytes that it left
+abbrev pub begins : Started → List ℕ → Begun
+begins a store = record { number = started a; store = store }
+
 -- "Starting a store: any 12,288 bytes become fresh, another length is 11", and touches nothing
-abbrev pub StartedAs : Limits → List ℕ → List ℕ → Started → Type 0
-StartedAs m before after Fresh = (length before ≡ m .size) × Roomy m × (after ≡ layout m fresh)
-StartedAs m before after WrongSize = (length before ≡ m .size → Roomy m → ⊥) × (after ≡ before)
+abbrev pub starting : Limits → List ℕ → Ladder Begun
+starting m before =
+    rung (length before ≡ m .size → Roomy m → ⊥) (record { number = 11; store = before })
+    (foot (λ a. (length before ≡ m .size) × Roomy m × (a ≡ record { number = 0; store = layout m fresh })))
 
 -- ---- a setting
 

@@ -2,7 +2,8 @@
 use super::limits::Limits;
 use super::limits::roomy;
 use slots::bytes::wipe;
-ghost use Rattle.tables.specs.Store.{StartedAs};
+ghost use Rattle.lists.specs.Ladder.{Answers};
+ghost use Rattle.tables.specs.Store.{starting, begins};
 
 pub enum Started {
     Fresh,
@@ -11,7 +12,7 @@ pub enum Started {
 
 // Any bytes of the limits' size become a fresh store. Other bytes stay, and so do all where the tables have no room.
 pub fn start(store: &mut [u8], limits: Limits) -> Started
-    ensures { λ r. ⌜ StartedAs limits (now (store .entry)) (now (store .exit)) r ⌝ }
+    ensures { λ r. ⌜ Answers (starting limits (now (store .entry))) (begins r (now (store .exit))) ⌝ }
 {
     if store.len() != limits.size {
         return Started::WrongSize;

@@ -9,7 +9,8 @@ use native.Mathlib.Omega.{arith}
 use borrow.Rule.Slice.PartMut.{midOf}
 use lib.ListN.{length, getD, drop, replicate, drop-of-length-le}
 use lib.Seq.{take-all, drop-cons}
-use Rattle.lists.proofs.Every.{All, all-get}
+use Rattle.lists.specs.Every.{All}
+use Rattle.lists.proofs.Every.{all-get}
 use Rattle.slots.specs.Slots.{u16, u24, slot, zeros?, Present, Placed}
 use Rattle.slots.proofs.Tables.{place-read}
 use Rattle.writing.specs.declared.Operation.the-variants.{Add, Delete}

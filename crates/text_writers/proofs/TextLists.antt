@@ -5,7 +5,8 @@ use mathlib.Core.List.{List, [], _∷_, _++_, map}
 use mathlib.Core.Option.{Option, none, some}
 use native.Mathlib.Omega.{arith}
 use lib.ListN.{length}
-use Rattle.lists.proofs.Every.{All, all-append, all-turn}
+use Rattle.lists.specs.Every.{All}
+use Rattle.lists.proofs.Every.{all-append, all-turn}
 use Rattle.slots.specs.Slots.{flat, Present, Placed}
 use Rattle.writing.specs.declared.Operation.{Operation}
 use Rattle.writing.specs.declared.Operation.the-variants.{Replace}

@@ -8,7 +8,8 @@ use native.Mathlib.Omega.{arith}
 use borrow.Rule.Slice.PartMut.{midOf}
 use lib.ListN.{length, getD, take, drop, drop-of-length-le, length-take}
 use lib.Seq.{drop-cons, take-all}
-use Rattle.lists.proofs.Every.{All, all-get, all-take}
+use Rattle.lists.specs.Every.{All}
+use Rattle.lists.proofs.Every.{all-get, all-take}
 use Rattle.slots.specs.Slots.{flat, zeros?, Present, Placed}
 use Rattle.slots.proofs.Tables.{place-read}
 use Rattle.writing.specs.declared.Operation.the-variants.{Add, Replace}

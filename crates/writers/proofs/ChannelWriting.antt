@@ -5,7 +5,8 @@ use mathlib.Core.List.{List, [], _∷_, _++_, map}
 use native.Mathlib.Omega.{arith}
 use lib.ListN.{length, drop, getD, drop-of-length-le}
 use lib.Seq.{drop-cons}
-use Rattle.lists.proofs.Every.{All, all-append, all-get, all-map}
+use Rattle.lists.specs.Every.{All}
+use Rattle.lists.proofs.Every.{all-append, all-get, all-map}
 use Rattle.slots.specs.Slots.{flat, pad, u16, zeros?, Listed, Found}
 use Rattle.slots.proofs.Keys.{used-at}
 use Rattle.slots.proofs.Tables.{front-bytes}

@@ -6,7 +6,7 @@ use mathlib.Core.List.{List, [], _∷_, _++_, append-nil}
 use native.Mathlib.Omega.{arith}
 use borrow.Rule.Slice.PartMut.{midOf}
 use lib.ListN.{getD, take}
-use Rattle.lists.proofs.Every.{All}
+use Rattle.lists.specs.Every.{All}
 use Rattle.slots.specs.Slots.{u24}
 use Rattle.writing.specs.declared.KeyTarget.{KeyTarget}
 use Rattle.writing.specs.declared.KeyTarget.the-variants.{Current, ToGroup, ToIndividual}

@@ -10,7 +10,8 @@ use lib.Dec.{eqb}
 use lib.ListN.{length, drop, getD, set, length-drop, List·getD-eq-default}
 use lib.Seq.{getD-drop}
 use Rattle.lists.proofs.Bools.{is-false, and-parts}
-use Rattle.lists.proofs.Every.{All, all-append, all-get, all-map}
+use Rattle.lists.specs.Every.{All}
+use Rattle.lists.proofs.Every.{all-append, all-get, all-map}
 use Rattle.slots.specs.Slots.{flat, pad, zeros?, Listed, Found}
 use Rattle.slots.proofs.Keys.{used-at}
 use Rattle.slots.proofs.Tables.{front-bytes}

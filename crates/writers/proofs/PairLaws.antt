@@ -6,7 +6,7 @@ use native.Mathlib.Nat.{not-suc-le-zero, le-of-suc-le-suc}
 use native.Mathlib.Omega.{arith}
 use lib.ListN.{length, drop, getD}
 use lib.Seq.{drop-cons}
-use Rattle.lists.proofs.Every.{All}
+use Rattle.lists.specs.Every.{All}
 use Rattle.slots.specs.Slots.{flat, pad, u16}
 
 -- every element behind a place

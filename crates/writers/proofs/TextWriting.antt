@@ -6,7 +6,8 @@ use native.Mathlib.Omega.{arith}
 use borrow.Rule.Slice.PartMut.{midOf}
 use lib.ListN.{length, take, replicate, length-map}
 use lib.Seq.{take-at, take-all}
-use Rattle.lists.proofs.Every.{All, all-made}
+use Rattle.lists.specs.Every.{All}
+use Rattle.lists.proofs.Every.{all-made}
 use Rattle.slots.specs.Slots.{flat, pad, u16, zeros?, Listed, Found}
 use Rattle.slots.proofs.Keys.{used-at}
 use Rattle.slots.proofs.Numbers.{u16-shown}

@@ -3,7 +3,7 @@ use Prim.Native.Nat.{ℕ, _+_, _≤_, _<_}
 use mathlib.Core.Path.{_≡_}
 use mathlib.Core.List.{List, _++_}
 use lib.ListN.{length, getD, take, drop}
-use Rattle.lists.proofs.Every.{All}
+use Rattle.lists.specs.Every.{All}
 use Rattle.slots.specs.Slots.{Listed}
 use Rattle.writing.specs.Canonical.{plain, canonical, canonical-all, FitsField}
 use Rattle.writing.specs.Ranges.{InNumber}
@@ -54,7 +54,7 @@ pub record WritesAll {A : Type 0} (Held : A → Type 0) (settings : A → List S
 
 -- ---- writers that other crates use
 
--- nothing was written without the room for it, and the place after what was written, if anything
+-- with room for the most that it takes it was done; the answer lies within that room, had or not
 pub record Tried (at room : ℕ) (before : List ℕ) (r : ℕ) (Done : Type 0) : Type 0 where
   pub from : at ≤ r
   pub most : r ≤ at + room

@@ -7,7 +7,7 @@ use native.Mathlib.Numerals.{one-add}
 use native.Mathlib.Omega.{arith}
 use lib.ListN.{length, length-append}
 use lib.Pow.{shr-shr, pow-pos, mod-mod-pow, mod-pow-add, field}
-use Rattle.lists.proofs.Every.{All}
+use Rattle.lists.specs.Every.{All}
 use Rattle.lists.proofs.Seqs.{cut}
 use Rattle.writing.specs.Fields.{bits, bitsOf, Field, width, Holds, Shows, widths}
 

@@ -7,7 +7,8 @@ use native.Mathlib.Omega.{arith}
 use lib.Arith.{digits-lt}
 use lib.ListN.{length}
 use lib.Pow.{pow-pos, pow-add, high, low}
-use Rattle.lists.proofs.Every.{All, all-append}
+use Rattle.lists.specs.Every.{All}
+use Rattle.lists.proofs.Every.{all-append}
 use Rattle.writing.specs.Canonical.{value, side-by-side, bytes, plain, canonical, canonical-all, FitsField, Fits}
 use Rattle.writing.specs.Fields.{bits, bitsOf, Field, val, item, res, width, widths, Holds, Shows}
 use Rattle.writing.specs.Settings.{Setting, Coding}

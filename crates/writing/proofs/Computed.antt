@@ -5,7 +5,8 @@ use mathlib.Core.Logic.{_≢_}
 use mathlib.Core.Bool.{Bool, true, false, not, _&&_}
 use mathlib.Core.List.{List, [], _∷_, _++_}
 use lib.Dec.{T, ltb, eqb, ltb→lt, T-not, eqb-refl}
-use Rattle.lists.proofs.Every.{All, all?, all-passed, both}
+use Rattle.lists.specs.Every.{All}
+use Rattle.lists.proofs.Every.{all?, all-passed, both}
 use Rattle.writing.specs.Canonical.{plain, canonical, FitsField}
 use Rattle.writing.specs.Fields.{bits, bitsOf, Field, val, item, res, width, widths, Holds, Shows}
 use Rattle.writing.specs.Settings.{Setting, Coding}

@@ -4,7 +4,7 @@ use mathlib.Core.Path.{_≡_, refl, ap, _∙_}
 use mathlib.Core.List.{List, [], _∷_, _++_, map, nil≢cons}
 use native.Mathlib.Omega.{arith}
 use lib.ListN.{length}
-use Rattle.lists.proofs.Every.{All}
+use Rattle.lists.specs.Every.{All}
 use Rattle.lists.proofs.Seqs.{cut}
 use Rattle.writing.specs.declared.KeyTarget.{KeyTarget}
 use Rattle.writing.specs.declared.KeyTarget.the-variants.{Current, ToGroup, ToIndividual}

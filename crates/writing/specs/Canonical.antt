@@ -2,7 +2,7 @@
 use Prim.Native.Nat.{ℕ, zero, suc, _+_, _*_, _/_, _%_, _^_, _<_}
 use mathlib.Core.Logic.{_≢_}
 use mathlib.Core.List.{List, [], _∷_, _++_}
-use Rattle.lists.proofs.Every.{All}
+use Rattle.lists.specs.Every.{All}
 use Rattle.writing.specs.Fields.{Field, val, item, res, width, widths}
 use Rattle.writing.specs.Settings.{Setting, Coding}
 use Rattle.writing.specs.Writing.{fields}

@@ -5,6 +5,8 @@ use mathlib.Core.Path.{_≡_}
 use mathlib.Core.Logic.{_⊎_}
 use mathlib.Core.List.{List, [], _∷_, _++_}
 use lib.ListN.{length}
+use Rattle.writing.specs.declared.Result.{Result}
+use Rattle.writing.specs.declared.Result.the-variants.{Taken, OtherVersion as NotVersion1, NoRoom, UnknownType, BadField, NoMatch}
 use Rattle.writing.specs.Fields.{bitsOf, Field, val, res, Shows}
 use Rattle.writing.specs.Ranges.{HashSize}
 use Rattle.writing.specs.Settings.{Setting, Hash, Coding, unicode16}
@@ -79,6 +81,15 @@ pub record Query (h : Hash) (message : List ℕ) : Type 0 where
   pub carried : Carries any-coding data-bytes message
   pub written : Shows (query h) (bitsOf data-bytes)
   pub in-range : HashSize (h .code) (length (h .value))
+
+-- CfgResult: "0 taken, or query matches", 1 to 5 as "Numbers returned" says
+abbrev pub result-number : Result → ℕ
+result-number Taken = 0
+result-number NotVersion1 = 1
+result-number NoRoom = 2
+result-number UnknownType = 3
+result-number BadField = 4
+result-number NoMatch = 5
 
 -- "Reply: CfgResult (8), FailedCfgID (8), 2 reserved bits, HashCode (6), hash value"
 abbrev pub reply : ℕ → ℕ → Hash → List Field

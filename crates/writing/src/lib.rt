@@ -1,4 +1,4 @@
-// What the ten settings say, as code, tables and definitions share it: operations, flags and fixed contents. No code reads or writes here.
+// What the ten settings and a reply say, as code and definitions share it: operations, flags, fixed contents, results. No code reads or writes here.
 use plan::numbers::GroupAddress;
 use plan::numbers::IndividualAddress;
 
@@ -27,6 +27,16 @@ pub enum Operations {
     NoOperation,
     AnyOperation,
     AddOrDelete,
+}
+
+// What a reply says of its message: CfgResult.
+pub enum Result {
+    Taken,
+    OtherVersion,
+    NoRoom,
+    UnknownType,
+    BadField,
+    NoMatch,
 }
 
 // Of all line contacts of one setting.

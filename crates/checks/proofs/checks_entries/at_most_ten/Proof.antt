@@ -1,12 +1,11 @@
 use borrow.Author.Needs.{needs}
 use native.Mathlib.Omega.{arith}
 use Prim.Native.Nat.{_-_, _≤_}
-use lib.ListN.{length, drop}
+use lib.ListN.{length, drop, drop-of-length-le}
 use mathlib.Core.Logic.{_↔_}
-use Rattle.lists.proofs.Every.{All, all-from}
-use lib.ListN.{drop-of-length-le}
+use Rattle.lists.specs.Every.{All, All}
+use Rattle.lists.proofs.Every.{all-from}
 use Rattle.tables.proofs.AnswerLaws.{refused, granted}
-use Rattle.lists.proofs.Every.{All}
 use Rattle.checks.proofs.checks_entries.at_most_ten.Statement.{statement}
 use Rattle.checks.proofs.checks_entries.at_most_ten.Tie as tie
 

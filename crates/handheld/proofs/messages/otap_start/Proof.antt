@@ -1,6 +1,6 @@
 use borrow.Author.Needs.{needs}
-use mathlib.Core.Path.{sym, ap}
-use Rattle.station.specs.Answers.{started}
+use Rattle.tables.specs.declared.start.Started.the-variants.{Fresh, WrongSize}
+use Rattle.handheld.proofs.Packed.{started-as}
 use Rattle.handheld.proofs.messages.otap_start.Statement.{statement}
 use Rattle.handheld.proofs.messages.otap_start.Tie as tie
 
@@ -18,14 +18,14 @@ same-length c = search needs
 
 returns : tie.Need-returns
 returns c =
-    record { did = c .before .before .before .before .start .result; allowed = c .before .before .before .before .start .ensures; number = sym (ap started (c .enum-told .given .1)) }
+    started-as _ _ (c .before .before .before .before .start .result) Fresh (c .enum-told .given .1) (c .before .before .before .before .start .ensures)
 
 same-length-2 : tie.Need-same-length-2
 same-length-2 c = search needs
 
 returns-2 : tie.Need-returns-2
 returns-2 c =
-    record { did = c .before .before .before .before .start .result; allowed = c .before .before .before .before .start .ensures; number = sym (ap started (c .enum-told2 .given .1)) }
+    started-as _ _ (c .before .before .before .before .start .result) WrongSize (c .enum-told2 .given .1) (c .before .before .before .before .start .ensures)
 
 pub otap-start-spec : {M : Type 1} → statement M
 otap-start-spec =

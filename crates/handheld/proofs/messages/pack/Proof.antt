@@ -16,6 +16,9 @@ cast-result c = search needs
 enum-known-answer-2 : tie.Need-enum-known-answer-2
 enum-known-answer-2 c = search needs
 
+result-number-requires : tie.Need-result-number-requires
+result-number-requires c κs = search needs
+
 cast-result-2 : tie.Need-cast-result-2
 cast-result-2 c = search needs
 
@@ -61,7 +64,9 @@ returns c =
 
 returns-2 : tie.Need-returns-2
 returns-2 c =
-    packed-reply _ (c .before .before .before .before .before .before .answer2 .given .0 .0) _ _ (c .before .before .before .before .before .before .answer2 .given .1) (c .before .before .bit-of .ensures .0) (c .before .bit-of2 .ensures .0) (c .struct-known3 .given .0 .fits) (c .struct-known3 .given .1 .0 .fits) (c .struct-known3 .given .1 .1 .1 .1 .0 .fits)
+    let a = c .before .before .before .before .before .before .answer2 .given in
+    let n = c .before .before .before .before .result-number in
+    packed-reply _ (a .0 .0) (n .result) _ _ (a .1) (n .ensures) (c .before .before .bit-of .ensures .0) (c .before .bit-of2 .ensures .0) (omega arith) (c .struct-known2 .given .1 .0 .fits) (c .struct-known2 .given .1 .1 .1 .1 .0 .fits)
 
 pub pack-spec : {M : Type 1} → statement M
 pack-spec =
@@ -71,6 +76,7 @@ pack-spec =
     refusal-number-requires
     cast-result
     enum-known-answer-2
+    result-number-requires
     cast-result-2
     cast-result-3
     mul-result

@@ -2,7 +2,7 @@ use borrow.Author.Needs.{needs}
 use Prim.Native.Nat.{_≤_}
 use mathlib.Core.Path.{refl, subst}
 use lib.ListN.{length, take}
-use Rattle.lists.proofs.Ladder.{Answers}
+use Rattle.lists.specs.Ladder.{Answers}
 use Rattle.tables.specs.Limits.{handheld}
 use Rattle.export.specs.declared.parts.Export.{Export}
 use Rattle.export.specs.Exporting.{exporting, told}

@@ -17,6 +17,9 @@ part-same-hash-end c = search needs
 same-hash-requires : tie.Need-same-hash-requires
 same-hash-requires c κs = search needs
 
+result-number-requires : tie.Need-result-number-requires
+result-number-requires c κs = search needs
+
 sub-write-reply : tie.Need-sub-write-reply
 sub-write-reply c = search needs
 
@@ -34,9 +37,9 @@ same-length c = search needs
 
 returns : tie.Need-returns
 returns c =
-    let a = c .before .before .before .before .before .before .before .before .before .before .before .args in
-    let k = c .before .before .before .before .before .before .same-hash in
-    queried (a .m .now) (a .place) (a .store .now) (a .reply .now) _ (c .before .before .before .before .before .if1 .result) _ (k .result) (k .ensures) (⊎-elim (λ w. inl (w .0 .taken, w .1)) (λ w. inr (w .0 .left, w .1)) (c .before .before .before .before .before .if1 .came)) (c .before .before .write-reply .ensures (omega arith))
+    let a = c .before .before .before .before .before .before .before .before .before .before .before .before .args in
+    let k = c .before .before .before .before .before .before .before .same-hash in
+    queried (a .m .now) (a .place) (a .store .now) (a .reply .now) _ (c .before .before .before .before .before .before .if1 .result) (c .before .before .before .before .result-number .result) _ (k .result) (k .ensures) (⊎-elim (λ w. inl (w .0 .taken, w .1)) (λ w. inr (w .0 .left, w .1)) (c .before .before .before .before .before .before .if1 .came)) (c .before .before .before .before .result-number .ensures) (c .before .before .write-reply .ensures (omega arith))
 
 pub answer-query-spec : {M : Type 1} → statement M
 answer-query-spec =
@@ -46,6 +49,7 @@ answer-query-spec =
     part-same-hash-start
     part-same-hash-end
     same-hash-requires
+    result-number-requires
     sub-write-reply
     part-write-reply-start
     part-write-reply-end

@@ -62,7 +62,7 @@ returns c =
     let k = c .before .before .before .before .before .before .before .before .before .take-settings in
     let s = c .before .before .before .before .before .before .before .before .before .before .before .before .before .before .before .before .before .before .before .before .before .before .before .before .pre .1 in
     let z = subst (RunIs (a .limits) (a .count) (a .m .now) (a .at) _ (k .last .0)) (c .before .before .before .before .before .run .given .1) (k .ensures) in
-    λ t h. request-refused (a .limits) (a .m .now) (a .count) (a .at) (a .store .now) (a .reply .now) s t _ (k .last .0) (forgotten (a .limits) (a .store .now) (a .work .now) (c .before .before .before .before .before .before .before .before .before .before .before .before .before .before .before .before .before .copy .last .0) s (c .before .before .before .before .before .before .before .before .before .before .before .before .before .before .before .before .before .before .before .before .before .before .before .before .pre .2) (c .before .before .before .before .before .before .before .before .before .before .before .before .before .before .before .before .before .copy .ensures) t (c .before .before .before .before .before .before .before .before .before .before .before .before .before .clear-hash .last .0) h (c .before .before .before .before .before .before .before .before .before .before .before .before .before .clear-hash .ensures)) _ _ _ (c .before .before .turn-down .result) z (c .before .before .turn-down .ensures)
+    λ t h. request-refused (a .limits) (a .m .now) (a .count) (a .at) (a .store .now) (a .reply .now) s t _ (k .last .0) (forgotten (a .limits) (a .store .now) (a .work .now) (c .before .before .before .before .before .before .before .before .before .before .before .before .before .before .before .before .before .copy .last .0) s (c .before .before .before .before .before .before .before .before .before .before .before .before .before .before .before .before .before .before .before .before .before .before .before .before .pre .2) (c .before .before .before .before .before .before .before .before .before .before .before .before .before .before .before .before .before .copy .ensures) t (c .before .before .before .before .before .before .before .before .before .before .before .before .before .clear-hash .last .0) h (c .before .before .before .before .before .before .before .before .before .before .before .before .before .clear-hash .ensures)) (c .before .before .before .before .before .run .given .0 .0) _ _ (c .before .before .turn-down .result) z (c .before .before .turn-down .ensures)
 
 same-length-4 : tie.Need-same-length-4
 same-length-4 c = search needs

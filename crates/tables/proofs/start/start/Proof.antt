@@ -1,20 +1,24 @@
 use borrow.Author.Needs.{needs}
 use native.Mathlib.Omega.{arith}
-use mathlib.Core.Path.{refl}
+use mathlib.Core.Path.{refl, ap}
+use mathlib.Core.Logic.{inl, inr}
+use mathlib.Core.List.{List}
+use Prim.Native.Nat.{ℕ}
 use Rattle.tables.specs.Layout.{Roomy}
+use Rattle.tables.specs.Store.{Begun}
 use Rattle.tables.proofs.AnswerLaws.{not-said, was-said}
 use Rattle.tables.proofs.StartLaws.{fresh-made}
 use Rattle.tables.proofs.start.start.Statement.{statement}
 use Rattle.tables.proofs.start.start.Tie as tie
 
 returns : tie.Need-returns
-returns c = search needs
+returns c = inl (λ l r. c .if1 .taken l, refl)
 
 roomy-requires : tie.Need-roomy-requires
 roomy-requires c κs = search needs
 
 returns-2 : tie.Need-returns-2
-returns-2 c = (λ l r. not-said (c .before .roomy .result) (c .before .roomy .ensures) (c .if2 .taken) r, refl)
+returns-2 c = inl (λ l r. not-said (c .before .roomy .result) (c .before .roomy .ensures) (c .if2 .taken) r, refl)
 
 wipe-requires : tie.Need-wipe-requires
 wipe-requires c κs = search needs
@@ -28,7 +32,7 @@ same-length c = search needs
 returns-3 : tie.Need-returns-3
 returns-3 c =
     let r = was-said (c .before .before .before .before .before .roomy .result) (c .before .before .before .before .before .roomy .ensures) (c .before .before .before .before .if2 .left) in
-    (c .before .before .before .before .before .before .if1 .left, r, fresh-made (c .before .before .before .before .before .before .before .before .before .args .limits) (c .before .before .before .before .before .before .before .before .before .args .store .now) (c .before .before .wipe .last .0) r (c .before .before .before .before .before .before .if1 .left) (c .before .before .wipe .ensures))
+    inr (λ n. n (c .before .before .before .before .before .before .if1 .left) r, (c .before .before .before .before .before .before .if1 .left, r, ap (λ (s : List ℕ). (let z : Begun = record { number = 0; store = s } in z)) (fresh-made (c .before .before .before .before .before .before .before .before .before .args .limits) (c .before .before .before .before .before .before .before .before .before .args .store .now) (c .before .before .wipe .last .0) r (c .before .before .before .before .before .before .if1 .left) (c .before .before .wipe .ensures))))
 
 pub start-spec : {M : Type 1} → statement M
 start-spec =

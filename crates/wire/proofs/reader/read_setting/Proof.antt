@@ -1,6 +1,6 @@
 use borrow.Author.Needs.{needs}
 use native.Mathlib.Omega.{arith}
-use Rattle.lists.proofs.Bytes.{Bytes}
+use Rattle.lists.specs.Bytes.{Bytes}
 use Rattle.wire.proofs.SettingLaws.{no-type, too-short, too-little, too-much, no-fields, behind, other-length, the-setting}
 use Rattle.wire.proofs.reader.read_setting.Statement.{statement}
 use Rattle.wire.proofs.reader.read_setting.Tie as tie

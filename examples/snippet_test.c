@@ -1,0 +1,130 @@
+/* The README's snippet does what it says: each of its calls of the firmware is noted by a letter, and the letters must come in this order. */
+#include "snippet.c"
+#include "messages.h"
+
+#include <stdio.h>
+#include <stdlib.h>
+
+static uint8_t flash[OTAP_STORE_BYTES];
+static char called[64];
+static int held;
+static Message message;
+
+static void note(char letter)
+{
+    size_t length = strlen(called);
+    if (length + 1 < sizeof called) {
+        called[length] = letter;
+        called[length + 1] = 0;
+    }
+}
+
+static void must(int holds, const char *what)
+{
+    if (!holds) {
+        fprintf(stderr, "snippet: %s (called \"%s\")\n", what, called);
+        exit(1);
+    }
+}
+
+/* What was called since the last time. */
+static void must_call(const char *letters, const char *what)
+{
+    must(strcmp(called, letters) == 0 && !held, what);
+    called[0] = 0;
+}
+
+void read_saved(uint8_t *bytes, size_t length)
+{
+    note('f');
+    memcpy(bytes, flash, length);
+}
+
+void write_saved(const uint8_t *bytes, size_t length)
+{
+    note('s');
+    must(!held, "the screen waits for the flash");
+    memcpy(flash, bytes, length);
+}
+
+void send_reply(const uint8_t *bytes, size_t length)
+{
+    note('r');
+    must(bytes[0] == 2 && length >= 10 && length <= OTAP_REPLY_BYTES, "a reply");
+}
+
+void restart_set(void)
+{
+    note('R');
+}
+
+void draw_row(uint32_t row, const uint8_t *units, size_t length)
+{
+    note('d');
+    must(held, "drawn without the lock");
+    must(row != 13 || (length == 16 && memcmp(units, "\0003\0002\0008\0002\0000\0009\0001\0003", 16) == 0), "group 13 is shown by its number");
+    must(row != 0 || (length == 32 && units == store + 6134 + 4), "group 0 is shown by its name, where it stands");
+}
+
+void lock_store(void)
+{
+    note('(');
+    must(!held, "the lock taken twice");
+    held = 1;
+}
+
+void unlock_store(void)
+{
+    note(')');
+    must(held, "the lock given back twice");
+    held = 0;
+}
+
+static void powers_on(void)
+{
+    memset(flash, 0xFF, sizeof flash);
+    must(power_on() == 0, "erased flash is no store");
+    must_call("f", "power-on");
+    must(otap_row_number(OTAP_LINES, 0, store, sizeof store, scratch, sizeof scratch) == OTAP_NO_ROW, "a fresh store is started where there is none");
+}
+
+/* FF with its reboot and reply bits: saved, then answered, then started again, and kept. */
+static void takes(void)
+{
+    static uint8_t kept[OTAP_STORE_BYTES];
+    unsigned slot;
+    open_request(&message, 17);
+    for (slot = 0; slot < 16; slot++) {
+        put_slot(&message, 0xD1, 1, slot, 0);
+    }
+    put_last(&message);
+    on_message(message.bytes, message.length);
+    must_call("()()srR", "a request that asks for a reply and a restart");
+    memcpy(kept, store, sizeof kept);
+    memset(store, 0xA5, sizeof store);
+    must(power_on() == 1 && memcmp(kept, store, sizeof store) == 0, "the store that was saved is kept");
+    must_call("f", "power-on");
+    message.bytes[7] = 16;
+    on_message(message.bytes, message.length);
+    must_call("()r", "a refused request");
+    must(memcmp(kept, store, sizeof store) == 0, "a refused request changes nothing");
+    message.length = 6;
+    on_message(message.bytes, message.length);
+    must_call("()", "six bytes are no message");
+    open_request(&message, 1);
+    put_slot(&message, 0xD1, 2, 3, 0);
+    on_message(message.bytes, message.length);
+    must_call("()()s", "a request without a last item");
+}
+
+int main(void)
+{
+    powers_on();
+    draw_groups();
+    must_call("()", "no row of a fresh store is drawn");
+    takes();
+    draw_groups();
+    must_call("(ddddddddddddddd)", "fifteen of sixteen rows are drawn, slot 3 was deleted");
+    printf("the snippet keeps, saves, answers, starts again and draws\n");
+    return 0;
+}
