@@ -1,5 +1,5 @@
 /*
- * A bit of firmware over libhandheld.a: keep a store at power-on or start one, take messages, save, start again, draw the rows, write the settings out
+ * A bit of firmware over libotap_handheld.a: keep a store at power-on or start one, take messages, save, start again, draw the rows, write the settings out
  * and into another set. Every answer is checked; the first that is not what it must be ends the program with 1. examples/firmware.out is what it prints.
  * It is one task, so it needs no lock; docs/FIRMWARE.md says where three need one, and how to save so that a power cut loses nothing (banks.c).
  */

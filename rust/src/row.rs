@@ -64,7 +64,7 @@ impl<'a> Row<'a> {
         let (slice, lent) =
             if packed & 1 == 0 { (Slice::Store, store) } else { (Slice::Scratch, scratch) };
         let (offset, length) = (half(packed, 16), half(packed, 32));
-        // Crate `handheld` proves that the part is within its slice; `get` does not rely on it.
+        // Crate `otap_handheld` proves that the part is within its slice; `get` does not rely on it.
         let bytes = lent.get(offset..offset + length).unwrap_or_default();
         Row { bytes, slice, offset }
     }

@@ -95,7 +95,7 @@ impl<'s> Store<'s> {
     pub fn export<'b>(&self, part: Part, buffer: &'b mut [u8]) -> Result<&'b [u8], Refusal> {
         let packed = calls::export(part.0, self.bytes, buffer);
         match byte(packed, 0) {
-            // Crate `handheld` proves that the length is within the buffer; `get` does not rely on it.
+            // Crate `otap_handheld` proves that the length is within the buffer; `get` does not rely on it.
             0 => Ok(buffer.get(..half(packed, 16)).unwrap_or_default()),
             number => Err(Refusal::from_number(number)),
         }

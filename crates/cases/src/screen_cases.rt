@@ -3,10 +3,10 @@ use super::printing::decimal;
 use super::printing::hex;
 use super::printing::text;
 use super::taking::requests;
-use row_names::rows::Row;
 use screen::answers::number_of;
 use screen::handheld::row_number;
 use screen::handheld::row_part;
+use screen::rows::Row;
 use screen::rows::row_of;
 use station::handheld::start;
 

@@ -14,25 +14,25 @@ use Rattle.writing.specs.Ranges.{InChannel}
 use Rattle.writing.specs.Settings.{Setting, lines, key, home, channels, system, status-texts, unicode16}
 use Rattle.tables.specs.declared.limits.Limits.{Limits}
 use Rattle.tables.specs.Allowed.{HomeOk, SystemOk, LineOk, StatusOk}
-use Rattle.checks.specs.Checks.{KeyOk, Both, joined}
+use Rattle.store_check.specs.Checks.{KeyOk, Both, joined}
 use Rattle.tables.specs.Layout.{layout, key-bytes, home-bytes, system-bytes, line-bytes, status-bytes}
 use Rattle.tables.specs.Store.{Holds}
 use Rattle.tables.specs.Tables.{Tables}
 use Rattle.tables.proofs.Frames.{key-get, home-get, system-get, quick-placed, status-placed, groups-placed, individuals-placed, channels-listed, lines-listed}
-use Rattle.text_writers.specs.declared.members.Members.{Members}
-use Rattle.text_writers.specs.declared.members.Members.the-variants.{OfGroups, OfIndividuals}
+use Rattle.export_write.specs.declared.members.Members.{Members}
+use Rattle.export_write.specs.declared.members.Members.the-variants.{OfGroups, OfIndividuals}
 use Rattle.export.specs.declared.parts.Part.{Part}
 use Rattle.export.specs.declared.parts.Part.the-variants.{Lines, Fixed, QuickTexts, Channels, StatusTexts, Groups, Individuals}
-use Rattle.writers.specs.declared.writers.Settings.{Settings}
+use Rattle.export_write.specs.declared.writers.Settings.{Settings}
 use Rattle.export.specs.Exportable.{Exportable}
 use Rattle.export.specs.Exported.{part-number, exported}
-use Rattle.line_writers.specs.LineSettings.{no-line-flags, line-add}
-use Rattle.text_writers.specs.EntrySettings.{entries}
-use Rattle.text_writers.specs.MemberWriters.{MemberIn, member-settings}
+use Rattle.export_write.specs.LineSettings.{no-line-flags, line-add}
+use Rattle.export_write.specs.EntrySettings.{entries}
+use Rattle.export_write.specs.MemberWriters.{MemberIn, member-settings}
 use Rattle.export.specs.PartWriters.{PartWritten}
-use Rattle.writers.specs.Writers.{Wrote, Writes, WritesAll, Kept, ListIn}
-use Rattle.text_writers.proofs.MemberWriting.{TableIn}
-use Rattle.text_writers.proofs.TextSettings.{QuicksIn, quick-settings}
+use Rattle.export_write.specs.Writers.{Wrote, Writes, WritesAll, Kept, ListIn}
+use Rattle.export_write.proofs.MemberWriting.{TableIn}
+use Rattle.export_write.proofs.TextSettings.{QuicksIn, quick-settings}
 
 -- ---- parts by their number
 

@@ -15,12 +15,12 @@ use Rattle.writing.specs.declared.Result.the-variants.{Taken, NoMatch}
 use Rattle.writing.specs.Ranges.{no-hash as of-no-value}
 use Rattle.writing.specs.Settings.{Setting, Hash}
 use Rattle.writing.specs.Carrier.{result-number, Opens, InSize, NothingCarried, OtherType, OtherVersion, NoRequest, NoQuery}
-use Rattle.carrier.specs.Message.{MessageIs}
-use Rattle.carrier.specs.declared.carrier.Message.{Message}
-use Rattle.carrier.specs.declared.carrier.Message.the-variants.{Size, Carrier, «Type» as AnotherType, Version, NoRequest as NotRequest, Request, NoQuery as NotQuery, Query as AQuery}
-use Rattle.carrier.proofs.KindLaws.{request-opens, other-type, other-version, opens-no-query, opens-no-request, uncounted}
-use Rattle.carrier.proofs.MessageOne.{query-opens}
-use Rattle.fields.specs.declared.hashes.HashPlace.{HashPlace}
+use Rattle.read_carrier.specs.Message.{MessageIs}
+use Rattle.read_carrier.specs.declared.carrier.Message.{Message}
+use Rattle.read_carrier.specs.declared.carrier.Message.the-variants.{Size, Carrier, «Type» as AnotherType, Version, NoRequest as NotRequest, Request, NoQuery as NotQuery, Query as AQuery}
+use Rattle.read_carrier.proofs.KindLaws.{request-opens, other-type, other-version, opens-no-query, opens-no-request, uncounted}
+use Rattle.read_carrier.proofs.MessageOne.{query-opens}
+use Rattle.read_fields.specs.declared.hashes.HashPlace.{HashPlace}
 use Rattle.tables.specs.declared.limits.Limits.{Limits}
 use Rattle.tables.specs.Allowed.{HashOk}
 use Rattle.tables.specs.Layout.{layout, hash-bytes, used-size}
@@ -31,13 +31,13 @@ use Rattle.tables.proofs.Frames.{hash-get, hash-put}
 use Rattle.tables.proofs.LayoutLaws.{layout-length}
 use Rattle.station.specs.declared.answers.Answer.{Answer}
 use Rattle.station.specs.declared.answers.Answer.the-variants.{Replied}
-use Rattle.running.specs.declared.run.Run.the-variants.{Good, Fault as RunFault}
+use Rattle.requests.specs.declared.run.Run.the-variants.{Good, Fault as RunFault}
 use Rattle.station.specs.Handling.{TurnedDown, Queried}
-use Rattle.running.specs.Judge.{Outcome, kept, refused}
-use Rattle.replies.specs.Queries.{SameAs, HashSame}
-use Rattle.replies.specs.Replies.{ReplyWritten}
-use Rattle.running.specs.Running.{RunIs}
-use Rattle.running.specs.Requests.{Judged, forget}
+use Rattle.requests.specs.Judge.{Outcome, kept, refused}
+use Rattle.station.specs.Queries.{SameAs, HashSame}
+use Rattle.station.specs.Replies.{ReplyWritten}
+use Rattle.requests.specs.Running.{RunIs}
+use Rattle.requests.specs.Requests.{Judged, forget}
 use Rattle.station.specs.Taking.{After, leaves, stays, turned-down, replies, settled, Asked, AsRequest, AsQuery, Handled, taken}
 
 -- no hash is a hash that may be kept

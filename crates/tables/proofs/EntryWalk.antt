@@ -9,13 +9,13 @@ use Rattle.lists.specs.Every.{All}
 use Rattle.writing.specs.Fields.{Field, widths, each}
 use Rattle.writing.proofs.Ends.{Ends}
 use Rattle.writing.specs.Settings.{Entry, unicode16}
-use Rattle.fields.specs.Entries.{EntryIs, EntryAt}
-use Rattle.fields.specs.Places.{PartAt}
-use Rattle.fields.specs.declared.entries.EntryPlace.{EntryPlace}
-use Rattle.fields.specs.declared.entries.EntryRead.{EntryRead}
-use Rattle.fields.specs.declared.entries.EntryRead.the-variants.{Entry as AnEntry, NoEntry}
-use Rattle.fields.proofs.Parts.{part-split}
-use Rattle.fields.proofs.Walk.{one-part}
+use Rattle.read_fields.specs.Entries.{EntryIs, EntryAt}
+use Rattle.read_fields.specs.Places.{PartAt}
+use Rattle.read_fields.specs.declared.entries.EntryPlace.{EntryPlace}
+use Rattle.read_fields.specs.declared.entries.EntryRead.{EntryRead}
+use Rattle.read_fields.specs.declared.entries.EntryRead.the-variants.{Entry as AnEntry, NoEntry}
+use Rattle.read_fields.proofs.Parts.{part-split}
+use Rattle.read_fields.proofs.Walk.{one-part}
 use Rattle.tables.specs.Apply.{in-turn, and-then}
 use Rattle.tables.specs.Changes.{Changed}
 

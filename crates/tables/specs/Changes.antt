@@ -17,16 +17,16 @@ use Rattle.writing.specs.Fields.{each, val}
 use Rattle.writing.specs.Ranges.{text-limits, InQuick, InStatus, HashSize}
 use Rattle.writing.specs.Settings.{Text, Entry, unicode16}
 use Rattle.writing.specs.Writing.{quick-text, status-text}
-use Rattle.fields.specs.Entries.{EntryIs}
-use Rattle.fields.specs.Parts.{TextIs}
-use Rattle.fields.specs.Places.{PartAt}
+use Rattle.read_fields.specs.Entries.{EntryIs}
+use Rattle.read_fields.specs.Parts.{TextIs}
+use Rattle.read_fields.specs.Places.{PartAt}
 use Rattle.settings.specs.Settings.{EntriesAre}
-use Rattle.fields.specs.declared.entries.EntryPlace.{EntryPlace}
-use Rattle.fields.specs.declared.hashes.HashPlace.{HashPlace}
+use Rattle.read_fields.specs.declared.entries.EntryPlace.{EntryPlace}
+use Rattle.read_fields.specs.declared.hashes.HashPlace.{HashPlace}
 use Rattle.settings.specs.declared.settings.Entries.{Entries}
 use Rattle.settings.specs.declared.settings.GroupPlace.{GroupPlace}
 use Rattle.settings.specs.declared.settings.IndividualPlace.{IndividualPlace}
-use Rattle.fields.specs.declared.texts.TextPlace.{TextPlace}
+use Rattle.read_fields.specs.declared.texts.TextPlace.{TextPlace}
 use Rattle.tables.specs.Allowed.{QuickOk, StatusOk, GroupOk, IndividualOk}
 use Rattle.tables.specs.Apply.{if-absent, quick-step, quick-after, status-step, status-after, slot-after}
 use Rattle.tables.specs.Layout.{text-bytes, quick-bytes, quick-width, status-bytes, status-width, group-bytes, individual-bytes, member-width, key-address, key-bytes, system-bytes, hash-bytes}

@@ -13,11 +13,11 @@ use Rattle.writing.specs.Fields.{each}
 use Rattle.writing.specs.Ranges.{text-limits, InChannel, InContact}
 use Rattle.writing.specs.Settings.{Contact, Number, unicode16}
 use Rattle.writing.specs.Writing.{contact}
-use Rattle.fields.specs.declared.entries.ContactPlace.{ContactPlace}
-use Rattle.fields.specs.declared.numbers.NumberPlace.{NumberPlace}
+use Rattle.read_fields.specs.declared.entries.ContactPlace.{ContactPlace}
+use Rattle.read_fields.specs.declared.numbers.NumberPlace.{NumberPlace}
 use Rattle.settings.specs.declared.settings.Entries.{Entries}
-use Rattle.fields.specs.Entries.{channel-list, ContactIs}
-use Rattle.fields.specs.Parts.{NumberIs}
+use Rattle.read_fields.specs.Entries.{channel-list, ContactIs}
+use Rattle.read_fields.specs.Parts.{NumberIs}
 use Rattle.settings.specs.Settings.{EntriesAre}
 use Rattle.tables.specs.Allowed.{LineOk}
 use Rattle.tables.specs.Apply.{channel-step, channels-after, line-of, put-line, drop-line, lines-after}

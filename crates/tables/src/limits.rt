@@ -11,6 +11,14 @@ pub struct Limits {
     pub size: usize,
 }
 
+// A hand-held: room for 32 lines and 64 channels, messages of up to 4,096 bytes, a store of 12,288.
+pub const HANDHELD: Limits = Limits {
+    lines: 32,
+    channels: 64,
+    message: 4096,
+    size: 12288,
+};
+
 // Whether the tables have room in a store of the limits' size.
 pub fn roomy(limits: Limits) -> bool
     ensures { λ r. ⌜ (r ≡ true) ↔ Roomy limits ⌝ }

@@ -1,5 +1,5 @@
 // Texts in the store: units of two bytes as they stand in the message, and zeros after them.
-use fields::texts::TextPlace;
+use read_fields::texts::TextPlace;
 use slots::bytes::copy_padded;
 ghost use Rattle.tables.specs.Changes.{TextPut};
 

@@ -1,0 +1,25 @@
+use borrow.Author.Needs.{needs}
+use native.Mathlib.Omega.{arith}
+use Rattle.export_write.proofs.shared.bytes_at.Statement.{statement}
+use Rattle.export_write.proofs.shared.bytes_at.Tie as tie
+
+returns : tie.Need-returns
+returns c = record { from = omega arith; most = omega arith; done = λ h. absurd (omega (arith, h)) }
+
+sub-if2 : tie.Need-sub-if2
+sub-if2 c = search needs
+
+returns-2 : tie.Need-returns-2
+returns-2 c = record { from = omega arith; most = omega arith; done = λ h. absurd (omega (arith, h)) }
+
+write-bytes-requires : tie.Need-write-bytes-requires
+write-bytes-requires c κs = search needs
+
+same-length : tie.Need-same-length
+same-length c = search needs
+
+returns-3 : tie.Need-returns-3
+returns-3 c = let w = c .before .before .write-bytes in record { from = omega (arith, w .ensures .next); most = omega (arith, w .ensures .next); done = λ h. w .ensures }
+
+pub bytes-at-spec : {M : Type 1} → statement M
+bytes-at-spec = tie.close (tie.spec returns sub-if2 returns-2 write-bytes-requires same-length returns-3)
