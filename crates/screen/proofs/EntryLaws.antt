@@ -17,7 +17,7 @@ use Rattle.writing.specs.Ranges.{text-limits, InNumber}
 use Rattle.writing.specs.Settings.{Text, Number}
 use Rattle.tables.specs.declared.limits.Limits.{Limits}
 use Rattle.tables.specs.Allowed.{Allowed, QuickOk, StatusOk, GroupOk, IndividualOk, LineOk}
-use Rattle.tables.specs.Layout.{layout, text-bytes, quick-bytes, status-bytes, group-bytes, individual-bytes, line-bytes, group-flags, individual-flags, line-flags, digit-bytes, quick-width, status-width, member-width, line-width}
+use Rattle.tables.specs.Layout.{layout, text-bytes, quick-bytes, status-bytes, group-bytes, individual-bytes, line-bytes, group-flags, individual-flags, line-flags, digit-bytes, quick-width, status-width, member-width, line-width, part-start}
 use Rattle.tables.specs.Limits.{quick-places, status-places, slot-places}
 use Rattle.tables.specs.Store.{Holds}
 use Rattle.tables.specs.Tables.{Tables, Line as LineEntry}
@@ -29,7 +29,7 @@ use Rattle.screen.specs.declared.names.SlotPlace.the-variants.{At}
 use Rattle.screen.specs.declared.rows.Row.{Row}
 use Rattle.screen.specs.declared.rows.Row.the-variants.{Line, QuickText, StatusText, Group, Individual, NoTable}
 use Rattle.screen.specs.Naming.{Slotted, SlotIs}
-use Rattle.screen.specs.Rows.{Caption, text, line, group, individual, caption, text-of, of, part-start, unit-bytes}
+use Rattle.screen.specs.Rows.{Caption, text, line, group, individual, caption, text-of, of, unit-bytes}
 use Rattle.screen.proofs.SeenLaws.{Texted, slot-none, slot-some, front-get, behind, before}
 use Rattle.screen.proofs.SlotLaws.{slot-within}
 

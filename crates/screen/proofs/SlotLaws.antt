@@ -7,14 +7,13 @@ use native.Mathlib.Omega.{arith}
 use lib.ListN.{getD}
 use Rattle.slots.specs.Slots.{u24}
 use Rattle.tables.specs.declared.limits.Limits.{Limits}
-use Rattle.tables.specs.Layout.{Roomy}
+use Rattle.tables.specs.Layout.{Roomy, part-start}
 use Rattle.screen.specs.declared.names.Slot.{Slot}
 use Rattle.screen.specs.declared.names.SlotPlace.{SlotPlace}
 use Rattle.screen.specs.declared.names.SlotPlace.the-variants.{At, Beyond}
 use Rattle.screen.specs.declared.rows.Row.{Row}
 use Rattle.screen.specs.declared.rows.Row.the-variants.{Line, QuickText, StatusText, Group, Individual, NoTable}
 use Rattle.screen.specs.Naming.{Slotted, SlotIs}
-use Rattle.screen.specs.Rows.{part-start}
 
 -- slot n of a table ends before the table does
 pub slot-within : (n places w : ℕ) → n < places → n * w + w ≤ places * w
