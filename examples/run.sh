@@ -84,7 +84,10 @@ sees_wrong_banks() {
     $CC -std=c99 $warnings -Wno-unused -Iexamples -O2 ${emulator:+-static} "$built/wrong.c" "$built/banks_test.o" "$archive" \
         -o "$built/wrong" || return 1
     run_built wrong "$1" > "$built/seen" 2>&1
-    [ $? -eq 1 ] && grep '^banks: ' "$built/seen" || { echo "not seen: $2"; return 1; }
+    if [ $? -ne 1 ] || ! grep '^banks: ' "$built/seen"; then
+        echo "not seen: $2"
+        return 1
+    fi
 }
 
 # Each line has the part of the test that has to see it, and an edit that makes banks.c wrong. The first has nothing but the order to save it.

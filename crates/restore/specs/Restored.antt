@@ -1,26 +1,34 @@
 -- What taking the exported requests leaves of another set's tables, "the same tables", and how long the requests are.
 use Prim.Native.Nat.{ℕ, _+_, _*_, _/_, _≤_}
 use mathlib.Core.Path.{_≡_}
+use mathlib.Core.Bool.{Bool, _||_}
 use mathlib.Core.List.{List, [], _∷_, map}
 use lib.ListN.{length}
 use Rattle.lists.specs.Ladder.{Answers}
 use Rattle.tables.specs.declared.limits.Limits.{Limits}
-use Rattle.tables.specs.Tables.{Tables, with-key, with-home, with-system, with-quick, with-status, with-groups, with-individuals, with-channels, with-lines}
+use Rattle.writing.specs.declared.Kind.{Kind}
+use Rattle.writing.specs.declared.Kind.the-variants as Kind
+use Rattle.tables.specs.Owns.{mix, only}
+use Rattle.tables.specs.Tables.{Tables}
 use Rattle.requests.specs.Requests.{forget}
 use Rattle.station.specs.Taking.{After, taken}
 use Rattle.export.specs.declared.parts.Part.{Part}
 use Rattle.export.specs.declared.parts.Part.the-variants.{Lines, Fixed, QuickTexts, Channels, StatusTexts, Groups, Individuals}
 use Rattle.export.specs.Exported.{exported, request-bytes}
 
+-- the kinds of setting whose tables a part writes out
+abbrev pub part-kinds : Part → Kind → Bool
+part-kinds Lines k = only Kind.Lines k
+part-kinds Fixed k = only Kind.Key k || only Kind.Home k || only Kind.System k
+part-kinds QuickTexts k = only Kind.QuickTexts k
+part-kinds Channels k = only Kind.Channels k
+part-kinds StatusTexts k = only Kind.StatusTexts k
+part-kinds Groups k = only Kind.Group k
+part-kinds Individuals k = only Kind.Individual k
+
 -- the tables u, with those of one part as t has them
 abbrev pub with-part : Part → Tables → Tables → Tables
-with-part Lines t u = with-lines u (t .lines)
-with-part Fixed t u = with-system (with-home (with-key u (t .key)) (t .home)) (t .system)
-with-part QuickTexts t u = with-quick u (t .quick)
-with-part Channels t u = with-channels u (t .channels)
-with-part StatusTexts t u = with-status u (t .status)
-with-part Groups t u = with-groups u (t .groups)
-with-part Individuals t u = with-individuals u (t .individuals)
+with-part p t u = mix (part-kinds p) u t
 
 -- "The same tables" leaves the kept hash aside
 abbrev pub SameTables : Tables → Tables → Type 0

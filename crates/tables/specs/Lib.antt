@@ -3,5 +3,6 @@ pub mod Apply
 pub mod Changing
 pub mod Layout
 pub mod Limits
+pub mod Owns
 pub mod Store
 pub mod Tables
