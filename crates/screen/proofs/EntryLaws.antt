@@ -17,7 +17,7 @@ use Rattle.writing.specs.Ranges.{text-limits, InNumber}
 use Rattle.writing.specs.Settings.{Text, Number}
 use Rattle.tables.specs.declared.limits.Limits.{Limits}
 use Rattle.tables.specs.Allowed.{Allowed, QuickOk, StatusOk, GroupOk, IndividualOk, LineOk}
-use Rattle.tables.specs.Layout.{layout, text-bytes, quick-bytes, status-bytes, group-bytes, individual-bytes, line-bytes, group-flags, individual-flags, line-flags, digit-bytes, quick-width, status-width, member-width, line-width}
+use Rattle.tables.specs.Layout.{layout, text-bytes, quick-bytes, status-bytes, group-bytes, individual-bytes, line-bytes, group-flags, individual-flags, line-flags, digit-bytes, quick-width, status-width, member-width, line-width, part-start, groups-at, individuals-at, lists-at, status-at}
 use Rattle.tables.specs.Limits.{quick-places, status-places, slot-places}
 use Rattle.tables.specs.Store.{Holds}
 use Rattle.tables.specs.Tables.{Tables, Line as LineEntry}
@@ -29,7 +29,7 @@ use Rattle.screen.specs.declared.names.SlotPlace.the-variants.{At}
 use Rattle.screen.specs.declared.rows.Row.{Row}
 use Rattle.screen.specs.declared.rows.Row.the-variants.{Line, QuickText, StatusText, Group, Individual, NoTable}
 use Rattle.screen.specs.Naming.{Slotted, SlotIs}
-use Rattle.screen.specs.Rows.{Caption, text, line, group, individual, caption, text-of, of, part-start, unit-bytes}
+use Rattle.screen.specs.Rows.{Caption, text, line, group, individual, caption, text-of, of, unit-bytes}
 use Rattle.screen.proofs.SeenLaws.{Texted, slot-none, slot-some, front-get, behind, before}
 use Rattle.screen.proofs.SlotLaws.{slot-within}
 
@@ -214,7 +214,7 @@ placed-in P w n f os m t s base e p = subst (λ (l : List ℕ). Placed P w f n o
 lines-placed : (m : Limits) (t : Tables) → Allowed m t → Placed LineOk line-width line-bytes (m .lines) (front (m .lines) (t .lines)) (midOf (part-start m 9) (m .lines * line-width) (layout m t))
 lines-placed m t ok =
     let x = lines-listed m t ok in
-    let e : 7286 + m .channels * 2 ≡ part-start m 9 = omega arith in
+    let e : lists-at + m .channels * 2 ≡ part-start m 9 = omega arith in
     record {
       many = front-length (m .lines) (t .lines);
       each = all-front LineOk (m .lines) (t .lines) (x .each);
@@ -236,14 +236,14 @@ row-seen m t s (QuickText n) slot (ok, e) x =
     (placed-in QuickOk quick-width quick-places quick-bytes (t .quick) m t s 22 e (quick-placed m t ok)) n slot x
 row-seen m t s (StatusText n) slot (ok, e) (h, x) =
     subst (λ (o : Option Caption). Seen s slot (StatusText n) o) (sym (status-there t n h))
-    (seen StatusOk status-width 1 status-bytes (λ us. us) status-texted (StatusText n) (status-captions n) status-places 2966 (t .status) s
-    (placed-in StatusOk status-width status-places status-bytes (t .status) m t s 2966 e (status-placed m t ok)) (n - 32) slot x)
+    (seen StatusOk status-width 1 status-bytes (λ us. us) status-texted (StatusText n) (status-captions n) status-places status-at (t .status) s
+    (placed-in StatusOk status-width status-places status-bytes (t .status) m t s status-at e (status-placed m t ok)) (n - 32) slot x)
 row-seen m t s (Group n) slot (ok, e) x =
-    seen GroupOk member-width 4 group-bytes (λ g. g .text) group-texted (Group n) (group-captions n) slot-places 6134 (t .groups) s
-    (placed-in GroupOk member-width slot-places group-bytes (t .groups) m t s 6134 e (groups-placed m t ok)) n slot x
+    seen GroupOk member-width 4 group-bytes (λ g. g .text) group-texted (Group n) (group-captions n) slot-places groups-at (t .groups) s
+    (placed-in GroupOk member-width slot-places group-bytes (t .groups) m t s groups-at e (groups-placed m t ok)) n slot x
 row-seen m t s (Individual n) slot (ok, e) x =
-    seen IndividualOk member-width 4 individual-bytes (λ g. g .text) individual-texted (Individual n) (individual-captions n) slot-places 6710 (t .individuals) s
-    (placed-in IndividualOk member-width slot-places individual-bytes (t .individuals) m t s 6710 e (individuals-placed m t ok)) n slot x
+    seen IndividualOk member-width 4 individual-bytes (λ g. g .text) individual-texted (Individual n) (individual-captions n) slot-places individuals-at (t .individuals) s
+    (placed-in IndividualOk member-width slot-places individual-bytes (t .individuals) m t s individuals-at e (individuals-placed m t ok)) n slot x
 row-seen m t s NoTable slot h x = absurd x
 
 -- what is there stands among the places
@@ -260,7 +260,7 @@ within os n places g {c} h e = go (ltb n places) refl
 pub row-there : (m : Limits) (t : Tables) → Allowed m t → (row : Row) (c : Caption) → caption t row ≡ some c → (slot : Slot) × SlotIs m row (At slot)
 row-there m t ok (Line n) c e =
     let l : length (map some (t .lines)) ≡ length (t .lines) = length-map (t .lines) some in
-    (record { start = part-start m 9 + n * 51; text = part-start m 9 + n * 51 + 19; end = part-start m 9 + n * 51 + 51 }, (within (map some (t .lines)) n (m .lines) (line-captions n .cap) (omega (arith, l, ok .lines .0)) e, refl, refl, refl))
+    (record { start = part-start m 9 + n * line-width; text = part-start m 9 + n * line-width + 19; end = part-start m 9 + n * line-width + line-width }, (within (map some (t .lines)) n (m .lines) (line-captions n .cap) (omega (arith, l, ok .lines .0)) e, refl, refl, refl))
 row-there m t ok (QuickText n) c e =
     (record { start = 22 + n * 46; text = 22 + n * 46 + 0; end = 22 + n * 46 + 46 }, (within (t .quick) n quick-places text (omega (arith, ok .quick .0)) e, refl, refl, refl))
 row-there m t ok (StatusText n) c e = go (ltb n 32) refl
@@ -269,9 +269,9 @@ row-there m t ok (StatusText n) c e = go (ltb n 32) refl
     go true h = let z : none ≡ some c = (rw h at e) in absurd (Option·none-ne-some c z)
     go false h =
         let k : 32 ≤ n = ltb-false n 32 h in
-        (record { start = 2966 + (n - 32) * 33; text = 2966 + (n - 32) * 33 + 1; end = 2966 + (n - 32) * 33 + 33 }, (k, (within (t .status) (n - 32) status-places text (omega (arith, ok .status .0)) (sym (status-there t n k) ∙ e), refl, refl, refl)))
+        (record { start = status-at + (n - 32) * 33; text = status-at + (n - 32) * 33 + 1; end = status-at + (n - 32) * 33 + 33 }, (k, (within (t .status) (n - 32) status-places text (omega (arith, ok .status .0)) (sym (status-there t n k) ∙ e), refl, refl, refl)))
 row-there m t ok (Group n) c e =
-    (record { start = 6134 + n * 36; text = 6134 + n * 36 + 4; end = 6134 + n * 36 + 36 }, (within (t .groups) n slot-places (group-captions n .cap) (omega (arith, ok .groups .0)) e, refl, refl, refl))
+    (record { start = groups-at + n * 36; text = groups-at + n * 36 + 4; end = groups-at + n * 36 + 36 }, (within (t .groups) n slot-places (group-captions n .cap) (omega (arith, ok .groups .0)) e, refl, refl, refl))
 row-there m t ok (Individual n) c e =
-    (record { start = 6710 + n * 36; text = 6710 + n * 36 + 4; end = 6710 + n * 36 + 36 }, (within (t .individuals) n slot-places (individual-captions n .cap) (omega (arith, ok .individuals .0)) e, refl, refl, refl))
+    (record { start = individuals-at + n * 36; text = individuals-at + n * 36 + 4; end = individuals-at + n * 36 + 36 }, (within (t .individuals) n slot-places (individual-captions n .cap) (omega (arith, ok .individuals .0)) e, refl, refl, refl))
 row-there m t ok NoTable c e = absurd (Option·none-ne-some c e)

@@ -7,14 +7,13 @@ use native.Mathlib.Omega.{arith}
 use lib.ListN.{getD}
 use Rattle.slots.specs.Slots.{u24}
 use Rattle.tables.specs.declared.limits.Limits.{Limits}
-use Rattle.tables.specs.Layout.{Roomy}
+use Rattle.tables.specs.Layout.{Roomy, part-start, line-width, status-at}
 use Rattle.screen.specs.declared.names.Slot.{Slot}
 use Rattle.screen.specs.declared.names.SlotPlace.{SlotPlace}
 use Rattle.screen.specs.declared.names.SlotPlace.the-variants.{At, Beyond}
 use Rattle.screen.specs.declared.rows.Row.{Row}
 use Rattle.screen.specs.declared.rows.Row.the-variants.{Line, QuickText, StatusText, Group, Individual, NoTable}
 use Rattle.screen.specs.Naming.{Slotted, SlotIs}
-use Rattle.screen.specs.Rows.{part-start}
 
 -- slot n of a table ends before the table does
 pub slot-within : (n places w : ℕ) → n < places → n * w + w ≤ places * w
@@ -27,11 +26,11 @@ pub slot-row : (m : Limits) {row case : Row} (r : SlotPlace) → row ≡ case �
 slot-row m r e x = subst (λ (z : Row). SlotIs m z r) (sym e) x
 
 -- lines stand behind the channels
-pub slot-line : (m : Limits) (n base : ℕ) (r : SlotPlace) → base ≡ part-start m 9 → Slotted base (m .lines) n 51 19 r → SlotIs m (Line n) r
-slot-line m n base r e x = subst (λ (b : ℕ). Slotted b (m .lines) n 51 19 r) e x
+pub slot-line : (m : Limits) (n base : ℕ) (r : SlotPlace) → base ≡ part-start m 9 → Slotted base (m .lines) n line-width 19 r → SlotIs m (Line n) r
+slot-line m n base r e x = subst (λ (b : ℕ). Slotted b (m .lines) n line-width 19 r) e x
 
 -- status codes start at 32
-pub slot-status : (m : Limits) (n : ℕ) (r : SlotPlace) → 32 ≤ n → Slotted 2966 96 (n - 32) 33 1 r → SlotIs m (StatusText n) r
+pub slot-status : (m : Limits) (n : ℕ) (r : SlotPlace) → 32 ≤ n → Slotted status-at 96 (n - 32) 33 1 r → SlotIs m (StatusText n) r
 slot-status m n (At s) h x = (h, x)
 slot-status m n Beyond h x = λ _. x
 
@@ -44,7 +43,7 @@ pub record SlotFits (s : Slot) (size : ℕ) : Type 0 where
   pub inside : s .end ≤ size
 
 pub slot-fits : (m : Limits) (row : Row) (s : Slot) → Roomy m → SlotIs m row (At s) → SlotFits s (m .size)
-slot-fits m (Line n) s r x = record { text-in = omega (arith, x .1); ends = omega (arith, x .1); inside = omega (arith, x .1, r, slot-within n (m .lines) 51 (x .0)) }
+slot-fits m (Line n) s r x = record { text-in = omega (arith, x .1); ends = omega (arith, x .1); inside = omega (arith, x .1, r, slot-within n (m .lines) line-width (x .0)) }
 slot-fits m (QuickText n) s r x = record { text-in = omega (arith, x .1); ends = omega (arith, x .1); inside = omega (arith, x .1, r, x .0) }
 slot-fits m (StatusText n) s r x = record { text-in = omega (arith, x .1 .1); ends = omega (arith, x .1 .1); inside = omega (arith, x .1 .1, r, x .1 .0) }
 slot-fits m (Group n) s r x = record { text-in = omega (arith, x .1); ends = omega (arith, x .1); inside = omega (arith, x .1, r, x .0) }

@@ -8,7 +8,7 @@ use Rattle.lists.specs.Ladder.{Ladder}
 use Rattle.writing.specs.Ranges.{InNumber}
 use Rattle.writing.specs.Settings.{Number}
 use Rattle.tables.specs.declared.limits.Limits.{Limits}
-use Rattle.tables.specs.Layout.{quick-width, status-width, member-width, line-width, digit-bytes}
+use Rattle.tables.specs.Layout.{quick-width, status-width, member-width, line-width, digit-bytes, part-start}
 use Rattle.tables.specs.Limits.{quick-places, status-places, slot-places}
 use Rattle.tables.specs.Store.{Holds}
 use Rattle.tables.specs.Tables.{Tables}
@@ -19,7 +19,7 @@ use Rattle.screen.specs.declared.names.SlotPlace.{SlotPlace}
 use Rattle.screen.specs.declared.names.SlotPlace.the-variants.{At, Beyond}
 use Rattle.screen.specs.declared.rows.Row.{Row}
 use Rattle.screen.specs.declared.rows.Row.the-variants.{Line, QuickText, StatusText, Group, Individual, NoTable}
-use Rattle.screen.specs.Rows.{Caption, line, group, individual, caption, text-of, Shows, stored, part-start, text-start, judged}
+use Rattle.screen.specs.Rows.{Caption, line, group, individual, caption, text-of, Shows, stored, text-start, judged}
 
 -- ---- slots
 

@@ -10,10 +10,10 @@ use Rattle.lists.specs.Ladder.{Ladder, rung, foot}
 use Rattle.plan.specs.declared.numbers.GroupAddress.{GroupAddress}
 use Rattle.plan.specs.declared.numbers.IndividualAddress.{IndividualAddress}
 use Rattle.plan.specs.Numbers.{Individual as IndividualPlan, Group as GroupPlan}
-use Rattle.slots.specs.Slots.{flat, u16, sum}
+use Rattle.slots.specs.Slots.{flat, u16}
 use Rattle.writing.specs.Settings.{Text, Number}
 use Rattle.tables.specs.declared.limits.Limits.{Limits}
-use Rattle.tables.specs.Layout.{part-widths, quick-width, status-width, member-width, line-width}
+use Rattle.tables.specs.Layout.{part-start, quick-width, status-width, member-width, line-width}
 use Rattle.tables.specs.Store.{StoreOf, Holds}
 use Rattle.tables.specs.Tables.{Tables}
 use Rattle.screen.specs.declared.rows.Refusal.{Refusal}
@@ -117,10 +117,6 @@ units (stored us) = us
 units (written us) = us
 
 -- ---- where a row's text stands
-
--- where part k of the store starts
-abbrev pub part-start : Limits → ℕ → ℕ
-part-start m k = sum (take k (part-widths m))
 
 -- the first byte of a row's text: the part's, the slots before it, and what its slot has before the text
 abbrev pub text-start : Limits → Row → ℕ

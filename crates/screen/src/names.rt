@@ -7,6 +7,22 @@ use slots::bytes::is_zeros;
 use slots::slots::used;
 use store_check::checks::is_store;
 use tables::limits::Limits;
+use tables::places::CHANNEL_SLOT;
+use tables::places::GROUPS;
+use tables::places::INDIVIDUALS;
+use tables::places::LINE_SLOT;
+use tables::places::LINE_TEXT;
+use tables::places::LISTS;
+use tables::places::MEMBER_SLOT;
+use tables::places::MEMBER_TEXT;
+use tables::places::QUICK;
+use tables::places::QUICK_PLACES;
+use tables::places::QUICK_SLOT;
+use tables::places::SLOT_PLACES;
+use tables::places::STATUS;
+use tables::places::STATUS_PLACES;
+use tables::places::STATUS_SLOT;
+use tables::places::STATUS_TEXT;
 ghost use Prim.Native.Nat.{ℕ, _+_, _*_, _^_, _≤_, _<_};
 ghost use mathlib.Core.Path.{_≡_};
 ghost use lib.ListN.{length};
@@ -60,17 +76,23 @@ fn slot_of(row: Row, limits: Limits) -> SlotPlace
     ensures { λ r. ⌜ SlotIs limits row r ⌝ }
 {
     match row {
-        Row::Line(n) => slot_in(n, limits.lines, 7286 + limits.channels * 2, 51, 19),
-        Row::QuickText(n) => slot_in(n, 64, 22, 46, 0),
+        Row::Line(n) => slot_in(
+            n,
+            limits.lines,
+            LISTS + limits.channels * CHANNEL_SLOT,
+            LINE_SLOT,
+            LINE_TEXT,
+        ),
+        Row::QuickText(n) => slot_in(n, QUICK_PLACES, QUICK, QUICK_SLOT, 0),
         Row::StatusText(n) => {
             if n < 32 {
                 SlotPlace::Beyond
             } else {
-                slot_in(n - 32, 96, 2966, 33, 1)
+                slot_in(n - 32, STATUS_PLACES, STATUS, STATUS_SLOT, STATUS_TEXT)
             }
         }
-        Row::Group(n) => slot_in(n, 16, 6134, 36, 4),
-        Row::Individual(n) => slot_in(n, 16, 6710, 36, 4),
+        Row::Group(n) => slot_in(n, SLOT_PLACES, GROUPS, MEMBER_SLOT, MEMBER_TEXT),
+        Row::Individual(n) => slot_in(n, SLOT_PLACES, INDIVIDUALS, MEMBER_SLOT, MEMBER_TEXT),
         Row::NoTable => SlotPlace::Beyond,
     }
 }

@@ -12,6 +12,17 @@ use store_places::quick::apply_quick;
 use store_places::status::apply_status;
 use tables::limits::Limits;
 use tables::limits::roomy;
+use tables::places::CHANNEL_SLOT;
+use tables::places::GROUPS;
+use tables::places::HASH;
+use tables::places::HOME;
+use tables::places::INDIVIDUALS;
+use tables::places::KEY;
+use tables::places::LINE_SLOT;
+use tables::places::LISTS;
+use tables::places::QUICK;
+use tables::places::STATUS;
+use tables::places::SYSTEM;
 ghost use Rattle.tables.specs.Store.{Applied};
 
 // Whether there was room. Bytes that are no store of these limits may be left as they were.
@@ -24,25 +35,31 @@ pub fn apply(store: &mut [u8], limits: Limits, m: &[u8], setting: Setting) -> bo
     if !roomy(limits) {
         return false;
     }
-    let lines = 7286 + limits.channels * 2;
-    let end = lines + limits.lines * 51;
+    let lines = LISTS + limits.channels * CHANNEL_SLOT;
+    let end = lines + limits.lines * LINE_SLOT;
     match setting {
         Setting::Lines(op, flags, list) => {
             return apply_lines(&mut store[lines..end], m, op, flags, list);
         }
         Setting::Channels(op, list) => {
-            return apply_channels(&mut store[7286..lines], m, op, list);
+            return apply_channels(&mut store[LISTS..lines], m, op, list);
         }
-        Setting::Key(target, flags) => put_key(&mut store[11..15], target, flags),
-        Setting::QuickTexts(op, list) => apply_quick(&mut store[22..2966], m, op, list),
-        Setting::Home(numbers) => put_home(&mut store[15..19], numbers),
-        Setting::System(code) => put_system(&mut store[19..22], code),
-        Setting::StatusTexts(op, list) => apply_status(&mut store[2966..6134], m, op, list),
-        Setting::Group(op, flags, slot) => apply_group(&mut store[6134..6710], m, op, flags, slot),
+        Setting::Key(target, flags) => put_key(&mut store[KEY..HOME], target, flags),
+        Setting::QuickTexts(op, list) => apply_quick(&mut store[QUICK..STATUS], m, op, list),
+        Setting::Home(numbers) => put_home(&mut store[HOME..SYSTEM], numbers),
+        Setting::System(code) => put_system(&mut store[SYSTEM..QUICK], code),
+        Setting::StatusTexts(op, list) => apply_status(&mut store[STATUS..GROUPS], m, op, list),
+        Setting::Group(op, flags, slot) => apply_group(
+            &mut store[GROUPS..INDIVIDUALS],
+            m,
+            op,
+            flags,
+            slot,
+        ),
         Setting::Individual(op, flags, slot) => {
-            apply_individual(&mut store[6710..7286], m, op, flags, slot)
+            apply_individual(&mut store[INDIVIDUALS..LISTS], m, op, flags, slot)
         }
-        Setting::Last(_, hash) => put_hash(&mut store[0..11], m, hash),
+        Setting::Last(_, hash) => put_hash(&mut store[HASH..KEY], m, hash),
     }
     true
 }

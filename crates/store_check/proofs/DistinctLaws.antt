@@ -21,7 +21,7 @@ use Rattle.slots.proofs.Tables.{front-bytes}
 use Rattle.writing.specs.Settings.{Number}
 use Rattle.tables.specs.Allowed.{LineOk, Distinct}
 use Rattle.tables.specs.Apply.{has-number}
-use Rattle.tables.specs.Layout.{digit-bytes, line-bytes}
+use Rattle.tables.specs.Layout.{digit-bytes, line-bytes, line-width}
 use Rattle.tables.specs.Tables.{Line}
 use Rattle.tables.proofs.EntryCodes.{line-code, line-keyed, line-shown}
 use Rattle.tables.proofs.TextCodes.{digits-length, digits-same, digits-shown}
@@ -91,11 +91,11 @@ record Next (s : List ℕ) (at end : ℕ) (ls : List Line) : Type 0 where
   same : Distinct ls ↔ Distinct (line ∷ later)
 
 -- at the start all lines stand there
-pub lines-start : (n : ℕ) (ls : List Line) (s : List ℕ) (end : ℕ) → Found (0 < 51) zeros? 51 s end → Listed LineOk 51 line-bytes n ls s → Behind s 0 end ls
+pub lines-start : (n : ℕ) (ls : List Line) (s : List ℕ) (end : ℕ) → Found (0 < line-width) zeros? line-width s end → Listed LineOk line-width line-bytes n ls s → Behind s 0 end ls
 lines-start n ls s end found t =
-    let u : end ≡ length ls * 51 = used-at LineOk 51 line-bytes (line-code .long) line-shown (omega arith) n ls s t end found in
-    let k : end - 0 ≡ length ls * 51 = omega arith in
-    record { left = ls; each = t .each; here = ap (λ (i : ℕ). take i s) k ∙ front-taken LineOk 51 line-bytes (line-code .long) n ls s t; same = (λ d. d, λ d. d) }
+    let u : end ≡ length ls * line-width = used-at LineOk line-width line-bytes (line-code .long) line-shown (omega arith) n ls s t end found in
+    let k : end - 0 ≡ length ls * line-width = omega arith in
+    record { left = ls; each = t .each; here = ap (λ (i : ℕ). take i s) k ∙ front-taken LineOk line-width line-bytes (line-code .long) n ls s t; same = (λ d. d, λ d. d) }
 
 module _ (s : List ℕ) (at end : ℕ) (ls : List Line) (fits : end ≤ length s) (q : Behind s at end ls) where
   -- the bytes up to the end
@@ -103,7 +103,7 @@ module _ (s : List ℕ) (at end : ℕ) (ls : List Line) (fits : end ≤ length s
   bytes-left = length-take-le (end - at) (drop at s) (omega (arith, length-drop at s))
 
   -- where bytes are left there is a line
-  next : 51 ≤ end - at → Next s at end ls
+  next : line-width ≤ end - at → Next s at end ls
   next h = go (q .left) (q .each) (q .here) (q .same)
     where
       go : (ms : List Line) → All LineOk ms → midOf at (end - at) s ≡ flat (map line-bytes ms) → Distinct ls ↔ Distinct ms → Next s at end ls
@@ -111,62 +111,62 @@ module _ (s : List ℕ) (at end : ℕ) (ls : List Line) (fits : end ≤ length s
       go (l ∷ ms) p e d = record { line = l; later = ms; each = p; here = e; same = d }
 
   -- where none are, no line is left, and none has a number twice
-  pub lines-end : end - at < 51 → Distinct ls
+  pub lines-end : end - at < line-width → Distinct ls
   lines-end h = go (q .left) (q .each) (q .here) (q .same)
     where
       go : (ms : List Line) → All LineOk ms → midOf at (end - at) s ≡ flat (map line-bytes ms) → Distinct ls ↔ Distinct ms → Distinct ls
       go [] p e d = d .1 tt
-      go (l ∷ ms) p e d = absurd (omega (arith, bytes-left, ap length e, bytes-long LineOk 51 line-bytes (line-code .long) (l ∷ ms)))
+      go (l ∷ ms) p e d = absurd (omega (arith, bytes-left, ap length e, bytes-long LineOk line-width line-bytes (line-code .long) (l ∷ ms)))
 
-  module _ (h : 51 ≤ end - at) where
+  module _ (h : line-width ≤ end - at) where
     -- the line, and those behind it
-    line-cut : (take 51 (drop at s) ≡ line-bytes (next h .line)) × (midOf (at + 51) (end - (at + 51)) s ≡ flat (map line-bytes (next h .later)))
+    line-cut : (take line-width (drop at s) ≡ line-bytes (next h .line)) × (midOf (at + line-width) (end - (at + line-width)) s ≡ flat (map line-bytes (next h .later)))
     line-cut =
         let n = next h in
-        let k : end - at ≡ 51 + (end - (at + 51)) = omega arith in
-        let e : take 51 (drop at s) ++ take (end - (at + 51)) (drop 51 (drop at s)) ≡ line-bytes (n .line) ++ flat (map line-bytes (n .later))
-        = sym (take-add 51 (end - (at + 51)) (drop at s)) ∙ ap (λ (i : ℕ). take i (drop at s)) (sym k) ∙ n .here in
-        let l : length (take 51 (drop at s)) ≡ length (line-bytes (n .line)) = length-take-le 51 (drop at s) (omega (arith, length-drop at s)) ∙ sym (line-code .long (n .line)) in
-        let c = cut (take 51 (drop at s)) (line-bytes (n .line)) l e in
-        (c .0, ap (take (end - (at + 51))) (sym (drop-drop 51 at s)) ∙ c .1)
+        let k : end - at ≡ line-width + (end - (at + line-width)) = omega arith in
+        let e : take line-width (drop at s) ++ take (end - (at + line-width)) (drop line-width (drop at s)) ≡ line-bytes (n .line) ++ flat (map line-bytes (n .later))
+        = sym (take-add line-width (end - (at + line-width)) (drop at s)) ∙ ap (λ (i : ℕ). take i (drop at s)) (sym k) ∙ n .here in
+        let l : length (take line-width (drop at s)) ≡ length (line-bytes (n .line)) = length-take-le line-width (drop at s) (omega (arith, length-drop at s)) ∙ sym (line-code .long (n .line)) in
+        let c = cut (take line-width (drop at s)) (line-bytes (n .line)) l e in
+        (c .0, ap (take (end - (at + line-width))) (sym (drop-drop line-width at s)) ∙ c .1)
 
     -- its number
     line-key : midOf (at + 1) (at + 1 + 18 - (at + 1)) s ≡ digit-bytes (next h .line .number)
     line-key =
         let l = next h .line in
         let k : at + 1 + 18 - (at + 1) ≡ 18 = omega arith in
-        let e : drop at s ≡ line-bytes l ++ drop 51 (drop at s) = sym (take-append-drop 51 (drop at s)) ∙ ap (λ (x : List ℕ). x ++ drop 51 (drop at s)) (line-cut .0) in
-        ap (λ (i : ℕ). take i (drop (at + 1) s)) k ∙ ap (take 18) (sym (drop-drop 1 at s) ∙ ap (drop 1) e ∙ append-assoc (digit-bytes (l .number)) _ (drop 51 (drop at s)))
+        let e : drop at s ≡ line-bytes l ++ drop line-width (drop at s) = sym (take-append-drop line-width (drop at s)) ∙ ap (λ (x : List ℕ). x ++ drop line-width (drop at s)) (line-cut .0) in
+        ap (λ (i : ℕ). take i (drop (at + 1) s)) k ∙ ap (take 18) (sym (drop-drop 1 at s) ∙ ap (drop 1) e ∙ append-assoc (digit-bytes (l .number)) _ (drop line-width (drop at s)))
         ∙ take-at (digit-bytes (l .number)) _ 18 (digits-length (l .number))
 
-    module _ (r : ℕ) (found : Found (KeyAt 51 1 (midOf (at + 1) (at + 1 + 18 - (at + 1)) s) × (length (midOf (at + 1) (at + 1 + 18 - (at + 1)) s) ≡ 18)) (fit 1 (midOf (at + 1) (at + 1 + 18 - (at + 1)) s)) 51 (midOf (at + 51) (end - (at + 51)) s) r) where
+    module _ (r : ℕ) (found : Found (KeyAt line-width 1 (midOf (at + 1) (at + 1 + 18 - (at + 1)) s) × (length (midOf (at + 1) (at + 1 + 18 - (at + 1)) s) ≡ 18)) (fit 1 (midOf (at + 1) (at + 1 + 18 - (at + 1)) s)) line-width (midOf (at + line-width) (end - (at + line-width)) s) r) where
       -- the search ends at the first line behind that has the number
-      key-found : r ≡ indexOf (has-number (next h .line .number)) (next h .later) * 51
+      key-found : r ≡ indexOf (has-number (next h .line .number)) (next h .later) * line-width
       key-found =
           let n = next h in
           let d = n .line .number in
           let o = n .each .0 .number in
-          key-at LineOk 51 line-bytes 1 18 (λ l. digit-bytes (l .number)) line-keyed (digit-bytes d) (digits-length d) (digits-shown d (o .0)) (has-number d)
-          (λ a p. digits-same (a .number) d (p .number .1) (o .1)) (length (n .later)) (n .later) (midOf (at + 51) (end - (at + 51)) s)
-          (full-listed LineOk 51 line-bytes (line-code .long) (n .later) (midOf (at + 51) (end - (at + 51)) s) (n .each .1) (line-cut .1)) r
-          (subst (λ (k : List ℕ). Found (KeyAt 51 1 k) (fit 1 k) 51 (midOf (at + 51) (end - (at + 51)) s) r) line-key
-          (found-known 51 1 18 _ (midOf (at + 51) (end - (at + 51)) s) _ r (ap length line-key ∙ digits-length d) found))
+          key-at LineOk line-width line-bytes 1 18 (λ l. digit-bytes (l .number)) line-keyed (digit-bytes d) (digits-length d) (digits-shown d (o .0)) (has-number d)
+          (λ a p. digits-same (a .number) d (p .number .1) (o .1)) (length (n .later)) (n .later) (midOf (at + line-width) (end - (at + line-width)) s)
+          (full-listed LineOk line-width line-bytes (line-code .long) (n .later) (midOf (at + line-width) (end - (at + line-width)) s) (n .each .1) (line-cut .1)) r
+          (subst (λ (k : List ℕ). Found (KeyAt line-width 1 k) (fit 1 k) line-width (midOf (at + line-width) (end - (at + line-width)) s) r) line-key
+          (found-known line-width 1 18 _ (midOf (at + line-width) (end - (at + line-width)) s) _ r (ap length line-key ∙ digits-length d) found))
 
       -- at the end where none has it
-      key-none : (r ≡ end - (at + 51)) ↔ All (λ x. x .number ≢ next h .line .number) (next h .later)
+      key-none : (r ≡ end - (at + line-width)) ↔ All (λ x. x .number ≢ next h .line .number) (next h .later)
       key-none =
           let n = next h in
           let t = none-has (n .line .number) (n .later) in
-          let l : end - (at + 51) ≡ length (n .later) * 51
-          = sym (length-take-le (end - (at + 51)) (drop (at + 51) s) (omega (arith, length-drop (at + 51) s))) ∙ ap length (line-cut .1) ∙ bytes-long LineOk 51 line-bytes (line-code .long) (n .later) in
+          let l : end - (at + line-width) ≡ length (n .later) * line-width
+          = sym (length-take-le (end - (at + line-width)) (drop (at + line-width) s) (omega (arith, length-drop (at + line-width) s))) ∙ ap length (line-cut .1) ∙ bytes-long LineOk line-width line-bytes (line-code .long) (n .later) in
           (λ e. t .0 (omega (arith, key-found)), λ a. omega (arith, key-found, t .1 a))
 
       -- the line's number is no other's: those behind decide
-      pub lines-more : r ≡ end - (at + 51) → Behind s (at + 51) end ls
+      pub lines-more : r ≡ end - (at + line-width) → Behind s (at + line-width) end ls
       lines-more e =
           let n = next h in
           record { left = n .later; each = n .each .1; here = line-cut .1; same = (λ d. n .same .0 d .1, λ d. n .same .1 (key-none .0 e, d)) }
 
       -- it is another's too
-      pub lines-stop : (r ≡ end - (at + 51) → ⊥) → Distinct ls → ⊥
+      pub lines-stop : (r ≡ end - (at + line-width) → ⊥) → Distinct ls → ⊥
       lines-stop e d = e (key-none .1 (next h .same .0 d .0))

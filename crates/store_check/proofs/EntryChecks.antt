@@ -16,7 +16,7 @@ use Rattle.writing.specs.Ranges.{InNumber, InAddress, InChannel}
 use Rattle.writing.specs.Settings.{Text}
 use Rattle.tables.specs.Allowed.{TextOk, QuickOk, StatusOk, AddressOk, LineOk, GroupOk, IndividualOk}
 use Rattle.store_check.specs.Checks.{Both, joined}
-use Rattle.tables.specs.Layout.{text-bytes, quick-bytes, status-bytes, digit-bytes, line-flags, line-bytes, group-flags, group-bytes, individual-flags, individual-bytes}
+use Rattle.tables.specs.Layout.{text-bytes, quick-bytes, status-bytes, digit-bytes, line-flags, line-bytes, group-flags, group-bytes, individual-flags, individual-bytes, line-width}
 use Rattle.tables.specs.Tables.{Member}
 use Rattle.tables.proofs.AnswerLaws.{turned, leb-is, ne-is}
 use Rattle.store_check.proofs.CheckLaws.{entry-same, parts-are, last-is, byte-is}
@@ -146,7 +146,7 @@ individual-is =
 -- ---- line contacts
 
 -- a line is flags, digits and a text
-pub line-is : (s : List ℕ) → length s ≡ 51 → ((getD s 0 0 < 32) × (EntryOf InNumber digit-bytes (midOf 1 18 s) × EntryOf (TextOk 16) (text-bytes 16) (midOf 19 32 s))) ↔ EntryOf LineOk line-bytes s
+pub line-is : (s : List ℕ) → length s ≡ line-width → ((getD s 0 0 < 32) × (EntryOf InNumber digit-bytes (midOf 1 18 s) × EntryOf (TextOk 16) (text-bytes 16) (midOf 19 32 s))) ↔ EntryOf LineOk line-bytes s
 line-is s l =
     Iff·trans (Iff·and Iff·rfl
     (Iff·trans (Iff·and Iff·rfl (last-is (TextOk 16) (text-bytes 16) 19 32 s (omega arith)))

@@ -21,7 +21,7 @@ use Rattle.writing.specs.Ranges.{HashSize, no-hash, hash-4, hash-10}
 use Rattle.writing.specs.Writing.{bit, current, to-group}
 use Rattle.tables.specs.Allowed.{AddressOk, TargetOk, HashOk, HomeOk, SystemOk}
 use Rattle.store_check.specs.Checks.{Both, joined, KeyOk, FixedOf}
-use Rattle.tables.specs.Layout.{hash-bytes, key-bytes, key-flags, key-address, home-bytes, system-bytes}
+use Rattle.tables.specs.Layout.{hash-bytes, key-bytes, key-flags, key-address, home-bytes, system-bytes, hash-size, home-at, home-size, key-at, key-size, system-at, system-size}
 use Rattle.tables.specs.Tables.{Key}
 use Rattle.tables.proofs.AnswerLaws.{turned, leb-is, ne-is}
 use Rattle.store_check.proofs.CheckLaws.{entry-same, parts-are, last-is, rest-is, byte-is}
@@ -289,7 +289,7 @@ module _ (s : List ℕ) (l : length s ≡ 3) (b : Bytes s) where
 -- ---- all four
 
 -- 22 bytes are a hash, a key, home numbers and a system code where each is
-pub fixed-is : (s : List ℕ) → length s ≡ 22 → (EntryOf HashOk hash-bytes (midOf 0 11 s) × (EntryOf KeyOk key-bytes (midOf 11 4 s) × (EntryOf HomeOk home-bytes (midOf 15 4 s) × EntryOf SystemOk system-bytes (midOf 19 3 s)))) ↔ FixedOf s
+pub fixed-is : (s : List ℕ) → length s ≡ 22 → (EntryOf HashOk hash-bytes (midOf 0 hash-size s) × (EntryOf KeyOk key-bytes (midOf key-at key-size s) × (EntryOf HomeOk home-bytes (midOf home-at home-size s) × EntryOf SystemOk system-bytes (midOf system-at system-size s)))) ↔ FixedOf s
 fixed-is s l =
     Iff·trans (Iff·and Iff·rfl (Iff·trans (Iff·and Iff·rfl (Iff·trans (Iff·and Iff·rfl (last-is SystemOk system-bytes 19 3 s (omega arith)))
     (parts-are HomeOk SystemOk home-bytes system-bytes 15 4 s (λ h p. home-code .long h))))

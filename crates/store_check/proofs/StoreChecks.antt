@@ -18,7 +18,7 @@ use Rattle.writing.specs.Settings.{Hash, Text}
 use Rattle.tables.specs.declared.limits.Limits.{Limits}
 use Rattle.tables.specs.Allowed.{QuickOk, StatusOk, GroupOk, IndividualOk, LineOk, HashOk, HomeOk, SystemOk, Distinct, Allowed, PlacesOk, ListOk, LinesOk}
 use Rattle.store_check.specs.Checks.{Both, joined, KeyOk, FixedOf, IndexedOf, ChannelsOf, LinesOf}
-use Rattle.tables.specs.Layout.{quick-bytes, status-bytes, group-bytes, individual-bytes, line-bytes, hash-bytes, key-bytes, home-bytes, system-bytes, used-size, layout, Roomy, IsStore}
+use Rattle.tables.specs.Layout.{quick-bytes, status-bytes, group-bytes, individual-bytes, line-bytes, hash-bytes, key-bytes, home-bytes, system-bytes, used-size, layout, Roomy, IsStore, line-width, lists-at, member-size, quick-at, quick-size, status-size}
 use Rattle.tables.specs.Tables.{Line, GroupMember, IndividualMember, Key, Tables}
 use Rattle.store_check.proofs.CheckLaws.{Same, entry-same, parts-are, last-is, rest-is}
 use Rattle.tables.proofs.EntryCodes.{quick-code, status-code, group-code, individual-code, channel-code, line-code}
@@ -59,14 +59,14 @@ list-entry P w f n s = (
 
 -- a list table of lines
 abbrev LinesIn : ℕ → List ℕ → Type 0
-LinesIn n s = ListOf LineOk 51 line-bytes n s
+LinesIn n s = ListOf LineOk line-width line-bytes n s
 
 -- lines are a list table of lines
 pub lines-list : (n : ℕ) (s : List ℕ) → LinesOf n s → LinesIn n s
-lines-list n s x = list-entry LineOk 51 line-bytes n s .1 (record { entry = x .entry; holds = x .holds .0; bytes = x .bytes })
+lines-list n s x = list-entry LineOk line-width line-bytes n s .1 (record { entry = x .entry; holds = x .holds .0; bytes = x .bytes })
 
 -- of which a test decides whether they are distinct
-pub lines-decided : (n : ℕ) (s : List ℕ) → LinesIn n s → (b : Bool) → ((n : ℕ) (ls : List Line) → Listed LineOk 51 line-bytes n ls s → (b ≡ true) ↔ Distinct ls) → (b ≡ true) ↔ LinesOf n s
+pub lines-decided : (n : ℕ) (s : List ℕ) → LinesIn n s → (b : Bool) → ((n : ℕ) (ls : List Line) → Listed LineOk line-width line-bytes n ls s → (b ≡ true) ↔ Distinct ls) → (b ≡ true) ↔ LinesOf n s
 lines-decided n s t b d = (
   λ e. record { entry = t .entries; holds = ((t .listed .few, t .listed .each), d n (t .entries) (t .listed) .0 e); bytes = t .listed .bytes },
   λ x. d n (x .entry) (record { few = x .holds .0 .0; each = x .holds .0 .1; bytes = x .bytes }) .1 (x .holds .1),
@@ -75,15 +75,15 @@ lines-decided n s t b d = (
 -- ---- the indexed tables
 
 -- 7264 bytes are the four where each is
-pub indexed-is : (s : List ℕ) → length s ≡ 7264 → (PlacesOf QuickOk 46 quick-bytes 64 (midOf 0 2944 s) × (PlacesOf StatusOk 33 status-bytes 96 (midOf 2944 3168 s) × (PlacesOf GroupOk 36 group-bytes 16 (midOf 6112 576 s) × PlacesOf IndividualOk 36 individual-bytes 16 (midOf 6688 576 s)))) ↔ IndexedOf s
+pub indexed-is : (s : List ℕ) → length s ≡ 7264 → (PlacesOf QuickOk 46 quick-bytes 64 (midOf 0 quick-size s) × (PlacesOf StatusOk 33 status-bytes 96 (midOf quick-size status-size s) × (PlacesOf GroupOk 36 group-bytes 16 (midOf 6112 member-size s) × PlacesOf IndividualOk 36 individual-bytes 16 (midOf 6688 member-size s)))) ↔ IndexedOf s
 indexed-is s l =
-    Iff·trans (Iff·and (places-entry QuickOk 46 quick-bytes 64 (midOf 0 2944 s))
-    (Iff·trans (Iff·and (places-entry StatusOk 33 status-bytes 96 (midOf 2944 3168 s))
-    (Iff·trans (Iff·and (places-entry GroupOk 36 group-bytes 16 (midOf 6112 576 s))
-    (Iff·trans (places-entry IndividualOk 36 individual-bytes 16 (midOf 6688 576 s)) (last-is (PlacesOk IndividualOk 16) (places 36 individual-bytes) 6688 576 s (omega arith))))
-    (parts-are (PlacesOk GroupOk 16) (PlacesOk IndividualOk 16) (places 36 group-bytes) (places 36 individual-bytes) 6112 576 s (table-long GroupOk 36 group-bytes (group-code .long) 16))))
-    (parts-are (PlacesOk StatusOk 96) _ (places 33 status-bytes) _ 2944 3168 s (table-long StatusOk 33 status-bytes (status-code .long) 96))))
-    (parts-are (PlacesOk QuickOk 64) _ (places 46 quick-bytes) _ 0 2944 s (table-long QuickOk 46 quick-bytes (quick-code .long) 64))
+    Iff·trans (Iff·and (places-entry QuickOk 46 quick-bytes 64 (midOf 0 quick-size s))
+    (Iff·trans (Iff·and (places-entry StatusOk 33 status-bytes 96 (midOf quick-size status-size s))
+    (Iff·trans (Iff·and (places-entry GroupOk 36 group-bytes 16 (midOf 6112 member-size s))
+    (Iff·trans (places-entry IndividualOk 36 individual-bytes 16 (midOf 6688 member-size s)) (last-is (PlacesOk IndividualOk 16) (places 36 individual-bytes) 6688 member-size s (omega arith))))
+    (parts-are (PlacesOk GroupOk 16) (PlacesOk IndividualOk 16) (places 36 group-bytes) (places 36 individual-bytes) 6112 member-size s (table-long GroupOk 36 group-bytes (group-code .long) 16))))
+    (parts-are (PlacesOk StatusOk 96) _ (places 33 status-bytes) _ quick-size status-size s (table-long StatusOk 33 status-bytes (status-code .long) 96))))
+    (parts-are (PlacesOk QuickOk 64) _ (places 46 quick-bytes) _ 0 quick-size s (table-long QuickOk 46 quick-bytes (quick-code .long) 64))
 
 -- ---- the whole
 
@@ -132,11 +132,11 @@ indexed-bytes = joined (places 46 quick-bytes) (joined (places 33 status-bytes) 
 -- they are 7264 bytes
 indexed-long : (x : Indexed) → IndexedOk x → length (indexed-bytes x) ≡ 7264
 indexed-long x p =
-    joined-long (places 46 quick-bytes) (joined (places 33 status-bytes) (joined (places 36 group-bytes) (places 36 individual-bytes))) x 2944 4320
+    joined-long (places 46 quick-bytes) (joined (places 33 status-bytes) (joined (places 36 group-bytes) (places 36 individual-bytes))) x quick-size 4320
     (table-long QuickOk 46 quick-bytes (quick-code .long) 64 (x .0) (p .0))
-    (joined-long (places 33 status-bytes) (joined (places 36 group-bytes) (places 36 individual-bytes)) (x .1) 3168 1152
+    (joined-long (places 33 status-bytes) (joined (places 36 group-bytes) (places 36 individual-bytes)) (x .1) status-size 1152
     (table-long StatusOk 33 status-bytes (status-code .long) 96 (x .1 .0) (p .1 .0))
-    (joined-long (places 36 group-bytes) (places 36 individual-bytes) (x .1 .1) 576 576
+    (joined-long (places 36 group-bytes) (places 36 individual-bytes) (x .1 .1) member-size member-size
     (table-long GroupOk 36 group-bytes (group-code .long) 16 (x .1 .1 .0) (p .1 .1 .0))
     (table-long IndividualOk 36 individual-bytes (individual-code .long) 16 (x .1 .1 .1) (p .1 .1 .1))))
 
@@ -155,7 +155,7 @@ module _ (m : Limits) where
 
   -- the lines' bytes
   abbrev lines-bytes : List Line → List ℕ
-  lines-bytes ls = places 51 line-bytes (front (m .lines) ls)
+  lines-bytes ls = places line-width line-bytes (front (m .lines) ls)
 
   -- the bytes that no table uses
   abbrev spare-bytes : Unit {0} → List ℕ
@@ -226,22 +226,22 @@ module _ (m : Limits) where
         (subst (λ (i : ℕ). EntryOf P f (midOf a i s)) e, subst (λ (i : ℕ). EntryOf P f (midOf a i s)) (sym e))
 
     -- the bytes that no table uses
-    spare-part : (zeros? (midOf (7286 + m .channels * 2 + m .lines * 51) (length s - (7286 + m .channels * 2 + m .lines * 51)) s) ≡ true) ↔ EntryOf (λ u. Unit {0}) spare-bytes (drop (7286 + m .channels * 2 + m .lines * 51) s)
+    spare-part : (zeros? (midOf (lists-at + m .channels * 2 + m .lines * line-width) (length s - (lists-at + m .channels * 2 + m .lines * line-width)) s) ≡ true) ↔ EntryOf (λ u. Unit {0}) spare-bytes (drop (lists-at + m .channels * 2 + m .lines * line-width) s)
     spare-part =
-        let a = 7286 + m .channels * 2 + m .lines * 51 in
+        let a = lists-at + m .channels * 2 + m .lines * line-width in
         let e : midOf a (length s - a) s ≡ drop a s = rest-is s a (length s - a) (omega arith) in
         let k : length (drop a s) ≡ m .size - used-size m = omega (arith, length-drop a s) in
         Iff·trans (λ z. ap zeros? (sym e) ∙ z, λ z. ap zeros? e ∙ z) (spare-is (m .size - used-size m) (drop a s) k)
 
     -- the bytes of a store's size are a store where each part is what it has to be
-    pub store-is : (FixedOf (midOf 0 22 s) × (IndexedOf (midOf 22 7264 s) × (ChannelsOf (m .channels) (midOf 7286 (7286 + m .channels * 2 - 7286) s) × (LinesOf (m .lines) (midOf (7286 + m .channels * 2) (7286 + m .channels * 2 + m .lines * 51 - (7286 + m .channels * 2)) s) × (zeros? (midOf (7286 + m .channels * 2 + m .lines * 51) (length s - (7286 + m .channels * 2 + m .lines * 51)) s) ≡ true))))) ↔ IsStore m s
+    pub store-is : (FixedOf (midOf 0 22 s) × (IndexedOf (midOf quick-at 7264 s) × (ChannelsOf (m .channels) (midOf lists-at (lists-at + m .channels * 2 - lists-at) s) × (LinesOf (m .lines) (midOf (lists-at + m .channels * 2) (lists-at + m .channels * 2 + m .lines * line-width - (lists-at + m .channels * 2)) s) × (zeros? (midOf (lists-at + m .channels * 2 + m .lines * line-width) (length s - (lists-at + m .channels * 2 + m .lines * line-width)) s) ≡ true))))) ↔ IsStore m s
     store-is =
         let w = Iff·trans (Iff·and Iff·rfl
         (Iff·trans (Iff·and Iff·rfl
-        (Iff·trans (Iff·and (part-is (ListOk InChannel (m .channels)) channels-bytes 7286 (m .channels * 2))
-        (Iff·trans (Iff·and (part-is (LinesOk (m .lines)) lines-bytes (7286 + m .channels * 2) (m .lines * 51)) spare-part)
-        (parts-are (LinesOk (m .lines)) (λ u. Unit {0}) lines-bytes spare-bytes (7286 + m .channels * 2) (m .lines * 51) s (λ ls p. list-long LineOk 51 line-bytes (line-code .long) (m .lines) ls))))
-        (parts-are (ListOk InChannel (m .channels)) (Both (LinesOk (m .lines)) (λ u. Unit {0})) channels-bytes (joined lines-bytes spare-bytes) 7286 (m .channels * 2) s (λ cs p. list-long InChannel 2 u16 (channel-code .long) (m .channels) cs))))
+        (Iff·trans (Iff·and (part-is (ListOk InChannel (m .channels)) channels-bytes lists-at (m .channels * 2))
+        (Iff·trans (Iff·and (part-is (LinesOk (m .lines)) lines-bytes (lists-at + m .channels * 2) (m .lines * line-width)) spare-part)
+        (parts-are (LinesOk (m .lines)) (λ u. Unit {0}) lines-bytes spare-bytes (lists-at + m .channels * 2) (m .lines * line-width) s (λ ls p. list-long LineOk line-width line-bytes (line-code .long) (m .lines) ls))))
+        (parts-are (ListOk InChannel (m .channels)) (Both (LinesOk (m .lines)) (λ u. Unit {0})) channels-bytes (joined lines-bytes spare-bytes) lists-at (m .channels * 2) s (λ cs p. list-long InChannel 2 u16 (channel-code .long) (m .channels) cs))))
         (parts-are IndexedOk RestOk indexed-bytes rest-bytes 22 7264 s indexed-long)))
         (Iff·trans (parts-are FixedOk (Both IndexedOk RestOk) fixed-bytes (joined indexed-bytes rest-bytes) 0 22 s fixed-long)
         (entry-same (Both FixedOk (Both IndexedOk RestOk)) (joined fixed-bytes (joined indexed-bytes rest-bytes)) (Allowed m) (layout m) tables-of s)) in (

@@ -6,6 +6,11 @@ use super::checks_tables::indexed_ok;
 use slots::bytes::is_clear;
 use tables::limits::Limits;
 use tables::limits::roomy;
+use tables::places::CHANNEL_SLOT;
+use tables::places::HASH;
+use tables::places::LINE_SLOT;
+use tables::places::LISTS;
+use tables::places::QUICK;
 ghost use mathlib.Core.Path.{_≡_};
 ghost use mathlib.Core.Bool.{true};
 ghost use mathlib.Core.Logic.{_↔_};
@@ -18,17 +23,17 @@ fn parts_ok(store: &[u8], limits: Limits) -> bool
     requires { ⌜ Roomy limits × (length (now store) ≡ limits .size) ⌝ }
     ensures { λ r. ⌜ (r ≡ true) ↔ IsStore limits (now (store .entry)) ⌝ }
 {
-    if !fixed_ok(&store[0..22]) {
+    if !fixed_ok(&store[HASH..QUICK]) {
         return false;
     }
-    if !indexed_ok(&store[22..7286]) {
+    if !indexed_ok(&store[QUICK..LISTS]) {
         return false;
     }
-    let lines = 7286 + limits.channels * 2;
-    if !channels_ok(&store[7286..lines]) {
+    let lines = LISTS + limits.channels * CHANNEL_SLOT;
+    if !channels_ok(&store[LISTS..lines]) {
         return false;
     }
-    let spare = lines + limits.lines * 51;
+    let spare = lines + limits.lines * LINE_SLOT;
     if !lines_ok(&store[lines..spare]) {
         return false;
     }

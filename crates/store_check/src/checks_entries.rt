@@ -2,6 +2,12 @@
 use slots::bytes::is_clear;
 use slots::bytes::is_zeros;
 use slots::slots::used;
+use tables::places::LINE_DIGITS;
+use tables::places::LINE_SLOT;
+use tables::places::LINE_TEXT;
+use tables::places::MEMBER_SLOT;
+use tables::places::STATUS_SLOT;
+use tables::places::STATUS_TEXT;
 ghost use mathlib.Core.Path.{_≡_};
 ghost use mathlib.Core.Bool.{true};
 ghost use mathlib.Core.Logic.{_↔_};
@@ -87,7 +93,7 @@ pub(crate) fn status_ok(s: &[u8]) -> bool
     if s[0] != 1 {
         return false;
     }
-    text_ok(&s[1..33])
+    text_ok(&s[STATUS_TEXT..STATUS_SLOT])
 }
 
 // Whether an address and a text stand there, as in group and individual slots.
@@ -108,7 +114,7 @@ pub(crate) fn group_ok(s: &[u8]) -> bool
     if s[0] < 64 {
         return false;
     }
-    member_ok(&s[1..36])
+    member_ok(&s[1..MEMBER_SLOT])
 }
 
 pub(crate) fn individual_ok(s: &[u8]) -> bool
@@ -118,7 +124,7 @@ pub(crate) fn individual_ok(s: &[u8]) -> bool
     if 15 < s[0] {
         return false;
     }
-    member_ok(&s[1..36])
+    member_ok(&s[1..MEMBER_SLOT])
 }
 
 pub(crate) fn channel_ok(s: &[u8]) -> bool
@@ -139,8 +145,8 @@ pub(crate) fn line_ok(s: &[u8]) -> bool
     if 31 < s[0] {
         return false;
     }
-    if !digits_ok(&s[1..19]) {
+    if !digits_ok(&s[LINE_DIGITS..LINE_TEXT]) {
         return false;
     }
-    text_ok(&s[19..51])
+    text_ok(&s[LINE_TEXT..LINE_SLOT])
 }

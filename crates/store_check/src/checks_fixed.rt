@@ -2,6 +2,11 @@
 use super::checks_entries::address_ok;
 use super::checks_entries::pair;
 use slots::bytes::is_zeros;
+use tables::places::HASH;
+use tables::places::HOME;
+use tables::places::KEY;
+use tables::places::QUICK;
+use tables::places::SYSTEM;
 ghost use mathlib.Core.Path.{_≡_};
 ghost use mathlib.Core.Bool.{true};
 ghost use mathlib.Core.Logic.{_↔_};
@@ -63,14 +68,14 @@ pub(crate) fn fixed_ok(s: &[u8]) -> bool
     requires { ⌜ length (now s) ≡ 22 ⌝ }
     ensures { λ r. ⌜ (r ≡ true) ↔ FixedOf (now (s .entry)) ⌝ }
 {
-    if !hash_ok(&s[0..11]) {
+    if !hash_ok(&s[HASH..KEY]) {
         return false;
     }
-    if !key_ok(&s[11..15]) {
+    if !key_ok(&s[KEY..HOME]) {
         return false;
     }
-    if !home_ok(&s[15..19]) {
+    if !home_ok(&s[HOME..SYSTEM]) {
         return false;
     }
-    system_ok(&s[19..22])
+    system_ok(&s[SYSTEM..QUICK])
 }

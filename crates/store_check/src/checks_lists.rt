@@ -3,6 +3,9 @@ use super::checks_tables::Table;
 use super::checks_tables::list_ok;
 use slots::slots::place_of;
 use slots::slots::used;
+use tables::places::DIGITS;
+use tables::places::LINE_DIGITS;
+use tables::places::LINE_SLOT;
 ghost use mathlib.Core.Path.{_≡_};
 ghost use mathlib.Core.Bool.{true};
 ghost use mathlib.Core.Logic.{_↔_};
@@ -19,13 +22,13 @@ ghost use Rattle.store_check.specs.Checks.{ChannelsOf, LinesOf};
 fn lines_distinct(s: &[u8]) -> bool
     ensures { λ r. ⌜ ((n : ℕ) (ls : List Line) → Listed LineOk line-width line-bytes n ls (now (s .entry)) → (r ≡ true) ↔ Distinct ls) ⌝ }
 {
-    let end = used(s, 51);
+    let end = used(s, LINE_SLOT);
     let mut at = 0;
-    while 51 <= end - at {
-        let next = at + 51;
+    while LINE_SLOT <= end - at {
+        let next = at + LINE_SLOT;
         let a = at + 1;
         let b = a + 18;
-        if place_of(&s[next..end], 51, 1, 18, &s[a..b]) != end - next {
+        if place_of(&s[next..end], LINE_SLOT, LINE_DIGITS, DIGITS, &s[a..b]) != end - next {
             return false;
         }
         at = next;

@@ -8,6 +8,16 @@ use super::checks_entries::status_ok;
 use slots::bytes::is_clear;
 use slots::bytes::is_zeros;
 use slots::slots::used;
+use tables::places::CHANNEL_SLOT;
+use tables::places::GROUPS;
+use tables::places::INDIVIDUALS;
+use tables::places::LINE_SLOT;
+use tables::places::LISTS;
+use tables::places::MEMBER_SLOT;
+use tables::places::QUICK;
+use tables::places::QUICK_SLOT;
+use tables::places::STATUS;
+use tables::places::STATUS_SLOT;
 ghost use mathlib.Core.Path.{_≡_};
 ghost use mathlib.Core.Bool.{true};
 ghost use mathlib.Core.Logic.{_↔_};
@@ -30,12 +40,12 @@ fn width(t: Table) -> usize
     ensures { λ r. ⌜ r ≡ width-in t ⌝ }
 {
     match t {
-        Table::QuickTexts => 46,
-        Table::StatusTexts => 33,
-        Table::Groups => 36,
-        Table::Individuals => 36,
-        Table::Channels => 2,
-        Table::Lines => 51,
+        Table::QuickTexts => QUICK_SLOT,
+        Table::StatusTexts => STATUS_SLOT,
+        Table::Groups => MEMBER_SLOT,
+        Table::Individuals => MEMBER_SLOT,
+        Table::Channels => CHANNEL_SLOT,
+        Table::Lines => LINE_SLOT,
     }
 }
 
@@ -82,19 +92,28 @@ pub(crate) fn list_ok(t: Table, s: &[u8]) -> bool
     is_clear(&s[end..])
 }
 
+// Where the other three indexed tables and their end stand behind the first.
+const STATUS_HERE: usize = STATUS - QUICK;
+
+const GROUPS_HERE: usize = GROUPS - QUICK;
+
+const INDIVIDUALS_HERE: usize = INDIVIDUALS - QUICK;
+
+const END_HERE: usize = LISTS - QUICK;
+
 // The four indexed tables.
 pub(crate) fn indexed_ok(s: &[u8]) -> bool
     requires { ⌜ length (now s) ≡ 7264 ⌝ }
     ensures { λ r. ⌜ (r ≡ true) ↔ IndexedOf (now (s .entry)) ⌝ }
 {
-    if !places_ok(Table::QuickTexts, &s[0..2944]) {
+    if !places_ok(Table::QuickTexts, &s[0..STATUS_HERE]) {
         return false;
     }
-    if !places_ok(Table::StatusTexts, &s[2944..6112]) {
+    if !places_ok(Table::StatusTexts, &s[STATUS_HERE..GROUPS_HERE]) {
         return false;
     }
-    if !places_ok(Table::Groups, &s[6112..6688]) {
+    if !places_ok(Table::Groups, &s[GROUPS_HERE..INDIVIDUALS_HERE]) {
         return false;
     }
-    places_ok(Table::Individuals, &s[6688..7264])
+    places_ok(Table::Individuals, &s[INDIVIDUALS_HERE..END_HERE])
 }

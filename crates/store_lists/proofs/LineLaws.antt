@@ -33,7 +33,7 @@ use Rattle.settings.specs.Settings.{EntriesAre}
 use Rattle.tables.specs.Allowed.{LineOk}
 use Rattle.tables.specs.Apply.{in-turn, has-number, line-of, line-step}
 use Rattle.tables.specs.Changes.{TextPut}
-use Rattle.tables.specs.Layout.{line-flags, digit-bytes, text-bytes, line-bytes}
+use Rattle.tables.specs.Layout.{line-flags, digit-bytes, text-bytes, line-bytes, line-width}
 use Rattle.tables.specs.Lists.{Tried, DigitsPut, LineSlot, LineTable, LinePut, LineDropped, LinesApplied}
 use Rattle.tables.specs.Tables.{Line}
 use Rattle.tables.proofs.EntryCodes.{line-keyed}
@@ -45,7 +45,7 @@ use Rattle.tables.proofs.TextLaws.{text-out}
 -- ---- a line's slot
 
 -- a slot that is empty but for its flags and digits has room for its text
-pub slot-room : (b : ℕ) (y : List ℕ) → length y ≡ 18 → 51 ≤ length (putMid 1 18 (b ∷ replicate 50 0) y)
+pub slot-room : (b : ℕ) (y : List ℕ) → length y ≡ 18 → line-width ≤ length (putMid 1 18 (b ∷ replicate 50 0) y)
 slot-room b y l = omega (arith, length-append y (replicate 32 0))
 
 -- flags, digits and text make the slot
@@ -79,37 +79,37 @@ module _ (l : Line) (ok : LineOk l) (x : List ℕ) (e : x ≡ line-bytes l) wher
 
 -- ---- one line
 
-module _ (x s : List ℕ) (r : ℕ) (long : length x ≡ 51) (found : Found (KeyAt 51 1 (midOf 1 18 x) × (length (midOf 1 18 x) ≡ 18)) (fit 1 (midOf 1 18 x)) 51 s r) where
+module _ (x s : List ℕ) (r : ℕ) (long : length x ≡ line-width) (found : Found (KeyAt line-width 1 (midOf 1 18 x) × (length (midOf 1 18 x) ≡ 18)) (fit 1 (midOf 1 18 x)) line-width s r) where
   -- the place that was found is that of the line's key
-  found-key : (l : Line) → LineOk l → x ≡ line-bytes l → Found (KeyAt 51 1 (key l)) (fit 1 (key l)) 51 s r
-  found-key l ok e = subst (λ (k : List ℕ). Found (KeyAt 51 1 k) (fit 1 k) 51 s r) (key-read l ok x e)
-      (found-known 51 1 18 (midOf 1 18 x) s (fit 1 (midOf 1 18 x)) r (ap length (key-read l ok x e) ∙ digits-length (l .number)) found)
+  found-key : (l : Line) → LineOk l → x ≡ line-bytes l → Found (KeyAt line-width 1 (key l)) (fit 1 (key l)) line-width s r
+  found-key l ok e = subst (λ (k : List ℕ). Found (KeyAt line-width 1 k) (fit 1 k) line-width s r) (key-read l ok x e)
+      (found-known line-width 1 18 (midOf 1 18 x) s (fit 1 (midOf 1 18 x)) r (ap length (key-read l ok x e) ∙ digits-length (l .number)) found)
 
   -- a line's slot where its number was, or in the first free place
-  pub line-added : (y : List ℕ) → (length s - r < 51 → ⊥) → y ≡ take (length (midOf r (r + 51 - r) s)) x ++ drop (length x) (midOf r (r + 51 - r) s)
-      → LinePut x s (putMid r (r + 51 - r) s y) true
+  pub line-added : (y : List ℕ) → (length s - r < line-width → ⊥) → y ≡ take (length (midOf r (r + line-width - r) s)) x ++ drop (length x) (midOf r (r + line-width - r) s)
+      → LinePut x s (putMid r (r + line-width - r) s y) true
   line-added y room copied n ls l t ok e =
-      let h : 51 ≤ length s - r = omega arith in
-      let z : y ≡ line-bytes l = slot-copied s x y r 51 (omega (arith, found .within)) long copied ∙ e in
+      let h : line-width ≤ length s - r = omega arith in
+      let z : y ≡ line-bytes l = slot-copied s x y r line-width (omega (arith, found .within)) long copied ∙ e in
       let f = found-key l ok e in
       let w : indexOf (has-number (l .number)) ls < n
-      = key-room LineOk 51 line-bytes 1 18 key line-keyed (key l) (digits-length (l .number)) (line-keyed .shown l ok) (has-number (l .number)) (key-same l ok x e) n ls s t r f h in
+      = key-room LineOk line-width line-bytes 1 18 key line-keyed (key l) (digits-length (l .number)) (line-keyed .shown l ok) (has-number (l .number)) (key-same l ok x e) n ls s t r f h in
       tried-room (LineTable n) (putAt (indexOf (has-number (l .number)) ls) l ls)
       (ap (λ (b : Bool). cond b (some (putAt (indexOf (has-number (l .number)) ls) l ls)) none) (lt-ltb (indexOf (has-number (l .number)) ls) n w))
-      (key-put LineOk 51 line-bytes 1 18 key line-keyed (key l) (digits-length (l .number)) (line-keyed .shown l ok) (has-number (l .number)) (key-same l ok x e) n ls s t r f l y ok h z)
+      (key-put LineOk line-width line-bytes 1 18 key line-keyed (key l) (digits-length (l .number)) (line-keyed .shown l ok) (has-number (l .number)) (key-same l ok x e) n ls s t r f l y ok h z)
 
   -- no place was found
-  pub line-refused : length s - r < 51 → LinePut x s s false
+  pub line-refused : length s - r < line-width → LinePut x s s false
   line-refused h n ls l t ok e =
       let w : n ≤ indexOf (has-number (l .number)) ls
-      = key-full LineOk 51 line-bytes 1 18 key line-keyed (key l) (digits-length (l .number)) (line-keyed .shown l ok) (has-number (l .number)) (key-same l ok x e) n ls s t r (found-key l ok e) h in
+      = key-full LineOk line-width line-bytes 1 18 key line-keyed (key l) (digits-length (l .number)) (line-keyed .shown l ok) (has-number (l .number)) (key-same l ok x e) n ls s t r (found-key l ok e) h in
       tried-full (LineTable n) (ap (λ (b : Bool). cond b (some (putAt (indexOf (has-number (l .number)) ls) l ls)) none) (le-ltb (indexOf (has-number (l .number)) ls) n w))
 
 -- the lines with a line's number are taken out
-pub line-dropped : (x s t : List ℕ) → Removed 51 1 (midOf 1 18 x) s t → LineDropped x s t
+pub line-dropped : (x s t : List ℕ) → Removed line-width 1 (midOf 1 18 x) s t → LineDropped x s t
 line-dropped x s t r n ls l i ok e =
-    key-removed LineOk 51 line-bytes 1 18 key line-keyed (key l) (digits-length (l .number)) (line-keyed .shown l ok) (has-number (l .number)) (key-same l ok x e) n ls s i t
-    (subst (λ (k : List ℕ). Removed 51 1 k s t) (key-read l ok x e) r)
+    key-removed LineOk line-width line-bytes 1 18 key line-keyed (key l) (digits-length (l .number)) (line-keyed .shown l ok) (has-number (l .number)) (key-same l ok x e) n ls s i t
+    (subst (λ (k : List ℕ). Removed line-width 1 k s t) (key-read l ok x e) r)
 
 -- ---- the loops
 
@@ -174,4 +174,4 @@ module _ (o : Operation) (m : List ℕ) (f : LineFlags) (p : Entries) (s : List 
 
 -- adding to a wiped part replaces
 pub lines-replaced : (m : List ℕ) (f : LineFlags) (p : Entries) (s t u : List ℕ) (r : Bool) → t ≡ replicate (length s) 0 → LinesApplied Add m f p t u r → LinesApplied Replace m f p s u r
-lines-replaced m f p s t u r w a low n ls es l e q = a low n [] es (wiped LineOk 51 line-bytes (line-keyed .long) n ls s t l w) e q
+lines-replaced m f p s t u r w a low n ls es l e q = a low n [] es (wiped LineOk line-width line-bytes (line-keyed .long) n ls s t l w) e q

@@ -2,6 +2,9 @@
 use read_fields::entries::ContactPlace;
 use read_fields::numbers::NumberPlace;
 use tables::heads::bit_of;
+use tables::places::LINE_DIGITS;
+use tables::places::LINE_SLOT;
+use tables::places::LINE_TEXT;
 use tables::texts::put_text;
 use writing::LineFlags;
 ghost use mathlib.Core.Path.{_≡_};
@@ -66,12 +69,12 @@ fn put_digits(dst: &mut [u8], m: &[u8], place: NumberPlace)
 }
 
 // The slot of a line contact that stands at a place of the message.
-pub(crate) fn line_slot(m: &[u8], flags: LineFlags, place: ContactPlace) -> [u8; 51]
+pub(crate) fn line_slot(m: &[u8], flags: LineFlags, place: ContactPlace) -> [u8; LINE_SLOT]
     ensures { λ r. ⌜ LineSlot (now (m .entry)) flags place r ⌝ }
 {
-    let mut slot = [0u8; 51];
+    let mut slot = [0u8; LINE_SLOT];
     slot[0] = line_flag_byte(flags);
-    put_digits(&mut slot[1..19], m, place.number);
-    put_text(&mut slot[19..51], m, place.text);
+    put_digits(&mut slot[LINE_DIGITS..LINE_TEXT], m, place.number);
+    put_text(&mut slot[LINE_TEXT..LINE_SLOT], m, place.text);
     slot
 }

@@ -7,34 +7,45 @@ use slots::bytes::copy;
 use slots::bytes::wipe;
 use slots::slots::place_of;
 use slots::slots::remove_all;
+use tables::places::DIGITS;
+use tables::places::LINE_DIGITS;
+use tables::places::LINE_SLOT;
+use tables::places::LINE_TEXT;
 use writing::LineFlags;
 use writing::Operation;
 ghost use mathlib.Core.Path.{_≡_};
 ghost use mathlib.Core.Bool.{true};
 ghost use lib.ListN.{length};
 ghost use Rattle.writing.specs.declared.Operation.the-variants.{Add, Delete};
+ghost use Rattle.tables.specs.Layout.{line-width};
 ghost use Rattle.tables.specs.Lists.{LinePut, LineDropped, LinesApplied};
 
 // Puts a line in place of the one with its number, or at the end, where there is room.
 fn put_line(part: &mut [u8], slot: &[u8]) -> bool
-    requires { ⌜ length (now slot) ≡ 51 ⌝ }
+    requires { ⌜ length (now slot) ≡ line-width ⌝ }
     ensures { λ r. ⌜ LinePut (now (slot .entry)) (now (part .entry)) (now (part .exit)) r ⌝ }
 {
-    let at = place_of(part, 51, 1, 18, &slot[1..19]);
-    if part.len() - at < 51 {
+    let at = place_of(
+        part,
+        LINE_SLOT,
+        LINE_DIGITS,
+        DIGITS,
+        &slot[LINE_DIGITS..LINE_TEXT],
+    );
+    if part.len() - at < LINE_SLOT {
         return false;
     }
-    let e = at + 51;
+    let e = at + LINE_SLOT;
     copy(&mut part[at..e], slot);
     true
 }
 
 // Takes the line with the slot's number out.
 fn drop_line(part: &mut [u8], slot: &[u8])
-    requires { ⌜ length (now slot) ≡ 51 ⌝ }
+    requires { ⌜ length (now slot) ≡ line-width ⌝ }
     ensures { λ _. ⌜ LineDropped (now (slot .entry)) (now (part .entry)) (now (part .exit)) ⌝ }
 {
-    remove_all(part, 51, 1, &slot[1..19]);
+    remove_all(part, LINE_SLOT, LINE_DIGITS, &slot[LINE_DIGITS..LINE_TEXT]);
 }
 
 // Puts the lines of a setting in order, until there is no room.

@@ -6,6 +6,7 @@ use Rattle.screen.specs.declared.names.SlotPlace.the-variants.{Beyond}
 use Rattle.screen.proofs.SlotLaws.{slot-row, slot-line, slot-status}
 use Rattle.screen.proofs.names.slot_of.Statement.{statement}
 use Rattle.screen.proofs.names.slot_of.Tie as tie
+use Rattle.tables.specs.Layout.{lists-at}
 
 enum-known-row : tie.Need-enum-known-row
 enum-known-row c = search needs
@@ -50,7 +51,7 @@ returns : tie.Need-returns
 returns c =
     let s = c .before .before .before .before .before in
     slot-row (s .args .limits) (c .slot-in .result) (c .before .before .before .row .given .1)
-    (slot-line (s .args .limits) (c .before .before .before .row .given .0 .0) (7286 + s .args .limits .channels * 2) (c .slot-in .result) (omega arith) (c .slot-in .ensures))
+    (slot-line (s .args .limits) (c .before .before .before .row .given .0 .0) (lists-at + s .args .limits .channels * 2) (c .slot-in .result) (omega arith) (c .slot-in .ensures))
 
 returns-2 : tie.Need-returns-2
 returns-2 c = slot-row (c .before .before .before .before .args .limits) (c .slot-in2 .result) (c .before .before .row2 .given .1) (c .slot-in2 .ensures)

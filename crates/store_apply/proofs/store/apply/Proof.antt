@@ -5,7 +5,7 @@ use mathlib.Core.Path.{_≡_}
 use mathlib.Core.Bool.{true}
 use lib.ListN.{length}
 use Rattle.settings.specs.declared.settings.Setting.the-variants.{Lines, Key, QuickTexts, Home, Channels, System, StatusTexts, Group, Individual, Last}
-use Rattle.tables.specs.Layout.{used-size}
+use Rattle.tables.specs.Layout.{used-size, line-width, lists-at}
 use Rattle.tables.proofs.AnswerLaws.{not-said, was-said}
 use Rattle.store_apply.proofs.StoreLaws.{as-read, no-store, store-key, store-home, store-system, store-hash, store-quick, store-status, store-group, store-individual, store-channels, store-lines}
 use Rattle.store_apply.proofs.store.apply.Statement.{statement}
@@ -75,7 +75,7 @@ returns-3 c =
     let g = c .before .before .before .before .before .setting .given in
     let y = c .before .before .apply-lines in
     as-read (a .limits) (a .m .now) (a .store .now) _ (y .result) (a .setting) (Lines (g .0 .0) (g .0 .1 .0) (g .0 .1 .1 .0)) (g .1)
-    (store-lines (a .limits) (a .m .now) (a .store .now) (y .last .0) (g .0 .0) (g .0 .1 .0) (g .0 .1 .1 .0) (7286 + a .limits .channels * 2) (7286 + a .limits .channels * 2 + a .limits .lines * 51 - (7286 + a .limits .channels * 2)) (y .result) (omega arith) (omega arith) (y .ensures))
+    (store-lines (a .limits) (a .m .now) (a .store .now) (y .last .0) (g .0 .0) (g .0 .1 .0) (g .0 .1 .1 .0) (lists-at + a .limits .channels * 2) (lists-at + a .limits .channels * 2 + a .limits .lines * line-width - (lists-at + a .limits .channels * 2)) (y .result) (omega arith) (omega arith) (y .ensures))
 
 enum-known-setting-2 : tie.Need-enum-known-setting-2
 enum-known-setting-2 c = search needs
@@ -104,7 +104,7 @@ returns-4 c =
     let g = c .before .before .before .before .before .setting2 .given in
     let y = c .before .before .apply-channels in
     as-read (a .limits) (a .m .now) (a .store .now) _ (y .result) (a .setting) (Channels (g .0 .0) (g .0 .1 .0)) (g .1)
-    (store-channels (a .limits) (a .m .now) (a .store .now) (y .last .0) (g .0 .0) (g .0 .1 .0) (7286 + a .limits .channels * 2 - 7286) (y .result) (omega arith) (y .ensures))
+    (store-channels (a .limits) (a .m .now) (a .store .now) (y .last .0) (g .0 .0) (g .0 .1 .0) (lists-at + a .limits .channels * 2 - lists-at) (y .result) (omega arith) (y .ensures))
 
 enum-known-setting-3 : tie.Need-enum-known-setting-3
 enum-known-setting-3 c = search needs

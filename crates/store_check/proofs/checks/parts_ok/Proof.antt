@@ -7,6 +7,7 @@ use Rattle.tables.proofs.AnswerLaws.{refused, not-said, was-said}
 use Rattle.store_check.proofs.StoreChecks.{store-is}
 use Rattle.store_check.proofs.checks.parts_ok.Statement.{statement}
 use Rattle.store_check.proofs.checks.parts_ok.Tie as tie
+use Rattle.tables.specs.Layout.{line-width, lists-at}
 
 sub-fixed-ok : tie.Need-sub-fixed-ok
 sub-fixed-ok c = search needs
@@ -60,7 +61,7 @@ returns-3 : tie.Need-returns-3
 returns-3 c =
     let s = c .before .before .before .before .before .before .before .before .before .before .before .args .store .now in
     let m = c .before .before .before .before .before .before .before .before .before .before .before .args .limits in
-    refused (λ x. not-said (c .before .channels-ok .result) (c .before .channels-ok .ensures (m .channels) (slot-wide s 7286 (m .channels * 2) (omega arith))) (c .if3 .taken) (store-is m s (c .before .before .before .before .before .before .before .before .before .before .before .pre .0) (c .before .before .before .before .before .before .before .before .before .before .before .pre .1) .1 x .1 .1 .0))
+    refused (λ x. not-said (c .before .channels-ok .result) (c .before .channels-ok .ensures (m .channels) (slot-wide s lists-at (m .channels * 2) (omega arith))) (c .if3 .taken) (store-is m s (c .before .before .before .before .before .before .before .before .before .before .before .pre .0) (c .before .before .before .before .before .before .before .before .before .before .before .pre .1) .1 x .1 .1 .0))
 
 mul-spare : tie.Need-mul-spare
 mul-spare c = search needs
@@ -84,7 +85,7 @@ returns-4 : tie.Need-returns-4
 returns-4 c =
     let s = c .before .before .before .before .before .before .before .before .before .before .before .before .before .before .before .args .store .now in
     let m = c .before .before .before .before .before .before .before .before .before .before .before .before .before .before .before .args .limits in
-    refused (λ x. not-said (c .before .lines-ok .result) (c .before .lines-ok .ensures (m .lines) (slot-wide s (7286 + m .channels * 2) (m .lines * 51) (omega arith))) (c .if4 .taken) (store-is m s (c .before .before .before .before .before .before .before .before .before .before .before .before .before .before .before .pre .0) (c .before .before .before .before .before .before .before .before .before .before .before .before .before .before .before .pre .1) .1 x .1 .1 .1 .0))
+    refused (λ x. not-said (c .before .lines-ok .result) (c .before .lines-ok .ensures (m .lines) (slot-wide s (lists-at + m .channels * 2) (m .lines * line-width) (omega arith))) (c .if4 .taken) (store-is m s (c .before .before .before .before .before .before .before .before .before .before .before .before .before .before .before .pre .0) (c .before .before .before .before .before .before .before .before .before .before .before .before .before .before .before .pre .1) .1 x .1 .1 .1 .0))
 
 sub-is-clear : tie.Need-sub-is-clear
 sub-is-clear c = search needs
@@ -105,8 +106,8 @@ returns-5 c =
     let t = store-is m s (c .before .before .before .before .before .before .before .before .before .before .before .before .before .before .before .before .before .pre .0) (c .before .before .before .before .before .before .before .before .before .before .before .before .before .before .before .before .before .pre .1) in
     let f = was-said (c .before .before .before .before .before .before .before .before .before .before .before .before .before .before .fixed-ok .result) (c .before .before .before .before .before .before .before .before .before .before .before .before .before .before .fixed-ok .ensures) (c .before .before .before .before .before .before .before .before .before .before .before .before .before .if1 .left) in
     let i = was-said (c .before .before .before .before .before .before .before .before .before .before .before .indexed-ok .result) (c .before .before .before .before .before .before .before .before .before .before .before .indexed-ok .ensures) (c .before .before .before .before .before .before .before .before .before .before .if2 .left) in
-    let h = was-said (c .before .before .before .before .before .before .before .channels-ok .result) (c .before .before .before .before .before .before .before .channels-ok .ensures (m .channels) (slot-wide s 7286 (m .channels * 2) (omega arith))) (c .before .before .before .before .before .before .if3 .left) in
-    let l = was-said (c .before .before .before .lines-ok .result) (c .before .before .before .lines-ok .ensures (m .lines) (slot-wide s (7286 + m .channels * 2) (m .lines * 51) (omega arith))) (c .before .before .if4 .left) in
+    let h = was-said (c .before .before .before .before .before .before .before .channels-ok .result) (c .before .before .before .before .before .before .before .channels-ok .ensures (m .channels) (slot-wide s lists-at (m .channels * 2) (omega arith))) (c .before .before .before .before .before .before .if3 .left) in
+    let l = was-said (c .before .before .before .lines-ok .result) (c .before .before .before .lines-ok .ensures (m .lines) (slot-wide s (lists-at + m .channels * 2) (m .lines * line-width) (omega arith))) (c .before .before .if4 .left) in
     (λ e. t .0 (f, (i, (h, (l, sym (c .is-clear .ensures) ∙ e)))), λ x. c .is-clear .ensures ∙ t .1 x .1 .1 .1 .1)
 
 pub parts-ok-spec : {M : Type 1} → statement M
