@@ -29,9 +29,10 @@ use Rattle.settings.specs.declared.settings.Setting.the-variants.{Lines, Key, Q
 use Rattle.tables.specs.declared.limits.Limits.{Limits}
 use Rattle.tables.specs.Allowed.{Allowed, TargetOk}
 use Rattle.tables.specs.Apply.{apply, with-room, slot-after, lines-after, quick-after, status-after, channels-after}
-use Rattle.tables.specs.Changes.{QuicksAre, QuickApplied, StatusesAre, StatusApplied, GroupsAre, GroupApplied, group-member, IndividualsAre, IndividualApplied, individual-member, KeyPut, SystemPut, HashPut}
+use Rattle.store_places.specs.Changes.{QuicksAre, QuickApplied, StatusesAre, StatusApplied, GroupsAre, GroupApplied, group-member, IndividualsAre, IndividualApplied, individual-member, KeyPut, SystemPut, HashPut}
 use Rattle.tables.specs.Layout.{layout, used-size, key-address, key-bytes, home-bytes, system-bytes, hash-bytes, channel-width, line-width, groups-at, hash-size, home-at, home-size, individuals-at, key-at, key-size, lists-at, member-size, quick-at, quick-size, status-at, status-size, system-at, system-size}
-use Rattle.tables.specs.Lists.{Tried, ChannelTable, ChannelsApplied, LineTable, LinesApplied}
+use Rattle.tables.specs.Changing.{Tried}
+use Rattle.store_lists.specs.Lists.{ChannelTable, ChannelsApplied, LineTable, LinesApplied}
 use Rattle.tables.specs.Store.{Holds, Applied}
 use Rattle.tables.specs.Tables.{Tables, Key as KeyOf, with-hash, with-key, with-home, with-system, with-quick, with-status, with-groups, with-individuals, with-channels, with-lines}
 use Rattle.tables.proofs.AllowedLaws.{apply-allowed}

@@ -12,7 +12,7 @@ use Rattle.settings.specs.Settings.{Meant}
 use Rattle.tables.specs.declared.limits.Limits.{Limits}
 use Rattle.tables.specs.Apply.{apply}
 use Rattle.tables.specs.Layout.{layout, Roomy}
-use Rattle.tables.specs.Lists.{Tried}
+use Rattle.tables.specs.Changing.{Tried}
 use Rattle.tables.specs.Store.{Holds, Applied}
 use Rattle.tables.specs.Tables.{Tables}
 

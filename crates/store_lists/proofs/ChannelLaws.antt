@@ -25,7 +25,8 @@ use Rattle.read_fields.specs.Places.{PartAt}
 use Rattle.read_fields.specs.Entries.{channel-list}
 use Rattle.settings.specs.Settings.{EntriesAre}
 use Rattle.tables.specs.Apply.{and-then, in-turn, channel-step}
-use Rattle.tables.specs.Lists.{Tried, ChannelTable, ChannelApplied, ChannelsApplied}
+use Rattle.tables.specs.Changing.{Tried}
+use Rattle.store_lists.specs.Lists.{ChannelTable, ChannelApplied, ChannelsApplied}
 use Rattle.tables.proofs.EntryCodes.{channel-shown}
 use Rattle.tables.proofs.EntryWalk.{Going, going-start, going-next, going-full, going-end}
 use Rattle.tables.proofs.ListLaws.{tried-room, tried-full, wiped}

@@ -18,7 +18,7 @@ use Rattle.read_fields.specs.declared.numbers.NumberPlace.{NumberPlace}
 use Rattle.read_fields.specs.Parts.{NumberIs}
 use Rattle.read_fields.specs.Places.{PartAt, be}
 use Rattle.read_fields.proofs.Heads.{head-out, be-turn}
-use Rattle.tables.specs.Lists.{DigitIs, DigitKept, DigitsPut}
+use Rattle.store_lists.specs.Lists.{DigitIs, DigitKept, DigitsPut}
 
 -- ---- where a digit stands
 

@@ -32,9 +32,9 @@ use Rattle.read_fields.specs.Entries.{ContactIs, ContactAt}
 use Rattle.settings.specs.Settings.{EntriesAre}
 use Rattle.tables.specs.Allowed.{LineOk}
 use Rattle.tables.specs.Apply.{in-turn, has-number, line-of, line-step}
-use Rattle.tables.specs.Changes.{TextPut}
+use Rattle.tables.specs.Changing.{TextPut, Tried}
 use Rattle.tables.specs.Layout.{line-flags, digit-bytes, text-bytes, line-bytes, line-width}
-use Rattle.tables.specs.Lists.{Tried, DigitsPut, LineSlot, LineTable, LinePut, LineDropped, LinesApplied}
+use Rattle.store_lists.specs.Lists.{DigitsPut, LineSlot, LineTable, LinePut, LineDropped, LinesApplied}
 use Rattle.tables.specs.Tables.{Line}
 use Rattle.tables.proofs.EntryCodes.{line-keyed}
 use Rattle.tables.proofs.EntryWalk.{Starting, Applying, applying-start, applying-next, applying-full, applying-stuck, applying-end}

@@ -10,7 +10,7 @@ ghost use mathlib.Core.Path.{_≡_};
 ghost use mathlib.Core.Bool.{true};
 ghost use Rattle.slots.specs.Slots.{u16};
 ghost use Rattle.writing.specs.declared.Operation.the-variants.{Add, Delete, Replace};
-ghost use Rattle.tables.specs.Lists.{ChannelApplied, ChannelsApplied};
+ghost use Rattle.store_lists.specs.Lists.{ChannelApplied, ChannelsApplied};
 
 // The two bytes of a slot.
 fn channel_slot(n: u16) -> [u8; 2]

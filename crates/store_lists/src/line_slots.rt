@@ -11,7 +11,7 @@ ghost use mathlib.Core.Path.{_≡_};
 ghost use Prim.Native.Nat.{_+_, _<_};
 ghost use lib.ListN.{getD};
 ghost use Rattle.tables.specs.Layout.{line-flags};
-ghost use Rattle.tables.specs.Lists.{DigitIs, DigitKept, DigitsPut, LineSlot};
+ghost use Rattle.store_lists.specs.Lists.{DigitIs, DigitKept, DigitsPut, LineSlot};
 
 // The flags of a line in one byte.
 fn line_flag_byte(flags: LineFlags) -> u8

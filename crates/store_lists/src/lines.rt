@@ -18,7 +18,7 @@ ghost use mathlib.Core.Bool.{true};
 ghost use lib.ListN.{length};
 ghost use Rattle.writing.specs.declared.Operation.the-variants.{Add, Delete};
 ghost use Rattle.tables.specs.Layout.{line-width};
-ghost use Rattle.tables.specs.Lists.{LinePut, LineDropped, LinesApplied};
+ghost use Rattle.store_lists.specs.Lists.{LinePut, LineDropped, LinesApplied};
 
 // Puts a line in place of the one with its number, or at the end, where there is room.
 fn put_line(part: &mut [u8], slot: &[u8]) -> bool

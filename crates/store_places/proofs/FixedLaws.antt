@@ -20,7 +20,7 @@ use Rattle.writing.specs.Writing.{bit, current, to-group}
 use Rattle.read_fields.specs.Hashes.{SizeOf}
 use Rattle.read_fields.specs.declared.hashes.HashPlace.{HashPlace}
 use Rattle.read_fields.proofs.HashLaws.{one-size, small-code, bytes-out}
-use Rattle.tables.specs.Changes.{KeyPut, SystemPut, HashPut}
+use Rattle.store_places.specs.Changes.{KeyPut, SystemPut, HashPut}
 use Rattle.tables.specs.Layout.{key-address, hash-bytes}
 use Rattle.tables.specs.Tables.{no-hash}
 

@@ -21,7 +21,7 @@ use Rattle.read_fields.specs.declared.entries.EntryRead.{EntryRead}
 use Rattle.read_fields.specs.declared.entries.EntryRead.the-variants.{NoEntry}
 use Rattle.settings.specs.declared.settings.Entries.{Entries}
 use Rattle.tables.specs.Apply.{in-turn, start-from}
-use Rattle.tables.specs.Changes.{Changed}
+use Rattle.tables.specs.Changing.{Changed}
 use Rattle.tables.proofs.EntryWalk.{Applying, applying-end, entry-missing}
 
 module _ {A : Type 0} (P : A → Type 0) (w : ℕ) (f : A → List ℕ) (long : (a : A) → length (f a) ≡ w) (n : ℕ) (os : List (Option A)) (s : List ℕ) (t : Placed P w f n os s) where

@@ -12,7 +12,7 @@ use Rattle.writing.specs.Ranges.{text-limits}
 use Rattle.settings.specs.declared.settings.GroupPlace.{GroupPlace}
 use Rattle.settings.specs.declared.settings.IndividualPlace.{IndividualPlace}
 use Rattle.tables.specs.Allowed.{GroupOk, IndividualOk}
-use Rattle.tables.specs.Changes.{PlaceSet, GroupApplied, IndividualApplied, group-member, individual-member}
+use Rattle.store_places.specs.Changes.{PlaceSet, GroupApplied, IndividualApplied, group-member, individual-member}
 use Rattle.tables.specs.Layout.{text-bytes, group-flags, group-bytes, individual-flags, individual-bytes, member-width}
 use Rattle.tables.specs.Limits.{slot-places}
 use Rattle.tables.specs.Tables.{GroupMember, IndividualMember}

@@ -17,7 +17,8 @@ use Rattle.writing.specs.Settings.{Text, unicode16}
 use Rattle.read_fields.specs.Parts.{TextIs}
 use Rattle.read_fields.specs.declared.texts.TextPlace.{TextPlace}
 use Rattle.tables.specs.Apply.{slot-after}
-use Rattle.tables.specs.Changes.{TextPut, SlotPut, SlotSet, PlaceSet}
+use Rattle.tables.specs.Changing.{TextPut}
+use Rattle.store_places.specs.Changes.{SlotPut, SlotSet, PlaceSet}
 use Rattle.tables.specs.Layout.{text-bytes}
 
 module _ (m : List ℕ) (p : TextPlace) (head s : List ℕ) where

@@ -28,7 +28,8 @@ use Rattle.read_fields.specs.declared.entries.EntryPlace.{EntryPlace}
 use Rattle.read_fields.specs.declared.texts.TextPlace.{TextPlace}
 use Rattle.tables.specs.Allowed.{QuickOk}
 use Rattle.tables.specs.Apply.{start-from, quick-step}
-use Rattle.tables.specs.Changes.{TextPut, QuickSlot, QuickStep, QuickIfAbsent, QuickApplied, QuicksAre, quick-slot}
+use Rattle.tables.specs.Changing.{TextPut}
+use Rattle.store_places.specs.Changes.{QuickSlot, QuickStep, QuickIfAbsent, QuickApplied, QuicksAre, quick-slot}
 use Rattle.tables.specs.Layout.{quick-bytes, quick-width}
 use Rattle.tables.specs.Limits.{quick-places}
 use Rattle.tables.proofs.EntryWalk.{Applying, entry-applied}

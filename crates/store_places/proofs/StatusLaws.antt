@@ -20,7 +20,7 @@ use Rattle.read_fields.specs.declared.entries.EntryRead.the-variants.{Entry as 
 use Rattle.settings.specs.declared.settings.Entries.{Entries}
 use Rattle.tables.specs.Allowed.{StatusOk}
 use Rattle.tables.specs.Apply.{start-from, slot-after, status-step}
-use Rattle.tables.specs.Changes.{PlaceSet, StatusStep, StatusApplied, StatusesAre}
+use Rattle.store_places.specs.Changes.{PlaceSet, StatusStep, StatusApplied, StatusesAre}
 use Rattle.tables.specs.Layout.{status-bytes, status-width}
 use Rattle.tables.specs.Limits.{status-places}
 use Rattle.tables.proofs.EntryWalk.{Applying, entry-applied}

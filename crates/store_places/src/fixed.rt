@@ -14,7 +14,7 @@ ghost use mathlib.Core.Path.{_≡_};
 ghost use Prim.Native.Nat.{_+_, _*_, _≤_};
 ghost use lib.ListN.{length};
 ghost use Rattle.writing.specs.Writing.{bit, current, to-group};
-ghost use Rattle.tables.specs.Changes.{KeyPut, SystemPut, HashPut};
+ghost use Rattle.store_places.specs.Changes.{KeyPut, SystemPut, HashPut};
 ghost use Rattle.tables.specs.Layout.{key-address, home-bytes, hash-bytes};
 ghost use Rattle.tables.specs.Tables.{no-hash};
 

@@ -9,7 +9,7 @@ use writing::IndividualFlags;
 use writing::Operation;
 ghost use mathlib.Core.Path.{_≡_};
 ghost use Prim.Native.Nat.{_<_};
-ghost use Rattle.tables.specs.Changes.{GroupApplied, IndividualApplied};
+ghost use Rattle.store_places.specs.Changes.{GroupApplied, IndividualApplied};
 ghost use Rattle.tables.specs.Layout.{group-flags, individual-flags};
 
 // A slot's bytes: a byte of flags, three of the address, and 16 units of two.

@@ -6,7 +6,7 @@ use tables::texts::put_text;
 use writing::Operation;
 ghost use Prim.Native.Nat.{_+_, _*_, _≤_};
 ghost use lib.ListN.{length};
-ghost use Rattle.tables.specs.Changes.{SlotPut, SlotSet, PlaceSet};
+ghost use Rattle.store_places.specs.Changes.{SlotPut, SlotSet, PlaceSet};
 
 // Fills a slot with the head and the text.
 fn put_slot(slot: &mut [u8], head: &[u8], m: &[u8], text: TextPlace)

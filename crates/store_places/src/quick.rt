@@ -9,7 +9,7 @@ use slots::bytes::is_zeros;
 use slots::bytes::wipe;
 use tables::texts::put_text;
 use writing::Operation;
-ghost use Rattle.tables.specs.Changes.{QuickIfAbsent, QuickSlot, QuickStep, QuickApplied};
+ghost use Rattle.store_places.specs.Changes.{QuickIfAbsent, QuickSlot, QuickStep, QuickApplied};
 
 // A slot's bytes: 23 units of two.
 const WIDTH: usize = 46;

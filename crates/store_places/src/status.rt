@@ -6,7 +6,7 @@ use read_fields::entries::EntryRead;
 use read_fields::entries::read_status;
 use settings::settings::Entries;
 use writing::Operation;
-ghost use Rattle.tables.specs.Changes.{StatusStep, StatusApplied};
+ghost use Rattle.store_places.specs.Changes.{StatusStep, StatusApplied};
 
 // A slot's bytes: 1, which says that the text is there, and 16 units of two.
 const WIDTH: u8 = 33;

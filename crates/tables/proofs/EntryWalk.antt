@@ -17,7 +17,7 @@ use Rattle.read_fields.specs.declared.entries.EntryRead.the-variants.{Entry as 
 use Rattle.read_fields.proofs.Parts.{part-split}
 use Rattle.read_fields.proofs.Walk.{one-part}
 use Rattle.tables.specs.Apply.{in-turn, and-then}
-use Rattle.tables.specs.Changes.{Changed}
+use Rattle.tables.specs.Changing.{Changed}
 
 -- Starts es: es are the entries of the setting; Stands es rest p: of these, rest are left at place p; Is t s: the bytes s are the table t, s₀ those at the start
 module _ {A T : Type 0} (Starts : List A → Type 0) (Stands : List A → List A → ℕ → Type 0) (In : A → Type 0) (step : A → T → Option T) (Is : T → List ℕ → Type 0) (s₀ : List ℕ) where

@@ -20,7 +20,7 @@ use Rattle.writing.specs.Writing.{text}
 use Rattle.read_fields.specs.Places.{PartAt, be}
 use Rattle.read_fields.specs.declared.texts.TextPlace.{TextPlace}
 use Rattle.read_fields.proofs.Heads.{head-out}
-use Rattle.tables.specs.Changes.{TextPut}
+use Rattle.tables.specs.Changing.{TextPut}
 use Rattle.tables.specs.Layout.{text-bytes}
 
 -- a unit that a text may have

@@ -5,7 +5,7 @@ use mathlib.Core.Path.{_≡_, refl}
 use lib.ListN.{length}
 use mathlib.Core.Bool.{true}
 use Rattle.tables.specs.Apply.{line-of}
-use Rattle.tables.specs.Lists.{LineTable}
+use Rattle.store_lists.specs.Lists.{LineTable}
 use Rattle.tables.proofs.ListLaws.{tried-room}
 use Rattle.writing.specs.declared.Operation.the-variants.{Delete}
 use Rattle.store_lists.proofs.LineLaws.{LinesLeft, lines-start, lines-end, lines-stuck, lines-on}

@@ -19,15 +19,11 @@ use Rattle.settings.specs.declared.settings.Entries.{Entries}
 use Rattle.read_fields.specs.Entries.{channel-list, ContactIs}
 use Rattle.read_fields.specs.Parts.{NumberIs}
 use Rattle.settings.specs.Settings.{EntriesAre}
 use Rattle.tables.specs.Allowed.{LineOk}
 use Rattle.tables.specs.Apply.{channel-step, channels-after, line-of, put-line, drop-line, lines-after}
 use Rattle.tables.specs.Layout.{channel-width, line-bytes, line-width}
 use Rattle.tables.specs.Tables.{Line}
-
--- what trying to change a table answers: its bytes are those of the table afterwards, or there was no room
-pub record Tried {T : Type 0} (Is : T → List ℕ → Type 0) (after : Option T) (bytes : List ℕ) (r : Bool) : Type 0 where
-  pub room : r ≡ true → (t : T) × (after ≡ some t) × Is t bytes
-  pub full : r ≡ false → after ≡ none
+use Rattle.tables.specs.Changing.{Tried}
 
 -- ---- channels
 

@@ -1,4 +1,4 @@
--- What the functions that change one part of the store promise: its bytes at exit, for every table that its bytes at entry are.
+-- What the functions that change a part with a place for each entry promise: its bytes at exit, for every table that its bytes at entry are.
 use Prim.Native.Nat.{ℕ, _+_, _*_, _≤_, _<_}
 use mathlib.Core.Path.{_≡_}
 use mathlib.Core.List.{List, _++_, map}
@@ -27,21 +27,12 @@ use Rattle.settings.specs.declared.settings.Entries.{Entries}
 use Rattle.settings.specs.declared.settings.GroupPlace.{GroupPlace}
 use Rattle.settings.specs.declared.settings.IndividualPlace.{IndividualPlace}
 use Rattle.read_fields.specs.declared.texts.TextPlace.{TextPlace}
 use Rattle.tables.specs.Allowed.{QuickOk, StatusOk, GroupOk, IndividualOk}
 use Rattle.tables.specs.Apply.{if-absent, quick-step, quick-after, status-step, status-after, slot-after}
 use Rattle.tables.specs.Layout.{text-bytes, quick-bytes, quick-width, status-bytes, status-width, group-bytes, individual-bytes, member-width, key-address, key-bytes, system-bytes, hash-bytes}
 use Rattle.tables.specs.Limits.{quick-places, status-places, slot-places}
 use Rattle.tables.specs.Tables.{GroupMember, IndividualMember}
-
--- whatever table the bytes s are, the change has room for it, and makes it the table that the bytes t are
-abbrev pub Changed : {T : Type 0} → (T → List ℕ → Type 0) → (T → Option T) → List ℕ → List ℕ → Type 0
-Changed {T} Is change s t = (was : T) → Is was s → (u : T) × (change was ≡ some u) × Is u t
-
--- ---- texts
-
--- room for n units becomes the text's units, and zeros after them
-abbrev pub TextPut : List ℕ → TextPlace → List ℕ → List ℕ → Type 0
-TextPut m p s t = (n : ℕ) (us : Text) (next : ℕ) → TextIs unicode16 m p us next → length us ≤ n → length s ≡ 2 * n → t ≡ text-bytes n us
+use Rattle.tables.specs.Changing.{Changed}
 
 -- ---- quick texts
 
