@@ -1,4 +1,4 @@
--- `carrier::carrier::read_carrier` meets its contract. Assumes nothing.
+-- `read_carrier::carrier::read_carrier` meets its contract. Assumes nothing.
 use borrow.Author.Needs.{needs}
 use native.Mathlib.Omega.{arith}
 use mathlib.Core.Path.{refl, subst}

@@ -1,4 +1,4 @@
--- `carrier::carrier::starts` meets its contract. Assumes nothing.
+-- `read_carrier::carrier::starts` meets its contract. Assumes nothing.
 use borrow.Author.Needs.{needs}
 use native.Mathlib.Omega.{arith}
 use mathlib.Core.Path.{refl}

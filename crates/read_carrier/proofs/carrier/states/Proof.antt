@@ -1,4 +1,4 @@
--- `carrier::carrier::states` meets its contract. Assumes nothing.
+-- `read_carrier::carrier::states` meets its contract. Assumes nothing.
 use mathlib.Core.Path.{refl}
 use mathlib.Core.Logic.{inl}
 use Rattle.read_carrier.proofs.CarrierLaws.{length-by}

@@ -1,4 +1,4 @@
--- `fields::bytes::joined` meets its contract. The invariant: n is the number of the i bytes passed, and below 2 ^ (8 * i). Assumes nothing.
+-- `read_fields::bytes::joined` meets its contract. The invariant: n is the number of the i bytes passed, and below 2 ^ (8 * i). Assumes nothing.
 use borrow.Author.Needs.{needs}
 use native.Mathlib.Omega.{arith}
 use Prim.Native.Nat.{ℕ, _≤_, _<_, _+_, _*_, _-_, _^_}

@@ -1,4 +1,4 @@
--- `fields::hashes::hash_size` meets its contract. Assumes nothing.
+-- `read_fields::hashes::hash_size` meets its contract. Assumes nothing.
 use native.Mathlib.Omega.{arith}
 use Rattle.read_fields.proofs.HashLaws.{size-0, size-4, size-10}
 use Rattle.read_fields.proofs.hashes.hash_size.Statement.{statement}

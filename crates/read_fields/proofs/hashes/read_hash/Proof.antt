@@ -1,4 +1,4 @@
--- `fields::hashes::read_hash` meets its contract. Assumes nothing.
+-- `read_fields::hashes::read_hash` meets its contract. Assumes nothing.
 use borrow.Author.Needs.{needs}
 use native.Mathlib.Omega.{arith}
 use Rattle.read_fields.proofs.HashLaws.{no-code, no-value, the-value}

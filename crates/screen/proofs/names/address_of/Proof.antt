@@ -1,4 +1,4 @@
--- `row_names::names::address_of` meets its contract. Assumes nothing.
+-- `screen::names::address_of` meets its contract. Assumes nothing.
 use borrow.Author.Needs.{needs}
 use Rattle.screen.proofs.SlotLaws.{address-is}
 use Rattle.screen.proofs.names.address_of.Statement.{statement}

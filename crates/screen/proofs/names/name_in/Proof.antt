@@ -1,4 +1,4 @@
--- `row_names::names::name_in` meets its contract. Assumes nothing.
+-- `screen::names::name_in` meets its contract. Assumes nothing.
 use mathlib.Core.Path.{sym, _∙_}
 use borrow.Author.Needs.{needs}
 use native.Mathlib.Omega.{arith}

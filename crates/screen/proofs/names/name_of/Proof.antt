@@ -1,4 +1,4 @@
--- `row_names::names::name_of` meets its contract. Assumes nothing.
+-- `screen::names::name_of` meets its contract. Assumes nothing.
 use mathlib.Core.Path.{refl}
 use mathlib.Core.Logic.{inl, inr}
 use borrow.Author.Needs.{needs}

@@ -1,4 +1,4 @@
--- `row_names::names::slot_in` meets its contract. Assumes nothing.
+-- `screen::names::slot_in` meets its contract. Assumes nothing.
 use borrow.Author.Needs.{needs}
 use native.Mathlib.Omega.{arith}
 use Rattle.screen.proofs.SlotLaws.{slot-within}

@@ -1,4 +1,4 @@
--- `row_names::names::slot_of` meets its contract. Assumes nothing.
+-- `screen::names::slot_of` meets its contract. Assumes nothing.
 use Prim.Native.Nat.{_+_, _*_}
 use borrow.Author.Needs.{needs}
 use native.Mathlib.Omega.{arith}
