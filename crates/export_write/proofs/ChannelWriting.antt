@@ -12,24 +12,21 @@ use Rattle.slots.proofs.Keys.{used-at}
 use Rattle.slots.proofs.Tables.{front-bytes}
 use Rattle.writing.specs.declared.Operation.the-variants.{Replace}
 use Rattle.writing.specs.Canonical.{plain, FitsField}
-use Rattle.writing.specs.Fields.{Field, val, res}
+use Rattle.writing.specs.Fields.{val, res}
 use Rattle.writing.specs.Ranges.{InChannel}
 use Rattle.writing.specs.Settings.{channels, kind, unicode16}
 use Rattle.writing.specs.Writing.{fill, op, type-byte, body}
 use Rattle.writing.proofs.Bits.{widths-append, widths-map}
 use Rattle.writing.proofs.Whole.{Whole, fill-whole}
 use Rattle.tables.proofs.EntryCodes.{channel-shown}
-use Rattle.export_write.specs.Writers.{Wrote, Writes, ListIn}
+use Rattle.export_write.specs.ChannelWriters.{ChannelsIn, Counted, packed, WritesPacked}
+use Rattle.export_write.specs.Writers.{Wrote}
 use Rattle.export_write.proofs.NumberWriting.{fill-fits}
 use Rattle.export_write.proofs.PairLaws.{all-drop, drop-two, getD-pad, high-byte, low-byte}
 use Rattle.export_write.proofs.PlainLaws.{plain-two, plain-three}
 use Rattle.export_write.proofs.WroteLaws.{Writing, writing-more, writing-end, wrote-both, wrote-as}
 
 -- ---- the bytes of channels
-
--- 12 bits for each, and what fills the last byte
-abbrev pub packed : List ℕ → List Field
-packed cs = map (val 12) cs ++ fill (length cs)
 
 packed-whole : (cs : List ℕ) → Whole (packed cs)
 packed-whole cs =
@@ -79,14 +76,10 @@ module _ (s cs : List ℕ) (n : ℕ) (t : Listed InChannel 2 u16 n cs s) where
       ap (λ (l : List ℕ). getD l (2 * k + 1) 0) kept-bytes ∙ getD-pad (n * 2) (flat (map u16 cs)) (2 * k + 1) (omega arith) ∙ low-byte cs k
 
 -- as many as stand before the first empty slot
-pub channels-used : (s cs : List ℕ) (r : ℕ) → ListIn InChannel 2 u16 s cs → Found (0 < 2) zeros? 2 s r → length cs ≡ r / 2
+pub channels-used : (s cs : List ℕ) (r : ℕ) → ChannelsIn s cs → Found (0 < 2) zeros? 2 s r → length cs ≡ r / 2
 channels-used s cs r (n, t) f = let e : r ≡ length cs * 2 = used-at InChannel 2 u16 (λ u. refl) channel-shown (omega arith) n cs s t r f in omega arith
 
 -- ---- the walk
-
--- the lent bytes hold so many channels
-abbrev pub Counted : List ℕ → ℕ → List ℕ → Type 0
-Counted part count cs = ListIn InChannel 2 u16 part cs × (length cs ≡ count)
 
 -- so many pairs are written
 abbrev pub Packed : (part buffer₀ buffer : List ℕ) → (count at to i : ℕ) → Type 0
@@ -159,11 +152,11 @@ channels-plain cs h l =
     plain-two v (op Replace ∷ res 4 ∷ val 10 n ∷ []) (packed cs) refl (omega arith) (omega arith) (packed-whole cs) (packed-fits cs h) ∙ (λ i. x i ∷ y i ∷ plain (packed cs))
 
 -- it is written as a replace
-pub channels-wrote : (part : List ℕ) (at used m end room : ℕ) (s t u : List ℕ) → used ≤ 2046 → Found (0 < 2) zeros? 2 part used
-    → Wrote ((192 + used / 2 / 256) ∷ (used / 2 % 256) ∷ []) (at + 3) s t m → Writes (Counted part (used / 2)) (λ cs. plain (packed cs)) m room t u end
-    → (cs : List ℕ) → ListIn InChannel 2 u16 part cs
+pub channels-wrote : (part : List ℕ) (at used m end : ℕ) (s t u : List ℕ) → used ≤ 2046 → Found (0 < 2) zeros? 2 part used
+    → Wrote ((192 + used / 2 / 256) ∷ (used / 2 % 256) ∷ []) (at + 3) s t m → WritesPacked part (used / 2) m t u end
+    → (cs : List ℕ) → ChannelsIn part cs
     → (type-byte (kind (channels Replace cs)) ≡ 0xCE) × All FitsField (body unicode16 (channels Replace cs)) × Wrote (plain (body unicode16 (channels Replace cs))) (at + 3) s u end
-channels-wrote part at used m end room s t u few f v w cs k =
+channels-wrote part at used m end s t u few f v w cs k =
     let n : length cs ≡ used / 2 = channels-used part cs used k f in
     let h : All InChannel cs = k .1 .each in
     let head : List ℕ = (192 + used / 2 / 256) ∷ (used / 2 % 256) ∷ [] in

@@ -20,9 +20,9 @@ use Rattle.tables.specs.Layout.{text-bytes}
 use Rattle.tables.proofs.TextCodes.{text-length}
 use Rattle.export_write.specs.declared.entries.TextTable.{TextTable}
 use Rattle.export_write.specs.declared.entries.Entries.{Entries}
-use Rattle.export_write.specs.EntryWriters.{entry-bytes, entry-size, led, Shown, Entered}
+use Rattle.export_write.specs.EntryWriters.{entry-bytes, entry-size, led, Shown, Entered, WritesEntry}
 use Rattle.export_write.specs.EntrySettings.{entries}
-use Rattle.export_write.specs.Writers.{Wrote, Writes, TextIn}
+use Rattle.export_write.specs.Writers.{Wrote, TextIn, WritesText}
 use Rattle.export_write.proofs.WroteLaws.{wrote-none, wrote-both, wrote-as}
 
 -- place k of n places of w bytes stands among n * w bytes
@@ -30,9 +30,9 @@ pub place-inside : (k n w len : ℕ) → k < n → len ≡ n * w → k * w + w �
 place-inside k n w len h e = let m : suc k * w ≤ n * w = mul-le-mul-right w h in omega (arith, suc-mul k w)
 
 -- an index, then a text
-pub entry-wrote : (i at m r room : ℕ) (p s t u : List ℕ) → Wrote (i ∷ []) at s t m → Writes (TextIn p) (λ us. plain (text unicode16 us)) m room t u r
+pub entry-wrote : (i at m r : ℕ) (p s t u : List ℕ) → Wrote (i ∷ []) at s t m → WritesText p m t u r
     → (q : List ℕ) → q ≡ p → (us : Text) → TextIn q us → Wrote (entry-bytes (record { index = i; text = us })) at s u r
-entry-wrote i at m r room p s t u a b q e us k =
+entry-wrote i at m r p s t u a b q e us k =
     wrote-both (i ∷ []) (plain (text unicode16 us)) at m r s t u a (b .wrote us (subst (λ (x : List ℕ). TextIn x us) e k))
 
 -- ---- the walk
@@ -76,11 +76,10 @@ module _ (t : TextTable) (part buffer₀ buffer : List ℕ) (at end count next :
       record { done = r .done; wrote = r .wrote; many = r .many; whole = r .whole ∙ ap (λ (x : List Entry). r .done ++ x) (next-none (t .first) next os (omega (arith, p .many)) e) }
 
   -- an entry is written
-  pub walked-some : (after : List ℕ) (room r : ℕ) → next < t .places → zeros? (midOf (next * t .width) (next * t .width + t .width - next * t .width) part) ≡ false
-      → Writes (λ us. TextIn (drop (t .skip) (midOf (next * t .width) (next * t .width + t .width - next * t .width) part)) us) (λ us. entry-bytes (record { index = t .first + next; text = us }))
-      end room buffer after r
+  pub walked-some : (after : List ℕ) (r : ℕ) → next < t .places → zeros? (midOf (next * t .width) (next * t .width + t .width - next * t .width) part) ≡ false
+      → WritesEntry (t .first + next) (t .skip) (midOf (next * t .width) (next * t .width + t .width - next * t .width) part) end buffer after r
       → Walked t part buffer₀ after at r (count + 1) (next + 1)
-  walked-some after room r h z v lead n os l w p =
+  walked-some after r h z v lead n os l w p =
       let (us, e, ok) = place-some (Shown lead n) (t .width) (led lead n) (led-long t lead n l w) (t .places) os part p next h z in
       let b = place-read (Shown lead n) (t .width) (led lead n) (led-long t lead n l w) (t .places) os part p next h in
       let s : midOf (next * t .width) (next * t .width + t .width - next * t .width) part ≡ led lead n us = b ∙ ap (slot (t .width) (led lead n)) e in
@@ -174,19 +173,18 @@ module _ (t : TextTable) (part buffer₀ : List ℕ) (at : ℕ) where
         }
 
     -- where it is not
-    pub turn-some : (after : List ℕ) (room r : ℕ) → length after ≡ length buffer → room ≤ entry-size t → (count ≡ t .most → ⊥)
+    pub turn-some : (after : List ℕ) (r : ℕ) → length after ≡ length buffer → length (midOf (next * t .width) (next * t .width + t .width - next * t .width) part) ≡ t .width → (count ≡ t .most → ⊥)
         → zeros? (midOf (next * t .width) (next * t .width + t .width - next * t .width) part) ≡ false
-        → Writes (λ us. TextIn (drop (t .skip) (midOf (next * t .width) (next * t .width + t .width - next * t .width) part)) us) (λ us. entry-bytes (record { index = t .first + next; text = us }))
-        end room buffer after r
+        → WritesEntry (t .first + next) (t .skip) (midOf (next * t .width) (next * t .width + t .width - next * t .width) part) end buffer after r
         → Turn t part buffer₀ at after r (count + 1) (next + 1)
-    turn-some after room r l m c e v =
+    turn-some after r l m c e v =
         let w : (count + 1) * entry-size t ≡ count * entry-size t + entry-size t = ap (λ (i : ℕ). i * entry-size t) (add-one count) ∙ suc-mul count (entry-size t) in
         record {
           same = l ∙ z .same;
           within = omega arith;
           from = omega (arith, z .from, v .from);
-          most = omega (arith, z .most, v .most);
+          most = omega (arith, z .most, v .most, m);
           passed = omega (arith, z .passed);
           few = omega (arith, z .few, c);
-          walked = walked-some t part buffer₀ buffer at end count next (z .walked) after room r low e v;
+          walked = walked-some t part buffer₀ buffer at end count next (z .walked) after r low e v;
         }

@@ -17,7 +17,6 @@ use Rattle.slots.proofs.Tables.{all-front, front-length, place-read}
 use Rattle.writing.specs.declared.Operation.the-variants.{Add, Replace}
 use Rattle.writing.specs.Canonical.{plain, canonical, canonical-all, FitsField}
 use Rattle.writing.specs.Fields.{Field, val, res}
-use Rattle.writing.specs.Ranges.{InNumber}
 use Rattle.writing.specs.Settings.{lines, kind, unicode16}
 use Rattle.writing.specs.Writing.{flag, op, number, text, type-byte, body}
 use Rattle.writing.proofs.CanonicalLaws.{plain-append}
@@ -28,7 +27,8 @@ use Rattle.tables.specs.Tables.{Line}
 use Rattle.tables.proofs.EntryCodes.{bit-small, line-code, line-keyed, line-shown}
 use Rattle.tables.proofs.TextCodes.{text-length, digits-length}
 use Rattle.export_write.specs.LineSettings.{no-line-flags, line-add}
-use Rattle.export_write.specs.Writers.{Wrote, Writes, Kept, TextIn, ListIn}
+use Rattle.export_write.specs.LineWriters.{LinesIn, line-settings}
+use Rattle.export_write.specs.Writers.{Wrote, Kept, WritesText, WritesNumber, WritesSetting}
 use Rattle.export_write.proofs.NumberWriting.{number-fits}
 use Rattle.export_write.proofs.PlainLaws.{plain-byte}
 use Rattle.export_write.proofs.TextWriting.{text-fits}
@@ -80,11 +80,11 @@ module _ (l : Line) (ok : LineOk l) where
       ∙ ap (λ (x : List ℕ). v ∷ 1 ∷ x) (plain-append N T n m d e (text-fits (l .text) (ok .text .units)))
 
 -- it is written as its setting
-pub line-wrote : (p : List ℕ) (at m n end room₁ room₂ : ℕ) (s t u v : List ℕ) → Wrote ((64 + getD p 0 0 % 32 * 2) ∷ 1 ∷ []) (at + 3) s t m
-    → Writes (Kept InNumber digit-bytes (midOf 1 18 p)) (λ ds. plain (number ds)) m room₁ t u n → Writes (TextIn (midOf 19 32 p)) (λ us. plain (text unicode16 us)) n room₂ u v end
+pub line-wrote : (p : List ℕ) (at m n end : ℕ) (s t u v : List ℕ) → Wrote ((64 + getD p 0 0 % 32 * 2) ∷ 1 ∷ []) (at + 3) s t m
+    → WritesNumber (midOf 1 18 p) m t u n → WritesText (midOf 19 32 p) n u v end
     → (l : Line) → Kept LineOk line-bytes p l
     → (type-byte (kind (line-add l)) ≡ 0xCA) × All FitsField (body unicode16 (line-add l)) × Wrote (plain (body unicode16 (line-add l))) (at + 3) s v end
-line-wrote p at m n end room₁ room₂ s t u v a b c l (ok, e) =
+line-wrote p at m n end s t u v a b c l (ok, e) =
     let f : getD p 0 0 ≡ line-flags (l .flags) = ap (λ (x : List ℕ). getD x 0 0) e in
     let N : List ℕ = plain (number (l .number)) in
     let T : List ℕ = plain (text unicode16 (l .text)) in
@@ -124,20 +124,20 @@ entry-read P w f long n xs s d t k h =
     (all-get P xs k d (t .each) h, e ∙ ap (slot w f) (front-get n xs k d h few))
 
 -- as many contacts as stand before the first empty slot
-pub lines-used : (s : List ℕ) (ls : List Line) (r : ℕ) → ListIn LineOk 51 line-bytes s ls → Found (0 < 51) zeros? 51 s r → length ls ≡ r / 51
+pub lines-used : (s : List ℕ) (ls : List Line) (r : ℕ) → LinesIn s ls → Found (0 < 51) zeros? 51 s r → length ls ≡ r / 51
 lines-used s ls r (n, t) f = let e : r ≡ length ls * 51 = used-at LineOk 51 line-bytes (line-code .long) line-shown (omega arith) n ls s t r f in omega arith
 
 -- the adds up to a contact are written
 abbrev pub Lined : (part buffer₀ buffer : List ℕ) → (at to i : ℕ) → Type 0
 Lined part buffer₀ buffer at to i =
-    (ls : List Line) → ListIn LineOk 51 line-bytes part ls
+    (ls : List Line) → LinesIn part ls
     → Writing (canonical-all unicode16 (map line-add ls)) at buffer₀ buffer to (canonical-all unicode16 (map line-add (drop i ls)))
 
 -- and the next
-pub lined-more : (part buffer₀ buffer after : List ℕ) (at to i used room r : ℕ) → i < used / 51 → Found (0 < 51) zeros? 51 part used → Lined part buffer₀ buffer at to i
-    → Writes (Kept LineOk line-bytes (midOf (i * 51) (i * 51 + 51 - i * 51) part)) (λ l. canonical unicode16 (line-add l)) to room buffer after r
+pub lined-more : (part buffer₀ buffer after : List ℕ) (at to i used r : ℕ) → i < used / 51 → Found (0 < 51) zeros? 51 part used → Lined part buffer₀ buffer at to i
+    → WritesSetting (Kept LineOk line-bytes (midOf (i * 51) (i * 51 + 51 - i * 51) part)) line-add to 49 buffer after r
     → Lined part buffer₀ after at r (i + 1)
-lined-more part buffer₀ buffer after at to i used room r low f g h ls (n, t) =
+lined-more part buffer₀ buffer after at to i used r low f g h ls (n, t) =
     let c : length ls ≡ used / 51 = lines-used part ls used (n, t) f in
     let k : i < length ls = omega arith in
     let l : Line = getD ls i no-line in
@@ -149,7 +149,7 @@ lined-more part buffer₀ buffer after at to i used room r low f g h ls (n, t) =
 -- none is left
 pub lined-end : (part before buffer₀ buffer : List ℕ) (at m to i used : ℕ) → used / 51 ≤ i → Found (0 < 51) zeros? 51 part used
     → Wrote (0xCA ∷ 0 ∷ 4 ∷ 0xC0 ∷ 0 ∷ []) at before buffer₀ m → Lined part buffer₀ buffer m to i
-    → (ls : List Line) → ListIn LineOk 51 line-bytes part ls → Wrote (canonical-all unicode16 (lines Replace no-line-flags [] ∷ map line-add ls)) at before buffer to
+    → (ls : List Line) → LinesIn part ls → Wrote (canonical-all unicode16 (line-settings ls)) at before buffer to
 lined-end part before buffer₀ buffer at m to i used high f w g ls k =
     let c : length ls ≡ used / 51 = lines-used part ls used k f in
     wrote-both (canonical unicode16 (lines Replace no-line-flags [])) (canonical-all unicode16 (map line-add ls)) at m to before buffer₀ buffer w

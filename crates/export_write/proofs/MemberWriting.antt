@@ -11,7 +11,7 @@ use lib.ListN.{length, getD, drop, replicate, drop-of-length-le}
 use lib.Seq.{take-all, drop-cons}
 use Rattle.lists.specs.Every.{All}
 use Rattle.lists.proofs.Every.{all-get}
-use Rattle.slots.specs.Slots.{u16, u24, slot, zeros?, Present, Placed}
+use Rattle.slots.specs.Slots.{u16, u24, slot, zeros?, Present}
 use Rattle.slots.proofs.Tables.{place-read}
 use Rattle.writing.specs.declared.Operation.the-variants.{Add, Delete}
 use Rattle.writing.specs.Canonical.{side-by-side, plain, canonical, canonical-all, FitsField}
@@ -27,8 +27,8 @@ use Rattle.tables.proofs.TextLaws.{Unit16}
 use Rattle.tables.proofs.TextCodes.{text-length}
 use Rattle.export_write.specs.declared.members.Members.{Members}
 use Rattle.export_write.specs.declared.members.Members.the-variants.{OfGroups, OfIndividuals}
-use Rattle.export_write.specs.MemberWriters.{MemberIn, member-ok, member-bytes, SlotIn, member-type, flags-at, member-setting, member-settings}
-use Rattle.export_write.specs.Writers.{Wrote, Writes, TextIn}
+use Rattle.export_write.specs.MemberWriters.{MemberIn, member-ok, member-bytes, SlotIn, MembersIn, member-type, flags-at, member-setting, member-settings}
+use Rattle.export_write.specs.Writers.{Wrote, TextIn, WritesText, WritesSetting}
 use Rattle.export_write.proofs.PlainLaws.{plain-two, plain-three}
 use Rattle.export_write.proofs.TextWriting.{text-fits}
 use Rattle.export_write.proofs.WroteLaws.{Writing, writing-more, writing-end, wrote-both, wrote-as}
@@ -139,13 +139,13 @@ module _ (i : ℕ) (low : i < 16) where
   slot-written OfIndividuals (some g) ok = individual-written g ok
 
   -- it is written as its setting
-  pub member-wrote : (w : Members) (p : List ℕ) (at flags operation m end room : ℕ) (s t u : List ℕ) → operation ≡ cond (zeros? p) 2 1 → flags ≡ flags-at w (getD p 0 0)
+  pub member-wrote : (w : Members) (p : List ℕ) (at flags operation m end : ℕ) (s t u : List ℕ) → operation ≡ cond (zeros? p) 2 1 → flags ≡ flags-at w (getD p 0 0)
       → Wrote (((operation * 16384 + flags + i) / 256 % 256) ∷ ((operation * 16384 + flags + i) % 256) ∷ getD p 1 0 ∷ getD p 2 0 ∷ getD p 3 0 ∷ []) (at + 3) s t m
-      → Writes (TextIn (midOf 4 32 p)) (λ us. plain (text unicode16 us)) m room t u end
+      → WritesText (midOf 4 32 p) m t u end
       → (o : Option (MemberIn w)) → SlotIn w p o
       → (type-byte (kind (member-setting w i o)) ≡ member-type w) × All FitsField (body unicode16 (member-setting w i o))
       × Wrote (plain (body unicode16 (member-setting w i o))) (at + 3) s u end
-  member-wrote w p at flags operation m end room s t u ho hf a b o (ok, e) =
+  member-wrote w p at flags operation m end s t u ho hf a b o (ok, e) =
       let k = subst (Written w i (member-setting w i o)) (sym e) (slot-written w o ok) in
       let h : operation * 16384 + flags + i ≡ member-head w i p = ap₂ (λ (x y : ℕ). x * 16384 + y + i) ho hf in
       let small : member-head w i p < 65536 = k .small in
@@ -175,26 +175,31 @@ settings-from : (w : Members) (i : ℕ) (os : List (Option (MemberIn w))) → i 
 settings-from w i os h =
     rw add-one (ap (member-settings w i) (drop-cons os i none h) ∙ next-setting w i (getD os i none) (drop (suc i) os))
 
+-- a setting for each slot
+pub settings-length : (w : Members) (i : ℕ) (os : List (Option (MemberIn w))) → length (member-settings w i os) ≡ length os
+settings-length w i [] = none-left w
+  where
+    none-left : (w : Members) → length (member-settings w i []) ≡ 0
+    none-left OfGroups = refl
+    none-left OfIndividuals = refl
+settings-length w i (o ∷ os) = ap length (next-setting w i o os) ∙ ap suc (settings-length w (suc i) os)
+
 -- 36 bytes
 member-long : (w : Members) (x : MemberIn w) → length (member-bytes w x) ≡ 36
 member-long OfGroups x = group-code .long x
 member-long OfIndividuals x = individual-code .long x
 
--- the lent bytes are a table of sixteen slots
-abbrev pub TableIn : (w : Members) → List ℕ → List (Option (MemberIn w)) → Type 0
-TableIn w part os = Placed (member-ok w) 36 (member-bytes w) 16 os part
-
 -- the settings up to an index are written
 abbrev pub Membered : (w : Members) → (part buffer₀ buffer : List ℕ) → (at to i : ℕ) → Type 0
 Membered w part buffer₀ buffer at to i =
-    (os : List (Option (MemberIn w))) → TableIn w part os
+    (os : List (Option (MemberIn w))) → MembersIn w part os
     → Writing (canonical-all unicode16 (member-settings w 0 os)) at buffer₀ buffer to (canonical-all unicode16 (member-settings w i (drop i os)))
 
 -- and the next
-pub membered-more : (w : Members) (part buffer₀ buffer after : List ℕ) (at to i room r : ℕ) → i < 16 → Membered w part buffer₀ buffer at to i
-    → Writes (SlotIn w (midOf (i * 36) (i * 36 + 36 - i * 36) part)) (λ o. canonical unicode16 (member-setting w i o)) to room buffer after r
+pub membered-more : (w : Members) (part buffer₀ buffer after : List ℕ) (at to i r : ℕ) → i < 16 → Membered w part buffer₀ buffer at to i
+    → WritesSetting (SlotIn w (midOf (i * 36) (i * 36 + 36 - i * 36) part)) (member-setting w i) to 42 buffer after r
     → Membered w part buffer₀ after at r (i + 1)
-membered-more w part buffer₀ buffer after at to i room r low g h os t =
+membered-more w part buffer₀ buffer after at to i r low g h os t =
     let k : i < length os = omega (arith, t .many) in
     let o : Option (MemberIn w) = getD os i none in
     writing-more (canonical-all unicode16 (member-settings w 0 os)) at to r buffer₀ buffer after (canonical-all unicode16 (member-settings w i (drop i os)))
@@ -204,7 +209,7 @@ membered-more w part buffer₀ buffer after at to i room r low g h os t =
 
 -- none is left
 pub membered-end : (w : Members) (part buffer₀ buffer : List ℕ) (at to i : ℕ) → 16 ≤ i → Membered w part buffer₀ buffer at to i
-    → (os : List (Option (MemberIn w))) → TableIn w part os → Wrote (canonical-all unicode16 (member-settings w 0 os)) at buffer₀ buffer to
+    → (os : List (Option (MemberIn w))) → MembersIn w part os → Wrote (canonical-all unicode16 (member-settings w 0 os)) at buffer₀ buffer to
 membered-end w part buffer₀ buffer at to i high g os t =
     writing-end (canonical-all unicode16 (member-settings w 0 os)) at to buffer₀ buffer (canonical-all unicode16 (member-settings w i (drop i os))) (g os t)
     (ap (λ (l : List (Option (MemberIn w))). canonical-all unicode16 (member-settings w i l)) (drop-of-length-le os {i = i} (omega (arith, t .many))) ∙ none-left w i)

@@ -1,7 +1,7 @@
 -- A setting's type byte and DataLength, written before what follows them. Assumes nothing.
 use Prim.Native.Nat.{ℕ, _+_, _-_, _≤_, _<_}
 use mathlib.Core.Path.{_≡_, refl, sym, ap, ap₂, _∙_, subst}
-use mathlib.Core.List.{List, [], _∷_, _++_}
+use mathlib.Core.List.{List, [], _∷_, _++_, append-nil}
 use native.Mathlib.Omega.{arith}
 use lib.ListN.{length}
 use Rattle.lists.specs.Every.{All}
@@ -14,7 +14,7 @@ use Rattle.writing.specs.Settings.{Setting, kind, unicode16}
 use Rattle.writing.specs.Writing.{type-byte, body, data-length}
 use Rattle.writing.proofs.CanonicalLaws.{plain-length}
 use Rattle.writing.proofs.Whole.{body-whole}
-use Rattle.export_write.specs.Writers.{Wrote, Writes, Started}
+use Rattle.export_write.specs.Writers.{Wrote, Started, WritesAll, WritesSetting}
 use Rattle.export_write.proofs.PlainLaws.{plain-byte, plain-two}
 use Rattle.export_write.proofs.WroteLaws.{wrote-before, wrote-as}
 
@@ -61,9 +61,21 @@ setting-started type at end r before after low high w = record { same = refl; se
 pub setting-writes : {A : Type 0} (Held : A → Type 0) (setting : A → Setting) (type at room end r : ℕ) (before mid after : List ℕ)
     → Started type at end mid after r → at ≤ end → end ≤ at + room
     → ((a : A) → Held a → (type-byte (kind (setting a)) ≡ type) × All FitsField (body unicode16 (setting a)) × Wrote (plain (body unicode16 (setting a))) (at + 3) before mid end)
-    → Writes Held (λ a. canonical unicode16 (setting a)) at room before after r
+    → WritesSetting Held setting at room before after r
 setting-writes Held setting type at room end r before mid after st low high h = record {
   from = omega (arith, st .same);
   most = omega (arith, st .same);
   wrote = λ a k. let (t, f, w) = h a k in st .setting (setting a) before t f w;
+}
+
+-- one setting is all that was written
+pub one-writes : {A : Type 0} (Held : A → Type 0) (setting : A → Setting) (at room r : ℕ) (before after : List ℕ)
+    → WritesSetting Held setting at room before after r → WritesAll Held (λ a. setting a ∷ []) at room before after (record { end = r; count = 1 })
+one-writes Held setting at room r before after w = record {
+  writes = record {
+    from = w .from;
+    most = w .most;
+    wrote = λ a k. wrote-as (canonical unicode16 (setting a)) (canonical unicode16 (setting a) ++ []) at r before after (sym (append-nil (canonical unicode16 (setting a)))) (w .wrote a k);
+  };
+  counted = λ a k. refl;
 }

@@ -10,21 +10,21 @@ use lib.ListN.{length, getD, take, drop, drop-of-length-le, length-take}
 use lib.Seq.{drop-cons, take-all}
 use Rattle.lists.specs.Every.{All}
 use Rattle.lists.proofs.Every.{all-get, all-take}
-use Rattle.slots.specs.Slots.{flat, zeros?, Present, Placed}
+use Rattle.slots.specs.Slots.{flat, zeros?, Present}
 use Rattle.slots.proofs.Tables.{place-read}
 use Rattle.writing.specs.declared.Operation.the-variants.{Add, Replace}
 use Rattle.writing.specs.Canonical.{plain, canonical, canonical-all, FitsField}
-use Rattle.writing.specs.Settings.{Text, Entry, Setting, quick-texts, status-texts, kind, unicode16}
+use Rattle.writing.specs.Settings.{Text, Entry, quick-texts, status-texts, kind, unicode16}
 use Rattle.writing.specs.Writing.{type-byte, body}
 use Rattle.tables.specs.Allowed.{QuickOk, StatusOk}
-use Rattle.tables.specs.Layout.{quick-bytes, status-bytes}
+use Rattle.tables.specs.Layout.{quick-bytes}
 use Rattle.tables.proofs.EntryCodes.{quick-code, quick-shown}
 use Rattle.export_write.specs.declared.entries.TextTable.{TextTable}
 use Rattle.export_write.specs.declared.entries.Entries.{Entries}
 use Rattle.export_write.specs.declared.writers.Settings.{Settings}
-use Rattle.export_write.specs.EntryWriters.{entry-bytes, EntersAll, QuickIn}
+use Rattle.export_write.specs.EntryWriters.{entry-bytes, EntersAll, QuickIn, QuicksIn, StatusesIn, last-quick, quick-settings, WritesEntry}
 use Rattle.export_write.specs.EntrySettings.{entries, quick-add}
-use Rattle.export_write.specs.Writers.{Wrote, Writes, WritesAll, Started, TextIn}
+use Rattle.export_write.specs.Writers.{Wrote, WritesAll, Started}
 use Rattle.export_write.proofs.TextLists.{EntryOk, entries-ok, entries-few, quick-fits, quick-plain, quick-placed, status-fits, status-plain, status-placed}
 use Rattle.export_write.proofs.WroteLaws.{wrote-before, wrote-both, wrote-none, wrote-as}
 
@@ -38,7 +38,7 @@ abbrev pub status-table : TextTable
 status-table = record { width = 33; skip = 1; places = 96; first = 32; most = 96 }
 
 pub status-wrote : (part s t u : List ℕ) (at m : ℕ) (r : Entries) → EntersAll status-table part (at + 5) s t r → Wrote (192 ∷ r .count ∷ []) (at + 3) t u m
-    → (os : List (Option Text)) → Placed StatusOk 33 status-bytes 96 os part
+    → (os : List (Option Text)) → StatusesIn part os
     → (type-byte (kind (status-texts Replace (entries 32 os))) ≡ 0xD0) × All FitsField (body unicode16 (status-texts Replace (entries 32 os)))
     × Wrote (plain (body unicode16 (status-texts Replace (entries 32 os)))) (at + 3) s u (r .end)
 status-wrote part s t u at m r g w os p =
@@ -63,12 +63,12 @@ abbrev pub quick-table : TextTable
 quick-table = record { width = 46; skip = 0; places = 64; first = 0; most = 63 }
 
 -- the entries of a table are quick texts
-quick-entries : (part : List ℕ) (os : List (Option Text)) → Placed QuickOk 46 quick-bytes 64 os part → All (EntryOk 64) (entries 0 os)
+quick-entries : (part : List ℕ) (os : List (Option Text)) → QuicksIn part os → All (EntryOk 64) (entries 0 os)
 quick-entries part os p = entries-ok QuickOk (λ us q. q .text .units) 64 0 os (p .each) (omega (arith, p .many))
 
 -- the replace
 pub quick-wrote : (part s t u v : List ℕ) (at m z : ℕ) (r : Entries) → EntersAll quick-table part (at + 4) s t r → Wrote ((192 + r .count) ∷ []) (at + 3) t u m
-    → Started 0xCC at (r .end) u v z → (os : List (Option Text)) → Placed QuickOk 46 quick-bytes 64 os part
+    → Started 0xCC at (r .end) u v z → (os : List (Option Text)) → QuicksIn part os
     → Wrote (canonical unicode16 (quick-texts Replace (take 63 (entries 0 os)))) at s v z
 quick-wrote part s t u v at m z r g w st os p =
     let es : List Entry = take 63 (entries 0 os) in
@@ -83,17 +83,17 @@ quick-wrote part s t u v at m z r g w st os p =
 
 -- the last place: no quick text
 pub last-none : (s b : List ℕ) (at : ℕ) → at ≤ length b → zeros? s ≡ true → (o : Option Text) → QuickIn s o
-    → Wrote (canonical-all unicode16 (map quick-add (entries 63 (o ∷ [])))) at b b at × (0 ≡ length (map quick-add (entries 63 (o ∷ []))))
+    → Wrote (canonical-all unicode16 (last-quick o)) at b b at × (0 ≡ length (last-quick o))
 last-none s b at h z none k = (wrote-none at b h, refl)
 last-none s b at h z (some us) k = absurd (true≢false (sym z ∙ ap zeros? (k .1) ∙ quick-shown us (k .0)))
 
 -- or its add
-pub last-some : (s a b c d : List ℕ) (at m n r room : ℕ) → zeros? s ≡ false → Wrote (65 ∷ []) (at + 3) a b m
-    → Writes (TextIn s) (λ us. entry-bytes (record { index = 63; text = us })) m room b c n → Started 0xCC at n c d r
+pub last-some : (s a b c d : List ℕ) (at m n r : ℕ) → zeros? s ≡ false → Wrote (65 ∷ []) (at + 3) a b m
+    → WritesEntry 63 0 s m b c n → Started 0xCC at n c d r
     → (o : Option Text) → QuickIn s o
-    → Wrote (canonical-all unicode16 (map quick-add (entries 63 (o ∷ [])))) at a d r × (1 ≡ length (map quick-add (entries 63 (o ∷ []))))
-last-some s a b c d at m n r room z v w st none k = absurd (true≢false (ap zeros? (sym (k .1)) ∙ z))
-last-some s a b c d at m n r room z v w st (some us) k =
+    → Wrote (canonical-all unicode16 (last-quick o)) at a d r × (1 ≡ length (last-quick o))
+last-some s a b c d at m n r z v w st none k = absurd (true≢false (ap zeros? (sym (k .1)) ∙ z))
+last-some s a b c d at m n r z v w st (some us) k =
     let e : Entry = record { index = 63; text = us } in
     let h : All (EntryOk 64) (e ∷ []) = ((omega arith, k .0 .text .units), tt) in
     let x : entry-bytes e ≡ flat (map entry-bytes (e ∷ [])) = sym (append-nil (entry-bytes e)) in
@@ -118,20 +118,13 @@ quick-left os next l e r =
     ∙ ap (entries 63) (drop-cons os 63 none (omega arith) ∙ ap (λ (x : List (Option Text)). getD os 63 none ∷ x) (drop-of-length-le os {i = 64} (omega arith)))
 
 -- which is the slot there
-pub quick-last : (part : List ℕ) (os : List (Option Text)) → Placed QuickOk 46 quick-bytes 64 os part → QuickIn (midOf 2898 46 part) (getD os 63 none)
+pub quick-last : (part : List ℕ) (os : List (Option Text)) → QuicksIn part os → QuickIn (midOf 2898 46 part) (getD os 63 none)
 quick-last part os p = (
   all-get (Present QuickOk) os 63 none (p .each) (omega (arith, p .many)),
   place-read QuickOk 46 quick-bytes (quick-code .long) 64 os part p 63 (omega arith),
 )
 
 -- ---- the part
-
--- the lent bytes are a table of quick texts, and the settings that export it
-abbrev pub QuicksIn : List ℕ → List (Option Text) → Type 0
-QuicksIn part os = Placed QuickOk 46 quick-bytes 64 os part
-
-abbrev pub quick-settings : List (Option Text) → List Setting
-quick-settings os = quick-texts Replace (take 63 (entries 0 os)) ∷ map quick-add (drop 63 (entries 0 os))
 
 module _ (part s t v : List ℕ) (at z : ℕ) (r : Entries) (g : EntersAll quick-table part (at + 4) s t r) where
   -- the replace is all
@@ -154,12 +147,12 @@ module _ (part s t v : List ℕ) (at z : ℕ) (r : Entries) (g : EntersAll quick
   -- the last place may have an add
   pub quick-more : (after : List ℕ) (y : Settings) → (r .next ≡ 64 → ⊥)
       → ((os : List (Option Text)) → QuicksIn part os → Wrote (canonical unicode16 (quick-texts Replace (take 63 (entries 0 os)))) at s v z)
-      → WritesAll (QuickIn (midOf 2898 46 part)) (λ o. map quick-add (entries 63 (o ∷ []))) z 53 v after y → at ≤ z → z ≤ at + 3091
+      → WritesAll (QuickIn (midOf 2898 46 part)) last-quick z 53 v after y → at ≤ z → z ≤ at + 3091
       → WritesAll (QuicksIn part) quick-settings at 3144 s after (record { end = y .end; count = 1 + y .count })
   quick-more after y n w h low high = record {
     writes = record { from = omega (arith, h .writes .from); most = omega (arith, h .writes .most); wrote = all };
     counted = λ os p.
-        let k : y .count ≡ length (map quick-add (entries 63 (getD os 63 none ∷ []))) = h .counted (getD os 63 none) (quick-last part os p) in
+        let k : y .count ≡ length (last-quick (getD os 63 none)) = h .counted (getD os 63 none) (quick-last part os p) in
         omega (arith, k, ap (λ (x : List Entry). length (map quick-add x)) (rest os p));
   }
     where
@@ -172,6 +165,6 @@ module _ (part s t v : List ℕ) (at z : ℕ) (r : Entries) (g : EntersAll quick
       all : (os : List (Option Text)) → QuicksIn part os → Wrote (canonical-all unicode16 (quick-settings os)) at s after (y .end)
       all os p =
           let c : List ℕ = canonical unicode16 (quick-texts Replace (take 63 (entries 0 os))) in
-          let d : List ℕ = canonical-all unicode16 (map quick-add (entries 63 (getD os 63 none ∷ []))) in
+          let d : List ℕ = canonical-all unicode16 (last-quick (getD os 63 none)) in
           wrote-as (c ++ d) (canonical-all unicode16 (quick-settings os)) at (y .end) s after (ap (λ (x : List Entry). c ++ canonical-all unicode16 (map quick-add x)) (sym (rest os p)))
           (wrote-both c d at z (y .end) s v after (w os p) (h .writes .wrote (getD os 63 none) (quick-last part os p)))

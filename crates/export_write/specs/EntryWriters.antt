@@ -1,24 +1,31 @@
--- Quick and status texts as the writers see them. No promise cites these.
+-- Quick and status texts as the writers see them, and what writing them promises.
 use Prim.Native.Nat.{ℕ, _+_, _-_, _*_, _≤_, _<_}
 use mathlib.Core.Path.{_≡_}
 use mathlib.Core.Bool.{false}
-use mathlib.Core.List.{List, _∷_, _++_, map}
+use mathlib.Core.List.{List, [], _∷_, _++_, map}
 use mathlib.Core.Option.{Option}
 use lib.ListN.{length, take, drop}
 use Rattle.slots.specs.Slots.{flat, slot, zeros?, Present, Placed}
+use Rattle.writing.specs.declared.Operation.the-variants.{Replace}
 use Rattle.writing.specs.Canonical.{plain}
-use Rattle.writing.specs.Settings.{Text, Entry, unicode16}
+use Rattle.writing.specs.Settings.{Text, Entry, Setting, quick-texts, status-texts, unicode16}
 use Rattle.writing.specs.Writing.{text}
-use Rattle.tables.specs.Allowed.{TextOk, QuickOk}
-use Rattle.tables.specs.Layout.{text-bytes, quick-bytes, quick-width}
+use Rattle.tables.specs.Allowed.{TextOk, QuickOk, StatusOk}
+use Rattle.tables.specs.Layout.{text-bytes, quick-bytes, quick-width, status-bytes}
 use Rattle.export_write.specs.declared.entries.TextTable.{TextTable}
 use Rattle.export_write.specs.declared.entries.Entries.{Entries}
-use Rattle.export_write.specs.EntrySettings.{entries}
-use Rattle.export_write.specs.Writers.{Wrote}
+use Rattle.export_write.specs.declared.writers.Settings.{Settings}
+use Rattle.export_write.specs.EntrySettings.{entries, quick-add}
+use Rattle.export_write.specs.Writers.{Wrote, Writes, WritesTable, TextIn}
 
 -- an entry's bytes: its index or code, then its text
 abbrev pub entry-bytes : Entry → List ℕ
 entry-bytes e = e .index ∷ plain (text unicode16 (e .text))
+
+-- the entry of a text that stands in a slot behind so many bytes was written
+abbrev pub WritesEntry : (index skip : ℕ) → (slot : List ℕ) → (at : ℕ) → (before after : List ℕ) → ℕ → Type 0
+WritesEntry index skip slot at before after r =
+    Writes (TextIn (drop skip slot)) (λ us. entry-bytes (record { index = index; text = us })) at (length slot - skip + 3) before after r
 
 -- a slot's bytes: some that say that it is used, none for a quick text, then the text
 abbrev pub led : List ℕ → ℕ → Text → List ℕ
@@ -55,6 +62,35 @@ pub record EntersAll (t : TextTable) (part : List ℕ) (at : ℕ) (before after 
   pub entered : (lead : List ℕ) (n : ℕ) (os : List (Option Text)) → length lead ≡ t .skip → t .width ≡ t .skip + 2 * n
       → Placed (Shown lead n) (t .width) (led lead n) (t .places) os part → Entered t os at before after r
 
--- the lent bytes are the slot of a quick text, or an empty one
+-- ---- quick texts
+
+-- the lent bytes are the slot of a quick text, or an empty one; and its setting where it is the last place's
 abbrev pub QuickIn : List ℕ → Option Text → Type 0
 QuickIn s o = Present QuickOk o × (s ≡ slot quick-width quick-bytes o)
+
+abbrev pub last-quick : Option Text → List Setting
+last-quick o = map quick-add (entries 63 (o ∷ []))
+
+-- the lent bytes are a table of quick texts, and the settings that export it
+abbrev pub QuicksIn : List ℕ → List (Option Text) → Type 0
+QuicksIn part os = Placed QuickOk 46 quick-bytes 64 os part
+
+abbrev pub quick-settings : List (Option Text) → List Setting
+quick-settings os = quick-texts Replace (take 63 (entries 0 os)) ∷ map quick-add (drop 63 (entries 0 os))
+
+-- it was written
+abbrev pub WritesQuicks : (part before after : List ℕ) → Settings → Type 0
+WritesQuicks part before after r = WritesTable (length part ≡ 2944) (QuicksIn part) quick-settings 3144 before after r
+
+-- ---- status texts
+
+-- the lent bytes are a table of status texts, and the setting that exports it
+abbrev pub StatusesIn : List ℕ → List (Option Text) → Type 0
+StatusesIn part os = Placed StatusOk 33 status-bytes 96 os part
+
+abbrev pub status-settings : List (Option Text) → List Setting
+status-settings os = status-texts Replace (entries 32 os) ∷ []
+
+-- it was written
+abbrev pub WritesStatuses : (part before after : List ℕ) → Settings → Type 0
+WritesStatuses part before after r = WritesTable (length part ≡ 3168) (StatusesIn part) status-settings 3365 before after r

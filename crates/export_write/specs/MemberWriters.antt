@@ -1,9 +1,10 @@
--- Group and individual slots as the writers see them, by one table of cases. No promise cites these.
+-- Group and individual slots as the writers see them, by one table of cases, and what writing them promises.
 use Prim.Native.Nat.{ℕ, _*_}
 use mathlib.Core.Path.{_≡_}
 use mathlib.Core.List.{List, []}
 use mathlib.Core.Option.{Option, none, some}
-use Rattle.slots.specs.Slots.{slot, Present}
+use lib.ListN.{length}
+use Rattle.slots.specs.Slots.{slot, Present, Placed}
 use Rattle.writing.specs.declared.Operation.the-variants.{Add, Delete}
 use Rattle.writing.specs.Settings.{Setting, group, individual}
 use Rattle.tables.specs.Allowed.{GroupOk, IndividualOk}
@@ -11,7 +12,9 @@ use Rattle.tables.specs.Layout.{group-bytes, individual-bytes, member-width}
 use Rattle.tables.specs.Tables.{GroupMember, IndividualMember}
 use Rattle.export_write.specs.declared.members.Members.{Members}
 use Rattle.export_write.specs.declared.members.Members.the-variants.{OfGroups, OfIndividuals}
+use Rattle.export_write.specs.declared.writers.Settings.{Settings}
 use Rattle.export_write.specs.EntrySettings.{slots, no-group-flags, no-individual-flags}
+use Rattle.export_write.specs.Writers.{WritesTable}
 
 -- what a slot holds, what it may hold, and its bytes
 abbrev pub MemberIn : Members → Type 0
@@ -50,3 +53,11 @@ member-setting OfIndividuals i (some x) = individual Add (x .flags) (record { in
 abbrev pub member-settings : (w : Members) → ℕ → List (Option (MemberIn w)) → List Setting
 member-settings OfGroups = slots group no-group-flags (record { 0 = 0 })
 member-settings OfIndividuals = slots individual no-individual-flags (record { 0 = 0 })
+
+-- the lent bytes are a table of sixteen slots
+abbrev pub MembersIn : (w : Members) → List ℕ → List (Option (MemberIn w)) → Type 0
+MembersIn w part os = Placed (member-ok w) 36 (member-bytes w) 16 os part
+
+-- it was written
+abbrev pub WritesMembers : Members → (part before after : List ℕ) → Settings → Type 0
+WritesMembers w part before after r = WritesTable (length part ≡ 576) (MembersIn w part) (member-settings w 0) 672 before after r

@@ -1,4 +1,4 @@
--- What the writers of an export leave in the buffer, step by step. No promise cites these.
+-- What the writers of an export leave in the buffer, step by step.
 use Prim.Native.Nat.{ℕ, _+_, _≤_, _<_}
 use mathlib.Core.Path.{_≡_}
 use mathlib.Core.List.{List, _++_}
@@ -8,7 +8,7 @@ use Rattle.slots.specs.Slots.{Listed}
 use Rattle.writing.specs.Canonical.{plain, canonical, canonical-all, FitsField}
 use Rattle.writing.specs.Ranges.{InNumber}
 use Rattle.writing.specs.Settings.{Text, Number, Setting, kind, unicode16}
-use Rattle.writing.specs.Writing.{type-byte, body}
+use Rattle.writing.specs.Writing.{text, number, type-byte, body}
 use Rattle.tables.specs.Allowed.{TextOk}
 use Rattle.tables.specs.Layout.{text-bytes, digit-bytes}
 use Rattle.export_write.specs.declared.writers.Settings.{Settings}
@@ -33,6 +33,18 @@ Kept P f s a = P a × (s ≡ f a)
 abbrev pub TextIn : List ℕ → Text → Type 0
 TextIn s us = (n : ℕ) × Kept (TextOk n) (text-bytes n) s us
 
+-- a kept text was written: its units, and the end unit
+abbrev pub WritesText : (slot : List ℕ) → (at : ℕ) → (before after : List ℕ) → ℕ → Type 0
+WritesText slot at before after r = Writes (TextIn slot) (λ us. plain (text unicode16 us)) at (length slot + 2) before after r
+
+-- a kept number was written: its digits, and the end mark
+abbrev pub WritesNumber : (digits : List ℕ) → (at : ℕ) → (before after : List ℕ) → ℕ → Type 0
+WritesNumber digits at before after r = Writes (Kept InNumber digit-bytes digits) (λ ds. plain (number ds)) at 10 before after r
+
+-- the setting of what the lent bytes hold was written
+abbrev pub WritesSetting : {A : Type 0} → (A → Type 0) → (A → Setting) → (at room : ℕ) → (before after : List ℕ) → ℕ → Type 0
+WritesSetting Held setting at room before after r = Writes Held (λ a. canonical unicode16 (setting a)) at room before after r
+
 -- a digit of a kept number, 15 past the last
 abbrev pub DigitAt : List ℕ → ℕ → ℕ → Type 0
 DigitAt s i r = (r < 16) × ((ds : Number) → Kept InNumber digit-bytes s ds → r ≡ getD ds i 15)
@@ -52,10 +64,6 @@ pub record WritesAll {A : Type 0} (Held : A → Type 0) (settings : A → List S
   pub writes : Writes Held (λ a. canonical-all unicode16 (settings a)) at room before after (r .end)
   pub counted : (a : A) → Held a → r .count ≡ length (settings a)
 
--- ---- writers that other crates use
-
--- with room for the most that it takes it was done; the answer lies within that room, had or not
-pub record Tried (at room : ℕ) (before : List ℕ) (r : ℕ) (Done : Type 0) : Type 0 where
-  pub from : at ≤ r
-  pub most : r ≤ at + room
-  pub done : at + room ≤ length before → Done
+-- the settings of what the lent bytes hold were written behind a request's head, if the bytes are as long as they should be and there is room
+abbrev pub WritesTable : {A : Type 0} → (Long : Type 0) → (A → Type 0) → (A → List Setting) → (room : ℕ) → (before after : List ℕ) → Settings → Type 0
+WritesTable Long Held settings room before after r = Long × (8 + room ≤ length before) → WritesAll Held settings 8 room before after r

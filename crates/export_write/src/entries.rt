@@ -1,11 +1,10 @@
 // Writes the texts of a table as entries, each with its index or code.
-use super::shared::bytes_at;
-use super::shared::text_at;
+use super::texts::write_text;
+use super::writers::write_bytes;
 use slots::bytes::is_zeros;
 ghost use Prim.Native.Nat.{_+_, _*_, _-_, _≤_};
-ghost use lib.ListN.{length, drop};
-ghost use Rattle.export_write.specs.EntryWriters.{entry-bytes, entry-size, Indexed, EntersAll};
-ghost use Rattle.export_write.specs.Writers.{Writes, TextIn};
+ghost use lib.ListN.{length};
+ghost use Rattle.export_write.specs.EntryWriters.{entry-size, Indexed, EntersAll, WritesEntry};
 
 // A table of texts: its slots, where the text starts in one, the index or code of the first, and how many entries one setting takes.
 pub(crate) struct TextTable {
@@ -32,11 +31,11 @@ pub(crate) fn write_entry(
     skip: usize,
 ) -> usize
     requires { ⌜ (skip ≤ length (now slot)) × (at + (length (now slot) - skip + 3) ≤ length (now buffer)) ⌝ }
-    ensures { λ r. ⌜ Writes (λ us. TextIn (drop skip (now (slot .entry))) us) (λ us. entry-bytes (record { index = index; text = us })) at (length (now (slot .entry)) - skip + 3) (now (buffer .entry)) (now (buffer .exit)) r ⌝ }
+    ensures { λ r. ⌜ WritesEntry index skip (now (slot .entry)) at (now (buffer .entry)) (now (buffer .exit)) r ⌝ }
 {
     let head = [index];
-    let text = bytes_at(buffer, at, &head);
-    text_at(buffer, text, &slot[skip..])
+    let text = write_bytes(buffer, at, &head);
+    write_text(buffer, text, &slot[skip..])
 }
 
 // The entries of a table, in order, until the most are written.

@@ -1,12 +1,9 @@
 // Writes what a set holds as settings, table by table.
-mod channels;
+pub mod channels;
 mod entries;
-mod fixed;
+pub mod fixed;
 pub mod lines;
 pub mod members;
-pub mod parts;
-pub mod shared;
-mod text_lists;
-pub mod text_parts;
+pub mod text_lists;
 mod texts;
 pub mod writers;

@@ -1,17 +1,18 @@
 // Writes group and individual slots as settings.
-use super::shared::bytes_at;
-use super::shared::start_at;
-use super::shared::text_at;
+use super::texts::write_text;
+use super::writers::FIRST;
+use super::writers::NOTHING;
+use super::writers::Settings;
+use super::writers::start_setting;
+use super::writers::write_bytes;
 use slots::bytes::is_zeros;
 ghost use mathlib.Core.Path.{_≡_};
 ghost use mathlib.Core.Bool.{cond};
 ghost use Prim.Native.Nat.{_+_, _≤_, _<_};
 ghost use lib.ListN.{length};
-ghost use Rattle.slots.specs.Slots.{zeros?, Placed};
-ghost use Rattle.writing.specs.Canonical.{canonical, canonical-all};
-ghost use Rattle.writing.specs.Settings.{unicode16};
-ghost use Rattle.export_write.specs.MemberWriters.{SlotIn, member-ok, member-bytes, member-type, flags-at, member-setting, member-settings};
-ghost use Rattle.export_write.specs.Writers.{Writes};
+ghost use Rattle.slots.specs.Slots.{zeros?};
+ghost use Rattle.export_write.specs.MemberWriters.{SlotIn, member-type, flags-at, member-setting, WritesMembers};
+ghost use Rattle.export_write.specs.Writers.{WritesSetting};
 
 // The two tables of slots.
 pub enum Members {
@@ -48,7 +49,7 @@ fn operation(slot: &[u8]) -> u32
 // An add of what the slot holds; of an empty slot, whose address and text are 0 and empty, a delete.
 fn write_member(buffer: &mut [u8], at: usize, which: Members, index: u8, slot: &[u8]) -> usize
     requires { ⌜ (length (now slot) ≡ 36) × (at + 42 ≤ length (now buffer)) × (index < 16) ⌝ }
-    ensures { λ r. ⌜ Writes (SlotIn which (now (slot .entry))) (λ o. canonical unicode16 (member-setting which index o)) at 42 (now (buffer .entry)) (now (buffer .exit)) r ⌝ }
+    ensures { λ r. ⌜ WritesSetting (SlotIn which (now (slot .entry))) (member-setting which index) at 42 (now (buffer .entry)) (now (buffer .exit)) r ⌝ }
 {
     let head = operation(slot) * 16384 + flag_bits(which, slot[0]) + index as u32;
     let bytes = [
@@ -58,23 +59,28 @@ fn write_member(buffer: &mut [u8], at: usize, which: Members, index: u8, slot: &
         slot[2],
         slot[3],
     ];
-    let text = bytes_at(buffer, at + 3, &bytes);
-    let end = text_at(buffer, text, &slot[4..36]);
-    start_at(buffer, at, type_of(which), end)
+    let text = write_bytes(buffer, at + 3, &bytes);
+    let end = write_text(buffer, text, &slot[4..36]);
+    start_setting(buffer, at, type_of(which), end)
 }
 
 // The sixteen settings of a table of slots.
-pub(crate) fn write_members(buffer: &mut [u8], at: usize, which: Members, part: &[u8]) -> usize
-    requires { ⌜ (length (now part) ≡ 576) × (at + 672 ≤ length (now buffer)) ⌝ }
-    ensures { λ r. ⌜ Writes (λ os. Placed (member-ok which) 36 (member-bytes which) 16 os (now (part .entry))) (λ os. canonical-all unicode16 (member-settings which 0 os)) at 672 (now (buffer .entry)) (now (buffer .exit)) r ⌝ }
+pub fn export_members(buffer: &mut [u8], which: Members, part: &[u8]) -> Settings
+    ensures { λ r. ⌜ WritesMembers which (now (part .entry)) (now (buffer .entry)) (now (buffer .exit)) r ⌝ }
 {
-    let mut to = at;
+    if part.len() != 576 {
+        return NOTHING;
+    }
+    if buffer.len() < FIRST + 672 {
+        return NOTHING;
+    }
+    let mut end = FIRST;
     let mut index = 0u8;
     while index < 16 {
         let a = index as usize * 36;
         let e = a + 36;
-        to = write_member(buffer, to, which, index, &part[a..e]);
+        end = write_member(buffer, end, which, index, &part[a..e]);
         index += 1;
     }
-    to
+    Settings { end, count: 16 }
 }

@@ -4,17 +4,12 @@ use slots::slots::used;
 ghost use mathlib.Core.Path.{_≡_};
 ghost use Prim.Native.Nat.{_+_, _≤_};
 ghost use lib.ListN.{length};
-ghost use Rattle.writing.specs.Canonical.{plain};
-ghost use Rattle.writing.specs.Ranges.{InNumber};
-ghost use Rattle.writing.specs.Settings.{unicode16};
-ghost use Rattle.writing.specs.Writing.{text, number};
-ghost use Rattle.tables.specs.Layout.{digit-bytes};
-ghost use Rattle.export_write.specs.Writers.{Writes, Kept, TextIn, DigitAt};
+ghost use Rattle.export_write.specs.Writers.{DigitAt, WritesText, WritesNumber};
 
 // A kept text's units, and the end unit after them.
 pub(crate) fn write_text(buffer: &mut [u8], at: usize, slot: &[u8]) -> usize
     requires { ⌜ at + length (now slot) + 2 ≤ length (now buffer) ⌝ }
-    ensures { λ r. ⌜ Writes (TextIn (now (slot .entry))) (λ us. plain (text unicode16 us)) at (length (now (slot .entry)) + 2) (now (buffer .entry)) (now (buffer .exit)) r ⌝ }
+    ensures { λ r. ⌜ WritesText (now (slot .entry)) at (now (buffer .entry)) (now (buffer .exit)) r ⌝ }
 {
     let n = used(slot, 2);
     let end = write_bytes(buffer, at, &slot[0..n]);
@@ -39,7 +34,7 @@ fn digit(digits: &[u8], i: usize) -> u8
 // A kept number's digits, two to a byte, and the end mark after them.
 pub(crate) fn write_number(buffer: &mut [u8], at: usize, digits: &[u8]) -> usize
     requires { ⌜ (length (now digits) ≡ 18) × (at + 10 ≤ length (now buffer)) ⌝ }
-    ensures { λ r. ⌜ Writes (Kept InNumber digit-bytes (now (digits .entry))) (λ ds. plain (number ds)) at 10 (now (buffer .entry)) (now (buffer .exit)) r ⌝ }
+    ensures { λ r. ⌜ WritesNumber (now (digits .entry)) at (now (buffer .entry)) (now (buffer .exit)) r ⌝ }
 {
     let pairs = used(digits, 1) / 2;
     let mut i = 0;

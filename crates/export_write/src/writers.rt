@@ -1,4 +1,5 @@
-// Writes bytes into a lent buffer. A writer takes the place to write at and gives the place after what it wrote.
+// Writes bytes into a lent buffer. A writer takes the place to write at and gives the place after what it wrote. Those that other crates use write
+// from FIRST on, and nothing where the part of the store or the room is not as long as it should be.
 use slots::bytes::copy;
 ghost use Prim.Native.Nat.{_+_, _-_, _≤_};
 ghost use lib.ListN.{length};
@@ -9,6 +10,15 @@ pub struct Settings {
     pub end: usize,
     pub count: u8,
 }
+
+// Where a request's settings start, behind its head.
+pub const FIRST: usize = 8;
+
+// What is written where nothing can be.
+pub(crate) const NOTHING: Settings = Settings {
+    end: FIRST,
+    count: 0,
+};
 
 pub(crate) fn write_bytes(buffer: &mut [u8], at: usize, bytes: &[u8]) -> usize
     requires { ⌜ at + length (now bytes) ≤ length (now buffer) ⌝ }

@@ -1,7 +1,8 @@
 use mathlib.Core.Path.{subst, _≡_, refl}
 use Rattle.writing.specs.Canonical.{plain}
 use Rattle.export_write.proofs.WroteLaws.{writing-start}
-use Rattle.export_write.proofs.ChannelWriting.{Packed, packed, packed-more, packed-even, packed-odd}
+use Rattle.export_write.specs.ChannelWriters.{packed}
+use Rattle.export_write.proofs.ChannelWriting.{Packed, packed-more, packed-even, packed-odd}
 use borrow.Author.Needs.{needs}
 use Prim.Native.Nat.{ℕ, _≤_, _-_, _+_, _*_, _/_}
 use native.Mathlib.Omega.{arith}

@@ -97,7 +97,7 @@ loop-again c =
     let i = place-inside (l .next) (a .table .places) (a .table .width) (length (a .part .now)) (omega arith) (c .before .before .before .before .before .before .before .before .before .before .before .before .pre .0 .long) in
     let n = slot-wide (a .part .now) (l .next * a .table .width) (a .table .width) i in
     ⊎-elim (λ w. turn-as (a .table) (a .part .now) (a .buffer .now) (a .at) _ _ _ _ _ _ (l .next + 1) (w .7) (w .8) (w .9)
-    (turn-some (a .table) (a .part .now) (a .buffer .now) (a .at) (l .buffer) (l .end) (l .count) (l .next) (l .inv) (omega arith) (w .4 .last .0) _ (w .4 .result) (w .4 .kept .0) (omega (arith, n)) (c .before .before .before .before .before .if2 .left)
+    (turn-some (a .table) (a .part .now) (a .buffer .now) (a .at) (l .buffer) (l .end) (l .count) (l .next) (l .inv) (omega arith) (w .4 .last .0) (w .4 .result) (w .4 .kept .0) n (c .before .before .before .before .before .if2 .left)
     (sym (k .ensures) ∙ not-true (k .result) (w .0 .taken)) (w .4 .ensures)))
     (λ w. turn-as (a .table) (a .part .now) (a .buffer .now) (a .at) _ _ _ _ _ _ (l .next + 1) (w .1) (w .2) (w .3)
     (turn-none (a .table) (a .part .now) (a .buffer .now) (a .at) (l .buffer) (l .end) (l .count) (l .next) (l .inv) (omega arith) (sym (k .ensures) ∙ not-false (k .result) (w .0 .left))))

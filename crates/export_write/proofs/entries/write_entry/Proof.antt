@@ -9,23 +9,23 @@ use native.Mathlib.Omega.{arith}
 use Rattle.export_write.proofs.entries.write_entry.Statement.{statement}
 use Rattle.export_write.proofs.entries.write_entry.Tie as tie
 
-slice-aggregate-bytes-at : tie.Need-slice-aggregate-bytes-at
-slice-aggregate-bytes-at c = search needs
+slice-aggregate-write-bytes : tie.Need-slice-aggregate-write-bytes
+slice-aggregate-write-bytes c = search needs
 
-bytes-at-requires : tie.Need-bytes-at-requires
-bytes-at-requires c κs = search needs
+write-bytes-requires : tie.Need-write-bytes-requires
+write-bytes-requires c κs = search needs
 
-sub-text-at : tie.Need-sub-text-at
-sub-text-at c = search needs
+sub-write-text : tie.Need-sub-write-text
+sub-write-text c = search needs
 
-part-text-at-start : tie.Need-part-text-at-start
-part-text-at-start c = search needs
+part-write-text-start : tie.Need-part-write-text-start
+part-write-text-start c = search needs
 
-part-text-at-end : tie.Need-part-text-at-end
-part-text-at-end c = search needs
+part-write-text-end : tie.Need-part-write-text-end
+part-write-text-end c = search needs
 
-text-at-requires : tie.Need-text-at-requires
-text-at-requires c κs = search needs
+write-text-requires : tie.Need-write-text-requires
+write-text-requires c κs = search needs
 
 same-length : tie.Need-same-length
 same-length c = search needs
@@ -33,15 +33,13 @@ same-length c = search needs
 returns : tie.Need-returns
 returns c =
     let a = c .before .before .before .before .before .before .before .before .before .before .before .before .args in
-    let v = c .before .before .before .before .before .before .before .bytes-at in
-    let w = c .before .before .text-at in
+    let v = c .before .before .before .before .before .before .before .write-bytes in
+    let w = c .before .before .write-text in
     let t = mid-len (a .skip) (length (a .slot .now)) (a .slot .now) (omega arith) in
-    let vd = v .ensures .done (omega arith) in
-    let wd = w .ensures .done (omega (arith, t)) in
     record {
       from = omega arith;
       most = omega (arith, t);
-      wrote = entry-wrote (a .index) (a .at) (v .result) (w .result) _ _ (a .buffer .now) (v .last .0) (w .last .0) vd wd (drop (a .skip) (a .slot .now))
+      wrote = entry-wrote (a .index) (a .at) (v .result) (w .result) _ (a .buffer .now) (v .last .0) (w .last .0) (v .ensures) (w .ensures) (drop (a .skip) (a .slot .now))
           (sym (take-all (length (a .slot .now) - a .skip) (drop (a .skip) (a .slot .now)) (omega (arith, length-drop (a .skip) (a .slot .now)))));
     }
 
@@ -49,11 +47,11 @@ pub write-entry-spec : {M : Type 1} → statement M
 write-entry-spec =
     tie.close
     (tie.spec
-    slice-aggregate-bytes-at
-    bytes-at-requires
-    sub-text-at
-    part-text-at-start
-    part-text-at-end
-    text-at-requires
+    slice-aggregate-write-bytes
+    write-bytes-requires
+    sub-write-text
+    part-write-text-start
+    part-write-text-end
+    write-text-requires
     same-length
     returns)

@@ -1,13 +1,23 @@
-use Rattle.writing.specs.Settings.{key, home, system}
+use Rattle.export_write.specs.FixedWriters.{key-setting}
+use Rattle.writing.specs.Settings.{home, system}
 use Rattle.export_write.proofs.FixedWriting.{three-wrote}
 use borrow.Author.Needs.{needs}
 use Prim.Native.Nat.{ℕ}
-use mathlib.Core.Path.{ap}
+use mathlib.Core.Path.{refl, ap}
 use mathlib.Core.List.{List}
 use native.Mathlib.Omega.{arith}
 use lib.ListN.{drop, take}
-use Rattle.export_write.proofs.fixed.write_fixed.Statement.{statement}
-use Rattle.export_write.proofs.fixed.write_fixed.Tie as tie
+use Rattle.export_write.proofs.fixed.export_fixed.Statement.{statement}
+use Rattle.export_write.proofs.fixed.export_fixed.Tie as tie
+
+returns : tie.Need-returns
+returns c = λ h. absurd (omega (arith, h .0))
+
+add-if2 : tie.Need-add-if2
+add-if2 c = search needs
+
+returns-2 : tie.Need-returns-2
+returns-2 c = λ h. absurd (omega (arith, h .1))
 
 sub-write-key : tie.Need-sub-write-key
 sub-write-key c = search needs
@@ -48,25 +58,31 @@ write-system-requires c κs = search needs
 same-length : tie.Need-same-length
 same-length c = search needs
 
-returns : tie.Need-returns
-returns c =
-    let a = c .before .before .before .before .before .before .before .before .before .before .before .before .before .before .before .before .before .args in
+returns-3 : tie.Need-returns-3
+returns-3 c =
+    let a = c .before .before .before .before .before .before .before .before .before .before .before .before .before .before .before .before .before .before .before .args in
     let x = c .before .before .before .before .before .before .before .before .before .before .before .before .write-key in
     let y = c .before .before .before .before .before .before .before .write-home in
     let z = c .before .before .write-system in
-    record {
-      from = omega arith;
-      most = omega arith;
-      wrote = λ t k.
-          three-wrote (key (t .0 .target) (t .0 .flags)) (home (t .1 .0)) (system (t .1 .1)) (a .at) (x .result) (y .result) (z .result) (a .buffer .now) (x .last .0) (y .last .0) (z .last .0)
-          (x .ensures .wrote (t .0) (k .0 .0, ap (λ (l : List ℕ). take 4 l) (k .1))) (y .ensures .wrote (t .1 .0) (k .0 .1 .0, ap (λ (l : List ℕ). take 4 (drop 4 l)) (k .1)))
-          (z .ensures .wrote (t .1 .1) (k .0 .1 .1, ap (λ (l : List ℕ). take 3 (drop 8 l)) (k .1)));
+    λ h. record {
+      writes = record {
+        from = omega arith;
+        most = omega arith;
+        wrote = λ t k.
+            three-wrote (key-setting (t .0)) (home (t .1 .0)) (system (t .1 .1)) 8 (x .result) (y .result) (z .result) (a .buffer .now) (x .last .0) (y .last .0) (z .last .0)
+            (x .ensures .wrote (t .0) (k .0 .0, ap (λ (l : List ℕ). take 4 l) (k .1))) (y .ensures .wrote (t .1 .0) (k .0 .1 .0, ap (λ (l : List ℕ). take 4 (drop 4 l)) (k .1)))
+            (z .ensures .wrote (t .1 .1) (k .0 .1 .1, ap (λ (l : List ℕ). take 3 (drop 8 l)) (k .1)));
+      };
+      counted = λ t k. refl;
     }
 
-pub write-fixed-spec : {M : Type 1} → statement M
-write-fixed-spec =
+pub export-fixed-spec : {M : Type 1} → statement M
+export-fixed-spec =
     tie.close
     (tie.spec
+    returns
+    add-if2
+    returns-2
     sub-write-key
     part-write-key-start
     part-write-key-end
@@ -80,4 +96,4 @@ write-fixed-spec =
     part-write-system-end
     write-system-requires
     same-length
-    returns)
+    returns-3)
