@@ -59,17 +59,17 @@ pub extern "C" fn otap_transmit(number: u32) -> u64
 }
 
 #[no_mangle]
-pub extern "C" fn otap_receive(number: u32) -> u64
-    ensures { λ r. ⌜ Converts Receives 22 number r ⌝ }
-{
-    let answer = receive(number);
-    pack_frequency(answer)
-}
-
-#[no_mangle]
 pub extern "C" fn otap_channel_of_transmit(value: u32) -> u64
     ensures { λ r. ⌜ Converts (Back Transmits) 22 value r ⌝ }
 {
     let answer = channel_of_transmit(value);
     pack_channel(answer)
+}
+
+#[no_mangle]
+pub extern "C" fn otap_receive(number: u32) -> u64
+    ensures { λ r. ⌜ Converts Receives 22 number r ⌝ }
+{
+    let answer = receive(number);
+    pack_frequency(answer)
 }
