@@ -1,5 +1,1 @@
-pub mod ExportBits
-pub mod Packed
-pub mod RowBits
-pub mod ShownPart
-pub mod Theorems
+pub mod Packable

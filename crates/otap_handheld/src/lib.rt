@@ -1,4 +1,4 @@
-// The functions that firmware in C or Rust calls.
+// The functions that the firmware of a hand-held calls, in C or Rust. Crate packing says which bits of an answer are what.
 mod conversions;
 mod exports;
 mod messages;

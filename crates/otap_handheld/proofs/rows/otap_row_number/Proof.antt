@@ -1,5 +1,6 @@
 use borrow.Author.Needs.{needs}
-use Rattle.otap_handheld.proofs.RowBits.{numbered}
+use Rattle.tables.specs.Limits.{handheld}
+use Rattle.packing.proofs.RowBits.{numbers-packed}
 use Rattle.otap_handheld.proofs.rows.otap_row_number.Statement.{statement}
 use Rattle.otap_handheld.proofs.rows.otap_row_number.Tie as tie
 
@@ -18,8 +19,9 @@ cast-result c = search needs
 returns : tie.Need-returns
 returns c =
     let s = c .before .before .before .before .before .args in
-    let a = c .before .row-number in
-    numbered (s .table) (s .row) (s .store .now) (s .scratch .now) _ (c .before .before .row-of .ensures) (a .result) (c .number-of .result) (c .number-of .ensures) (a .ensures)
+    let w = c .before .before .row-of in
+    let x = c .before .row-number in
+    numbers-packed handheld (s .table) (s .row) (s .store .now) (s .scratch .now) _ (w .ensures) (x .result) (c .number-of .result) (c .number-of .ensures) (x .ensures)
 
 pub otap-row-number-spec : {M : Type 1} → statement M
 otap-row-number-spec =

@@ -1,5 +1,5 @@
 -- What firmware may rely on: two answers that a contract allows are equal, and the bits of an answer give its values back. Assumes nothing.
-use Prim.Native.Nat.{ℕ, _+_, _*_, _/_, _%_, _≤_}
+use Prim.Native.Nat.{ℕ, _/_, _%_, _≤_}
 use mathlib.Core.Path.{_≡_, sym, ap, _∙_}
 use mathlib.Core.Bool.{Bool, true, false}
 use mathlib.Core.List.{List}
@@ -7,7 +7,7 @@ use native.Mathlib.Omega.{arith}
 use Rattle.plan.specs.Answers.{Answer}
 use Rattle.plan.proofs.AnswerLaws.{One, determined as value-determined}
 use Rattle.writing.specs.Writing.{bit}
-use Rattle.tables.specs.Limits.{handheld}
+use Rattle.tables.specs.declared.limits.Limits.{Limits}
 use Rattle.tables.specs.Store.{Begun}
 use Rattle.tables.proofs.Theorems.{begun-determined}
 use Rattle.station.specs.Answers.{Said}
@@ -18,40 +18,40 @@ use Rattle.export.proofs.Determined.{outcome-determined as export-determined}
 use Rattle.screen.specs.Rows.{row-named}
 use Rattle.screen.specs.Screen.{Part, of-store, of-scratch, After as Row}
 use Rattle.screen.proofs.Determined.{shown-determined, number-one}
-use Rattle.otap_handheld.specs.Packing.{Starts, packed, Packs, Takes, packed-export, PacksExport, Exports, Numbers, packed-part, start-of, length-of, PacksPart, Shows, packed-value, PacksValue, Converts}
+use Rattle.packing.specs.Packing.{Starts, packed, Packs, Takes, packed-export, PacksExport, Exports, Numbers, packed-part, start-of, length-of, PacksPart, Shows, packed-value, PacksValue, Converts}
 
 -- ---- one answer
 
 -- STARTING: one number, and one store afterwards
-pub starts-determined : (s t u : List ℕ) (r q : ℕ) → Starts s t r → Starts s u q → (r ≡ q) × (t ≡ u)
-starts-determined s t u r q x y =
-    let e = begun-determined handheld s _ _ x y in (ap (λ (a : Begun). a .number) e, ap (λ (a : Begun). a .store) e)
+pub starts-determined : (m : Limits) (s t u : List ℕ) (r q : ℕ) → Starts m s t r → Starts m s u q → (r ≡ q) × (t ≡ u)
+starts-determined m s t u r q x y =
+    let e = begun-determined m s _ _ x y in (ap (λ (a : Begun). a .number) e, ap (λ (a : Begun). a .store) e)
 
 -- TAKING: one number, one store and one reply afterwards
-pub takes-determined : (message store reply s t u v : List ℕ) (r q : ℕ) → Takes message store reply s t r → Takes message store reply u v q → (r ≡ q) × (s ≡ u) × (t ≡ v)
-takes-determined message store reply s t u v r q x y =
-    let e = outcome-determined handheld message store reply _ _ (x .allowed) (y .allowed) in (
+pub takes-determined : (m : Limits) (message store reply s t u v : List ℕ) (r q : ℕ) → Takes m message store reply s t r → Takes m message store reply u v q → (r ≡ q) × (s ≡ u) × (t ≡ v)
+takes-determined m message store reply s t u v r q x y =
+    let e = outcome-determined m message store reply _ _ (x .allowed) (y .allowed) in (
       x .packs .bits ∙ ap (λ (a : After). packed (a .answer)) e ∙ sym (y .packs .bits),
       ap (λ (a : After). a .store) e,
       ap (λ (a : After). a .reply) e,
     )
 
 -- EXPORTING: one number, and one buffer afterwards
-pub exports-determined : (part : ℕ) (store buffer s t : List ℕ) (r q : ℕ) → Exports part store buffer s r → Exports part store buffer t q → (r ≡ q) × (s ≡ t)
-exports-determined part store buffer s t r q x y =
-    let e = export-determined handheld part store buffer _ _ (x .allowed) (y .allowed) in (
+pub exports-determined : (m : Limits) (part : ℕ) (store buffer s t : List ℕ) (r q : ℕ) → Exports m part store buffer s r → Exports m part store buffer t q → (r ≡ q) × (s ≡ t)
+exports-determined m part store buffer s t r q x y =
+    let e = export-determined m part store buffer _ _ (x .allowed) (y .allowed) in (
       x .packs .bits ∙ ap (λ (a : Exported). packed-export (a .answer)) e ∙ sym (y .packs .bits),
       ap (λ (a : Exported). a .buffer) e,
     )
 
 -- A ROW'S NUMBER: one
-pub numbers-determined : (table row : ℕ) (store scratch : List ℕ) (r q : ℕ) → Numbers table row store scratch r → Numbers table row store scratch q → r ≡ q
-numbers-determined table row store scratch = number-one handheld store scratch (row-named table row)
+pub numbers-determined : (m : Limits) (table row : ℕ) (store scratch : List ℕ) (r q : ℕ) → Numbers m table row store scratch r → Numbers m table row store scratch q → r ≡ q
+numbers-determined m table row store scratch = number-one m store scratch (row-named table row)
 
 -- A ROW: one number, and one scratch afterwards
-pub shows-determined : (table row : ℕ) (store scratch s t : List ℕ) (r q : ℕ) → Shows table row store scratch s r → Shows table row store scratch t q → (r ≡ q) × (s ≡ t)
-shows-determined table row store scratch s t r q x y =
-    let e = shown-determined handheld store scratch (row-named table row) _ _ (x .allowed) (y .allowed) in (
+pub shows-determined : (m : Limits) (table row : ℕ) (store scratch s t : List ℕ) (r q : ℕ) → Shows m table row store scratch s r → Shows m table row store scratch t q → (r ≡ q) × (s ≡ t)
+shows-determined m table row store scratch s t r q x y =
+    let e = shown-determined m store scratch (row-named table row) _ _ (x .allowed) (y .allowed) in (
       x .packs .bits ∙ ap (λ (a : Row). packed-part (a .part)) e ∙ sym (y .packs .bits),
       ap (λ (a : Row). a .scratch) e,
     )

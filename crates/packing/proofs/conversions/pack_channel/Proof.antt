@@ -1,9 +1,9 @@
 use borrow.Author.Needs.{needs}
 use native.Mathlib.Omega.{arith}
 use Rattle.plan.specs.Answers.{channel}
-use Rattle.otap_handheld.proofs.Packed.{packed-case, value-refused}
-use Rattle.otap_handheld.proofs.conversions.pack_channel.Statement.{statement}
-use Rattle.otap_handheld.proofs.conversions.pack_channel.Tie as tie
+use Rattle.packing.proofs.Packed.{packed-case, value-refused}
+use Rattle.packing.proofs.conversions.pack_channel.Statement.{statement}
+use Rattle.packing.proofs.conversions.pack_channel.Tie as tie
 
 enum-known-answer : tie.Need-enum-known-answer
 enum-known-answer c = search needs

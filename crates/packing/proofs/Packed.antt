@@ -1,6 +1,6 @@
 -- A packed answer by its case. Assumes nothing.
 use Prim.Native.Nat.{ℕ, _+_, _*_, _<_}
-use mathlib.Core.Path.{_≡_, sym, ap, ap₂, _∙_, subst}
+use mathlib.Core.Path.{_≡_, sym, subst}
 use mathlib.Core.List.{List}
 use native.Mathlib.Omega.{arith}
 use Rattle.lists.specs.Ladder.{Answers}
@@ -8,14 +8,14 @@ use Rattle.plan.specs.Answers.{Said, answer, refused}
 use Rattle.writing.specs.Carrier.{result-number}
 use Rattle.writing.specs.Writing.{bit}
 use Rattle.tables.specs.declared.start.Started.{Started}
-use Rattle.tables.specs.Limits.{handheld}
+use Rattle.tables.specs.declared.limits.Limits.{Limits}
 use Rattle.tables.specs.Store.{started, begins, starting}
 use Rattle.station.specs.declared.answers.Answer.{Answer as Station}
 use Rattle.station.specs.declared.answers.Answer.the-variants.{Untouched, Replied}
 use Rattle.station.specs.declared.answers.Refusal.{Refusal}
 use Rattle.station.specs.declared.answers.Reply.{Reply}
-use Rattle.station.specs.Answers.{Said as TakeSaid, refusal-number, refused-with, said}
-use Rattle.otap_handheld.specs.Packing.{Starts, packed, Packs, PacksValue}
+use Rattle.station.specs.Answers.{refusal-number, said}
+use Rattle.packing.specs.Packing.{Starts, Packs, PacksValue}
 
 -- ---- conversions
 
@@ -29,9 +29,9 @@ value-refused n h = record { number = h; value = omega arith; bits = omega arith
 
 -- ---- starting
 
--- what starting answered is one case, and so its number
-pub started-as : (before after : List ℕ) (a b : Started) → a ≡ b → Answers (starting handheld before) (begins a after) → Starts before after (started b)
-started-as before after a b e x = subst (λ (d : Started). Starts before after (started d)) e x
+-- STARTS: what the call answers, by its number
+pub starts-packed : (m : Limits) (before after : List ℕ) (a : Started) (r : ℕ) → r ≡ started a → Answers (starting m before) (begins a after) → Starts m before after r
+starts-packed m before after a r e x = subst (λ (n : ℕ). Starts m before after n) (sym e) x
 
 -- ---- taking
 
