@@ -14,7 +14,7 @@ fn numbers(store: &mut [u8]) {
         number filled with 0: 01 CA 0008 40 01 12F0 0000\n\
         line 12: 01 CA 0008 40 01 12FF 0000\n\
         line 12 with its reserved bit: 01 CA 0008 41 01 12FF 0000\n\
-        line 12 with other flags: 01 CA 0008 42 01 12FF 0000\n\
+        line 12 with other flags: 01 CA 0008 60 01 12FF 0000\n\
         delete of line 13: 01 CA 0008 80 01 13FF 0000\n\
         delete of line 12: 01 CA 0008 80 01 12FF 0000\n\
         lines with operation 00: 01 CA 0004 00 00\n",
@@ -50,7 +50,7 @@ fn room(store: &mut [u8]) {
     requests(
         b"the 33rd line contact: 01 CA 0008 40 01 32FF 0000\n\
         the 33rd line contact, with digit A: 01 CA 0008 40 01 3AFF 0000\n\
-        a known line, when full: 01 CA 0008 42 01 31FF 0000\n\
+        a known line, when full: 01 CA 0008 60 01 31FF 0000\n\
         a delete, then the 33rd: 02 CA 0008 80 01 07FF 0000 CA 0008 40 01 32FF 0000\n",
         store,
     );

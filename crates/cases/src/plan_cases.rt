@@ -23,7 +23,7 @@ fn individual(dialled: u32) {
 }
 
 fn transmit(channel: u32) {
-    match frequencies::transmit(channel) {
+    match plan::channels::transmit(channel) {
         FrequencyAnswer::Frequency(f) => line(b"transmit frequency of", channel, 0, f),
         FrequencyAnswer::NoChannel => line(b"transmit frequency of", channel, 22, 0),
     }

@@ -41,9 +41,9 @@ fn fill(store: &mut [u8]) {
         line 1 without: 01 CA 0008 40 01 123F 0000\n\
         quick text 7: 01 CC 0008 41 07 0051 0000\n\
         status texts 32, and 127 which is empty: 01 D0 000C 40 02 20 0053 0000 7F 0000\n\
-        group 0 with a text: 01 D1 000B 50 00 100001 0047 0000\n\
-        group 1 without: 01 D1 0009 50 01 FF1B58 0000\n\
-        group 2 without, outside the plan: 01 D1 0009 50 02 101B59 0000\n\
+        group 0 with a text: 01 D1 000B 60 00 100001 0047 0000\n\
+        group 1 without: 01 D1 0009 60 01 FF1B58 0000\n\
+        group 2 without, outside the plan: 01 D1 0009 60 02 101B59 0000\n\
         individual 0 with a text: 01 D2 000B 40 00 100001 0049 0000\n\
         individual 1 without: 01 D2 0009 40 01 FF7DC8 0000\n\
         individual 2 without, outside the plan: 01 D2 0009 40 02 10FDEC 0000\n",

@@ -27,12 +27,12 @@ fn fixed(store: &mut [u8]) {
 
 fn kinds(store: &mut [u8]) {
     requests(
-        b"unknown type D3: 01 D3 0003 00\n\
-        unknown type C9: 01 C9 0003 00\n\
-        unknown type as the last byte: 02 CF 0005 0001 00 D3\n\
+        b"unknown type D4: 01 D4 0003 00\n\
+        unknown type C7: 01 C7 0003 00\n\
+        unknown type as the last byte: 02 CF 0005 0001 00 D4\n\
         known type as the last byte: 02 CF 0005 0001 00 CD\n\
         type byte missing: 02 CF 0005 0001 00\n\
-        LA 9, then an unknown type: 02 CF 0005 0009 00 D3\n\
+        LA 9, then an unknown type: 02 CF 0005 0009 00 D4\n\
         a byte left over: 01 CF 0005 0001 00 00\n\
         a setting left over: 01 CF 0005 0001 00 CF 0005 0002 00\n\
         DataLength one too small: 01 CF 0004 0001 00\n\

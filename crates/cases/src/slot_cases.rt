@@ -4,13 +4,13 @@ use station::handheld::start;
 
 fn groups(store: &mut [u8]) {
     requests(
-        b"group: 01 D1 0009 50 03 100001 0000\n\
-        group with reserved bits: 01 D1 0009 50 33 100001 0000\n\
-        group over another: 01 D1 0009 50 03 100002 0000\n\
+        b"group: 01 D1 0009 60 03 100001 0000\n\
+        group with reserved bits: 01 D1 0009 60 33 100001 0000\n\
+        group over another: 01 D1 0009 60 03 100002 0000\n\
         group with attribute 00: 01 D1 0009 40 03 100001 0000\n\
-        group on address 108000: 01 D1 0009 50 03 108000 0000\n\
-        group replace: 01 D1 0009 D0 03 100001 0000\n\
-        group with operation 00: 01 D1 0009 10 03 100001 0000\n\
+        group on address 108000: 01 D1 0009 60 03 108000 0000\n\
+        group replace: 01 D1 0009 E0 03 100001 0000\n\
+        group with operation 00: 01 D1 0009 20 03 100001 0000\n\
         group delete without a text's end: 01 D1 0009 80 03 000000 0041\n\
         group delete with attribute 00 and address 0: 01 D1 0009 80 03 000000 0000\n\
         group delete of none: 01 D1 0009 80 03 000000 0000\n",
