@@ -1,9 +1,9 @@
 // Buffers, the carrier, and what a request has before its settings.
-use super::printing::decimal;
-use super::printing::text;
-use super::taking::answer;
-use super::taking::answer_into;
-use super::taking::messages;
+use case_lines::printing::decimal;
+use case_lines::printing::text;
+use case_lines::taking::answer;
+use case_lines::taking::answer_into;
+use case_lines::taking::messages;
 use station::handheld::start;
 use tables::start::Started;
 

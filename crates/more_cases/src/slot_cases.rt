@@ -1,10 +1,10 @@
 // Group and individual slots.
-use super::taking::requests;
-use station::handheld::start;
+use case_lines::taking::requests;
 
-fn groups(store: &mut [u8]) {
+pub(crate) fn run(store: &mut [u8]) {
     requests(
-        b"group: 01 D1 0009 60 03 100001 0000\n\
+        b"a fresh store\n\
+        group: 01 D1 0009 60 03 100001 0000\n\
         group with reserved bits: 01 D1 0009 60 33 100001 0000\n\
         group over another: 01 D1 0009 60 03 100002 0000\n\
         group with attribute 00: 01 D1 0009 40 03 100001 0000\n\
@@ -13,14 +13,8 @@ fn groups(store: &mut [u8]) {
         group with operation 00: 01 D1 0009 20 03 100001 0000\n\
         group delete without a text's end: 01 D1 0009 80 03 000000 0041\n\
         group delete with attribute 00 and address 0: 01 D1 0009 80 03 000000 0000\n\
-        group delete of none: 01 D1 0009 80 03 000000 0000\n",
-        store,
-    );
-}
-
-fn individuals(store: &mut [u8]) {
-    requests(
-        b"individual: 01 D2 0009 40 0F FF7DC8 0000\n\
+        group delete of none: 01 D1 0009 80 03 000000 0000\n\
+        individual: 01 D2 0009 40 0F FF7DC8 0000\n\
         individual with reserved bits: 01 D2 0009 43 FF FF7DC8 0000\n\
         individual on address 0FFFFF: 01 D2 0009 40 0F 0FFFFF 0000\n\
         individual replace: 01 D2 0009 C0 0F FF7DC8 0000\n\
@@ -28,10 +22,4 @@ fn individuals(store: &mut [u8]) {
         individual delete of none: 01 D2 0009 80 0F 000000 0000\n",
         store,
     );
-}
-
-pub(crate) fn run(store: &mut [u8]) {
-    start(store);
-    groups(store);
-    individuals(store);
 }
