@@ -17,6 +17,9 @@ impl Table {
     pub const GROUPS: Table = Table(4);
     /// Individuals, by slot from 0.
     pub const INDIVIDUALS: Table = Table(5);
+    /// All five.
+    pub const ALL: [Table; 5] =
+        [Table::LINES, Table::QUICK_TEXTS, Table::STATUS_TEXTS, Table::GROUPS, Table::INDIVIDUALS];
 }
 
 /// The lent bytes that a row's part lies in.

@@ -1,6 +1,6 @@
 // Dialled numbers and channels.
-use super::printing::decimal;
-use super::printing::text;
+use case_lines::printing::decimal;
+use case_lines::printing::text;
 use plan::frequencies::FrequencyAnswer;
 use plan::numbers::IndividualAnswer;
 

@@ -1,14 +1,13 @@
 // Rows of the screen: with a text, without, outside the plan, absent.
-use super::printing::decimal;
-use super::printing::hex;
-use super::printing::text;
-use super::taking::requests;
+use case_lines::printing::decimal;
+use case_lines::printing::hex;
+use case_lines::printing::text;
+use case_lines::taking::requests;
 use screen::answers::number_of;
 use screen::handheld::row_number;
 use screen::handheld::row_part;
 use screen::rows::Row;
 use screen::rows::row_of;
-use station::handheld::start;
 
 // A table and a place for each row that is shown.
 const ROWS: [[u32; 2]; 21] = [
@@ -37,13 +36,14 @@ const ROWS: [[u32; 2]; 21] = [
 
 fn fill(store: &mut [u8]) {
     requests(
-        b"line 0 with a text: 01 CA 000D 42 01 2345FF 0041 0042 0000\n\
+        b"a fresh store\n\
+        line 0 with a text: 01 CA 000D 42 01 2345FF 0041 0042 0000\n\
         line 1 without: 01 CA 0008 40 01 123F 0000\n\
         quick text 7: 01 CC 0008 41 07 0051 0000\n\
         status texts 32, and 127 which is empty: 01 D0 000C 40 02 20 0053 0000 7F 0000\n\
-        group 0 with a text: 01 D1 000B 50 00 100001 0047 0000\n\
-        group 1 without: 01 D1 0009 50 01 FF1B58 0000\n\
-        group 2 without, outside the plan: 01 D1 0009 50 02 101B59 0000\n\
+        group 0 with a text: 01 D1 000B 60 00 100001 0047 0000\n\
+        group 1 without: 01 D1 0009 60 01 FF1B58 0000\n\
+        group 2 without, outside the plan: 01 D1 0009 60 02 101B59 0000\n\
         individual 0 with a text: 01 D2 000B 40 00 100001 0049 0000\n\
         individual 1 without: 01 D2 0009 40 01 FF7DC8 0000\n\
         individual 2 without, outside the plan: 01 D2 0009 40 02 10FDEC 0000\n",
@@ -89,7 +89,6 @@ fn refused(store: &[u8]) {
 }
 
 pub(crate) fn run(store: &mut [u8]) {
-    start(store);
     fill(store);
     rows(store);
     refused(store);

@@ -2,15 +2,15 @@ use borrow.Author.Needs.{needs}
 use Prim.Native.Nat.{_≤_, _-_}
 use mathlib.Core.Path.{_≡_}
 use lib.ListN.{length}
-use Rattle.cases.proofs.building.put.Statement.{statement}
-use Rattle.cases.proofs.building.put.Tie as tie
+use Rattle.case_lines.proofs.building.put.Statement.{statement}
+use Rattle.case_lines.proofs.building.put.Tie as tie
 
 abbrev Inv-loop : tie.InvT-loop
-Inv-loop m₀ at digits p₀ high₀ i₀ m p high i =
+Inv-loop m₀ at digits number p₀ high₀ i₀ m p high i =
     (p ≤ length m) × (length m ≡ length m₀)
 
 abbrev μ-loop : tie.MeasureT-loop
-μ-loop m₀ at digits p₀ high₀ i₀ m p high i =
+μ-loop m₀ at digits number p₀ high₀ i₀ m p high i =
     length digits - i
 
 slice-aggregate-put-bytes : tie.Need-slice-aggregate-put-bytes Inv-loop μ-loop
@@ -22,14 +22,17 @@ put-bytes-requires c κs = search needs
 loop-holds : tie.Need-loop-holds Inv-loop μ-loop
 loop-holds c = (search needs, search needs)
 
-shared-slice-read-digit : tie.Need-shared-slice-read-digit Inv-loop μ-loop
-shared-slice-read-digit c = search needs
+shared-slice-read-c : tie.Need-shared-slice-read-c Inv-loop μ-loop
+shared-slice-read-c c = search needs
 
 digit-requires : tie.Need-digit-requires Inv-loop μ-loop
 digit-requires c κs = search needs
 
 put-byte-requires : tie.Need-put-byte-requires Inv-loop μ-loop
 put-byte-requires c κs = search needs
+
+put-mark-requires : tie.Need-put-mark-requires Inv-loop μ-loop
+put-mark-requires c κs = search needs
 
 waiting-requires : tie.Need-waiting-requires Inv-loop μ-loop
 waiting-requires c κs = search needs
@@ -58,9 +61,10 @@ put-spec =
     slice-aggregate-put-bytes
     put-bytes-requires
     loop-holds
-    shared-slice-read-digit
+    shared-slice-read-c
     digit-requires
     put-byte-requires
+    put-mark-requires
     waiting-requires
     add-i
     loop-less

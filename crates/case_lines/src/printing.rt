@@ -9,11 +9,11 @@ use writing::Result;
 // The hexadecimal digits.
 const HEX: [u8; 16] = *b"0123456789ABCDEF";
 
-pub(crate) fn text(bytes: &[u8]) {
+pub fn text(bytes: &[u8]) {
     io::write_all(STDOUT_FILENO, bytes);
 }
 
-pub(crate) fn decimal(n: u32) {
+pub fn decimal(n: u32) {
     io::print_decimal(STDOUT_FILENO, n as u64);
 }
 
@@ -34,7 +34,7 @@ fn byte(b: u8) {
 }
 
 // The first bytes, as many as the length says, or that there are none; the line's end.
-pub(crate) fn hex(bytes: &[u8], length: usize) {
+pub fn hex(bytes: &[u8], length: usize) {
     if length == 0 {
         text(b" none");
     }

@@ -1,8 +1,8 @@
 use borrow.Author.Needs.{needs}
 use Prim.Native.Nat.{_≤_, _-_}
 use lib.ListN.{length}
-use Rattle.cases.proofs.taking.find.Statement.{statement}
-use Rattle.cases.proofs.taking.find.Tie as tie
+use Rattle.case_lines.proofs.building.find.Statement.{statement}
+use Rattle.case_lines.proofs.building.find.Tie as tie
 
 abbrev Inv-loop : tie.InvT-loop
 Inv-loop s from byte i₀ i =

@@ -1,12 +1,12 @@
 // Takes the messages of cases and prints their lines.
-use super::building::put;
+use super::building::find;
 use super::building::put_bytes;
+use super::building::put_message;
 use super::printing::line;
 use slots::bytes::copy;
 use slots::bytes::same;
+use station::handheld::start;
 use station::handheld::take;
-ghost use Prim.Native.Nat.{_≤_};
-ghost use lib.ListN.{length};
 
 // A message to this store, with this reply buffer and as many bytes to keep the store of before in.
 fn answer_beside(what: &[u8], bytes: &[u8], store: &mut [u8], reply: &mut [u8], before: &mut [u8]) {
@@ -16,7 +16,7 @@ fn answer_beside(what: &[u8], bytes: &[u8], store: &mut [u8], reply: &mut [u8], 
 }
 
 // A message to this store, of at most 12,288 bytes, with this reply buffer.
-pub(crate) fn answer_into(what: &[u8], bytes: &[u8], store: &mut [u8], reply: &mut [u8]) {
+pub fn answer_into(what: &[u8], bytes: &[u8], store: &mut [u8], reply: &mut [u8]) {
     let size = store.len();
     if 12288 < size {
         return;
@@ -26,13 +26,13 @@ pub(crate) fn answer_into(what: &[u8], bytes: &[u8], store: &mut [u8], reply: &m
 }
 
 // A message to this store, with a reply buffer of 20 bytes.
-pub(crate) fn answer(what: &[u8], bytes: &[u8], store: &mut [u8]) {
+pub fn answer(what: &[u8], bytes: &[u8], store: &mut [u8]) {
     let mut reply = [0u8; 20];
     answer_into(what, bytes, store, &mut reply);
 }
 
 // A request to this store: ParamSum and settings, behind a carrier with the true length.
-pub(crate) fn request(what: &[u8], settings: &[u8], store: &mut [u8]) {
+fn request(what: &[u8], settings: &[u8], store: &mut [u8]) {
     let size = settings.len();
     if 4089 < size {
         return;
@@ -49,8 +49,8 @@ pub(crate) fn request(what: &[u8], settings: &[u8], store: &mut [u8]) {
 
 // A message that is written in digits, whole or as ParamSum and settings.
 fn written(what: &[u8], digits: &[u8], whole: bool, store: &mut [u8]) {
-    let mut bytes = [0u8; 64];
-    let end = put(&mut bytes, 0, digits);
+    let mut bytes = [0u8; 512];
+    let end = put_message(&mut bytes, digits);
     if whole {
         answer(what, &bytes[0..end], store);
     } else {
@@ -58,28 +58,22 @@ fn written(what: &[u8], digits: &[u8], whole: bool, store: &mut [u8]) {
     }
 }
 
-// The first place from this one on that has the byte, or the end.
-fn find(s: &[u8], from: usize, byte: u8) -> usize
-    requires { ⌜ from ≤ length (now s) ⌝ }
-    ensures { λ r. ⌜ (from ≤ r) × (r ≤ length (now (s .entry))) ⌝ }
-{
-    let mut i = from;
-    while i < s.len() {
-        if s[i] == byte {
-            return i;
-        }
-        i += 1;
+// The case of a line: what it is, a colon, and the message in digits. A line without a colon makes the store a fresh one.
+fn take_line(line: &[u8], whole: bool, store: &mut [u8]) {
+    let colon = find(line, 0, b':');
+    if colon == line.len() {
+        start(store);
+        return;
     }
-    i
+    written(&line[0..colon], &line[colon..line.len()], whole, store);
 }
 
-// The case of each line: what it is, a colon, and the message in digits.
+// The case of each line.
 fn each(lines: &[u8], whole: bool, store: &mut [u8]) {
     let mut at = 0;
     while at < lines.len() {
-        let colon = find(lines, at, b':');
-        let end = find(lines, colon, b'\n');
-        written(&lines[at..colon], &lines[colon..end], whole, store);
+        let end = find(lines, at, b'\n');
+        take_line(&lines[at..end], whole, store);
         if end == lines.len() {
             return;
         }
@@ -88,11 +82,11 @@ fn each(lines: &[u8], whole: bool, store: &mut [u8]) {
 }
 
 // Whole messages, one to a line.
-pub(crate) fn messages(lines: &[u8], store: &mut [u8]) {
+pub fn messages(lines: &[u8], store: &mut [u8]) {
     each(lines, true, store);
 }
 
 // ParamSums with their settings, one to a line.
-pub(crate) fn requests(lines: &[u8], store: &mut [u8]) {
+pub fn requests(lines: &[u8], store: &mut [u8]) {
     each(lines, false, store);
 }

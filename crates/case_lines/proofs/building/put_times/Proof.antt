@@ -2,28 +2,16 @@ use borrow.Author.Needs.{needs}
 use Prim.Native.Nat.{_≤_, _-_}
 use mathlib.Core.Path.{_≡_}
 use lib.ListN.{length}
-use Rattle.cases.proofs.building.numbered.Statement.{statement}
-use Rattle.cases.proofs.building.numbered.Tie as tie
+use Rattle.case_lines.proofs.building.put_times.Statement.{statement}
+use Rattle.case_lines.proofs.building.put_times.Tie as tie
 
 abbrev Inv-loop : tie.InvT-loop
-Inv-loop m₀ head before after count decimal p₀ i₀ m p i =
+Inv-loop m₀ at digits count p₀ i₀ m p i =
     (p ≤ length m) × (length m ≡ length m₀)
 
 abbrev μ-loop : tie.MeasureT-loop
-μ-loop m₀ head before after count decimal p₀ i₀ m p i =
+μ-loop m₀ at digits count p₀ i₀ m p i =
     count - i
-
-put-requires : tie.Need-put-requires Inv-loop μ-loop
-put-requires c κs = search needs
-
-loop-holds : tie.Need-loop-holds Inv-loop μ-loop
-loop-holds c = (search needs, search needs)
-
-put-requires-2 : tie.Need-put-requires-2 Inv-loop μ-loop
-put-requires-2 c κs = search needs
-
-index-requires : tie.Need-index-requires Inv-loop μ-loop
-index-requires c κs = search needs
 
 slice-aggregate-put-bytes : tie.Need-slice-aggregate-put-bytes Inv-loop μ-loop
 slice-aggregate-put-bytes c = search needs
@@ -31,8 +19,11 @@ slice-aggregate-put-bytes c = search needs
 put-bytes-requires : tie.Need-put-bytes-requires Inv-loop μ-loop
 put-bytes-requires c κs = search needs
 
-put-requires-3 : tie.Need-put-requires-3 Inv-loop μ-loop
-put-requires-3 c κs = search needs
+loop-holds : tie.Need-loop-holds Inv-loop μ-loop
+loop-holds c = (search needs, search needs)
+
+put-requires : tie.Need-put-requires Inv-loop μ-loop
+put-requires c κs = search needs
 
 add-i : tie.Need-add-i Inv-loop μ-loop
 add-i c = search needs
@@ -49,19 +40,16 @@ same-length c = search needs
 returns : tie.Need-returns Inv-loop μ-loop
 returns c = search needs
 
-pub numbered-spec : {M : Type 1} → statement M
-numbered-spec =
+pub put-times-spec : {M : Type 1} → statement M
+put-times-spec =
     tie.close
     (tie.spec
     Inv-loop
     μ-loop
-    put-requires
-    loop-holds
-    put-requires-2
-    index-requires
     slice-aggregate-put-bytes
     put-bytes-requires
-    put-requires-3
+    loop-holds
+    put-requires
     add-i
     loop-less
     loop-again

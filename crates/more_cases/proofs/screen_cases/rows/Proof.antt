@@ -5,11 +5,11 @@ use mathlib.Core.Bool.{Bool, true, false, cond}
 use mathlib.Core.List.{List, [], _∷_, _++_}
 use native.Mathlib.Omega.{arith}
 use lib.ListN.{length, getD, drop, take, set, replicate}
-use Rattle.cases.proofs.screen_cases.rows.Statement.{statement}
-use Rattle.cases.proofs.screen_cases.rows.Tie as tie
-use Rattle.cases.proofs.screen_cases.rows.Reads as reads
-use Rattle.cases.proofs.screen_cases.rows.Lts as lts
-use Rattle.cases.proofs.screen_cases.row.Reads as row-reads
+use Rattle.more_cases.proofs.screen_cases.rows.Statement.{statement}
+use Rattle.more_cases.proofs.screen_cases.rows.Tie as tie
+use Rattle.more_cases.proofs.screen_cases.rows.Reads as reads
+use Rattle.more_cases.proofs.screen_cases.rows.Lts as lts
+use Rattle.more_cases.proofs.screen_cases.row.Reads as row-reads
 
 abbrev Inv-loop : tie.InvT-loop
 Inv-loop store i₀ i =

@@ -2,8 +2,8 @@ use borrow.Author.Needs.{needs}
 use Prim.Native.Nat.{_≤_, _-_}
 use mathlib.Core.Path.{_≡_}
 use lib.ListN.{length}
-use Rattle.cases.proofs.taking.each.Statement.{statement}
-use Rattle.cases.proofs.taking.each.Tie as tie
+use Rattle.case_lines.proofs.taking.each.Statement.{statement}
+use Rattle.case_lines.proofs.taking.each.Tie as tie
 
 abbrev Inv-loop : tie.InvT-loop
 Inv-loop lines whole store₀ at₀ store at =
@@ -19,29 +19,17 @@ loop-holds c = (search needs, search needs)
 find-requires : tie.Need-find-requires Inv-loop μ-loop
 find-requires c κs = search needs
 
-find-requires-2 : tie.Need-find-requires-2 Inv-loop μ-loop
-find-requires-2 c κs = search needs
+sub-take-line : tie.Need-sub-take-line Inv-loop μ-loop
+sub-take-line c = search needs
 
-sub-written : tie.Need-sub-written Inv-loop μ-loop
-sub-written c = search needs
+part-take-line-start : tie.Need-part-take-line-start Inv-loop μ-loop
+part-take-line-start c = search needs
 
-part-written-start : tie.Need-part-written-start Inv-loop μ-loop
-part-written-start c = search needs
+part-take-line-end : tie.Need-part-take-line-end Inv-loop μ-loop
+part-take-line-end c = search needs
 
-part-written-end : tie.Need-part-written-end Inv-loop μ-loop
-part-written-end c = search needs
-
-sub-written-2 : tie.Need-sub-written-2 Inv-loop μ-loop
-sub-written-2 c = search needs
-
-part-written-start-2 : tie.Need-part-written-start-2 Inv-loop μ-loop
-part-written-start-2 c = search needs
-
-part-written-end-2 : tie.Need-part-written-end-2 Inv-loop μ-loop
-part-written-end-2 c = search needs
-
-written-requires : tie.Need-written-requires Inv-loop μ-loop
-written-requires c κs = search needs
+take-line-requires : tie.Need-take-line-requires Inv-loop μ-loop
+take-line-requires c κs = search needs
 
 same-length : tie.Need-same-length Inv-loop μ-loop
 same-length c = search needs
@@ -72,14 +60,10 @@ each-spec =
     μ-loop
     loop-holds
     find-requires
-    find-requires-2
-    sub-written
-    part-written-start
-    part-written-end
-    sub-written-2
-    part-written-start-2
-    part-written-end-2
-    written-requires
+    sub-take-line
+    part-take-line-start
+    part-take-line-end
+    take-line-requires
     same-length
     returns
     add-at

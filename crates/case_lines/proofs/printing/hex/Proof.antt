@@ -1,8 +1,8 @@
 use borrow.Author.Needs.{needs}
 use Prim.Native.Nat.{_-_}
 use lib.ListN.{length}
-use Rattle.cases.proofs.printing.hex.Statement.{statement}
-use Rattle.cases.proofs.printing.hex.Tie as tie
+use Rattle.case_lines.proofs.printing.hex.Statement.{statement}
+use Rattle.case_lines.proofs.printing.hex.Tie as tie
 
 abbrev Inv-loop : tie.InvT-loop
 Inv-loop bytes size i₀ t6 i =
