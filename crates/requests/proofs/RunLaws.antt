@@ -18,15 +18,15 @@ use Rattle.tables.specs.declared.limits.Limits.{Limits}
 use Rattle.tables.specs.Apply.{apply}
 use Rattle.tables.specs.Tables.{Tables}
 use Rattle.requests.specs.Judge.{done, step, missing, unknown, field, room, taken, fault}
-use Rattle.requests.specs.Requests.{WrittenIn, Runs, Fault, item-of, or-else, LastItem, last-item}
+use Rattle.requests.specs.Requests.{WrittenIn, Known, Runs, Fault, item-of, or-else, LastItem, last-item}
+use Rattle.requests.proofs.Joining.{then-run}
 
 module _ (lim : Limits) where
   -- one setting more at the end
   pub one-more : (left : ℕ) (s : Setting) (w r : List ℕ) {n : ℕ} {t u u′ : Tables} {bs rest : List ℕ} {l : List Setting} → Runs lim n t bs l u rest
       → length l + suc left ≡ n → rest ≡ w ++ r → WrittenIn s w → InRange text-limits left s → apply lim s u ≡ some u′ → Runs lim n t bs (l ++ (s ∷ [])) u′ r
-  one-more left s w r {n} {t} {u′ = u′} {bs = bs} done e p x i a =
-      subst (λ (k : ℕ). Runs lim k t bs (s ∷ []) u′ r) (let z : suc left ≡ n = omega arith in z) (step {w = w} {s = s} p x i a done)
-  one-more left s w r (step {w = v} {s = y} p x i a q) e p′ x′ i′ a′ = step {w = v} {s = y} p x i a (one-more left s w r q (omega arith) p′ x′ i′ a′)
+  one-more left s w r q e p x i a =
+      then-run Setting Tables WrittenIn (InRange text-limits) (apply lim) Known (suc left) q e (step {w = w} {s = s} p x i a done)
 
   -- a setting that is not the last one counted is no FF
   pub not-ff : (s : Setting) (n : ℕ) → InRange text-limits n s → 0 < n → item-of s ≡ none
