@@ -149,7 +149,7 @@ carries-one {coding} {coding′} {ds} {ds′} a b =
 
 -- the first data byte says its version and type
 pub opens-in : (m : List ℕ) (coding version kind : ℕ) {N : ℕ} → Bytes m → N ≡ be 0 (take 1 (drop 6 m)) → 7 ≤ length m → Carries coding (drop 6 m) m
-    → N / 8 ≡ version → N % 8 ≡ kind → Opens version kind coding (drop 6 m) m
+    → N / 8 % 32 ≡ version → N % 8 ≡ kind → Opens version kind coding (drop 6 m) m
 opens-in m coding version kind {N} h number l k v t =
     let e : N ≡ getD m 6 0 = number ∙ one-byte m 6 (omega arith) in
     let b : N < 256 = rw e (h 6) in record {
@@ -159,6 +159,11 @@ opens-in m coding version kind {N} h number l k v t =
       parts = drop-cons m 6 0 (omega arith) ∙ ap (λ (x : ℕ). x ∷ drop 7 m) (sym e);
       says = cut-in (first-byte version kind) N (omega arith, (omega arith, tt));
     }
+
+-- the same version and type under other names
+pub opens-as : {version version′ kind kind′ coding : ℕ} {d m : List ℕ} → version ≡ version′ → kind ≡ kind′ → Opens version kind coding d m
+    → Opens version′ kind′ coding d m
+opens-as {coding} {d} {m} v k o = subst (λ (x : ℕ × ℕ). Opens (x .0) (x .1) coding d m) (λ i. (v i, k i)) o
 
 -- the first data byte, as it was read, is cut into version and type
 pub opens-cut : {version kind coding : ℕ} {m : List ℕ} → Opens version kind coding (drop 6 m) m → Cut (first-byte version kind) (be 0 (take 1 (drop 6 m)))

@@ -1,7 +1,7 @@
 -- A message is one of the kinds that `writing/specs/Carrier.antt` tells apart, and of no two of them. Assumes nothing.
 use Prim.Native.Nat.{ℕ, _≤_}
 use mathlib.Core.Path.{_≡_, refl, sym, ap, _∙_, subst, subst⁻¹}
-use mathlib.Core.Logic.{_≢_, _⊎_, inl, inr}
+use mathlib.Core.Logic.{_≢_, _⊎_, ⊎-elim}
 use mathlib.Core.Bool.{Bool, true, false}
 use mathlib.Core.List.{List, _++_}
 use native.Mathlib.Omega.{arith}
@@ -14,7 +14,7 @@ use Rattle.lists.proofs.Bytes.{bytes-drop}
 use Rattle.lists.proofs.Seqs.{cut}
 use Rattle.writing.specs.Settings.{Hash, unicode16}
 use Rattle.writing.specs.Writing.{request-head}
-use Rattle.writing.specs.Carrier.{start, Carries, coding-type, Opens, Counted, RequestOf, Query, InSize, OtherType, OtherVersion, NoRequest, NoQuery}
+use Rattle.writing.specs.Carrier.{start, Carries, coding-type, Opens, Counted, RequestOf, Query, InSize, OtherKind, OtherType, OtherVersion, NoRequest, NoQuery}
 use Rattle.read_carrier.proofs.CarrierLaws.{wide-bytes, carries-one}
 use Rattle.read_carrier.proofs.MessageOne.{opens-one, counted-one, counted-opens, query-opens}
 
@@ -62,10 +62,13 @@ in-size most m h = by (ltb (length m) 7) (ltb most (length m)) refl refl
     by false false x y = (ltb-false (length m) 7 x, ltb-false most (length m) y)
 
 module _ {version kind coding : ℕ} {d m : List ℕ} (o : Opens version kind coding d m) where
-  -- a message that opens with another type
+  -- a message that opens with none of these types
+  pub other-kind : (These : ℕ → Type 0) → (These kind → ⊥) → OtherKind These m
+  other-kind These never v k c x e p = never (subst⁻¹ These (opens-one o p .1) e)
+
+  -- neither with 0 nor with 5
   pub other-type : kind ≢ 0 → kind ≢ 5 → OtherType m
-  other-type a b v k c x (inl e) p = a (opens-one o p .1 ∙ e)
-  other-type a b v k c x (inr e) p = b (opens-one o p .1 ∙ e)
+  other-type a b = other-kind (λ k. (k ≡ 0) ⊎ (k ≡ 5)) (⊎-elim a b)
 
   -- or with another version
   pub other-version : version ≢ 1 → OtherVersion m

@@ -18,10 +18,12 @@ use Rattle.writing.specs.Carrier.{Carries, coding-type, first-byte, Opens, Coun
 use Rattle.writing.proofs.Bits.{shows-length, shows-split, widths-map}
 use Rattle.writing.proofs.Ends.{Agree, val-ends, res-ends, vals-end}
 use Rattle.read_fields.specs.Places.{PartAt}
-use Rattle.read_carrier.specs.Message.{MessageIs}
+use Rattle.read_carrier.specs.Message.{OpenedIs, MessageIs}
 use Rattle.read_fields.specs.declared.hashes.HashPlace.{HashPlace}
 use Rattle.read_carrier.specs.declared.carrier.Message.{Message}
 use Rattle.read_carrier.specs.declared.carrier.Message.the-variants.{Size, Carrier, «Type» as OtherType, Version, NoRequest, Request, NoQuery, Query as AQuery}
+use Rattle.read_carrier.specs.declared.carrier.Opened.{Opened}
+use Rattle.read_carrier.specs.declared.carrier.Opened.the-variants.{Size as OutOfSize, Carrier as Uncarried, Open}
 use Rattle.read_fields.proofs.HashLaws.{one-size}
 use Rattle.read_carrier.proofs.CarrierLaws.{wide-bytes, carries-one}
 
@@ -41,6 +43,20 @@ opens-one {v} {w} {t} {u} o p =
     let (a, g) = val-ends g in
     let (b, g) = val-ends g in
     (a, b, c, e)
+
+-- OPENED DETERMINED: two answers that the contract of opening allows for one message are equal
+pub opened-determined : (most : ℕ) (m : List ℕ) (a b : Opened) → OpenedIs most m a → OpenedIs most m b → a ≡ b
+opened-determined most m OutOfSize OutOfSize p q = refl
+opened-determined most m OutOfSize Uncarried p q = absurd (p (q .0))
+opened-determined most m OutOfSize (Open v k c) p q = absurd (p (q .0))
+opened-determined most m Uncarried OutOfSize p q = absurd (q (p .0))
+opened-determined most m Uncarried Uncarried p q = refl
+opened-determined most m Uncarried (Open v k c) p q = absurd (p .1 _ _ (q .1 .carried))
+opened-determined most m (Open v k c) OutOfSize p q = absurd (q (p .0))
+opened-determined most m (Open v k c) Uncarried p q = absurd (q .1 _ _ (p .1 .carried))
+opened-determined most m (Open v k c) (Open v′ k′ c′) p q =
+    let (e, f, g, _) = opens-one (p .1) (q .1) in
+    λ i. Open (e i) (f i) (g i)
 
 -- a request counts once
 pub counted-one : {n k : ℕ} {s t x : List ℕ} → Counted n s x → Counted k t x → n ≡ k

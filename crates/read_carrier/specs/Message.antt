@@ -12,6 +12,8 @@ use Rattle.writing.specs.Carrier.{start, States, Carries, coding-type, Opens, C
 use Rattle.read_fields.specs.Places.{PartAt}
 use Rattle.read_carrier.specs.declared.carrier.Message.{Message}
 use Rattle.read_carrier.specs.declared.carrier.Message.the-variants.{Size, Carrier, «Type» as OtherType, Version, NoRequest, Request, NoQuery, Query as AQuery}
+use Rattle.read_carrier.specs.declared.carrier.Opened.{Opened}
+use Rattle.read_carrier.specs.declared.carrier.Opened.the-variants.{Size as OutOfSize, Carrier as Uncarried, Open}
 use Rattle.read_carrier.specs.declared.carrier.CarrierRead.{CarrierRead}
 use Rattle.read_carrier.specs.declared.carrier.CarrierRead.the-variants.{Coding, NotCarried}
 
@@ -33,6 +35,12 @@ CarrierIs m (Coding coding) = Carries coding (drop 6 m) m
 CarrierIs m NotCarried = NothingCarried m
 
 -- ---- the message
+
+-- what it opens with, whatever its type: the answers in their order
+abbrev pub OpenedIs : ℕ → List ℕ → Opened → Type 0
+OpenedIs most m OutOfSize = InSize most m → ⊥
+OpenedIs most m Uncarried = InSize most m × NothingCarried m
+OpenedIs most m (Open version kind coding) = InSize most m × Opens version kind coding (drop 6 m) m
 
 -- the answers in their order: each holds where it is the first that does
 abbrev pub MessageIs : ℕ → List ℕ → Message → Type 0

@@ -7,19 +7,26 @@ use read_fields::hashes::read_hash;
 ghost use Prim.Native.Nat.{ℕ};
 ghost use lib.ListN.{drop};
 ghost use Rattle.writing.specs.Carrier.{Opens, InSize};
-ghost use Rattle.read_carrier.specs.Message.{StartsWith, LengthIs, CarrierIs, MessageIs};
+ghost use Rattle.read_carrier.specs.Message.{StartsWith, LengthIs, CarrierIs, OpenedIs, MessageIs};
 
 // The fixed start bytes: protocol version and service.
 pub const START: [u8; 2] = *b"\x02\x02";
 
 // The manufacturer that the carrier names.
-pub const MFID: u64 = 0x08;
+pub const MFID: u8 = 0x08;
 
 // The coding type of 16-bit Unicode.
 pub const UNICODE16: u8 = 0b0111;
 
 // The OTAPVer that is taken.
-pub const VERSION: u64 = 1;
+pub const VERSION: u8 = 1;
+
+// A message is out of size, not carried, or opens with a version, a type and a coding type.
+pub enum Opened {
+    Size,
+    Carrier,
+    Open(u8, u8, u8),
+}
 
 // A message is out of size, not carried, of another type or version, or a request or a result query, well formed or not.
 // A request has the count of its settings and the place where they start, a query the place of its hash.
@@ -77,11 +84,31 @@ fn read_carrier(m: &[u8]) -> CarrierRead
     if !states(head / 65536, (m.len() - 4) as u64) {
         return CarrierRead::NotCarried;
     }
-    if head / 256 % 256 != MFID {
+    if head / 256 % 256 != MFID as u64 {
         return CarrierRead::NotCarried;
     }
     let coding = (head % 16) as u8;
     CarrierRead::Coding(coding)
+}
+
+// What every message opens with, whatever its type, where at most so many bytes are taken.
+pub fn open_message(m: &[u8], most: usize) -> Opened
+    ensures { λ r. ⌜ OpenedIs most (now (m .entry)) r ⌝ }
+{
+    if m.len() < 7 {
+        return Opened::Size;
+    }
+    if most < m.len() {
+        return Opened::Size;
+    }
+    let carrier = read_carrier(m);
+    let CarrierRead::Coding(coding) = carrier else {
+        return Opened::Carrier;
+    };
+    let first = number(m, 6, 1);
+    let version = (first / 8 % 32) as u8;
+    let kind = (first % 8) as u8;
+    Opened::Open(version, kind, coding)
 }
 
 // A request, or none, where the first data byte says one.
@@ -125,28 +152,24 @@ fn read_query(m: &[u8]) -> Message
 pub fn read_message(m: &[u8], most: usize) -> Message
     ensures { λ r. ⌜ MessageIs most (now (m .entry)) r ⌝ }
 {
-    if m.len() < 7 {
-        return Message::Size;
-    }
-    if most < m.len() {
-        return Message::Size;
-    }
-    let carrier = read_carrier(m);
-    let CarrierRead::Coding(coding) = carrier else {
-        return Message::Carrier;
-    };
-    let first = number(m, 6, 1);
-    match first % 8 {
-        0 => {}
-        5 => {}
-        _ => return Message::Type,
-    }
-    if first / 8 != VERSION {
-        return Message::Version;
-    }
-    if first % 8 == 0 {
-        read_request(m, coding)
-    } else {
-        read_query(m)
+    let opened = open_message(m, most);
+    match opened {
+        Opened::Size => Message::Size,
+        Opened::Carrier => Message::Carrier,
+        Opened::Open(version, kind, coding) => {
+            match kind {
+                0 => {}
+                5 => {}
+                _ => return Message::Type,
+            }
+            if version != VERSION {
+                return Message::Version;
+            }
+            if kind == 0 {
+                read_request(m, coding)
+            } else {
+                read_query(m)
+            }
+        }
     }
 }

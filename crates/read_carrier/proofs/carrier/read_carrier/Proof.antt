@@ -35,6 +35,9 @@ returns-3 c =
     not-carried (c .before .before .before .before .before .before .before .args .m .now) (λ i. (c .before .before .before .before .before .before .shared-slice-known .given i) .fits) (c .before .before .number .ensures (omega arith, omega arith))
     (λ coding k. length-wrong _ _ _ (s .result) (s .ensures) (omega arith) (c .if3 .taken) (k .length-field))
 
+cast-if4 : tie.Need-cast-if4
+cast-if4 c = search needs
+
 returns-4 : tie.Need-returns-4
 returns-4 c = not-carried (c .before .before .before .before .before .before .before .before .args .m .now) (λ i. (c .before .before .before .before .before .before .before .shared-slice-known .given i) .fits) (c .before .before .before .number .ensures (omega arith, omega arith)) (λ coding k. omega (arith, k .mfid))
 
@@ -66,6 +69,7 @@ read-carrier-spec =
     sub-states
     states-requires
     returns-3
+    cast-if4
     returns-4
     cast-coding
     returns-5)
