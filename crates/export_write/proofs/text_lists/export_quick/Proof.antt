@@ -49,7 +49,7 @@ returns-3 c =
     let z = c .before .before .before .before .start-setting in
     let high : x .result .end ≤ 3099 = omega (arith, x .ensures .most, x .ensures .few) in
     let q = quick-wrote (a .part .now) (a .buffer .now) (x .last .0) (w .last .0) (z .last .0) 8 (w .result) (z .result) (x .result) (x .ensures) (w .ensures) (z .ensures) in
-    λ h. quick-done (a .part .now) (a .buffer .now) (x .last .0) (z .last .0) 8 (z .result) (x .result) (x .ensures) (c .if3 .taken) q (omega arith) (omega arith)
+    λ h. quick-done (a .part .now) (a .buffer .now) (x .last .0) (z .last .0) 8 (z .result) (x .result) (x .ensures) (omega arith) q (omega arith) (omega arith)
 
 sub-write-last-quick : tie.Need-sub-write-last-quick
 sub-write-last-quick c = search needs
@@ -78,7 +78,7 @@ returns-4 c =
     let high : x .result .end ≤ 3099 = omega (arith, x .ensures .most, x .ensures .few) in
     let q = quick-wrote (a .part .now) (a .buffer .now) (x .last .0) (w .last .0) (z .last .0) 8 (w .result) (z .result) (x .result) (x .ensures) (w .ensures) (z .ensures) in
     let y = c .before .before .before .write-last-quick in
-    λ h. quick-more (a .part .now) (a .buffer .now) (x .last .0) (z .last .0) 8 (z .result) (x .result) (x .ensures) (y .last .0) (y .result) (c .before .before .before .before .before .before .if3 .left) q (y .ensures .1) (omega arith) (omega arith)
+    λ h. quick-more (a .part .now) (a .buffer .now) (x .last .0) (z .last .0) 8 (z .result) (x .result) (x .ensures) (y .last .0) (y .result) (λ e. omega (arith, e)) q (y .ensures .1) (omega arith) (omega arith)
 
 pub export-quick-spec : {M : Type 1} → statement M
 export-quick-spec =
