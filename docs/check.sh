@@ -4,6 +4,7 @@
 # Pages name definitions, theorems and functions behind their file, on one line: `path/File.antt`: `name`, `name`. Paths are below crates/ or the root.
 #  - In the README and in docs/ each name so written is declared in its file, and each path is there.
 #  - In docs/RULES.md and docs/PROMISES.md no name stands without its file, each rule names something, and both have the same headings and rules.
+#  - Each path of the code, crate::module::item or crate::module::, in backticks or in a drawing, is that of something which is there.
 #  - A block below <!-- path: name --> is the file's own lines, one right after the other but for a line `..`, up to where the name's statement ends.
 set -eu
 cd "$(dirname "$0")/.."
@@ -61,12 +62,22 @@ function found(token,   path, pattern, i) {
     return ""
 }
 
+# A path of the code: a module, and what it declares.
+function check_item(path,   part, n, module) {
+    n = split(path, part, "::")
+    module = "crates/" part[1] "/src/" (n == 2 ? "lib" : part[2]) ".rt"
+    if (!(module in there)) fault("no such module: " path)
+    else if (part[n] != "" && !((module " " part[n]) in declared)) fault(module " does not declare " part[n])
+    else items++
+}
+
 # The names of a line, each behind its file.
 function check_line(   n, i, token, file, part, beside) {
     n = split($0, part, "`")
     if (n && n % 2 == 0) fault("a backtick without its other")
     for (i = 2; i <= n; i += 2) {
         token = part[i]
+        if (token ~ /^[a-z_0-9]+::/) check_item(token)
         if (beside != "" && token !~ /\// && (part[i - 1] == ": " || part[i - 1] == ", ")) {
             if (beside !~ /\.(antt|rt)$/) fault("names are looked for in .antt and .rt only: " beside)
             else if (!((beside " " token) in declared)) fault(beside " does not declare " token)
@@ -124,11 +135,21 @@ FNR == 1 { strict = FILENAME ~ /(RULES|PROMISES)\.md$/; fenced = 0; quoted = "" 
 }
 /^ *```/ {
     fenced = !fenced
+    drawing = /mermaid/
     if (fenced) lines = 0
     else if (quoted != "") { check_block(); quoted = "" }
     next
 }
-fenced { line = $0; sub(/^ +/, "", line); block[++lines] = line; next }
+fenced {
+    line = $0
+    sub(/^ +/, "", line)
+    block[++lines] = line
+    while (drawing && match(line, /[a-z_0-9]+(::[A-Za-z_0-9]+)+/)) {
+        check_item(substr(line, RSTART, RLENGTH))
+        line = substr(line, RSTART + RLENGTH)
+    }
+    next
+}
 strict && /^##/ { outline[FILENAME] = outline[FILENAME] $0 "\n" }
 strict && /^\| [G-X][0-9]+ / {
     rules[FILENAME]++
@@ -146,8 +167,8 @@ END {
     split(outline[b] "the end", y, "\n")
     for (i = 1; x[i] == y[i] && x[i] != "the end"; i++);
     if (x[i] != y[i]) { print a " goes on with " x[i] ", " b " with " y[i]; faults++ }
-    found_all = rules[a] + 0 " rules, " names[a] + 0 " names in " a " and " names[b] + 0 " in " b ", " quotes + 0 " quoted statements"
-    if (rules[a] < 100 || names[a] < 300 || names[b] < 300 || quotes < 2) { print "too little found: " found_all; faults++ }
+    found_all = rules[a] + 0 " rules, " names[a] + 0 " names in " a " and " names[b] + 0 " in " b ", " quotes + 0 " quoted statements, " items + 0 " paths of the code"
+    if (rules[a] < 100 || names[a] < 300 || names[b] < 300 || quotes < 2 || items < 30) { print "too little found: " found_all; faults++ }
     if (faults) exit 1
     print "pages: " found_all
 }

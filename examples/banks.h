@@ -1,5 +1,5 @@
 /*
- * banks.h: two banks of flash for a store of libhandheld.a, so that a power cut while one is written leaves the other. Plain C99, to be copied;
+ * banks.h: two banks of flash for a store of libotap_handheld.a, so that a power cut while one is written leaves the other. Plain C99, to be copied;
  * docs/FIRMWARE.md says what it is for, and banks_test.c cuts it at every byte.
  *
  * A bank is a head of 16 bytes, then the store. The head is eight bytes, then their complements: the layout, a sequence number, the CRC-32 of the store

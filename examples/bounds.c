@@ -225,7 +225,7 @@ static void take_random(unsigned turns)
 static void export_at(int at_end, uint32_t part, const uint8_t *bytes, size_t store_length, size_t length)
 {
     uint32_t expected = length < OTAP_EXPORT_BYTES ? OTAP_SHORT_BUFFER : store_length != OTAP_STORE_BYTES ? OTAP_NO_STORE
-                      : part < OTAP_EXPORT_LINES || part > OTAP_EXPORT_INDIVIDUALS ? OTAP_NO_PART : OTAP_OK;
+                      : part < 1 || part > OTAP_EXPORT_PARTS ? OTAP_NO_PART : OTAP_OK;
     uint64_t answer;
     current = "otap_export";
     lend(&store, at_end, bytes, store_length, 0);
@@ -244,7 +244,7 @@ static void export_sizes(void)
     for (turn = 0; turn < 50; turn++) {
         size_t store_length, length;
         int at_end = sizes_of(turn, OTAP_EXPORT_BYTES, &store_length, &length);
-        for (part = 0; part <= 8; part++) {
+        for (part = 0; part <= OTAP_EXPORT_PARTS + 1; part++) {
             export_at(at_end, part, filled, store_length, length);
         }
         export_at(at_end, 0xFFFFFFFFu, filled, store_length, length);
@@ -279,7 +279,7 @@ static void row_sizes(void)
     for (turn = 0; turn < 50; turn++) {
         size_t store_length, length;
         int at_end = sizes_of(turn, OTAP_SCRATCH_BYTES, &store_length, &length);
-        for (table = 0; table <= 6; table++) {
+        for (table = 0; table <= OTAP_TABLES + 1; table++) {
             row_at(at_end, table, 15, filled, store_length, length);
             row_at(at_end, table, 0xFFFFFFFFu, filled, store_length, length);
         }
@@ -289,7 +289,7 @@ static void row_sizes(void)
 static void row_all(void)
 {
     uint32_t each;
-    for (each = 0; each < 7 * 130; each++) {
+    for (each = 0; each < (OTAP_TABLES + 2) * 130; each++) {
         row_at((int)(each % 2), each / 130, each % 130, filled, OTAP_STORE_BYTES, OTAP_SCRATCH_BYTES);
     }
 }
@@ -303,8 +303,8 @@ static void damaged_stores(unsigned turns)
     for (turn = 0; turn < turns; turn++) {
         memcpy(bytes, filled, sizeof bytes);
         damage(bytes, sizeof bytes, 1 + random_below(3));
-        export_at((int)(turn % 2), 1 + turn % 7, bytes, sizeof bytes, OTAP_EXPORT_BYTES);
-        row_at((int)(turn % 2), 1 + turn % 5, random_below(128), bytes, sizeof bytes, OTAP_SCRATCH_BYTES);
+        export_at((int)(turn % 2), 1 + turn % OTAP_EXPORT_PARTS, bytes, sizeof bytes, OTAP_EXPORT_BYTES);
+        row_at((int)(turn % 2), 1 + turn % OTAP_TABLES, random_below(OTAP_STATUS_LAST + 1), bytes, sizeof bytes, OTAP_SCRATCH_BYTES);
         current = "otap_take";
         write_message(&said, turn % MESSAGE_KINDS, turn);
         lend(&message, (int)(turn % 2), said.bytes, said.length, 0);
@@ -342,7 +342,7 @@ static void every_length(void)
     for (vary = 0; vary < 23; vary++) {
         fill(vary);
         row_all();
-        for (part = 1; part <= 14; part++) {
+        for (part = 1; part <= 2 * OTAP_EXPORT_PARTS; part++) {
             export_at((int)(part % 2), (part + 1) / 2, filled, OTAP_STORE_BYTES, OTAP_EXPORT_BYTES);
         }
         damaged_stores(1000);

@@ -1,5 +1,5 @@
 /*
- * A bit of firmware over libhandheld.a: keep a store at power-on or start one, take messages, save, start again, draw the rows, write the settings out
+ * A bit of firmware over libotap_handheld.a: keep a store at power-on or start one, take messages, save, start again, draw the rows, write the settings out
  * and into another set. Every answer is checked; the first that is not what it must be ends the program with 1. examples/firmware.out is what it prints.
  * It is one task, so it needs no lock; docs/FIRMWARE.md says where three need one, and how to save so that a power cut loses nothing (banks.c).
  */
@@ -15,10 +15,10 @@ static const uint8_t adding[] = {
     0x08, 0x07,                         /* MFID; coding type 0111, 16-bit Unicode */
     0x08, 0x04,                         /* OTAPVer 1, MsgType 0 request; four settings */
     0xD1, 0x00, 0x11,                   /* group slot, DataLength 17 */
-    0x50, 0x00, 0x10, 0x00, 0x01,       /* add, attribute 01; priority 0, index 0; address 100001 */
+    0x60, 0x00, 0x10, 0x00, 0x01,       /* add, attribute 10; priority 0, index 0; address 100001 */
     0x52, 0x11, 0x8B, 0x66, 0x4E, 0x00, 0x96, 0x1F, 0x00, 0x00, /* 刑警一队, end */
     0xD1, 0x00, 0x11,                   /* group slot, DataLength 17 */
-    0x50, 0x01, 0x10, 0x00, 0x02,       /* add, attribute 01; priority 0, index 1; address 100002 */
+    0x60, 0x01, 0x10, 0x00, 0x02,       /* add, attribute 10; priority 0, index 1; address 100002 */
     0x4E, 0xA4, 0x8B, 0x66, 0x4E, 0x8C, 0x96, 0x1F, 0x00, 0x00, /* 交警二队, end */
     0xCA, 0x00, 0x11,                   /* line contacts, DataLength 17 */
     0x42, 0x01,                         /* add, IDtype PABX; one entry */
@@ -34,7 +34,7 @@ static const uint8_t renaming[] = {
     0x08, 0x07,                         /* MFID, coding type */
     0x08, 0x03,                         /* request, three settings */
     0xD1, 0x00, 0x11,                   /* group slot, DataLength 17 */
-    0x50, 0x01, 0x10, 0x00, 0x02,       /* add, attribute 01; index 1; address 100002 */
+    0x60, 0x01, 0x10, 0x00, 0x02,       /* add, attribute 10; index 1; address 100002 */
     0x5D, 0xE1, 0x90, 0x3B, 0x4E, 0x09, 0x7E, 0xC4, 0x00, 0x00, /* 巡逻三组, end */
     0xD2, 0x00, 0x09,                   /* individual slot, DataLength 9 */
     0x40, 0x00, 0x10, 0x3C, 0x28,       /* add; index 0; address 103C28 */
@@ -49,7 +49,7 @@ static const uint8_t refused[] = {
     0x08, 0x07,                         /* MFID, coding type */
     0x08, 0x02,                         /* request, two settings */
     0xD1, 0x00, 0x0B,                   /* group slot, DataLength 11 */
-    0x50, 0x00, 0x10, 0x00, 0x02,       /* add, attribute 01; index 0; address 100002 */
+    0x60, 0x00, 0x10, 0x00, 0x02,       /* add, attribute 10; index 0; address 100002 */
     0x96, 0x1F, 0x00, 0x00,             /* 队, end */
     0xCD, 0x00, 0x05,                   /* home numbers, DataLength 5 */
     0x07, 0xE4, 0xE0                    /* NZI 15, NP 807: one too many */
@@ -212,7 +212,7 @@ static void export_to_other(void)
 {
     uint32_t part;
     must_be("starting the other store", otap_start(other, sizeof other), OTAP_OK);
-    for (part = OTAP_EXPORT_LINES; part <= OTAP_EXPORT_INDIVIDUALS; part++) {
+    for (part = 1; part <= OTAP_EXPORT_PARTS; part++) {
         uint64_t written = otap_export(part, store, sizeof store, request, sizeof request);
         uint64_t answer;
         must_be("the number of an export", otap_answer_number(written), OTAP_OK);
@@ -238,7 +238,7 @@ static void same_row(uint32_t table, uint32_t row)
 static void same_rows(void)
 {
     uint32_t table, row;
-    for (table = OTAP_LINES; table <= OTAP_INDIVIDUALS; table++) {
+    for (table = 1; table <= OTAP_TABLES; table++) {
         for (row = 0; row <= OTAP_STATUS_LAST; row++) {
             same_row(table, row);
         }

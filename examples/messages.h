@@ -132,11 +132,11 @@ static inline void put_channels(Message *m, unsigned operation, unsigned count)
     close_setting(m, at);
 }
 
-/* A group (D1) or an individual (D2). Slots 13 to 15 have no text; the address of 14 is a group outside the plan, that of 15 both. */
+/* A group (D1), of attribute 10 with `vary` 0, or an individual (D2). Slots 13 to 15 have no text; the address of 14 is a group outside the plan, that of 15 both. */
 static inline void put_slot(Message *m, unsigned type, unsigned operation, unsigned index, unsigned vary)
 {
     size_t at = open_setting(m, type);
-    put(m, operation * 64 + (type == 0xD1 ? (1 + vary % 3) * 16 + vary % 16 : vary % 16 * 4));
+    put(m, operation * 64 + (type == 0xD1 ? (1 + (vary + 1) % 3) * 16 + vary % 16 : vary % 16 * 4));
     put(m, (type == 0xD1 ? vary % 4 * 64 : 0) + index);
     put(m, index == 15 ? 0xFF : 0x10);
     put(m, index == 15 ? 0xFF : index == 14 ? 0x3C : 0x00);

@@ -43,7 +43,7 @@ static void replied(void)
     same("room", 2, OTAP_NO_ROOM, otap_answer_number(take()));
     same("room, packed", 0x0A010102, take(), 0x0A010102);
     write_message(&said, 0, 0);
-    said.bytes[8] = 0xC9;
+    said.bytes[8] = 0xD4;
     same("type", 3, OTAP_UNKNOWN_TYPE, otap_answer_number(take()));
     said.bytes[8] = 0xCB;
     same("field", 4, OTAP_BAD_FIELD, otap_answer_number(take()));
@@ -76,11 +76,11 @@ static void untouched(void)
 
 static void exported(void)
 {
-    static const uint8_t types[] = {0, 0xCA, 0xCB, 0xCC, 0xCE, 0xD0, 0xD1, 0xD2};
-    static const uint8_t parts[] = {0, OTAP_EXPORT_LINES, OTAP_EXPORT_FIXED, OTAP_EXPORT_QUICK_TEXTS, OTAP_EXPORT_CHANNELS,
-                                    OTAP_EXPORT_STATUS_TEXTS, OTAP_EXPORT_GROUPS, OTAP_EXPORT_INDIVIDUALS};
+    static const uint8_t types[OTAP_EXPORT_PARTS + 1] = {0, 0xCA, 0xCB, 0xCC, 0xCE, 0xD0, 0xD1, 0xD2};
+    static const uint8_t parts[OTAP_EXPORT_PARTS + 1] = {0, OTAP_EXPORT_LINES, OTAP_EXPORT_FIXED, OTAP_EXPORT_QUICK_TEXTS, OTAP_EXPORT_CHANNELS,
+                                                         OTAP_EXPORT_STATUS_TEXTS, OTAP_EXPORT_GROUPS, OTAP_EXPORT_INDIVIDUALS};
     uint32_t part;
-    for (part = 1; part <= 7; part++) {
+    for (part = 1; part <= OTAP_EXPORT_PARTS; part++) {
         uint64_t answer = otap_export(part, store, OTAP_STORE_BYTES, buffer, sizeof buffer);
         same("export", 0, OTAP_OK, otap_answer_number(answer));
         same("part", part, parts[part], part);
@@ -88,7 +88,7 @@ static void exported(void)
         same("part's length", otap_export_length(answer), buffer[2] * 256u + buffer[3] + 4u, answer >> 16);
     }
     same("short buffer", 15, OTAP_SHORT_BUFFER, otap_export(1, store, OTAP_STORE_BYTES, buffer, OTAP_EXPORT_BYTES - 1));
-    same("part", 16, OTAP_NO_PART, otap_export(8, store, OTAP_STORE_BYTES, buffer, OTAP_EXPORT_BYTES));
+    same("part", 16, OTAP_NO_PART, otap_export(OTAP_EXPORT_PARTS + 1, store, OTAP_STORE_BYTES, buffer, OTAP_EXPORT_BYTES));
     same("part", 16, OTAP_NO_PART, otap_export(0, store, OTAP_STORE_BYTES, buffer, OTAP_EXPORT_BYTES));
 }
 
@@ -100,7 +100,7 @@ static uint32_t row(uint32_t table, uint32_t at)
 /* Each table's first and last row is there, and none beside them; store offsets are those of docs/STORE.md. */
 static void rows(void)
 {
-    static const struct { uint32_t table, number, first, last; size_t offset; } tables[] = {
+    static const struct { uint32_t table, number, first, last; size_t offset; } tables[OTAP_TABLES] = {
         {OTAP_LINES, 1, 0, OTAP_LINE_ROWS - 1, 7414 + 19},
         {OTAP_QUICK_TEXTS, 2, 0, OTAP_QUICK_ROWS - 1, 22},
         {OTAP_STATUS_TEXTS, 3, OTAP_STATUS_FIRST, OTAP_STATUS_LAST, 2966 + 1},
@@ -108,7 +108,7 @@ static void rows(void)
         {OTAP_INDIVIDUALS, 5, 0, OTAP_SLOT_ROWS - 1, 6710 + 4}
     };
     size_t each;
-    for (each = 0; each < 5; each++) {
+    for (each = 0; each < OTAP_TABLES; each++) {
         uint64_t part = otap_row_part(tables[each].table, tables[each].first, store, OTAP_STORE_BYTES, scratch, sizeof scratch);
         same("table", tables[each].number, tables[each].table, tables[each].table);
         same("first row", 0, OTAP_OK, row(tables[each].table, tables[each].first));
@@ -117,7 +117,7 @@ static void rows(void)
         same("row after", 17, OTAP_NO_ROW, row(tables[each].table, tables[each].last + 1));
         same("place", tables[each].offset, otap_part_offset(part), part >> 16 & 0xFFFF);
         same("in the store", 0, (uint64_t)otap_part_in_scratch(part), part & 1);
-        same("units", tables[each].table == 2 ? OTAP_ROW_BYTES : 32, otap_part_length(part), part >> 32);
+        same("units", tables[each].table == OTAP_QUICK_TEXTS ? OTAP_ROW_BYTES : 32, otap_part_length(part), part >> 32);
     }
     same("short scratch", 15, OTAP_SHORT_BUFFER, otap_row_number(1, 0, store, OTAP_STORE_BYTES, scratch, OTAP_SCRATCH_BYTES - 1));
 }
@@ -127,7 +127,7 @@ static void numbers_shown(void)
 {
     uint64_t line = otap_row_part(OTAP_LINES, 16, store, OTAP_STORE_BYTES, scratch, sizeof scratch);
     same("line's number", 1 | (uint64_t)OTAP_SCRATCH_BYTES << 32, line, line);
-    same("its last digit", '6', scratch[35], otap_part_bytes(line, store, scratch)[35]);
+    same("its last digit", '6', scratch[OTAP_SCRATCH_BYTES - 1], otap_part_bytes(line, store, scratch)[OTAP_SCRATCH_BYTES - 1]);
     line = otap_row_part(OTAP_GROUPS, 15, store, OTAP_STORE_BYTES, scratch, sizeof scratch);
     same("group's number", 1 | (uint64_t)12 << 32, line, line);
     same("its digits", 0, (uint64_t)memcmp(scratch, "\0F\0F\0F\0F\0" "1\0" "0", 12), 0);
@@ -137,7 +137,7 @@ static void numbers_shown(void)
 static void asked_once(const uint8_t *bytes, size_t room)
 {
     uint32_t table, at;
-    for (table = 0; table <= 6; table++) {
+    for (table = 0; table <= OTAP_TABLES + 1; table++) {
         for (at = 0; at <= OTAP_STATUS_LAST + 1; at++) {
             uint32_t number = otap_row_number(table, at, bytes, OTAP_STORE_BYTES, scratch, room);
             uint64_t part = otap_row_part(table, at, bytes, OTAP_STORE_BYTES, scratch, room);
@@ -166,7 +166,7 @@ static void layout(void)
         sum = (sum ^ store[at]) * 16777619u;
     }
     same("layout", 1, OTAP_LAYOUT, 1);
-    same("sum of a full store of layout 1", 0x228009F5u, sum, sum);
+    same("sum of a full store of layout 1", 0x0CD8CFF5u, sum, sum);
 }
 
 static void conversions(void)

@@ -1,10 +1,10 @@
 #!/bin/sh
 # shellcheck disable=SC2086,SC2317,SC2329 # flags are several words, and steps are called by their names
 # examples/run.sh: the C header and the C examples, one named step after the other; ends with 1 if one of them fails.
-# It links $OTAP_ARCHIVE_DIR/libhandheld.a, or target/staticlib/libhandheld.a, which `rt staticlib handheld` writes. CC and CXX name the compilers.
+# It links $OTAP_ARCHIVE_DIR/libotap_handheld.a, or target/staticlib/libotap_handheld.a, which `rt staticlib otap_handheld` writes. CC and CXX name the compilers.
 set -u
 cd "$(dirname "$0")/.." || exit 1
-archive=${OTAP_ARCHIVE_DIR:-target/staticlib}/libhandheld.a
+archive=${OTAP_ARCHIVE_DIR:-target/staticlib}/libotap_handheld.a
 CC=${CC:-gcc}
 CXX=${CXX:-g++}
 warnings="-Wall -Wextra -Wpedantic -Wconversion -Wshadow -Werror -Iinclude"
@@ -153,7 +153,7 @@ if [ "$(uname -m)" != x86_64 ]; then
     fi
 fi
 if [ ! -f "$archive" ]; then
-    echo "FAILED  no $archive: rt staticlib handheld writes it"
+    echo "FAILED  no $archive: rt staticlib otap_handheld writes it"
     exit 1
 fi
 step "firmware as C" build_and_print firmware_c c c99 "$CC" "$sanitizers"

@@ -28,11 +28,11 @@ static void convert(uint32_t value)
 
 static void call(void)
 {
-    uint32_t table = 1 + turn % 5, row = turn / 5 % 128;
+    uint32_t table = 1 + turn % OTAP_TABLES, row = turn / OTAP_TABLES % (OTAP_STATUS_LAST + 1);
     switch (which) {
     case 0: answer = otap_start(store, sizeof store); break;
     case 1: answer = otap_take(message.bytes, message.length, store, sizeof store, buffer, sizeof buffer); break;
-    case 2: answer = otap_export(1 + turn % 7, store, sizeof store, buffer, sizeof buffer); break;
+    case 2: answer = otap_export(1 + turn % OTAP_EXPORT_PARTS, store, sizeof store, buffer, sizeof buffer); break;
     case 3: answer = otap_row_number(table, row, store, sizeof store, buffer, sizeof buffer); break;
     case 4: answer = otap_row_part(table, row, store, sizeof store, buffer, sizeof buffer); break;
     case 5: convert(turn); break;

@@ -103,8 +103,8 @@ static uint64_t export_once(uint32_t part, const uint8_t *store, size_t store_le
     must((number == OTAP_SHORT_BUFFER) == (length < OTAP_EXPORT_BYTES), "15 exactly of short buffers");
     must(number == OTAP_OK || answer == number, "a refused export has length 0");
     must(number == OTAP_OK || number == OTAP_SHORT_BUFFER || number == OTAP_NO_STORE || number == OTAP_NO_PART, "a number of export");
-    must(number != OTAP_OK || (part >= 1 && part <= 7 && wrote >= 12 && wrote <= OTAP_EXPORT_BYTES), "a part that there is");
-    must(number != OTAP_NO_PART || part < 1 || part > 7, "16 only of other parts");
+    must(number != OTAP_OK || (part >= 1 && part <= OTAP_EXPORT_PARTS && wrote >= 12 && wrote <= OTAP_EXPORT_BYTES), "a part that there is");
+    must(number != OTAP_NO_PART || part < 1 || part > OTAP_EXPORT_PARTS, "16 only of other parts");
     must(number != OTAP_OK || b.bytes[2] * 256u + b.bytes[3] + 4u == wrote, "an export states its true length");
     memcpy(request, b.bytes, wrote);
     give_back(&s);

@@ -3,12 +3,12 @@
 # fuzz/run.sh [SECONDS]: fuzzes the C functions for as long (60), with libFuzzer, else AFL++, else a driver of our own, and says which.
 # Ends with 1 on a finding, or if a check cannot fail.
 # FUZZ_WITH=libfuzzer, afl or driver asks for one; FUZZ_SEED (1) is the driver's and libFuzzer's seed. Findings are kept in target/fuzz/.
-# It links $OTAP_ARCHIVE_DIR/libhandheld.a, or target/staticlib/libhandheld.a, which `rt staticlib handheld` writes.
+# It links $OTAP_ARCHIVE_DIR/libotap_handheld.a, or target/staticlib/libotap_handheld.a, which `rt staticlib otap_handheld` writes.
 set -u
 cd "$(dirname "$0")/.." || exit 1
 seconds=${1:-60}
 seed=${FUZZ_SEED:-1}
-archive=${OTAP_ARCHIVE_DIR:-target/staticlib}/libhandheld.a
+archive=${OTAP_ARCHIVE_DIR:-target/staticlib}/libotap_handheld.a
 flags="-std=c11 -Wall -Wextra -Iinclude -g -O1"
 sanitizers="-fsanitize=address,undefined -fno-sanitize-recover=all"
 wrapped="-Wl,--wrap=otap_take -Wl,--wrap=otap_export -Wl,--wrap=otap_row_number -Wl,--wrap=otap_row_part"
@@ -21,7 +21,7 @@ if [ "$(uname -m)" != x86_64 ]; then
     exit 0
 fi
 if [ ! -f "$archive" ]; then
-    echo "FAILED  no $archive: rt staticlib handheld writes it"
+    echo "FAILED  no $archive: rt staticlib otap_handheld writes it"
     exit 1
 fi
 work=$(mktemp -d) || exit 1

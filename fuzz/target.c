@@ -132,7 +132,7 @@ static void ask_row(Input *input, unsigned choice)
 {
     unsigned table = next_byte(input), row = next_byte(input);
     size_t store_length = chosen_store(choice);
-    uint32_t number = row_twice(table < 250 ? table % 7 : 0xFFFFFFFFu - table, row < 250 ? row : row * 0x01010101u, store, store_length,
+    uint32_t number = row_twice(table < 250 ? table % (OTAP_TABLES + 2) : 0xFFFFFFFFu - table, row < 250 ? row : row * 0x01010101u, store, store_length,
                                 chosen_size(choice, OTAP_SCRATCH_BYTES));
     must(store_length != OTAP_STORE_BYTES || number != OTAP_NO_STORE, "a store is known as one");
 }
@@ -142,7 +142,7 @@ static void ask_export(Input *input, unsigned choice)
     static uint8_t request[OTAP_EXPORT_BYTES];
     unsigned part = next_byte(input);
     size_t store_length = chosen_store(choice);
-    uint64_t answer = export_twice(part < 250 ? part % 9 : part * 0x01010101u, store, store_length,
+    uint64_t answer = export_twice(part < 250 ? part % (OTAP_EXPORT_PARTS + 2) : part * 0x01010101u, store, store_length,
                                    chosen_size(choice, OTAP_EXPORT_BYTES), request);
     must(store_length != OTAP_STORE_BYTES || otap_answer_number(answer) != OTAP_NO_STORE, "a store is known as one");
 }
@@ -153,7 +153,7 @@ static void restore_it(void)
     static uint8_t request[OTAP_EXPORT_BYTES], again[OTAP_EXPORT_BYTES];
     uint32_t part;
     must(otap_start(other, OTAP_STORE_BYTES) == OTAP_OK, "a store can be started");
-    for (part = 1; part <= 7; part++) {
+    for (part = 1; part <= OTAP_EXPORT_PARTS; part++) {
         uint64_t written = export_once(part, store, OTAP_STORE_BYTES, OTAP_EXPORT_BYTES, 0, request), answer;
         size_t length = otap_export_length(written);
         must(otap_answer_number(written) == OTAP_OK, "a store can be exported");

@@ -1,5 +1,5 @@
 /*
- * otap.h: the C functions of libhandheld.a, for the firmware of a PDT hand-held.
+ * otap.h: the C functions of libotap_handheld.a, for the firmware of a PDT hand-held.
  *
  * The library owns no memory and keeps nothing between two calls: the tables are in the store, bytes that the caller lends. No call allocates, waits or
  * calls back, and every call comes back. Every answer is a number of the table below; a call that answers more than a number packs it into 64 bits, and
@@ -84,7 +84,8 @@ enum {
     OTAP_QUICK_TEXTS = 2,      /* quick texts by index */
     OTAP_STATUS_TEXTS = 3,     /* status texts by code */
     OTAP_GROUPS = 4,           /* group slots by index */
-    OTAP_INDIVIDUALS = 5       /* individual slots by index */
+    OTAP_INDIVIDUALS = 5,      /* individual slots by index */
+    OTAP_TABLES = 5            /* as many: 1 to OTAP_TABLES */
 };
 
 enum {
@@ -103,7 +104,8 @@ enum {
     OTAP_EXPORT_CHANNELS = 4,
     OTAP_EXPORT_STATUS_TEXTS = 5,
     OTAP_EXPORT_GROUPS = 6,
-    OTAP_EXPORT_INDIVIDUALS = 7
+    OTAP_EXPORT_INDIVIDUALS = 7,
+    OTAP_EXPORT_PARTS = 7      /* as many: 1 to OTAP_EXPORT_PARTS */
 };
 
 /*

@@ -1,9 +1,9 @@
-//! Finds the verified archive `libhandheld.a` and links it.
+//! Finds the verified archive `libotap_handheld.a` and links it.
 
 use std::env;
 use std::path::{Path, PathBuf};
 
-const ARCHIVE: &str = "libhandheld.a";
+const ARCHIVE: &str = "libotap_handheld.a";
 
 fn main() {
     println!("cargo::rustc-check-cfg=cfg(without_archive)");
@@ -29,10 +29,10 @@ fn link(directory: &Path) {
     println!("cargo::rerun-if-changed={}", archive.display());
     if archive.is_file() {
         println!("cargo::rustc-link-search=native={}", directory.display());
-        println!("cargo::rustc-link-lib=static=handheld");
+        println!("cargo::rustc-link-lib=static=otap_handheld");
     } else {
         println!(
-            "cargo::error=there is no {}: run `rt staticlib handheld` in the repository first",
+            "cargo::error=there is no {}: run `rt staticlib otap_handheld` in the repository first",
             archive.display()
         );
     }

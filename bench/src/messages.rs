@@ -154,7 +154,7 @@ fn status_texts(count: usize, operation: Operation) -> Vec<Vec<u8>> {
 
 fn group(place: usize, units: usize) -> Vec<u8> {
     let slot = GroupSlot {
-        attribute: 1,
+        attribute: 2,
         broadcast: false,
         encryption: true,
         ovcm: false,

@@ -27,7 +27,7 @@ pub enum Refusal {
     OutsideKind,
     /// 22: there is no such channel.
     NoSuchChannel,
-    /// A number that document 01 does not list; the contracts of crate `handheld` allow none.
+    /// A number that document 01 does not list; the contracts of crate `otap_handheld` allow none.
     Unlisted(u8),
 }
 
@@ -146,7 +146,7 @@ impl<'r> Answer<'r> {
             failed_id: byte(packed, 8),
             send: packed >> 16 & 1 == 1,
             reboot: packed >> 17 & 1 == 1,
-            // Crate `handheld` proves that the length is within the buffer; `get` does not rely on it.
+            // Crate `otap_handheld` proves that the length is within the buffer; `get` does not rely on it.
             reply: reply.get(..usize::from(length)).unwrap_or_default(),
         }
     }

@@ -1,6 +1,6 @@
 //! The C functions of the verified archive, and all of this crate's unsafe code.
 //!
-//! What each bit of an answer means is said in crate `handheld`, whose contracts also determine
+//! What each bit of an answer means is said in crate `packing`; the contracts of `otap_handheld` determine
 //! every byte that a call writes. Every call takes slices of any length and content.
 #![allow(unsafe_code)]
 

@@ -11,7 +11,7 @@ pub mod sweep;
 use crate::reference::export::{part_bytes, PARTS};
 use crate::reference::message::{first_byte, Hash, LONGEST, QUERY, SHORTEST};
 use crate::reference::tables::Set;
-use crate::reference::take::take;
+use crate::reference::take::{take, REPLY_ROOM};
 use draft::{restate, Draft};
 use maker::pool_hash;
 use random::Random;
@@ -33,7 +33,7 @@ impl Inputs {
     /// The next message and a kind, which nobody judges.
     pub fn record(&mut self) -> (u16, Vec<u8>) {
         let kind = if self.random.percent(80) {
-            self.random.within(1..=7)
+            self.random.within(1..=usize::from(PARTS))
         } else {
             self.random.bits(16) as usize
         };
@@ -50,7 +50,7 @@ impl Inputs {
             _ => self.exported(),
         };
         message.truncate(LONGEST_INPUT);
-        take(&message, &mut self.set, &mut [0; 20]);
+        take(&message, &mut self.set, &mut [0; REPLY_ROOM]);
         message
     }
 
@@ -118,7 +118,7 @@ impl Inputs {
         message[2..4].copy_from_slice(&stated.to_be_bytes());
     }
 
-    /// Fewer than 7 bytes, just 7 or 8, or more than 4,096.
+    /// Fewer than 7 bytes, just 7 or 8, or more than the longest allowed.
     fn wrong_length(&mut self) -> Vec<u8> {
         if self.random.percent(50) {
             let length = self.random.below(SHORTEST + 2);

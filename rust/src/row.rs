@@ -17,6 +17,9 @@ impl Table {
     pub const GROUPS: Table = Table(4);
     /// Individuals, by slot from 0.
     pub const INDIVIDUALS: Table = Table(5);
+    /// All five.
+    pub const ALL: [Table; 5] =
+        [Table::LINES, Table::QUICK_TEXTS, Table::STATUS_TEXTS, Table::GROUPS, Table::INDIVIDUALS];
 }
 
 /// The lent bytes that a row's part lies in.
@@ -64,7 +67,7 @@ impl<'a> Row<'a> {
         let (slice, lent) =
             if packed & 1 == 0 { (Slice::Store, store) } else { (Slice::Scratch, scratch) };
         let (offset, length) = (half(packed, 16), half(packed, 32));
-        // Crate `handheld` proves that the part is within its slice; `get` does not rely on it.
+        // Crate `otap_handheld` proves that the part is within its slice; `get` does not rely on it.
         let bytes = lent.get(offset..offset + length).unwrap_or_default();
         Row { bytes, slice, offset }
     }

@@ -95,7 +95,7 @@ impl<'s> Store<'s> {
     pub fn export<'b>(&self, part: Part, buffer: &'b mut [u8]) -> Result<&'b [u8], Refusal> {
         let packed = calls::export(part.0, self.bytes, buffer);
         match byte(packed, 0) {
-            // Crate `handheld` proves that the length is within the buffer; `get` does not rely on it.
+            // Crate `otap_handheld` proves that the length is within the buffer; `get` does not rely on it.
             0 => Ok(buffer.get(..half(packed, 16)).unwrap_or_default()),
             number => Err(Refusal::from_number(number)),
         }
@@ -112,8 +112,8 @@ impl<'s> Store<'s> {
     /// # use otap::{Outcome, Store, Table, REPLY_ROOM, SCRATCH_ROOM, STORE_SIZE};
     /// # fn main() -> Result<(), otap::Refusal> {
     /// // Both name group 32820900, in slot 0: first A1, then B2.
-    /// const NAME: [u8; 22] = *b"\x02\x02\0\x12\x08\x07\x08\x01\xD1\0\x0D\x50\0\x10\0\x01\0A\01\0\0";
-    /// const RENAME: [u8; 22] = *b"\x02\x02\0\x12\x08\x07\x08\x01\xD1\0\x0D\x50\0\x10\0\x01\0B\02\0\0";
+    /// const NAME: [u8; 22] = *b"\x02\x02\0\x12\x08\x07\x08\x01\xD1\0\x0D\x60\0\x10\0\x01\0A\01\0\0";
+    /// const RENAME: [u8; 22] = *b"\x02\x02\0\x12\x08\x07\x08\x01\xD1\0\x0D\x60\0\x10\0\x01\0B\02\0\0";
     /// let (mut bytes, mut reply, mut scratch) = ([0; STORE_SIZE], [0; REPLY_ROOM], [0; SCRATCH_ROOM]);
     /// let mut store = Store::start(&mut bytes)?;
     /// assert_eq!(store.take(&NAME, &mut reply).outcome, Outcome::Taken);
@@ -132,8 +132,8 @@ impl<'s> Store<'s> {
     /// ```compile_fail,E0502
     /// # use otap::{Outcome, Store, Table, REPLY_ROOM, SCRATCH_ROOM, STORE_SIZE};
     /// # fn main() -> Result<(), otap::Refusal> {
-    /// # const NAME: [u8; 22] = *b"\x02\x02\0\x12\x08\x07\x08\x01\xD1\0\x0D\x50\0\x10\0\x01\0A\01\0\0";
-    /// # const RENAME: [u8; 22] = *b"\x02\x02\0\x12\x08\x07\x08\x01\xD1\0\x0D\x50\0\x10\0\x01\0B\02\0\0";
+    /// # const NAME: [u8; 22] = *b"\x02\x02\0\x12\x08\x07\x08\x01\xD1\0\x0D\x60\0\x10\0\x01\0A\01\0\0";
+    /// # const RENAME: [u8; 22] = *b"\x02\x02\0\x12\x08\x07\x08\x01\xD1\0\x0D\x60\0\x10\0\x01\0B\02\0\0";
     /// # let (mut bytes, mut reply, mut scratch) = ([0; STORE_SIZE], [0; REPLY_ROOM], [0; SCRATCH_ROOM]);
     /// # let mut store = Store::start(&mut bytes)?;
     /// # assert_eq!(store.take(&NAME, &mut reply).outcome, Outcome::Taken);

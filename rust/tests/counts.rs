@@ -4,7 +4,7 @@
 use otap::inputs::{Inputs, LONGEST_INPUT};
 use otap::reference::message::LONGEST;
 use otap::reference::tables::Set;
-use otap::reference::take::take;
+use otap::reference::take::{take, REPLY_ROOM};
 use std::collections::BTreeMap;
 
 const SEEDS: u64 = 200;
@@ -19,7 +19,7 @@ fn every_number_comes_often() {
         let mut inputs = Inputs::new(seed);
         let mut set = Set::default();
         for _ in 0..MESSAGES {
-            let answer = take(&inputs.message(), &mut set, &mut [0; 20]);
+            let answer = take(&inputs.message(), &mut set, &mut [0; REPLY_ROOM]);
             *counts.entry(answer.number).or_default() += 1;
             *later_places.entry((answer.number, answer.failed.min(2))).or_insert(0) += 1;
         }
@@ -42,7 +42,7 @@ fn tables_fill_and_messages_grow_long() {
         let mut set = Set::default();
         for _ in 0..MESSAGES {
             let message = inputs.message();
-            let answer = take(&message, &mut set, &mut [0; 20]);
+            let answer = take(&message, &mut set, &mut [0; REPLY_ROOM]);
             assert!(message.len() <= LONGEST_INPUT);
             longest += usize::from(message.len() == LONGEST && answer.number == 0);
             over += usize::from(message.len() > LONGEST);

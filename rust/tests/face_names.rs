@@ -36,7 +36,7 @@ fn outcomes_with_a_reply() {
     assert_eq!(outcome(&HOME), (Outcome::Taken, 0));
     assert_eq!(outcome(&changed(6, 0x10)), (Outcome::WrongVersion, 1));
     assert_eq!(outcome(&too_many_channels()), (Outcome::NoRoom, 2));
-    assert_eq!(outcome(&changed(8, 0xD3)), (Outcome::UnknownType, 3));
+    assert_eq!(outcome(&changed(8, 0xD4)), (Outcome::UnknownType, 3));
     assert_eq!(outcome(&changed(13, 0xE0)), (Outcome::BadField, 4));
     assert_eq!(outcome(&[2, 2, 0, 0, 8, 0, 0x0D, 0]), (Outcome::NoMatch, 5));
 }
@@ -66,10 +66,11 @@ fn refusals_of_stores_exports_and_rows() {
     let mut bytes = vec![0; STORE_SIZE];
     let store = Store::start(&mut bytes).expect("the size is right");
     let (mut buffer, mut scratch) = ([0; EXPORT_ROOM], [0; SCRATCH_ROOM]);
+    let no_part = Part(Part::ALL.len() as u32 + 1);
     let (short_buffer, short_scratch) = (&mut buffer[1..], &mut scratch[1..]);
     assert_eq!(refused(store.export(Part::LINES, short_buffer)), (Refusal::BufferShort, 15));
     assert_eq!(refused(store.row(Table::LINES, 0, short_scratch)), (Refusal::BufferShort, 15));
-    assert_eq!(refused(store.export(Part(8), &mut buffer)), (Refusal::NoSuchPart, 16));
+    assert_eq!(refused(store.export(no_part, &mut buffer)), (Refusal::NoSuchPart, 16));
     assert_eq!(refused(store.row(Table::LINES, 0, &mut scratch)), (Refusal::NoSuchRow, 17));
     assert_eq!(refused(store.check_row(Table::LINES, 0, &scratch)), (Refusal::NoSuchRow, 17));
     assert_eq!(Refusal::NoSuchRow.to_string(), "17: there is no such row");
@@ -96,7 +97,7 @@ fn tables_and_parts() {
         &[0xCA, 0, 10, 0x40, 1, 0x12, 0x3F, 0, b'L', 0, 0],
         &[0xCC, 0, 8, 0x41, 0, 0, b'Q', 0, 0],
         &[0xD0, 0, 9, 0x40, 1, 32, 0, b'S', 0, 0],
-        &[0xD1, 0, 11, 0x50, 0, 0x10, 0, 1, 0, b'G', 0, 0],
+        &[0xD1, 0, 11, 0x60, 0, 0x10, 0, 1, 0, b'G', 0, 0],
         &[0xD2, 0, 11, 0x40, 0, 0x10, 0, 1, 0, b'I', 0, 0],
     ];
     let message = [&[2, 2, 0, 0, 8, 7, 8, 5], &settings.concat()[..]].concat();

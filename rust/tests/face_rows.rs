@@ -26,8 +26,9 @@ fn every_row_of_many_stores() {
 #[test]
 fn rows_far_outside() {
     let mut pair = Pair::fresh();
+    let tables = Table::ALL.len() as u32;
     for row in [130, 255, 256, 0x1_0000, 0x8000_0000, u32::MAX - 31, u32::MAX] {
-        for table in [0, 1, 2, 3, 4, 5, 6, 0x104, 0x1_0004, u32::MAX] {
+        for table in (0..=tables + 1).chain([0x104, 0x1_0004, u32::MAX]) {
             assert_eq!(pair.show_into(table, row, SCRATCH_ROOM), 17, "table {table} row {row}");
         }
     }
@@ -39,8 +40,8 @@ fn numbers_of_rows_without_a_text() {
     let mut pair = Pair::fresh();
     let message = common::hex_request(&[
         "CA 00 10 40 01 12 34 56 78 90 12 34 56 78 FF 00 00",
-        "D1 00 09 50 00 10 00 01 00 00",
-        "D1 00 09 50 01 10 1B 59 00 00",
+        "D1 00 09 60 00 10 00 01 00 00",
+        "D1 00 09 60 01 10 1B 59 00 00",
         "D2 00 09 40 0F FF 7D C9 00 00",
         "D0 00 07 40 01 7F 00 00",
     ]);

@@ -8,7 +8,8 @@ use otap::inputs::calls::{Call, Calls};
 use otap::{Store, EXPORT_ROOM, REPLY_ROOM, SCRATCH_ROOM, STORE_SIZE};
 use std::collections::BTreeMap;
 
-const SIZES: [usize; 8] = [0, 1, 35, 4_096, 12_287, 12_289, 24_576, 65_536];
+const SIZES: [usize; 8] =
+    [0, 1, SCRATCH_ROOM - 1, EXPORT_ROOM, STORE_SIZE - 1, STORE_SIZE + 1, 2 * STORE_SIZE, 65_536];
 
 fn call(pair: &mut Pair, call: &Call) -> u8 {
     match call {
@@ -81,10 +82,10 @@ fn short_buffers_come_first() {
                 assert_eq!(pair.take_into(message, room), 10);
             }
             for room in (0..EXPORT_ROOM).step_by(97).chain([EXPORT_ROOM - 1]) {
-                assert_eq!(pair.export_into(9, room), 15);
+                assert_eq!(pair.export_into(u32::MAX, room), 15);
             }
             for room in 0..SCRATCH_ROOM {
-                assert_eq!(pair.show_into(9, 9, room), 15);
+                assert_eq!(pair.show_into(u32::MAX, 9, room), 15);
             }
         }
     }

@@ -19,7 +19,8 @@ fn is_store(bytes: &mut [u8]) -> bool {
     let exports = Part::ALL.map(|part| number_of(&store.export(part, &mut [0; EXPORT_ROOM])));
     let shown = number_of(&store.row(Table::LINES, 40, &mut [0; SCRATCH_ROOM]));
     let checked = number_of(&store.check_row(Table::LINES, 40, &[0; SCRATCH_ROOM]));
-    let wanted = if taken == 11 { ([11; 7], 11, 11) } else { ([0; 7], 17, 17) };
+    let wanted =
+        if taken == 11 { ([11; Part::ALL.len()], 11, 11) } else { ([0; Part::ALL.len()], 17, 17) };
     assert_eq!((exports, shown, checked), wanted);
     assert!(*bytes == before, "none of these calls changes the bytes");
     assert_eq!(taken, if layout::is_store(bytes) { 5 } else { 11 });

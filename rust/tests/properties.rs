@@ -10,10 +10,10 @@ use otap::reference::export::{export, part_bytes, Exported, EXPORT_ROOM, PARTS};
 use otap::reference::message::LONGEST;
 use otap::reference::numbers::*;
 use otap::reference::plan::*;
-use otap::reference::screen::{row_number, row_part, Row, Shown};
+use otap::reference::screen::{row_number, row_part, Row, Shown, SCRATCH_ROOM};
 use otap::reference::settings::{parse, Operation};
 use otap::reference::tables::Set;
-use otap::reference::take::take;
+use otap::reference::take::{take, REPLY_ROOM};
 use std::collections::HashSet;
 
 #[test]
@@ -79,7 +79,7 @@ fn for_each_state(seeds: u64, messages: usize, mut check: impl FnMut(&Set)) {
         let mut inputs = Inputs::new(seed);
         let mut set = Set::default();
         for _ in 0..messages {
-            take(&inputs.message(), &mut set, &mut [0; 20]);
+            take(&inputs.message(), &mut set, &mut [0; REPLY_ROOM]);
             check(&set);
         }
     }
@@ -150,10 +150,10 @@ fn export_refusals_touch_nothing() {
     let set = Set::default();
     let refused = |number| Exported { number, length: 0 };
     let mut buffer = vec![0xEE; EXPORT_ROOM];
-    assert_eq!(export(9, false, &set, &mut buffer[1..]), refused(BUFFER_SHORT));
-    assert_eq!(export(9, false, &set, &mut buffer), refused(NOT_A_STORE));
+    assert_eq!(export(PARTS + 2, false, &set, &mut buffer[1..]), refused(BUFFER_SHORT));
+    assert_eq!(export(PARTS + 2, false, &set, &mut buffer), refused(NOT_A_STORE));
     assert_eq!(export(0, true, &set, &mut buffer), refused(NO_SUCH_PART));
-    assert_eq!(export(8, true, &set, &mut buffer), refused(NO_SUCH_PART));
+    assert_eq!(export(PARTS + 1, true, &set, &mut buffer), refused(NO_SUCH_PART));
     assert!(buffer.iter().all(|&byte| byte == 0xEE));
     assert_eq!(export(3, true, &set, &mut buffer), Exported { number: TAKEN, length: 12 });
     assert!(buffer[12..].iter().all(|&byte| byte == 0xEE));
@@ -206,13 +206,13 @@ fn screen_rows() {
     let set = taken(&common::hex_request(&[
         "CA 00 0F 40 02 23 45 FF 00 00 12 3F 00 41 00 00",
         "D0 00 07 40 01 20 00 00",
-        "D1 00 09 50 00 10 00 01 00 00",
-        "D1 00 09 50 01 10 1B 59 00 00",
-        "D1 00 0B 50 02 10 00 01 4E 2D 00 00",
+        "D1 00 09 60 00 10 00 01 00 00",
+        "D1 00 09 60 01 10 1B 59 00 00",
+        "D1 00 0B 60 02 10 00 01 4E 2D 00 00",
         "D2 00 09 40 00 10 00 01 00 00",
         "D2 00 09 40 0F FF 7D C9 00 00",
     ]));
-    let shown = |row| row_part(row, true, &set, &mut [0; 36]);
+    let shown = |row| row_part(row, true, &set, &mut [0; SCRATCH_ROOM]);
     assert_eq!(shown(Row::Line(0)), Shown::Scratch(units("2345")));
     assert_eq!(shown(Row::Line(1)), Shown::Stored(units("A")));
     assert_eq!(shown(Row::Line(2)), Shown::Nothing);
@@ -226,10 +226,10 @@ fn screen_rows() {
     assert_eq!(shown(Row::Individual(15)), Shown::Scratch(units("FF7DC9")));
     assert_eq!(shown(Row::Individual(16)), Shown::Nothing);
     let number = |row, is_store, room| row_number(row, is_store, &set, &vec![0; room]);
-    assert_eq!(number(Row::Line(9), false, 35), BUFFER_SHORT);
-    assert_eq!(number(Row::Line(9), false, 36), NOT_A_STORE);
-    assert_eq!(number(Row::Line(9), true, 36), NO_SUCH_ROW);
-    assert_eq!(number(Row::Status(32), true, 36), TAKEN);
+    assert_eq!(number(Row::Line(9), false, SCRATCH_ROOM - 1), BUFFER_SHORT);
+    assert_eq!(number(Row::Line(9), false, SCRATCH_ROOM), NOT_A_STORE);
+    assert_eq!(number(Row::Line(9), true, SCRATCH_ROOM), NO_SUCH_ROW);
+    assert_eq!(number(Row::Status(32), true, SCRATCH_ROOM), TAKEN);
 }
 
 #[test]

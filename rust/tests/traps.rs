@@ -4,11 +4,11 @@
 mod common;
 
 use common::*;
-use otap::reference::message::{query, Hash};
+use otap::reference::message::{query, Hash, LONGEST};
 use otap::reference::numbers::*;
 use otap::reference::settings::Operation::{Add, Delete, Replace};
 use otap::reference::tables::Set;
-use otap::reference::take::{take, take_from, Answer};
+use otap::reference::take::{take, take_from, Answer, REPLY_ROOM};
 
 const HOME: &str = "CD 00 05 00 00 00";
 
@@ -68,13 +68,13 @@ fn the_order_of_refusals() {
     let mut set = Set::default();
     let good = hex_request(&[HOME]);
     let nothing = |number| Answer { number, ..Answer::default() };
-    assert_eq!(take_from(&[], false, &mut set, &mut [0; 19]), nothing(REPLY_SHORT));
-    assert_eq!(take_from(&[], false, &mut set, &mut [0; 20]), nothing(NOT_A_STORE));
+    assert_eq!(take_from(&[], false, &mut set, &mut [0; REPLY_ROOM - 1]), nothing(REPLY_SHORT));
+    assert_eq!(take_from(&[], false, &mut set, &mut [0; REPLY_ROOM]), nothing(NOT_A_STORE));
     for (length, number) in [(6, MESSAGE_LENGTH), (7, WRONG_CARRIER)] {
         assert_eq!(number_of(&good[..length]), (number, 0));
     }
-    assert_eq!(number_of(&vec![0; 4_096]), (WRONG_CARRIER, 0));
-    assert_eq!(number_of(&vec![0; 4_097]), (MESSAGE_LENGTH, 0));
+    assert_eq!(number_of(&vec![0; LONGEST]), (WRONG_CARRIER, 0));
+    assert_eq!(number_of(&vec![0; LONGEST + 1]), (MESSAGE_LENGTH, 0));
     assert_eq!(number_of(&bytes("02 02 00 00 09 07 11")), (WRONG_CARRIER, 0));
     assert_eq!(number_of(&bytes("02 02 00 00 08 07 11")), (WRONG_MESSAGE_TYPE, 0));
     assert_eq!(number_of(&bytes("02 02 00 00 08 00 10")), (WRONG_VERSION, 0));
@@ -85,21 +85,21 @@ fn the_order_of_refusals() {
 
 #[test]
 fn refusals_without_reply_write_nothing() {
-    let mut reply = [0xEE; 20];
+    let mut reply = [0xEE; REPLY_ROOM];
     let mut set = Set::default();
     for message in ["02 02", "02 02 00 00 09 07 08", "02 02 00 00 08 07 0A"] {
         let answer = take(&bytes(message), &mut set, &mut reply);
         assert_eq!((answer.length, answer.send), (0, false));
-        assert_eq!(reply, [0xEE; 20]);
+        assert_eq!(reply, [0xEE; REPLY_ROOM]);
     }
 }
 
 #[test]
 fn types_and_missing_types() {
-    assert_eq!(number_of(&hex_request(&[HOME, "C8"])), (UNKNOWN_TYPE, 2));
+    assert_eq!(number_of(&hex_request(&[HOME, "D4"])), (UNKNOWN_TYPE, 2));
     assert_eq!(number_of(&hex_request(&[HOME, "CD"])), (BAD_FIELD, 2));
     assert_eq!(number_of(&hex_request(&[HOME, ""])), (BAD_FIELD, 2));
-    assert_eq!(number_of(&hex_request(&["D3 00 05 00 00 00", HOME])), (UNKNOWN_TYPE, 1));
+    assert_eq!(number_of(&hex_request(&["D4 00 05 00 00 00", HOME])), (UNKNOWN_TYPE, 1));
 }
 
 #[test]
@@ -116,7 +116,7 @@ fn the_last_item_stands_last() {
 fn room_is_judged_after_fields_and_before_later_settings() {
     let mut many: Vec<u16> = vec![300; 65];
     let full = channels(Add, &many);
-    assert_eq!(number_of(&request(&[full.clone(), bytes("C8")])), (NO_ROOM, 1));
+    assert_eq!(number_of(&request(&[full.clone(), bytes("D4")])), (NO_ROOM, 1));
     assert_eq!(number_of(&[request(&[full]), vec![0]].concat()), (WRONG_CARRIER, 0));
     many.push(641);
     assert_eq!(number_of(&request(&[channels(Add, &many)])), (BAD_FIELD, 1));
@@ -178,8 +178,8 @@ fn a_slot_delete_holds_only_its_text() {
     assert_eq!(number_of(&hex_request(&["D1 00 09 80 03 00 00 00 00 00"])), (TAKEN, 0));
     assert_eq!(number_of(&hex_request(&["D1 00 09 40 03 10 00 01 00 00"])), (BAD_FIELD, 1));
     assert_eq!(number_of(&hex_request(&["D1 00 09 50 03 10 00 01 00 00"])), (TAKEN, 0));
-    assert_eq!(number_of(&hex_request(&["D1 00 09 50 03 10 80 00 00 00"])), (BAD_FIELD, 1));
-    assert_eq!(number_of(&hex_request(&["D1 00 09 D0 03 10 00 01 00 00"])), (BAD_FIELD, 1));
+    assert_eq!(number_of(&hex_request(&["D1 00 09 60 03 10 80 00 00 00"])), (BAD_FIELD, 1));
+    assert_eq!(number_of(&hex_request(&["D1 00 09 E0 03 10 00 01 00 00"])), (BAD_FIELD, 1));
     assert_eq!(number_of(&hex_request(&["D2 00 09 80 03 00 00 00 00 00"])), (TAKEN, 0));
     assert_eq!(number_of(&hex_request(&["D2 00 09 C0 03 10 00 01 00 00"])), (BAD_FIELD, 1));
     let long = "D2 00 2B 80 03 00 00 00".to_owned() + &" 00 41".repeat(17) + " 00 00";
@@ -216,7 +216,7 @@ fn the_hash_kept_is_the_last_request_s() {
     assert_eq!(number_in(&query(&hash), &mut set), (TAKEN, 0));
     assert_eq!(number_in(&query(&Hash::Crc([1, 2, 3, 5])), &mut set), (NO_MATCH, 0));
     assert_eq!(number_in(&query(&Hash::Nothing), &mut set), (NO_MATCH, 0));
-    assert_eq!(number_in(&hex_request(&["C8"]), &mut set), (UNKNOWN_TYPE, 1));
+    assert_eq!(number_in(&hex_request(&["D4"]), &mut set), (UNKNOWN_TYPE, 1));
     assert_eq!(number_in(&query(&hash), &mut set), (TAKEN, 0));
     assert_eq!(number_in(&hex_request(&[HOME]), &mut set), (TAKEN, 0));
     assert_eq!(number_in(&query(&hash), &mut set), (NO_MATCH, 0));
@@ -226,7 +226,7 @@ fn the_hash_kept_is_the_last_request_s() {
 #[test]
 fn replies_carry_the_hash_kept() {
     let mut set = Set::default();
-    let mut reply = [0; 20];
+    let mut reply = [0; REPLY_ROOM];
     let last = hex_request(&["FF 00 0D C2 01 02 03 04 05 06 07 08 09 0A"]);
     let answer = take(&last, &mut set, &mut reply);
     assert_eq!(answer, Answer { number: 0, failed: 0, send: true, reboot: true, length: 20 });
@@ -235,7 +235,7 @@ fn replies_carry_the_hash_kept() {
     let answer = take(&query(&Hash::Crc([0; 4])), &mut set, &mut reply);
     assert_eq!(answer, Answer { number: 5, failed: 0, send: true, reboot: false, length: 20 });
     assert_eq!(reply, bytes(&format!("02 02 00 10 08 00 09 05 00 {hash}"))[..]);
-    let answer = take(&hex_request(&["C8"]), &mut set, &mut reply);
+    let answer = take(&hex_request(&["D4"]), &mut set, &mut reply);
     assert_eq!(answer, Answer { number: 3, failed: 1, send: true, reboot: false, length: 10 });
     assert_eq!(reply[..10], bytes("02 02 00 06 08 00 09 03 01 00"));
 }

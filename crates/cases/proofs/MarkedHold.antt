@@ -4,7 +4,7 @@ use mathlib.Core.Path.{refl}
 use native.Mathlib.Omega.{arith}
 use lib.Dec.{lit≤}
 use Rattle.lists.specs.Every.{All}
-use Rattle.frequencies.specs.Frequencies.{Transmits, simplex, paired}
+use Rattle.plan.specs.Frequencies.{Transmits, simplex, paired}
 use Rattle.plan.specs.Numbers.{Individual, IndividualShort, of-700, of-350, GroupShort, of-100}
 use Rattle.writing.specs.declared.Kind.the-variants.{Home}
 use Rattle.plan.proofs.NumberLaws.{individuals, groups}

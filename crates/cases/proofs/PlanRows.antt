@@ -6,10 +6,10 @@ use mathlib.Core.Bool.{_&&_}
 use lib.Dec.{T, leb, leb→le}
 use Rattle.lists.proofs.Every.{both}
 use Rattle.plan.specs.Answers.{Answer, Answered, has, none, given, refused}
-use Rattle.frequencies.specs.Frequencies.{Transmits, simplex, paired}
+use Rattle.plan.specs.Frequencies.{Transmits, simplex, paired}
 use Rattle.plan.specs.Numbers.{Numbered, IndividualShort, of-700, of-350}
 use Rattle.plan.proofs.AnswerLaws.{One, had-value}
-use Rattle.frequencies.proofs.FrequencyLaws.{one-transmit}
+use Rattle.plan.proofs.FrequencyLaws.{one-transmit}
 use Rattle.plan.proofs.NumberLaws.{Sound, one-address}
 use Rattle.cases.specs.Marked.{Only}
 

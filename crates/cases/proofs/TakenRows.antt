@@ -22,14 +22,14 @@ use Rattle.tables.specs.Layout.{layout}
 use Rattle.tables.specs.Limits.{handheld}
 use Rattle.tables.specs.Tables.{Tables, no-hash}
 use Rattle.tables.proofs.LayoutLaws.{holds-store}
-use Rattle.running.specs.Judge.{kept, done, step, taken as all-taken}
-use Rattle.replies.specs.Replies.{reply-bytes}
-use Rattle.running.specs.Requests.{Judged, forget, last-item}
+use Rattle.requests.specs.Judge.{kept, done, step, taken as all-taken}
+use Rattle.station.specs.Replies.{reply-bytes}
+use Rattle.requests.specs.Requests.{Judged, forget, last-item}
 use Rattle.station.specs.Taking.{replies, settled, taken}
-use Rattle.demands.proofs.Determined.{outcome-determined}
+use Rattle.laws_taking.proofs.Determined.{outcome-determined}
 use Rattle.station.proofs.TakeLaws.{request-answers}
 use Rattle.export.specs.Exported.{request-bytes}
-use Rattle.restoring.proofs.Requests.{request-is, request-in-size}
+use Rattle.restore.proofs.Requests.{request-is, request-in-size}
 use Rattle.cases.specs.Marked.{Only, Holds, taken-is, took, reply-0}
 
 -- a setting that fits, is in range and has room, sent alone to a set with the tables t, makes them u

@@ -12,8 +12,8 @@ use Rattle.writing.specs.Writing.{number, fields, type-byte, Written}
 use Rattle.writing.proofs.Computed.{fits?, valued?, shown, shown-once, written}
 use Rattle.writing.proofs.Unique.{unique}
 use Rattle.writing.proofs.Whole.{number-whole}
-use Rattle.running.specs.Judge.{unknown, field, room}
-use Rattle.running.specs.Requests.{WrittenIn, Fault}
+use Rattle.requests.specs.Judge.{unknown, field, room}
+use Rattle.requests.specs.Requests.{WrittenIn, Fault}
 use Rattle.cases.specs.Marked.{Only, NumberIn, Holds, setting-is, refused-setting}
 
 -- the only bytes of a number

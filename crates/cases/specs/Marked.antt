@@ -7,7 +7,7 @@ use lib.ListN.{length}
 use Rattle.lists.specs.Every.{All}
 use Rattle.lists.specs.Ladder.{Answers}
 use Rattle.plan.specs.Answers.{Answer, Answered, given, refused}
-use Rattle.frequencies.specs.Frequencies.{Transmits}
+use Rattle.plan.specs.Frequencies.{Transmits}
 use Rattle.plan.specs.Numbers.{Individual, Group}
 use Rattle.writing.specs.declared.LineFlags.{LineFlags}
 use Rattle.writing.specs.declared.Operation.the-variants.{Add, Replace}
@@ -20,8 +20,8 @@ use Rattle.tables.specs.declared.limits.Limits.{Limits}
 use Rattle.tables.specs.Layout.{layout}
 use Rattle.tables.specs.Limits.{handheld}
 use Rattle.tables.specs.Tables.{Line, Tables, fresh, with-channels, with-lines}
-use Rattle.running.specs.Requests.{Fault}
-use Rattle.replies.specs.Replies.{written-over}
+use Rattle.requests.specs.Requests.{Fault}
+use Rattle.slots.specs.Slots.{written-over}
 use Rattle.station.specs.Taking.{After, taken}
 
 pub data Case : Type 0 where

@@ -1,9 +1,9 @@
 // Buffers, the carrier, and what a request has before its settings.
-use super::printing::decimal;
-use super::printing::text;
-use super::taking::answer;
-use super::taking::answer_into;
-use super::taking::messages;
+use case_lines::printing::decimal;
+use case_lines::printing::text;
+use case_lines::taking::answer;
+use case_lines::taking::answer_into;
+use case_lines::taking::messages;
 use station::handheld::start;
 use tables::start::Started;
 
@@ -63,7 +63,7 @@ fn carriers(store: &mut [u8]) {
         no ParamSum: 0202 0003 08 07 08\n\
         ParamSum 0: 0202 0004 08 07 08 00\n\
         coding type 0: 0202 0008 08 00 08 01 CB 0003 A0\n\
-        coding type 0 and an unknown type: 0202 0005 08 00 08 01 D3\n\
+        coding type 0 and an unknown type: 0202 0005 08 00 08 01 D4\n\
         length 0, not stated: 0202 0000 08 07 08 01 CB 0003 A0\n\
         the same, length stated, reserved bits set: 0202 0008 08 F7 08 01 CB 0003 A0\n",
         store,

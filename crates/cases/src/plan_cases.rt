@@ -1,6 +1,6 @@
 // Dialled numbers and channels.
-use super::printing::decimal;
-use super::printing::text;
+use case_lines::printing::decimal;
+use case_lines::printing::text;
 use plan::frequencies::FrequencyAnswer;
 use plan::numbers::IndividualAnswer;
 
@@ -23,7 +23,7 @@ fn individual(dialled: u32) {
 }
 
 fn transmit(channel: u32) {
-    match frequencies::transmit(channel) {
+    match plan::channels::transmit(channel) {
         FrequencyAnswer::Frequency(f) => line(b"transmit frequency of", channel, 0, f),
         FrequencyAnswer::NoChannel => line(b"transmit frequency of", channel, 22, 0),
     }

@@ -1,13 +1,10 @@
 // The emergency key, the home numbers and the system code; types, lengths and counts of settings.
-use super::building::numbered;
-use super::building::put;
-use super::taking::request;
-use super::taking::requests;
-use station::handheld::start;
+use case_lines::taking::requests;
 
-fn fixed(store: &mut [u8]) {
+pub(crate) fn run(store: &mut [u8]) {
     requests(
-        b"LA 8: 01 CF 0005 0008 00\n\
+        b"a fresh store\n\
+        LA 8: 01 CF 0005 0008 00\n\
         LA 9: 01 CF 0005 0009 00\n\
         roaming 11: 01 CF 0005 0008 C0\n\
         LA 8 with reserved bits: 01 CF 0005 0008 1F\n\
@@ -20,19 +17,13 @@ fn fixed(store: &mut [u8]) {
         key on the current place with an address: 01 CB 0006 A0 100001\n\
         key without its address: 01 CB 0003 20\n\
         key on address 0FFFFF: 01 CB 0006 20 0FFFFF\n\
-        key on address 108000: 01 CB 0006 20 108000\n",
-        store,
-    );
-}
-
-fn kinds(store: &mut [u8]) {
-    requests(
-        b"unknown type D3: 01 D3 0003 00\n\
-        unknown type C9: 01 C9 0003 00\n\
-        unknown type as the last byte: 02 CF 0005 0001 00 D3\n\
+        key on address 108000: 01 CB 0006 20 108000\n\
+        unknown type D4: 01 D4 0003 00\n\
+        unknown type C7: 01 C7 0003 00\n\
+        unknown type as the last byte: 02 CF 0005 0001 00 D4\n\
         known type as the last byte: 02 CF 0005 0001 00 CD\n\
         type byte missing: 02 CF 0005 0001 00\n\
-        LA 9, then an unknown type: 02 CF 0005 0009 00 D3\n\
+        LA 9, then an unknown type: 02 CF 0005 0009 00 D4\n\
         a byte left over: 01 CF 0005 0001 00 00\n\
         a setting left over: 01 CF 0005 0001 00 CF 0005 0002 00\n\
         DataLength one too small: 01 CF 0004 0001 00\n\
@@ -40,25 +31,10 @@ fn kinds(store: &mut [u8]) {
         DataLength one too large, and a byte more: 01 CF 0006 0001 00 00\n\
         DataLength over the next setting: 01 CB 0009 A0 CF 0005 0001 00\n\
         DataLength cut: 01 CF 00\n\
-        fields cut: 01 CF 0005 0001\n",
+        fields cut: 01 CF 0005 0001\n\
+        eight settings: 08 {08 x CD 0005 # 64C0}\n\
+        a fresh store\n\
+        eight settings, then LA 9: 09 {08 x CD 0005 # 64C0} CF 0005 0009 00\n",
         store,
     );
-}
-
-// Eight settings, each with other home numbers; then, to a fresh store, the same and LA 9.
-fn ninth(store: &mut [u8]) {
-    let mut bytes = [0u8; 64];
-    let p = numbered(&mut bytes, b"08", b"CD 0005", b"64C0", 8, false);
-    request(b"eight settings", &bytes[0..p], store);
-    start(store);
-    let q = numbered(&mut bytes, b"09", b"CD 0005", b"64C0", 8, false);
-    let end = put(&mut bytes, q, b"CF 0005 0009 00");
-    request(b"eight settings, then LA 9", &bytes[0..end], store);
-}
-
-pub(crate) fn run(store: &mut [u8]) {
-    start(store);
-    fixed(store);
-    kinds(store);
-    ninth(store);
 }

@@ -12,11 +12,11 @@ use Rattle.tables.specs.declared.limits.Limits.{Limits}
 use Rattle.tables.specs.Store.{StoreOf, Holds}
 use Rattle.tables.specs.Tables.{Tables}
 use Rattle.export.specs.declared.parts.Part.{Part}
-use Rattle.writers.specs.declared.writers.Settings.{Settings}
+use Rattle.export_write.specs.declared.writers.Settings.{Settings}
 use Rattle.export.specs.Exported.{part-number, exported, request-bytes}
 use Rattle.export.specs.Exporting.{exporting, stays, writes}
 use Rattle.export.specs.PartWriters.{PartWritten, Headed}
-use Rattle.writers.specs.Writers.{Wrote}
+use Rattle.export_write.specs.Writers.{Wrote}
 
 module _ (m : Limits) (part : ℕ) (store buffer : List ℕ) where
   -- "15"

@@ -10,9 +10,9 @@ use Rattle.writing.specs.Carrier.{start, carrier}
 use Rattle.writing.specs.Fields.{val, res}
 use Rattle.writing.specs.Settings.{Setting, unicode16}
 use Rattle.writing.specs.Writing.{request-head}
-use Rattle.writers.specs.Writers.{Wrote}
-use Rattle.writers.proofs.PlainLaws.{plain-byte, plain-two}
-use Rattle.writers.proofs.WroteLaws.{wrote-before, wrote-as}
+use Rattle.export_write.specs.Writers.{Wrote}
+use Rattle.export_write.proofs.PlainLaws.{plain-byte, plain-two}
+use Rattle.export_write.proofs.WroteLaws.{wrote-before, wrote-as}
 use Rattle.export.specs.Exported.{request-bytes}
 use Rattle.export.specs.PartWriters.{Headed}
 

@@ -8,8 +8,8 @@ use Rattle.writing.specs.Carrier.{start, carrier, coding-type}
 use Rattle.writing.specs.Settings.{Setting, lines, key, quick-texts, home, channels, system, status-texts, group, individual, unicode16}
 use Rattle.writing.specs.Writing.{request-head}
 use Rattle.tables.specs.Tables.{Tables}
-use Rattle.line_writers.specs.LineSettings.{no-line-flags, line-add}
-use Rattle.text_writers.specs.EntrySettings.{entries, quick-add, no-group-flags, no-individual-flags, slots}
+use Rattle.export_write.specs.LineSettings.{no-line-flags, line-add}
+use Rattle.export_write.specs.EntrySettings.{entries, quick-add, no-group-flags, no-individual-flags, slots}
 use Rattle.export.specs.declared.parts.Part.{Part}
 use Rattle.export.specs.declared.parts.Part.the-variants.{Lines, Fixed, QuickTexts, Channels, StatusTexts, Groups, Individuals}
 

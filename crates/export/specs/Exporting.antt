@@ -7,7 +7,7 @@ use Rattle.lists.specs.Ladder.{Ladder, rung, foot}
 use Rattle.tables.specs.declared.limits.Limits.{Limits}
 use Rattle.tables.specs.Store.{StoreOf, Holds}
 use Rattle.tables.specs.Tables.{Tables}
-use Rattle.replies.specs.Replies.{written-over}
+use Rattle.slots.specs.Slots.{written-over}
 use Rattle.export.specs.declared.parts.Part.{Part}
 use Rattle.export.specs.declared.parts.NoExport.{NoExport}
 use Rattle.export.specs.declared.parts.NoExport.the-variants.{Buffer, NotAStore, NoPart}

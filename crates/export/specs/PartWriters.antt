@@ -10,9 +10,9 @@ use Rattle.tables.specs.Store.{Holds}
 use Rattle.export.specs.declared.exporting.FoundPart.{FoundPart}
 use Rattle.export.specs.declared.exporting.FoundPart.the-variants.{Is, NoneSuch}
 use Rattle.export.specs.declared.parts.Part.{Part}
-use Rattle.writers.specs.declared.writers.Settings.{Settings}
+use Rattle.export_write.specs.declared.writers.Settings.{Settings}
 use Rattle.export.specs.Exported.{part-number, exported, request-bytes}
-use Rattle.writers.specs.Writers.{Wrote, WritesAll}
+use Rattle.export_write.specs.Writers.{Wrote, WritesAll}
 
 -- the part with this number, or that there is none
 abbrev pub FoundAs : ℕ → FoundPart → Type 0

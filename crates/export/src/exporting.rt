@@ -2,20 +2,21 @@
 use super::parts::Export;
 use super::parts::NoExport;
 use super::parts::Part;
-use carrier::carrier::START;
-use carrier::carrier::UNICODE16;
-use checks::checks::is_store;
-use line_writers::lines::export_lines;
-use station::handheld::HANDHELD;
+use export_write::channels::export_channels;
+use export_write::fixed::export_fixed;
+use export_write::lines::export_lines;
+use export_write::members::Members;
+use export_write::members::export_members;
+use export_write::text_lists::export_quick;
+use export_write::text_lists::export_status;
+use export_write::writers::FIRST;
+use export_write::writers::Settings;
+use read_carrier::carrier::START;
+use read_carrier::carrier::UNICODE16;
+use slots::bytes::copy;
+use store_check::checks::is_store;
+use tables::limits::HANDHELD;
 use tables::limits::Limits;
-use text_writers::members::Members;
-use text_writers::parts::export_members;
-use text_writers::parts::export_quick;
-use text_writers::parts::export_status;
-use writers::parts::export_channels;
-use writers::parts::export_fixed;
-use writers::shared::bytes_at;
-use writers::writers::Settings;
 ghost use mathlib.Core.Path.{_≡_};
 ghost use Prim.Native.Nat.{_≤_, _<_};
 ghost use lib.ListN.{length};
@@ -53,7 +54,7 @@ fn part_of(number: u32) -> FoundPart
     }
 }
 
-// The settings of a part, behind the eight bytes of a request's head: docs/STORE.md says where the tables stand.
+// The settings of a part, behind a request's head: docs/STORE.md says where the tables stand.
 fn write_part(buffer: &mut [u8], part: Part, store: &[u8], limits: Limits) -> Settings
     requires { ⌜ Roomy limits × (length (now store) ≡ limits .size) × Exportable limits × (limits .message ≤ length (now buffer)) ⌝ }
     ensures { λ r. ⌜ PartWritten limits part (now (store .entry)) (now (buffer .entry)) (now (buffer .exit)) r ⌝ }
@@ -62,27 +63,12 @@ fn write_part(buffer: &mut [u8], part: Part, store: &[u8], limits: Limits) -> Se
     let spare = lines + limits.lines * 51;
     match part {
         Part::Lines => export_lines(buffer, &store[lines..spare]),
-        Part::Fixed => Settings {
-            end: export_fixed(buffer, &store[11..22]),
-            count: 3,
-        },
+        Part::Fixed => export_fixed(buffer, &store[11..22]),
         Part::QuickTexts => export_quick(buffer, &store[22..2966]),
-        Part::Channels => Settings {
-            end: export_channels(buffer, &store[7286..lines]),
-            count: 1,
-        },
-        Part::StatusTexts => Settings {
-            end: export_status(buffer, &store[2966..6134]),
-            count: 1,
-        },
-        Part::Groups => Settings {
-            end: export_members(buffer, Members::OfGroups, &store[6134..6710]),
-            count: 16,
-        },
-        Part::Individuals => Settings {
-            end: export_members(buffer, Members::OfIndividuals, &store[6710..7286]),
-            count: 16,
-        },
+        Part::Channels => export_channels(buffer, &store[7286..lines]),
+        Part::StatusTexts => export_status(buffer, &store[2966..6134]),
+        Part::Groups => export_members(buffer, Members::OfGroups, &store[6134..6710]),
+        Part::Individuals => export_members(buffer, Members::OfIndividuals, &store[6710..7286]),
     }
 }
 
@@ -102,7 +88,7 @@ fn start_request(buffer: &mut [u8], count: u8, end: usize) -> usize
         REQUEST,
         count,
     ];
-    bytes_at(buffer, 0, &start);
+    copy(&mut buffer[0..FIRST], &start);
     end
 }
 

@@ -1,3 +1,4 @@
 pub mod Answers
+pub mod Frequencies
 pub mod Inner
 pub mod Numbers

@@ -1,3 +1,5 @@
-// The number plan of GA/T 1056-2013: conversions both ways, for every u32; and the answers of all conversions.
+// The number plan and the channels of GA/T 1056-2013: conversions both ways, for every u32.
+pub mod channels;
 pub mod frequencies;
 pub mod numbers;
+mod transmit_table;

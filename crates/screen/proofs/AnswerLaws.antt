@@ -24,13 +24,13 @@ use Rattle.tables.specs.Layout.{digit-bytes}
 use Rattle.tables.specs.Store.{Holds}
 use Rattle.tables.specs.Tables.{Tables}
 use Rattle.tables.proofs.LayoutLaws.{layout-one}
-use Rattle.row_names.specs.declared.rows.Refusal.{Refusal}
-use Rattle.row_names.specs.declared.rows.Refusal.the-variants.{ScratchSize, NotAStore, Absent}
-use Rattle.row_names.specs.declared.names.Name.{Name}
-use Rattle.row_names.specs.declared.names.Name.the-variants.{Refused, Text as TextAt, Digits, Group as GroupNumber, Individual as IndividualNumber}
-use Rattle.row_names.specs.declared.rows.Row.{Row}
-use Rattle.row_names.specs.Naming.{Named, naming}
-use Rattle.row_names.specs.Rows.{Caption, line, group, individual, caption, text-of, ascii, AddressText, dialled as by-plan, outside, Display, Shows, stored, written, unit-bytes}
+use Rattle.screen.specs.declared.rows.Refusal.{Refusal}
+use Rattle.screen.specs.declared.rows.Refusal.the-variants.{ScratchSize, NotAStore, Absent}
+use Rattle.screen.specs.declared.names.Name.{Name}
+use Rattle.screen.specs.declared.names.Name.the-variants.{Refused, Text as TextAt, Digits, Group as GroupNumber, Individual as IndividualNumber}
+use Rattle.screen.specs.declared.rows.Row.{Row}
+use Rattle.screen.specs.Naming.{Named, naming}
+use Rattle.screen.specs.Rows.{Caption, line, group, individual, caption, text-of, ascii, AddressText, dialled as by-plan, outside, Display, Shows, stored, written, unit-bytes}
 use Rattle.screen.specs.declared.answers.Place.the-variants.{Store, Scratch}
 use Rattle.screen.specs.Steps.{Written, DigitsWritten, dialled-digits, Placed}
 use Rattle.screen.specs.Screen.{After, refusal, refused, leaves, shows, RowShown, showing}

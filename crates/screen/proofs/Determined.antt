@@ -14,10 +14,10 @@ use Rattle.plan.proofs.AnswerLaws.{One}
 use Rattle.plan.proofs.NumberLaws.{individuals, groups, one-dialled}
 use Rattle.writing.specs.Settings.{Text}
 use Rattle.tables.specs.declared.limits.Limits.{Limits}
-use Rattle.row_names.specs.declared.rows.Row.{Row}
-use Rattle.row_names.specs.Rows.{Caption, text, line, group, individual, caption, ascii, digits, AddressText, dialled, outside, Display, written, text-or, Shows}
-use Rattle.row_names.specs.declared.rows.Refusal.{Refusal}
-use Rattle.row_names.specs.declared.rows.Refusal.the-variants.{ScratchSize, NotAStore, Absent}
+use Rattle.screen.specs.declared.rows.Row.{Row}
+use Rattle.screen.specs.Rows.{Caption, text, line, group, individual, caption, ascii, digits, AddressText, dialled, outside, Display, written, text-or, Shows}
+use Rattle.screen.specs.declared.rows.Refusal.{Refusal}
+use Rattle.screen.specs.declared.rows.Refusal.the-variants.{ScratchSize, NotAStore, Absent}
 use Rattle.screen.specs.declared.answers.Answer.{Answer}
 use Rattle.screen.specs.declared.answers.Answer.the-variants.{Shown, Refused}
 use Rattle.screen.specs.declared.answers.Place.{Place}

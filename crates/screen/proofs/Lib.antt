@@ -1,8 +1,13 @@
 pub mod AnswerLaws
 pub mod Determined
+pub mod EntryLaws
+pub mod NameLaws
 pub mod NumberLaws
 pub mod PartLaws
+pub mod RowAnswers
 pub mod RowLaws
 pub mod Scratch
+pub mod SeenLaws
 pub mod ShowLaws
+pub mod SlotLaws
 pub mod Theorems

@@ -18,7 +18,7 @@ use Rattle.slots.proofs.Parts.{flat-append, slots-length}
 use Rattle.writing.specs.Ranges.{InNumber}
 use Rattle.writing.specs.Settings.{Text, Number}
 use Rattle.tables.specs.Layout.{digit-bytes}
-use Rattle.row_names.specs.Rows.{ascii, digits, unit-bytes}
+use Rattle.screen.specs.Rows.{ascii, digits, unit-bytes}
 use Rattle.screen.specs.Steps.{Written, dialled-digits}
 
 -- ---- units

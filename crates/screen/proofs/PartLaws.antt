@@ -12,11 +12,11 @@ use Rattle.tables.specs.Layout.{Roomy}
 use Rattle.tables.specs.Store.{Holds}
 use Rattle.tables.specs.Tables.{Tables}
 use Rattle.tables.proofs.LayoutLaws.{layout-length}
-use Rattle.row_names.specs.declared.rows.Row.{Row}
-use Rattle.row_names.specs.Rows.{Caption, caption, text-of, Display, stored, written, Shows, text-start, unit-bytes}
-use Rattle.row_names.proofs.EntryLaws.{row-there}
-use Rattle.row_names.proofs.NameLaws.{text-starts}
-use Rattle.row_names.proofs.SlotLaws.{slot-fits}
+use Rattle.screen.specs.declared.rows.Row.{Row}
+use Rattle.screen.specs.Rows.{Caption, caption, text-of, Display, stored, written, Shows, text-start, unit-bytes}
+use Rattle.screen.proofs.EntryLaws.{row-there}
+use Rattle.screen.proofs.NameLaws.{text-starts}
+use Rattle.screen.proofs.SlotLaws.{slot-fits}
 use Rattle.screen.specs.Screen.{After, Part, of-store, of-scratch, shows, RowShown, showing}
 use Rattle.screen.proofs.NumberLaws.{unit-length}
 use Rattle.screen.proofs.Scratch.{written-short}

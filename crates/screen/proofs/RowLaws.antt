@@ -2,8 +2,8 @@
 use Prim.Native.Nat.{ℕ}
 use mathlib.Core.Path.{_≡_, sym, ap}
 use borrow.Author.Tests.{ne-eqb}
-use Rattle.row_names.specs.declared.rows.Row.the-variants.{NoTable}
-use Rattle.row_names.specs.Rows.{row-named}
+use Rattle.screen.specs.declared.rows.Row.the-variants.{NoTable}
+use Rattle.screen.specs.Rows.{row-named}
 
 -- a table's number stands for it
 pub named-as : (table n place : ℕ) → table ≡ n → row-named n place ≡ row-named table place

@@ -13,9 +13,9 @@ use Rattle.lists.specs.Ladder.{Answers}
 use Rattle.plan.specs.Numbers.{Individual as IndividualPlan, Group as GroupPlan}
 use Rattle.writing.specs.Settings.{Text}
 use Rattle.tables.specs.declared.limits.Limits.{Limits}
-use Rattle.row_names.specs.declared.rows.Row.{Row}
-use Rattle.row_names.specs.Rows.{Caption, text, line, group, individual, ascii, digits, AddressText, dialled, outside, Display, stored, written, Shows, unit-bytes}
-use Rattle.row_names.proofs.EntryLaws.{HeadIn}
+use Rattle.screen.specs.declared.rows.Row.{Row}
+use Rattle.screen.specs.Rows.{Caption, text, line, group, individual, ascii, digits, AddressText, dialled, outside, Display, stored, written, Shows, unit-bytes}
+use Rattle.screen.proofs.EntryLaws.{HeadIn}
 use Rattle.screen.specs.Screen.{After, Part, of-store, of-scratch, shows, RowShown, showing}
 use Rattle.screen.proofs.NumberLaws.{unit-length}
 use Rattle.screen.proofs.Theorems.{not-written, number-of-empty, row-held}

@@ -13,12 +13,12 @@ use Rattle.slots.specs.Slots.{EntryOf}
 use Rattle.writing.specs.Ranges.{InNumber}
 use Rattle.tables.specs.declared.limits.Limits.{Limits}
 use Rattle.tables.specs.Layout.{digit-bytes}
-use Rattle.row_names.specs.declared.rows.Refusal.{Refusal}
-use Rattle.row_names.specs.declared.names.Name.{Name}
-use Rattle.row_names.specs.declared.names.Name.the-variants.{Refused as NoName, Digits}
-use Rattle.row_names.specs.declared.rows.Row.{Row}
-use Rattle.row_names.proofs.names.Name.{the-type}
-use Rattle.row_names.specs.Naming.{naming}
+use Rattle.screen.specs.declared.rows.Refusal.{Refusal}
+use Rattle.screen.specs.declared.names.Name.{Name}
+use Rattle.screen.specs.declared.names.Name.the-variants.{Refused as NoName, Digits}
+use Rattle.screen.specs.declared.rows.Row.{Row}
+use Rattle.screen.proofs.names.Name.{the-type}
+use Rattle.screen.specs.Naming.{naming}
 use Rattle.screen.specs.declared.answers.Place.{Place}
 use Rattle.screen.specs.declared.answers.Place.the-variants.{Store, Scratch, Refused as NoPlace}
 use Rattle.screen.specs.Steps.{DigitsWritten, PlaceFits, Placed, Picked}

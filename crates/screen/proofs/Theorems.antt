@@ -16,14 +16,14 @@ use Rattle.writing.specs.Settings.{Text}
 use Rattle.tables.specs.declared.limits.Limits.{Limits}
 use Rattle.tables.specs.Store.{StoreOf, Holds}
 use Rattle.tables.specs.Tables.{Tables, GroupMember, IndividualMember}
-use Rattle.row_names.specs.declared.names.Slot.{Slot}
-use Rattle.row_names.specs.declared.names.SlotPlace.the-variants.{At}
-use Rattle.row_names.specs.declared.rows.Row.{Row}
-use Rattle.row_names.specs.declared.rows.Row.the-variants.{Group, Individual}
-use Rattle.row_names.specs.Naming.{SlotIs}
-use Rattle.row_names.specs.Rows.{Caption, text, line, group, individual, caption, of, text-of, ascii, digits, GroupText, IndividualText, Display, stored, written, units, text-or, Shows, text-start, unit-bytes}
-use Rattle.row_names.proofs.EntryLaws.{Captioned, row-seen, row-there}
-use Rattle.row_names.proofs.NameLaws.{text-starts}
+use Rattle.screen.specs.declared.names.Slot.{Slot}
+use Rattle.screen.specs.declared.names.SlotPlace.the-variants.{At}
+use Rattle.screen.specs.declared.rows.Row.{Row}
+use Rattle.screen.specs.declared.rows.Row.the-variants.{Group, Individual}
+use Rattle.screen.specs.Naming.{SlotIs}
+use Rattle.screen.specs.Rows.{Caption, text, line, group, individual, caption, of, text-of, ascii, digits, GroupText, IndividualText, Display, stored, written, units, text-or, Shows, text-start, unit-bytes}
+use Rattle.screen.proofs.EntryLaws.{Captioned, row-seen, row-there}
+use Rattle.screen.proofs.NameLaws.{text-starts}
 use Rattle.screen.specs.Screen.{After, of-store, refused, shows, RowShown, showing, numbering, bytes-of, RowBytes, PartGiven}
 use Rattle.screen.proofs.AnswerLaws.{shown-number, one-tables}
 use Rattle.screen.proofs.Determined.{one-display}

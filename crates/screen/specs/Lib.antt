@@ -1,2 +1,4 @@
+pub mod Naming
+pub mod Rows
 pub mod Screen
 pub mod Steps

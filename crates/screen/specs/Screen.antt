@@ -9,10 +9,10 @@ use Rattle.lists.specs.Ladder.{Ladder, Answers}
 use Rattle.tables.specs.declared.limits.Limits.{Limits}
 use Rattle.tables.specs.Store.{Holds}
 use Rattle.tables.specs.Tables.{Tables}
-use Rattle.row_names.specs.declared.rows.Refusal.{Refusal}
-use Rattle.row_names.specs.declared.rows.Refusal.the-variants.{ScratchSize, NotAStore, Absent}
-use Rattle.row_names.specs.declared.rows.Row.{Row}
-use Rattle.row_names.specs.Rows.{Caption, caption, Shows, Display, stored, written, units, text-start, unit-bytes, judged}
+use Rattle.screen.specs.declared.rows.Refusal.{Refusal}
+use Rattle.screen.specs.declared.rows.Refusal.the-variants.{ScratchSize, NotAStore, Absent}
+use Rattle.screen.specs.declared.rows.Row.{Row}
+use Rattle.screen.specs.Rows.{Caption, caption, Shows, Display, stored, written, units, text-start, unit-bytes, judged}
 use Rattle.screen.specs.declared.answers.Answer.{Answer}
 use Rattle.screen.specs.declared.answers.Answer.the-variants.{Shown, Refused}
 use Rattle.screen.specs.declared.answers.Place.{Place}

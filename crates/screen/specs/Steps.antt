@@ -11,8 +11,8 @@ use Rattle.writing.specs.Ranges.{InNumber}
 use Rattle.writing.specs.Settings.{Text, Number}
 use Rattle.tables.specs.declared.limits.Limits.{Limits}
 use Rattle.tables.specs.Layout.{digit-bytes}
-use Rattle.row_names.specs.declared.rows.Row.{Row}
-use Rattle.row_names.specs.Rows.{ascii, digits, unit-bytes}
+use Rattle.screen.specs.declared.rows.Row.{Row}
+use Rattle.screen.specs.Rows.{ascii, digits, unit-bytes}
 use Rattle.screen.specs.declared.answers.Place.{Place}
 use Rattle.screen.specs.declared.answers.Place.the-variants.{Store, Scratch, Refused as NoPlace}
 use Rattle.screen.specs.Screen.{showing, leaves, bytes-of, points-to}

@@ -1,5 +1,5 @@
 // What asking for a row answers.
-use row_names::rows::Refusal;
+use super::rows::Refusal;
 ghost use mathlib.Core.Path.{_≡_};
 ghost use Rattle.screen.specs.Screen.{number};
 

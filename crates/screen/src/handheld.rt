@@ -1,11 +1,11 @@
 // The calls of the handheld's screen.
 use super::answers::Answer;
 use super::answers::Place;
+use super::rows::Row;
 use super::show::number_in;
 use super::show::part_in;
 use super::show::place_in;
-use row_names::rows::Row;
-use station::handheld::HANDHELD;
+use tables::limits::HANDHELD;
 ghost use Rattle.lists.specs.Ladder.{Answers};
 ghost use Rattle.tables.specs.Limits.{handheld};
 ghost use Rattle.screen.specs.Screen.{number, numbering, showing, leaves, PartGiven};

@@ -1,6 +1,7 @@
 // The rows of the screen: a row's own name, or its number.
 pub mod answers;
 pub mod handheld;
+mod names;
 mod numbers;
 pub mod rows;
 mod show;

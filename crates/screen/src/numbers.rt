@@ -7,7 +7,7 @@ ghost use lib.ListN.{length, take, drop};
 ghost use Rattle.slots.specs.Slots.{EntryOf};
 ghost use Rattle.tables.specs.Layout.{digit-bytes};
 ghost use Rattle.writing.specs.Ranges.{InNumber};
-ghost use Rattle.row_names.specs.Rows.{ascii, digits};
+ghost use Rattle.screen.specs.Rows.{ascii, digits};
 ghost use Rattle.screen.specs.Steps.{Written, DigitsWritten, dialled-digits};
 
 // 0 to 9, then A to F.

@@ -1,7 +1,23 @@
-// Which row plain numbers name.
-use row_names::rows::Row;
+// Which row of the screen is asked for, and why none is shown.
 ghost use mathlib.Core.Path.{_≡_};
-ghost use Rattle.row_names.specs.Rows.{row-named};
+ghost use Rattle.screen.specs.Rows.{row-named};
+
+// A table and a place in it: a line's position from 0, a quick text's index, a status text's code, a slot's index.
+pub enum Row {
+    Line(usize),
+    QuickText(usize),
+    StatusText(usize),
+    Group(usize),
+    Individual(usize),
+    NoTable,
+}
+
+// Why no row is shown.
+pub enum Refusal {
+    ScratchSize,
+    NotAStore,
+    Absent,
+}
 
 // The row of plain numbers: tables 1 to 5 in this order, any other is no table.
 pub fn row_of(table: u32, place: u32) -> Row

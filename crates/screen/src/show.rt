@@ -1,13 +1,13 @@
 // A row of the screen: its number, the place of its text, and the part itself.
 use super::answers::Answer;
 use super::answers::Place;
+use super::names::Name;
+use super::names::name_of;
 use super::numbers::write_address;
 use super::numbers::write_line;
+use super::rows::Row;
 use plan::numbers::dialled_of_group;
 use plan::numbers::dialled_of_individual;
-use row_names::names::Name;
-use row_names::names::name_of;
-use row_names::rows::Row;
 use tables::limits::Limits;
 ghost use Rattle.lists.specs.Ladder.{Answers};
 ghost use Rattle.screen.specs.Steps.{Placed, PlaceFits, Picked};

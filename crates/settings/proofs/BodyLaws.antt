@@ -16,11 +16,11 @@ use Rattle.writing.specs.Ranges.{text-limits, InRange}
 use Rattle.writing.specs.Settings.{Setting, unicode16}
 use Rattle.writing.specs.Writing.{bit, op-code, body}
 use Rattle.writing.proofs.ByKind.{Contents, make, of-kind, kind-make}
-use Rattle.fields.specs.Places.{PartAt, be}
+use Rattle.read_fields.specs.Places.{PartAt, be}
 use Rattle.settings.specs.Settings.{Meant, BodyAt}
 use Rattle.settings.specs.declared.settings.Setting.{Setting as Read}
 use Rattle.settings.specs.declared.settings.BodyRead.the-variants.{Body, NoBody}
-use Rattle.fields.proofs.Heads.{Cut, head-in, head-out}
+use Rattle.read_fields.proofs.Heads.{Cut, head-in, head-out}
 
 -- the fields of a kind: a head of so many bytes, and what follows it
 pub record Headed (K : Kind) : Type 0 where

@@ -9,10 +9,10 @@ use Rattle.writing.specs.Fields.{Field, val, each}
 use Rattle.writing.specs.Ranges.{text-limits, HashSize, InRange, InAddress}
 use Rattle.writing.specs.Settings.{Setting, unicode16, Contact, Entry, lines, key, quick-texts, home, channels, system, status-texts, group, individual, last, kind}
 use Rattle.writing.specs.Writing.{contact, quick-text, status-text, body}
-use Rattle.fields.specs.Entries.{channel-list}
-use Rattle.fields.specs.Parts.{TextIs}
-use Rattle.fields.specs.Places.{PartAt}
-use Rattle.fields.specs.declared.texts.TextPlace.{TextPlace}
+use Rattle.read_fields.specs.Entries.{channel-list}
+use Rattle.read_fields.specs.Parts.{TextIs}
+use Rattle.read_fields.specs.Places.{PartAt}
+use Rattle.read_fields.specs.declared.texts.TextPlace.{TextPlace}
 use Rattle.settings.specs.declared.settings.Entries.{Entries}
 use Rattle.settings.specs.declared.settings.Setting.{Setting as Read}
 use Rattle.settings.specs.declared.settings.Setting.the-variants.{Lines, Key, QuickTexts, Home, Channels, System, StatusTexts, Group, Individual, Last}

@@ -1,8 +1,8 @@
 // A setting once read: a kind with its operation inside it; texts, numbers and entries stay as places in the message.
-use fields::hashes::HashPlace;
-use fields::texts::TextPlace;
 use plan::numbers::GroupAddress;
 use plan::numbers::IndividualAddress;
+use read_fields::hashes::HashPlace;
+use read_fields::texts::TextPlace;
 use writing::GroupFlags;
 use writing::HomeNumbers;
 use writing::IndividualFlags;

@@ -8,6 +8,12 @@ use lib.ListN.{length, replicate, take, drop}
 use lib.Dec.{eqb}
 use Rattle.lists.specs.Every.{All}
 
+-- ---- bytes over bytes
+
+-- these bytes at a buffer's start; those past their length stay
+abbrev pub written-over : List ℕ → List ℕ → List ℕ
+written-over bytes buffer = bytes ++ drop (length bytes) buffer
+
 -- ---- tables as bytes
 
 -- slots, one after another

@@ -1,2 +1,5 @@
-pub mod TakeLaws
 pub mod AnswerLaws
+pub mod QueryLaws
+pub mod ReplyLaws
+pub mod StandardReply
+pub mod TakeLaws

@@ -15,15 +15,15 @@ use Rattle.writing.specs.declared.Result.the-variants.{Taken, NoMatch}
 use Rattle.writing.specs.Ranges.{no-hash as of-no-value}
 use Rattle.writing.specs.Settings.{Setting, Hash}
 use Rattle.writing.specs.Carrier.{result-number, Opens, InSize, NothingCarried, OtherType, OtherVersion, NoRequest, NoQuery}
-use Rattle.carrier.specs.Message.{MessageIs}
-use Rattle.carrier.specs.declared.carrier.Message.{Message}
-use Rattle.carrier.specs.declared.carrier.Message.the-variants.{Size, Carrier, «Type» as AnotherType, Version, NoRequest as NotRequest, Request, NoQuery as NotQuery, Query as AQuery}
-use Rattle.carrier.proofs.KindLaws.{request-opens, other-type, other-version, opens-no-query, opens-no-request, uncounted}
-use Rattle.carrier.proofs.MessageOne.{query-opens}
-use Rattle.fields.specs.declared.hashes.HashPlace.{HashPlace}
+use Rattle.read_carrier.specs.Message.{MessageIs}
+use Rattle.read_carrier.specs.declared.carrier.Message.{Message}
+use Rattle.read_carrier.specs.declared.carrier.Message.the-variants.{Size, Carrier, «Type» as AnotherType, Version, NoRequest as NotRequest, Request, NoQuery as NotQuery, Query as AQuery}
+use Rattle.read_carrier.proofs.KindLaws.{request-opens, other-type, other-version, opens-no-query, opens-no-request, uncounted}
+use Rattle.read_carrier.proofs.MessageOne.{query-opens}
+use Rattle.read_fields.specs.declared.hashes.HashPlace.{HashPlace}
 use Rattle.tables.specs.declared.limits.Limits.{Limits}
 use Rattle.tables.specs.Allowed.{HashOk}
-use Rattle.tables.specs.Layout.{layout, hash-bytes, used-size}
+use Rattle.tables.specs.Layout.{layout, hash-bytes, used-size, hash-size}
 use Rattle.tables.specs.Store.{StoreOf, Holds}
 use Rattle.tables.specs.Tables.{Tables, no-hash}
 use Rattle.tables.proofs.AllowedLaws.{forget-allowed}
@@ -31,13 +31,13 @@ use Rattle.tables.proofs.Frames.{hash-get, hash-put}
 use Rattle.tables.proofs.LayoutLaws.{layout-length}
 use Rattle.station.specs.declared.answers.Answer.{Answer}
 use Rattle.station.specs.declared.answers.Answer.the-variants.{Replied}
-use Rattle.running.specs.declared.run.Run.the-variants.{Good, Fault as RunFault}
+use Rattle.requests.specs.declared.run.Run.the-variants.{Good, Fault as RunFault}
 use Rattle.station.specs.Handling.{TurnedDown, Queried}
-use Rattle.running.specs.Judge.{Outcome, kept, refused}
-use Rattle.replies.specs.Queries.{SameAs, HashSame}
-use Rattle.replies.specs.Replies.{ReplyWritten}
-use Rattle.running.specs.Running.{RunIs}
-use Rattle.running.specs.Requests.{Judged, forget}
+use Rattle.requests.specs.Judge.{Outcome, kept, refused}
+use Rattle.station.specs.Queries.{SameAs, HashSame}
+use Rattle.station.specs.Replies.{ReplyWritten}
+use Rattle.requests.specs.Running.{RunIs}
+use Rattle.requests.specs.Requests.{Judged, forget}
 use Rattle.station.specs.Taking.{After, leaves, stays, turned-down, replies, settled, Asked, AsRequest, AsQuery, Handled, taken}
 
 -- no hash is a hash that may be kept
@@ -62,13 +62,13 @@ module _ (m : Limits) (message was reply : List ℕ) where
 
 module _ (message : List ℕ) (place : HashPlace) (store reply after : List ℕ) (result : Result) (number n : ℕ) where
   -- the query matches exactly where the hash is the one kept
-  pub queried : (k : Bool) → HashSame message place (midOf 0 11 store) k → ((k ≡ true) × (result ≡ Taken)) ⊎ ((k ≡ false) × (result ≡ NoMatch))
-      → number ≡ result-number result → ReplyWritten number 0 (midOf 0 11 store) reply after n
+  pub queried : (k : Bool) → HashSame message place (midOf 0 hash-size store) k → ((k ≡ true) × (result ≡ Taken)) ⊎ ((k ≡ false) × (result ≡ NoMatch))
+      → number ≡ result-number result → ReplyWritten number 0 (midOf 0 hash-size store) reply after n
       → Queried message place store reply after (Replied (record { result = result; failed = 0; send = true; reboot = false; length = n }))
   queried k same which numbered w m t (ok, is) (size, h, q, code, stands) = (h, q, by which)
     where
-      kept-bytes : midOf 0 11 store ≡ hash-bytes (t .hash)
-      kept-bytes = ap (midOf 0 11) is ∙ hash-get m t ok
+      kept-bytes : midOf 0 hash-size store ≡ hash-bytes (t .hash)
+      kept-bytes = ap (midOf 0 hash-size) is ∙ hash-get m t ok
 
       compared : SameAs h (t .hash) k
       compared = same h (t .hash) (ok .hash) kept-bytes code (q .in-range) stands
@@ -77,7 +77,7 @@ module _ (message : List ℕ) (place : HashPlace) (store reply after : List ℕ)
           → leaves (Replied (record { result = result; failed = 0; send = true; reboot = false; length = n })) store after
           ≡ replies m message store reply (result-number said) 0 true false (t .hash) store
       written said e =
-          replied m message store reply result number 0 true false (t .hash) store (midOf 0 11 store) after n numbered (ok .hash) kept-bytes w
+          replied m message store reply result number 0 true false (t .hash) store (midOf 0 hash-size store) after n numbered (ok .hash) kept-bytes w
           ∙ ap (λ (x : Result). replies m message store reply (result-number x) 0 true false (t .hash) store) e
 
       by : ((k ≡ true) × (result ≡ Taken)) ⊎ ((k ≡ false) × (result ≡ NoMatch))
@@ -94,16 +94,16 @@ module _ (m : Limits) (store work copy : List ℕ) (s : StoreOf m store) (l : le
   copy-is = c ∙ copy-whole store work (l ∙ sym (s .size))
 
   -- the hash's part of it
-  copy-part : length (midOf 0 11 copy) ≡ 11
+  copy-part : length (midOf 0 hash-size copy) ≡ 11
   copy-part =
       let r : used-size m ≤ m .size = s .roomy in
       let e : length copy ≡ m .size = ap length copy-is ∙ s .size in
       mid-len 0 11 copy (omega arith)
 
   -- the copy with no hash kept
-  pub forgotten : (t : Tables) (y : List ℕ) → Holds m t store → (length (midOf 0 11 copy) ≡ 11 → y ≡ hash-bytes no-hash) → Holds m (forget t) (putMid 0 11 copy y)
+  pub forgotten : (t : Tables) (y : List ℕ) → Holds m t store → (length (midOf 0 hash-size copy) ≡ 11 → y ≡ hash-bytes no-hash) → Holds m (forget t) (putMid 0 hash-size copy y)
   forgotten t y (ok, is) e =
-      (forget-allowed m t ok, ap₂ (putMid 0 11) (copy-is ∙ is) (e copy-part) ∙ hash-put m t ok no-hash)
+      (forget-allowed m t ok, ap₂ (putMid 0 hash-size) (copy-is ∙ is) (e copy-part) ∙ hash-put m t ok no-hash)
 
 module _ (m : Limits) (message : List ℕ) (count at : ℕ) (store reply : List ℕ) (s : StoreOf m store) (t : Tables) (w v : List ℕ) (h : Holds m (forget t) w) where
   -- what the settings from a place on come to
@@ -117,17 +117,17 @@ module _ (m : Limits) (message : List ℕ) (count at : ℕ) (store reply : List 
 
   -- all good: the copy is the store, and the reply carries the hash that is kept now
   pub request-taken : (f : LastFlags) (n : ℕ) (store-after after : List ℕ) → RunIs m count message at w v (Good f)
-      → store-after ≡ take (length store) v ++ drop (length v) store → ReplyWritten 0 0 (midOf 0 11 store-after) reply after n
+      → store-after ≡ take (length store) v ++ drop (length v) store → ReplyWritten 0 0 (midOf 0 hash-size store-after) reply after n
       → Settled (leaves (Replied (record { result = Taken; failed = 0; send = f .reply; reboot = f .reboot; length = n })) store-after after)
   request-taken f n store-after after r c x =
       let z = r (forget t) (s .roomy) h in
       let (ok, is) = z .holds in
       let k : length v ≡ m .size = ap length is ∙ layout-length m (z .tables) (s .roomy) ok in
       let e : store-after ≡ layout m (z .tables) = c ∙ copy-whole v store (s .size ∙ sym k) ∙ is in
-      let b : midOf 0 11 store-after ≡ hash-bytes (z .tables .hash) = ap (midOf 0 11) e ∙ hash-get m (z .tables) ok in (
+      let b : midOf 0 hash-size store-after ≡ hash-bytes (z .tables .hash) = ap (midOf 0 hash-size) e ∙ hash-get m (z .tables) ok in (
         kept (z .settings) (z .tables),
         z .judged,
-        replied m message store reply Taken 0 0 (f .reply) (f .reboot) (z .tables .hash) store-after (midOf 0 11 store-after) after n refl (ok .hash) b x
+        replied m message store reply Taken 0 0 (f .reply) (f .reboot) (z .tables .hash) store-after (midOf 0 hash-size store-after) after n refl (ok .hash) b x
             ∙ ap₂ (λ (g : LastFlags) (q : List ℕ). replies m message store reply 0 0 (g .reply) (g .reboot) (z .tables .hash) q) (z .flags) e,
       )
 

@@ -3,9 +3,9 @@ use Prim.Native.Nat.{ℕ}
 use mathlib.Core.Path.{_≡_}
 use mathlib.Core.List.{List}
 use lib.ListN.{drop}
-use Rattle.carrier.specs.Message.{MessageIs}
-use Rattle.fields.specs.declared.hashes.HashPlace.{HashPlace}
-use Rattle.carrier.specs.declared.carrier.Message.the-variants.{Query as AQuery}
+use Rattle.read_carrier.specs.Message.{MessageIs}
+use Rattle.read_fields.specs.declared.hashes.HashPlace.{HashPlace}
+use Rattle.read_carrier.specs.declared.carrier.Message.the-variants.{Query as AQuery}
 use Rattle.writing.specs.declared.Result.{Result}
 use Rattle.writing.specs.Carrier.{result-number}
 use Rattle.writing.specs.Settings.{Setting}
@@ -13,8 +13,8 @@ use Rattle.tables.specs.declared.limits.Limits.{Limits}
 use Rattle.tables.specs.Store.{Holds}
 use Rattle.tables.specs.Tables.{Tables}
 use Rattle.station.specs.declared.answers.Answer.{Answer}
-use Rattle.running.specs.Judge.{Outcome}
-use Rattle.running.specs.Requests.{Judged, forget}
+use Rattle.requests.specs.Judge.{Outcome}
+use Rattle.requests.specs.Requests.{Judged, forget}
 use Rattle.station.specs.Taking.{leaves, turned-down, settled, AsQuery}
 
 -- a message that was turned down with this result and failed ID

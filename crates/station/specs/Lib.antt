@@ -1,3 +1,5 @@
 pub mod Answers
 pub mod Handling
+pub mod Queries
+pub mod Replies
 pub mod Taking

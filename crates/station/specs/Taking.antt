@@ -14,9 +14,10 @@ use Rattle.tables.specs.Store.{StoreOf, Holds}
 use Rattle.tables.specs.Tables.{Tables, no-hash}
 use Rattle.station.specs.declared.answers.Answer.{Answer}
 use Rattle.station.specs.Answers.{Said, said, refused-with}
-use Rattle.running.specs.Judge.{Outcome, kept, refused}
-use Rattle.running.specs.Requests.{Judged, forget, last-item}
-use Rattle.replies.specs.Replies.{reply-bytes, written-over}
+use Rattle.requests.specs.Judge.{Outcome, kept, refused}
+use Rattle.requests.specs.Requests.{Judged, forget, last-item}
+use Rattle.slots.specs.Slots.{written-over}
+use Rattle.station.specs.Replies.{reply-bytes}
 
 -- ---- what is left behind
 

@@ -1,5 +1,5 @@
 // What taking a message answers.
-use replies::replies::result_number;
+use super::replies::result_number;
 use writing::Result;
 ghost use mathlib.Core.Path.{_≡_};
 ghost use Rattle.station.specs.Answers.{refusal-number, said};

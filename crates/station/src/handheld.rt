@@ -1,21 +1,13 @@
 // The calls of the handheld, which owns the working copy.
 use super::answers::Answer;
 use super::take::take_in;
-use tables::limits::Limits;
+use tables::limits::HANDHELD;
 use tables::start::Started;
 use tables::start::start as start_store;
 ghost use Rattle.lists.specs.Ladder.{Answers};
 ghost use Rattle.tables.specs.Store.{starting, begins};
 ghost use Rattle.tables.specs.Limits.{handheld};
 ghost use Rattle.station.specs.Taking.{leaves, taken};
-
-// Room for 32 lines and 64 channels, messages of up to 4,096 bytes, a store of 12,288.
-pub const HANDHELD: Limits = Limits {
-    lines: 32,
-    channels: 64,
-    message: 4096,
-    size: 12288,
-};
 
 // Makes any 12,288 bytes a fresh store.
 pub fn start(store: &mut [u8]) -> Started

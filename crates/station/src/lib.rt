@@ -1,4 +1,6 @@
-// Takes requests and answers result queries.
+// Takes requests, answers result queries and writes the replies.
 pub mod answers;
 pub mod handheld;
+mod queries;
+pub mod replies;
 mod take;

@@ -2,18 +2,20 @@
 use super::answers::Answer;
 use super::answers::Refusal;
 use super::answers::Reply;
-use carrier::carrier::Message;
-use carrier::carrier::read_message;
-use checks::checks::is_store;
-use fields::hashes::HashPlace;
-use placed::fixed::clear_hash;
-use replies::queries::same_hash;
-use replies::replies::result_number;
-use replies::replies::write_reply;
-use running::run::Run;
-use running::run::take_settings;
+use super::queries::same_hash;
+use super::replies::result_number;
+use super::replies::write_reply;
+use read_carrier::carrier::Message;
+use read_carrier::carrier::read_message;
+use read_fields::hashes::HashPlace;
+use requests::run::Run;
+use requests::run::take_settings;
 use slots::bytes::copy;
+use store_check::checks::is_store;
+use store_places::fixed::clear_hash;
 use tables::limits::Limits;
+use tables::places::HASH;
+use tables::places::KEY;
 use writing::Result;
 ghost use Prim.Native.Nat.{_≤_};
 ghost use mathlib.Core.Path.{_≡_};
@@ -44,12 +46,12 @@ fn answer_query(m: &[u8], place: HashPlace, store: &[u8], reply: &mut [u8]) -> A
     requires { ⌜ (20 ≤ length (now reply)) × (11 ≤ length (now store)) ⌝ }
     ensures { λ r. ⌜ Queried (now (m .entry)) place (now (store .entry)) (now (reply .entry)) (now (reply .exit)) r ⌝ }
 {
-    let result = if same_hash(m, place, &store[0..11]) {
+    let result = if same_hash(m, place, &store[HASH..KEY]) {
         Result::Taken
     } else {
         Result::NoMatch
     };
-    let length = write_reply(reply, result_number(result), 0, &store[0..11]);
+    let length = write_reply(reply, result_number(result), 0, &store[HASH..KEY]);
     Answer::Replied(Reply {
         result: result,
         failed: 0,
@@ -73,13 +75,13 @@ fn take_request(
     ensures { λ r. ⌜ Requested limits (now (m .entry)) count at (now (store .entry)) (now (store .exit)) (now (reply .entry)) (now (reply .exit)) r ⌝ }
 {
     copy(work, store);
-    clear_hash(&mut work[0..11]);
+    clear_hash(&mut work[HASH..KEY]);
     let run = take_settings(work, limits, m, at, count);
     match run {
         Run::Fault(result, failed) => turn_down(reply, result, failed),
         Run::Good(flags) => {
             copy(store, work);
-            let length = write_reply(reply, 0, 0, &store[0..11]);
+            let length = write_reply(reply, 0, 0, &store[HASH..KEY]);
             Answer::Replied(Reply {
                 result: Result::Taken,
                 failed: 0,

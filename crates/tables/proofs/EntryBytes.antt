@@ -14,7 +14,7 @@ use Rattle.writing.specs.declared.SystemCode.{SystemCode}
 use Rattle.writing.specs.Ranges.{InChannel}
 use Rattle.writing.specs.Settings.{Text, Hash}
 use Rattle.writing.specs.Writing.{bit, current, to-group}
-use Rattle.fields.proofs.HashLaws.{small-code}
+use Rattle.read_fields.proofs.HashLaws.{small-code}
 use Rattle.tables.specs.Allowed.{QuickOk, StatusOk, LineOk, GroupOk, IndividualOk, TargetOk, HomeOk, SystemOk, HashOk}
 use Rattle.tables.specs.Layout.{text-bytes, digit-bytes, quick-bytes, status-bytes, line-bytes, group-bytes, individual-bytes, hash-bytes, key-bytes, key-address, home-bytes, system-bytes}
 use Rattle.tables.specs.Tables.{Line, GroupMember, IndividualMember, Key}

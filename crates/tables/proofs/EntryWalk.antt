@@ -9,15 +9,15 @@ use Rattle.lists.specs.Every.{All}
 use Rattle.writing.specs.Fields.{Field, widths, each}
 use Rattle.writing.proofs.Ends.{Ends}
 use Rattle.writing.specs.Settings.{Entry, unicode16}
-use Rattle.fields.specs.Entries.{EntryIs, EntryAt}
-use Rattle.fields.specs.Places.{PartAt}
-use Rattle.fields.specs.declared.entries.EntryPlace.{EntryPlace}
-use Rattle.fields.specs.declared.entries.EntryRead.{EntryRead}
-use Rattle.fields.specs.declared.entries.EntryRead.the-variants.{Entry as AnEntry, NoEntry}
-use Rattle.fields.proofs.Parts.{part-split}
-use Rattle.fields.proofs.Walk.{one-part}
+use Rattle.read_fields.specs.Entries.{EntryIs, EntryAt}
+use Rattle.read_fields.specs.Places.{PartAt}
+use Rattle.read_fields.specs.declared.entries.EntryPlace.{EntryPlace}
+use Rattle.read_fields.specs.declared.entries.EntryRead.{EntryRead}
+use Rattle.read_fields.specs.declared.entries.EntryRead.the-variants.{Entry as AnEntry, NoEntry}
+use Rattle.read_fields.proofs.Parts.{part-split}
+use Rattle.read_fields.proofs.Walk.{one-part}
 use Rattle.tables.specs.Apply.{in-turn, and-then}
-use Rattle.tables.specs.Changes.{Changed}
+use Rattle.tables.specs.Changing.{Changed}
 
 -- Starts es: es are the entries of the setting; Stands es rest p: of these, rest are left at place p; Is t s: the bytes s are the table t, s₀ those at the start
 module _ {A T : Type 0} (Starts : List A → Type 0) (Stands : List A → List A → ℕ → Type 0) (In : A → Type 0) (step : A → T → Option T) (Is : T → List ℕ → Type 0) (s₀ : List ℕ) where

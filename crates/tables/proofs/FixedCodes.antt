@@ -15,7 +15,7 @@ use Rattle.writing.specs.declared.HomeNumbers.{HomeNumbers}
 use Rattle.writing.specs.declared.SystemCode.{SystemCode}
 use Rattle.writing.specs.Settings.{Hash}
 use Rattle.writing.specs.Writing.{bit, current, to-group}
-use Rattle.fields.proofs.HashLaws.{one-size, small-size}
+use Rattle.read_fields.proofs.HashLaws.{one-size, small-size}
 use Rattle.tables.specs.Allowed.{HashOk, HomeOk, SystemOk, TargetOk}
 use Rattle.tables.specs.Layout.{hash-bytes, key-bytes, key-address, home-bytes, system-bytes}
 use Rattle.tables.specs.Tables.{Key}

@@ -14,7 +14,7 @@ use Rattle.slots.proofs.Tables.{front-nil, places-nil}
 use Rattle.writing.specs.Ranges.{no-hash as hash-0}
 use Rattle.tables.specs.declared.limits.Limits.{Limits}
 use Rattle.tables.specs.Allowed.{Allowed, QuickOk, StatusOk, GroupOk, IndividualOk}
-use Rattle.tables.specs.Layout.{parts, layout, used-size, Roomy, quick-bytes, status-bytes, group-bytes, individual-bytes, line-bytes, quick-width, status-width, member-width, channel-width, line-width}
+use Rattle.tables.specs.Layout.{parts, layout, used-size, Roomy, quick-bytes, status-bytes, group-bytes, individual-bytes, line-bytes, quick-width, status-width, member-width, channel-width, line-width, key-at, key-size}
 use Rattle.tables.specs.Limits.{quick-places, status-places, slot-places}
 use Rattle.tables.specs.Tables.{fresh}
 use Rattle.tables.proofs.Frames.{all-widths}
@@ -72,5 +72,5 @@ fresh-layout m r =
     let e : sum (all-widths m) ≡ m .size = omega arith in
     ap flat (fresh-parts m)
     ∙ sym (parts-put zs (map length zs) refl 1 (omega arith) (16 ∷ 0 ∷ 0 ∷ 0 ∷ []))
-    ∙ ap (λ (l : List ℕ). putMid 11 4 l (16 ∷ 0 ∷ 0 ∷ 0 ∷ [])) (flat-zeros (all-widths m) ∙ ap (λ (k : ℕ). replicate k 0) e)
+    ∙ ap (λ (l : List ℕ). putMid key-at key-size l (16 ∷ 0 ∷ 0 ∷ 0 ∷ [])) (flat-zeros (all-widths m) ∙ ap (λ (k : ℕ). replicate k 0) e)
     ∙ one-byte (m .size) (omega arith)

@@ -10,6 +10,7 @@ pub mod FreshLaws
 pub mod HeadLaws
 pub mod LayoutLaws
 pub mod ListLaws
+pub mod Owns
 pub mod RoomSentences
 pub mod Sentences
 pub mod StartLaws

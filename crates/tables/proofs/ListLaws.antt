@@ -8,7 +8,7 @@ use native.Mathlib.Omega.{arith}
 use lib.ListN.{length, replicate}
 use Rattle.slots.specs.Slots.{places, front, Listed}
 use Rattle.slots.proofs.Tables.{front-length, front-nil, places-length, places-nil}
-use Rattle.tables.specs.Lists.{Tried}
+use Rattle.tables.specs.Changing.{Tried}
 
 -- ---- answers
 

@@ -22,6 +22,7 @@ use Rattle.tables.specs.Apply.{and-then, in-turn, start-from, has-number
 use Rattle.tables.specs.Limits.{handheld, quick-places, status-places}
 use Rattle.tables.specs.Tables.{Line, Tables, with-hash, with-key, with-home, with-system, with-quick, with-status, with-groups, with-individuals, with-channels, with-lines}
 use Rattle.tables.proofs.Sentences.{Without, key-is-digits, says-without, without-says}
+use Rattle.tables.specs.Owns.{mix, only}
 
 -- ---- entries in order
 
@@ -162,16 +163,7 @@ no-room-kinds m (last f h) t e = absurd (Option·some-ne-none _ e)
 
 -- t with the table of one kind as u has it
 abbrev pub with-own : Kind → Tables → Tables → Tables
-with-own Lines t u = with-lines t (u .lines)
-with-own Key t u = with-key t (u .key)
-with-own QuickTexts t u = with-quick t (u .quick)
-with-own Home t u = with-home t (u .home)
-with-own Channels t u = with-channels t (u .channels)
-with-own System t u = with-system t (u .system)
-with-own StatusTexts t u = with-status t (u .status)
-with-own Group t u = with-groups t (u .groups)
-with-own Individual t u = with-individuals t (u .individuals)
-with-own Last t u = with-hash t (u .hash)
+with-own k t u = mix (only k) t u
 
 -- what a change of one table makes where there is room
 room-own : {A : Type 0} (k : Kind) (t : Tables) (with-it : A → Tables) → ((a : A) → with-it a ≡ with-own k t (with-it a)) → (o : Option A) → Present (λ u. u ≡ with-own k t u) (with-room with-it o)

@@ -8,7 +8,7 @@ use native.Mathlib.Omega.{arith}
 use lib.Dec.{leb}
 use lib.ListN.{length, replicate, set}
 use Rattle.tables.specs.declared.limits.Limits.{Limits}
-use Rattle.tables.specs.Layout.{layout, Roomy}
+use Rattle.tables.specs.Layout.{layout, Roomy, line-width, lists-at}
 use Rattle.tables.specs.Tables.{fresh}
 use Rattle.tables.proofs.AnswerLaws.{turned, leb-is}
 use Rattle.tables.proofs.FreshLaws.{fresh-layout}
@@ -16,10 +16,10 @@ use Rattle.tables.proofs.FreshLaws.{fresh-layout}
 -- ---- room
 
 -- where the fixed parts and the channels have room, what is left decides
-pub room-is : (m : Limits) → 7286 ≤ m .size → m .channels ≤ (m .size - 7286) / 2 → (leb (m .lines) ((m .size - 7286 - m .channels * 2) / 51) ≡ true) ↔ Roomy m
+pub room-is : (m : Limits) → lists-at ≤ m .size → m .channels ≤ (m .size - lists-at) / 2 → (leb (m .lines) ((m .size - lists-at - m .channels * 2) / line-width) ≡ true) ↔ Roomy m
 room-is m h k =
-    let n = (m .size - 7286 - m .channels * 2) / 51 in
-    turned (leb (m .lines) n) (leb-is (m .lines) n) (λ (e : m .lines ≤ (m .size - 7286 - m .channels * 2) / 51). omega arith) (λ (r : Roomy m). omega arith)
+    let n = (m .size - lists-at - m .channels * 2) / line-width in
+    turned (leb (m .lines) n) (leb-is (m .lines) n) (λ (e : m .lines ≤ (m .size - lists-at - m .channels * 2) / line-width). omega arith) (λ (r : Roomy m). omega arith)
 
 -- ---- starting
 

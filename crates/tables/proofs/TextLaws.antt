@@ -17,10 +17,10 @@ use Rattle.slots.proofs.Tables.{flat-pad}
 use Rattle.writing.specs.Fields.{item, val}
 use Rattle.writing.specs.Settings.{Text, unicode16}
 use Rattle.writing.specs.Writing.{text}
-use Rattle.fields.specs.Places.{PartAt, be}
-use Rattle.fields.specs.declared.texts.TextPlace.{TextPlace}
-use Rattle.fields.proofs.Heads.{head-out}
-use Rattle.tables.specs.Changes.{TextPut}
+use Rattle.read_fields.specs.Places.{PartAt, be}
+use Rattle.read_fields.specs.declared.texts.TextPlace.{TextPlace}
+use Rattle.read_fields.proofs.Heads.{head-out}
+use Rattle.tables.specs.Changing.{TextPut}
 use Rattle.tables.specs.Layout.{text-bytes}
 
 -- a unit that a text may have

@@ -2,8 +2,8 @@
 use Prim.Native.Nat.{ℕ, suc, _+_, _*_, _-_, _≤_}
 use mathlib.Core.Path.{_≡_}
 use mathlib.Core.List.{List, [], _∷_, _++_, map}
-use lib.ListN.{length, replicate}
-use Rattle.slots.specs.Slots.{flat, pad, places, front, u16, u24}
+use lib.ListN.{length, replicate, take}
+use Rattle.slots.specs.Slots.{flat, sum, pad, places, front, u16, u24}
 use Rattle.writing.specs.declared.LineFlags.{LineFlags}
 use Rattle.writing.specs.declared.KeyTarget.{KeyTarget}
 use Rattle.writing.specs.declared.KeyTarget.the-variants.{Current, ToGroup, ToIndividual}
@@ -16,6 +16,7 @@ use Rattle.writing.specs.Settings.{Text, Hash}
 use Rattle.writing.specs.Writing.{bit, current, to-group}
 use Rattle.tables.specs.declared.limits.Limits.{Limits}
 use Rattle.tables.specs.Allowed.{Allowed}
+use Rattle.tables.specs.Limits.{quick-places, status-places, slot-places}
 use Rattle.tables.specs.Tables.{Line, GroupMember, IndividualMember, Key, Tables}
 
 -- ---- an entry's bytes
@@ -95,13 +96,69 @@ line-width = 51
 
 -- ---- the store
 
+-- how many bytes the parts of a fixed size have
+abbrev pub hash-size : ℕ
+hash-size = 11
+
+abbrev pub key-size : ℕ
+key-size = 4
+
+abbrev pub home-size : ℕ
+home-size = 4
+
+abbrev pub system-size : ℕ
+system-size = 3
+
+abbrev pub quick-size : ℕ
+quick-size = quick-places * quick-width
+
+abbrev pub status-size : ℕ
+status-size = status-places * status-width
+
+abbrev pub member-size : ℕ
+member-size = slot-places * member-width
+
 -- how many bytes each part has, the spare ones aside: hash, key, home, system, quick, status, groups, individuals, channels, lines
 abbrev pub part-widths : Limits → List ℕ
-part-widths m = 11 ∷ 4 ∷ 4 ∷ 3 ∷ 2944 ∷ 3168 ∷ 576 ∷ 576 ∷ m .channels * channel-width ∷ m .lines * line-width ∷ []
+part-widths m =
+    hash-size ∷ key-size ∷ home-size ∷ system-size ∷ quick-size ∷ status-size ∷ member-size ∷ member-size
+    ∷ m .channels * channel-width ∷ m .lines * line-width ∷ []
+
+-- where they start; behind the individuals come the two lists, channels and lines
+abbrev pub key-at : ℕ
+key-at = hash-size
+
+abbrev pub home-at : ℕ
+home-at = key-at + key-size
+
+abbrev pub system-at : ℕ
+system-at = home-at + home-size
+
+abbrev pub quick-at : ℕ
+quick-at = system-at + system-size
+
+abbrev pub status-at : ℕ
+status-at = quick-at + quick-size
+
+abbrev pub groups-at : ℕ
+groups-at = status-at + status-size
+
+abbrev pub individuals-at : ℕ
+individuals-at = groups-at + member-size
+
+abbrev pub lists-at : ℕ
+lists-at = individuals-at + member-size
+
+abbrev pub lines-at : Limits → ℕ
+lines-at m = lists-at + m .channels * channel-width
+
+-- where part k of the store starts
+abbrev pub part-start : Limits → ℕ → ℕ
+part-start m k = sum (take k (part-widths m))
 
 -- the bytes that the tables take
 abbrev pub used-size : Limits → ℕ
-used-size m = 7286 + (m .channels * channel-width + m .lines * line-width)
+used-size m = lists-at + (m .channels * channel-width + m .lines * line-width)
 
 -- the parts, in order; the bytes that no table uses are 0
 abbrev pub parts : Limits → Tables → List (List ℕ)

@@ -1,8 +1,8 @@
 pub mod Allowed
 pub mod Apply
-pub mod Changes
+pub mod Changing
 pub mod Layout
 pub mod Limits
-pub mod Lists
+pub mod Owns
 pub mod Store
 pub mod Tables

@@ -16,7 +16,7 @@ use Rattle.tables.specs.declared.start.Started.the-variants.{Fresh, Wron
 use Rattle.tables.specs.Allowed.{Allowed}
 use Rattle.tables.specs.Apply.{apply}
 use Rattle.tables.specs.Layout.{layout, Roomy, IsStore}
-use Rattle.tables.specs.Lists.{Tried}
+use Rattle.tables.specs.Changing.{Tried}
 use Rattle.tables.specs.Tables.{Tables, fresh}
 
 -- ---- which bytes are a store, and starting one

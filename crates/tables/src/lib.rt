@@ -1,5 +1,6 @@
 // The tables of a set in lent bytes: their limits, a fresh store, and how a head and a text are kept.
 pub mod heads;
 pub mod limits;
+pub mod places;
 pub mod start;
 pub mod texts;

@@ -1,4 +1,7 @@
 // What differs between sets: room for lines and channels, the largest message, and the size of the store.
+use super::places::CHANNEL_SLOT;
+use super::places::LINE_SLOT;
+use super::places::LISTS;
 ghost use mathlib.Core.Path.{_≡_};
 ghost use mathlib.Core.Bool.{true};
 ghost use mathlib.Core.Logic.{_↔_};
@@ -11,16 +14,24 @@ pub struct Limits {
     pub size: usize,
 }
 
+// A hand-held: room for 32 lines and 64 channels, messages of up to 4,096 bytes, a store of 12,288.
+pub const HANDHELD: Limits = Limits {
+    lines: 32,
+    channels: 64,
+    message: 4096,
+    size: 12288,
+};
+
 // Whether the tables have room in a store of the limits' size.
 pub fn roomy(limits: Limits) -> bool
     ensures { λ r. ⌜ (r ≡ true) ↔ Roomy limits ⌝ }
 {
-    if limits.size < 7286 {
+    if limits.size < LISTS {
         return false;
     }
-    let room = limits.size - 7286;
-    if room / 2 < limits.channels {
+    let room = limits.size - LISTS;
+    if room / CHANNEL_SLOT < limits.channels {
         return false;
     }
-    limits.lines <= (room - limits.channels * 2) / 51
+    limits.lines <= (room - limits.channels * CHANNEL_SLOT) / LINE_SLOT
 }

@@ -1,6 +1,7 @@
 // Starting a store.
 use super::limits::Limits;
 use super::limits::roomy;
+use super::places::KEY;
 use slots::bytes::wipe;
 ghost use Rattle.lists.specs.Ladder.{Answers};
 ghost use Rattle.tables.specs.Store.{starting, begins};
@@ -21,6 +22,6 @@ pub fn start(store: &mut [u8], limits: Limits) -> Started
         return Started::WrongSize;
     }
     wipe(store);
-    store[11] = 16;
+    store[KEY] = 16;
     Started::Fresh
 }

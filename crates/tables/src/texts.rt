@@ -1,7 +1,7 @@
 // Texts in the store: units of two bytes as they stand in the message, and zeros after them.
-use fields::texts::TextPlace;
+use read_fields::texts::TextPlace;
 use slots::bytes::copy_padded;
-ghost use Rattle.tables.specs.Changes.{TextPut};
+ghost use Rattle.tables.specs.Changing.{TextPut};
 
 // Fills dst with a text's units, and zeros after them. A place outside the message changes nothing.
 pub fn put_text(dst: &mut [u8], m: &[u8], place: TextPlace)

@@ -111,9 +111,13 @@ InSize most message = (7 ≤ length message) × (length message ≤ most)
 abbrev pub NothingCarried : List ℕ → Type 0
 NothingCarried message = (coding : ℕ) (data-bytes : List ℕ) → Carries coding data-bytes message → ⊥
 
+-- its first data byte says none of these types, whatever the version
+abbrev pub OtherKind : (ℕ → Type 0) → List ℕ → Type 0
+OtherKind These message = (version kind coding : ℕ) (data-bytes : List ℕ) → These kind → Opens version kind coding data-bytes message → ⊥
+
 -- 14, "MsgType not 0 or 5", whatever the version
 abbrev pub OtherType : List ℕ → Type 0
-OtherType message = (version kind coding : ℕ) (data-bytes : List ℕ) → (kind ≡ 0) ⊎ (kind ≡ 5) → Opens version kind coding data-bytes message → ⊥
+OtherType = OtherKind (λ k. (k ≡ 0) ⊎ (k ≡ 5))
 
 -- 1, "OTAPVer is not 1", whatever the type
 abbrev pub OtherVersion : List ℕ → Type 0

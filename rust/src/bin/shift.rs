@@ -18,7 +18,7 @@ fn units(text: &str) -> Text {
 /// A group by its dialled number, with a name that may be empty.
 fn group_slot(index: u8, dialled: u32, name: &str) -> Setting {
     let slot = GroupSlot {
-        attribute: 1,
+        attribute: 2,
         broadcast: false,
         encryption: false,
         ovcm: false,

@@ -6,6 +6,9 @@ use crate::reference::export::{EXPORT_ROOM, PARTS};
 use crate::reference::screen::SCRATCH_ROOM;
 use crate::reference::take::REPLY_ROOM;
 
+/// For each table of the screen, the first row to ask for and how many.
+const ROWS: [(u32, usize); 5] = [(0, 34), (0, 66), (30, 100), (0, 18), (0, 18)];
+
 /// A call and the room of the buffer that it writes to.
 #[derive(Clone, Debug, PartialEq, Eq)]
 pub enum Call {
@@ -56,19 +59,21 @@ impl Calls {
     }
 
     fn part(&mut self) -> u32 {
+        let parts = u32::from(PARTS);
         if self.random.percent(90) {
-            return self.random.within(1..=usize::from(PARTS)) as u32;
+            return self.random.within(1..=parts as usize) as u32;
         }
         // The last two are parts in their low byte or half.
-        self.random.pick(&[0, 8, 9, 255, u32::MAX, 0x101, 0x1_0001])
+        self.random.pick(&[0, parts + 1, parts + 2, 255, u32::MAX, 0x101, 0x1_0001])
     }
 
     fn row(&mut self) -> (u32, u32) {
-        let table = self.random.within(1..=5) as u32;
-        let rows = [(0, 34), (0, 66), (30, 100), (0, 18), (0, 18)][table as usize - 1];
+        let tables = ROWS.len() as u32;
+        let table = self.random.within(1..=ROWS.len()) as u32;
+        let rows = ROWS[table as usize - 1];
         let row = rows.0 + self.random.below(rows.1) as u32;
         match self.random.below(40) {
-            0 => (self.random.pick(&[0, 6, 7, u32::MAX, 0x104, 0x1_0004]), row),
+            0 => (self.random.pick(&[0, tables + 1, tables + 2, u32::MAX, 0x104, 0x1_0004]), row),
             1 => (table, row + self.random.pick(&[0x100, 0x1_0000, 0x8000_0000])),
             _ => (table, row),
         }

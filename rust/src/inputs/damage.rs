@@ -112,7 +112,7 @@ fn out_of_range(random: &mut Random, tables: &Tables, draft: &mut Draft) {
 }
 
 fn unknown_type(random: &mut Random, draft: &mut Draft, place: usize) {
-    let unknown = random.pick(&[0x00, 0xC8, 0xC9, 0xD3, 0xD4, 0xFE, 0x8A, 0xC0, 0x4A]);
+    let unknown = random.pick(&[0x00, 0xC7, 0xD4, 0xFE, 0x8A, 0xC0, 0x4A]);
     match random.below(3) {
         0 => draft.settings[place] = vec![unknown],
         1 => {

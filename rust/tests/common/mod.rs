@@ -7,7 +7,7 @@ pub mod pair;
 use otap::reference::message;
 use otap::reference::settings::{LineEntry, LineFlags, Operation, Setting, TextEntry};
 use otap::reference::tables::Set;
-use otap::reference::take::take;
+use otap::reference::take::{take, REPLY_ROOM};
 
 pub fn bytes(hex: &str) -> Vec<u8> {
     hex.split_whitespace()
@@ -31,7 +31,7 @@ pub fn number_of(message: &[u8]) -> (u8, u8) {
 }
 
 pub fn number_in(message: &[u8], set: &mut Set) -> (u8, u8) {
-    let answer = take(message, set, &mut [0; 20]);
+    let answer = take(message, set, &mut [0; REPLY_ROOM]);
     (answer.number, answer.failed)
 }
 

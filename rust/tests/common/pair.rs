@@ -87,7 +87,7 @@ impl Pair {
     }
 
     pub fn compare_exports(&mut self) {
-        for part in 0..=8 {
+        for part in 0..=Part::ALL.len() as u32 + 1 {
             self.export_into(part, otap::EXPORT_ROOM + part as usize);
         }
     }

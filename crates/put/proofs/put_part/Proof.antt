@@ -6,7 +6,7 @@ use Rattle.lists.specs.Ladder.{Answers}
 use Rattle.tables.specs.Limits.{handheld}
 use Rattle.export.specs.declared.parts.Export.{Export}
 use Rattle.export.specs.Exporting.{exporting, told}
-use Rattle.restoring.proofs.RestoreLaws.{written-within}
+use Rattle.restore.proofs.RestoreLaws.{written-within}
 use Rattle.put.proofs.put_part.Statement.{statement}
 use Rattle.put.proofs.put_part.Tie as tie
 

@@ -1,3 +1,4 @@
+use Rattle.export_write.proofs.WroteLaws.{wrote-copied}
 use Rattle.export.proofs.RequestLaws.{request-headed}
 use borrow.Author.Needs.{needs}
 use native.Mathlib.Omega.{arith}
@@ -19,11 +20,20 @@ cast-t15 c = search needs
 cast-t17 : tie.Need-cast-t17
 cast-t17 c = search needs
 
-slice-aggregate-bytes-at : tie.Need-slice-aggregate-bytes-at
-slice-aggregate-bytes-at c = search needs
+sub-copy : tie.Need-sub-copy
+sub-copy c = search needs
 
-bytes-at-requires : tie.Need-bytes-at-requires
-bytes-at-requires c κs = search needs
+part-copy-start : tie.Need-part-copy-start
+part-copy-start c = search needs
+
+part-copy-end : tie.Need-part-copy-end
+part-copy-end c = search needs
+
+slice-aggregate-copy : tie.Need-slice-aggregate-copy
+slice-aggregate-copy c = search needs
+
+copy-requires : tie.Need-copy-requires
+copy-requires c κs = search needs
 
 same-length : tie.Need-same-length
 same-length c = search needs
@@ -31,8 +41,8 @@ same-length c = search needs
 returns : tie.Need-returns
 returns c =
     let a = c .before .before .before .before .before .before .args in
-    let w = c .before .before .bytes-at in
-    request-headed (a .count) (a .end) (w .result) (a .buffer .now) (w .last .0) (omega arith) (omega arith) (omega arith) (w .ensures .done (omega arith))
+    let k = c .before .before .copy in
+    request-headed (a .count) (a .end) _ (a .buffer .now) _ (omega arith) (omega arith) (omega arith) (wrote-copied _ 0 (a .buffer .now) (k .last .0) (omega arith) (k .ensures))
 
 pub start-request-spec : {M : Type 1} → statement M
 start-request-spec =
@@ -43,7 +53,10 @@ start-request-spec =
     array-read-t13
     cast-t15
     cast-t17
-    slice-aggregate-bytes-at
-    bytes-at-requires
+    sub-copy
+    part-copy-start
+    part-copy-end
+    slice-aggregate-copy
+    copy-requires
     same-length
     returns)

@@ -136,7 +136,7 @@ returns c =
     let b : ℕ = 7286 + m .channels * 2 in
     let k : ℕ = b + m .lines * 51 - b in
     let l = mid-len b (b + m .lines * 51) (a .store .now) (omega (arith, p .0, p .1)) in
-    rw (c .before .before .before .before .before .enum-told .given .1) (lines-part m (a .store .now) (a .buffer .now) (w .last .0) (p .2) k (5 + length (midOf b k (a .store .now)) / 51 * 49) (w .result) (omega arith) (omega (arith, l)) (w .ensures (omega (arith, l, p .2 .counted), omega (arith, l, p .2 .lines, p .3))))
+    rw (c .before .before .before .before .before .enum-told .given .1) (lines-part m (a .store .now) (a .buffer .now) (w .last .0) (w .result) (p .2) k (5 + length (midOf b k (a .store .now)) / 51 * 49) (omega arith) (omega (arith, l)) (w .ensures (omega (arith, l, p .2 .counted), omega (arith, l, p .2 .lines, p .3))))
 
 same-length-2 : tie.Need-same-length-2
 same-length-2 c = search needs
@@ -147,7 +147,7 @@ returns-2 c =
     let p = c .before .before .before .before .before .before .before .before .before .before .before .pre in
     let w = c .before .before .export-fixed in
     let l = mid-len 11 22 (a .store .now) (omega (arith, p .0, p .1)) in
-    rw (c .before .before .before .before .before .enum-told2 .given .1) (fixed-part (a .limits) (a .store .now) (a .buffer .now) (w .last .0) (c .before .before .before .before .before .before .before .before .before .before .before .pre .2) (w .result) (w .ensures (omega (arith, l), omega (arith, p .2 .status, p .3))))
+    rw (c .before .before .before .before .before .enum-told2 .given .1) (fixed-part (a .limits) (a .store .now) (a .buffer .now) (w .last .0) (w .result) (p .2) (w .ensures (omega (arith, l), omega (arith, p .2 .status, p .3))))
 
 same-length-3 : tie.Need-same-length-3
 same-length-3 c = search needs
@@ -158,7 +158,7 @@ returns-3 c =
     let p = c .before .before .before .before .before .before .before .before .before .before .before .pre in
     let w = c .before .before .export-quick in
     let l = mid-len 22 2966 (a .store .now) (omega (arith, p .0, p .1)) in
-    rw (c .before .before .before .before .before .enum-told3 .given .1) (quick-part (a .limits) (a .store .now) (a .buffer .now) (w .last .0) (c .before .before .before .before .before .before .before .before .before .before .before .pre .2) (w .result) (w .ensures (omega (arith, l), omega (arith, p .2 .status, p .3))))
+    rw (c .before .before .before .before .before .enum-told3 .given .1) (quick-part (a .limits) (a .store .now) (a .buffer .now) (w .last .0) (w .result) (p .2) (w .ensures (omega (arith, l), omega (arith, p .2 .status, p .3))))
 
 same-length-4 : tie.Need-same-length-4
 same-length-4 c = search needs
@@ -171,7 +171,7 @@ returns-4 c =
     let m = a .limits in
     let k : ℕ = 7286 + m .channels * 2 - 7286 in
     let l = mid-len 7286 (7286 + m .channels * 2) (a .store .now) (omega (arith, p .0, p .1)) in
-    rw (c .before .before .before .before .before .enum-told4 .given .1) (channels-part m (a .store .now) (a .buffer .now) (w .last .0) (p .2) k (5 + (length (midOf 7286 k (a .store .now)) / 2 * 3 + 1) / 2) (w .result) (omega arith) (omega (arith, l, p .2 .channels)) (w .ensures (omega (arith, l, p .2 .channels), omega (arith, l, p .2 .channels, p .2 .status, p .3))))
+    rw (c .before .before .before .before .before .enum-told4 .given .1) (channels-part m (a .store .now) (a .buffer .now) (w .last .0) (w .result) (p .2) k (5 + (length (midOf 7286 k (a .store .now)) / 2 * 3 + 1) / 2) (omega arith) (omega (arith, l, p .2 .channels)) (w .ensures (omega (arith, l, p .2 .channels), omega (arith, l, p .2 .channels, p .2 .status, p .3))))
 
 same-length-5 : tie.Need-same-length-5
 same-length-5 c = search needs
@@ -182,7 +182,7 @@ returns-5 c =
     let p = c .before .before .before .before .before .before .before .before .before .before .before .pre in
     let w = c .before .before .export-status in
     let l = mid-len 2966 6134 (a .store .now) (omega (arith, p .0, p .1)) in
-    rw (c .before .before .before .before .before .enum-told5 .given .1) (status-part (a .limits) (a .store .now) (a .buffer .now) (w .last .0) (c .before .before .before .before .before .before .before .before .before .before .before .pre .2) (w .result) (w .ensures (omega (arith, l), omega (arith, p .2 .status, p .3))))
+    rw (c .before .before .before .before .before .enum-told5 .given .1) (status-part (a .limits) (a .store .now) (a .buffer .now) (w .last .0) (w .result) (p .2) (w .ensures (omega (arith, l), omega (arith, p .2 .status, p .3))))
 
 same-length-6 : tie.Need-same-length-6
 same-length-6 c = search needs
@@ -193,7 +193,7 @@ returns-6 c =
     let p = c .before .before .before .before .before .before .before .before .before .before .before .pre in
     let w = c .before .before .export-members in
     let l = mid-len 6134 6710 (a .store .now) (omega (arith, p .0, p .1)) in
-    rw (c .before .before .before .before .before .enum-told6 .given .1) (groups-part (a .limits) (a .store .now) (a .buffer .now) (w .last .0) (c .before .before .before .before .before .before .before .before .before .before .before .pre .2) (w .result) (w .ensures (omega (arith, l), omega (arith, p .2 .status, p .3))))
+    rw (c .before .before .before .before .before .enum-told6 .given .1) (groups-part (a .limits) (a .store .now) (a .buffer .now) (w .last .0) (w .result) (p .2) (w .ensures (omega (arith, l), omega (arith, p .2 .status, p .3))))
 
 same-length-7 : tie.Need-same-length-7
 same-length-7 c = search needs
@@ -204,7 +204,7 @@ returns-7 c =
     let p = c .before .before .before .before .before .before .before .before .before .before .before .pre in
     let w = c .before .before .export-members2 in
     let l = mid-len 6710 7286 (a .store .now) (omega (arith, p .0, p .1)) in
-    rw (c .before .before .before .before .before .enum-told7 .given .1) (individuals-part (a .limits) (a .store .now) (a .buffer .now) (w .last .0) (c .before .before .before .before .before .before .before .before .before .before .before .pre .2) (w .result) (w .ensures (omega (arith, l), omega (arith, p .2 .status, p .3))))
+    rw (c .before .before .before .before .before .enum-told7 .given .1) (individuals-part (a .limits) (a .store .now) (a .buffer .now) (w .last .0) (w .result) (p .2) (w .ensures (omega (arith, l), omega (arith, p .2 .status, p .3))))
 
 pub write-part-spec : {M : Type 1} → statement M
 write-part-spec =

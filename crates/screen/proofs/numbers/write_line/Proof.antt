@@ -9,7 +9,7 @@ use Rattle.writing.specs.Ranges.{InNumber}
 use Rattle.writing.specs.Settings.{Number}
 use Rattle.tables.specs.Layout.{digit-bytes}
 use Rattle.tables.proofs.TextCodes.{digits-length}
-use Rattle.row_names.specs.Rows.{ascii}
+use Rattle.screen.specs.Rows.{ascii}
 use Rattle.screen.specs.Steps.{Written}
 use Rattle.screen.proofs.NumberLaws.{DigitsSoFar, so-far-start, so-far-more, so-far-end, so-far-stop, kept-small}
 use Rattle.screen.proofs.numbers.write_line.Statement.{statement}

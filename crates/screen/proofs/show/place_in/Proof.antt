@@ -1,7 +1,7 @@
 -- `screen::show::place_in` meets its contract. Assumes nothing.
 use borrow.Author.Needs.{needs}
 use native.Mathlib.Omega.{arith}
-use Rattle.row_names.specs.declared.names.Name.the-variants.{Text as TextAt, Digits, Group as GroupNumber, Individual as IndividualNumber}
+use Rattle.screen.specs.declared.names.Name.the-variants.{Text as TextAt, Digits, Group as GroupNumber, Individual as IndividualNumber}
 use Rattle.screen.proofs.AnswerLaws.{text-placed, group-placed, individual-placed}
 use Rattle.screen.proofs.ShowLaws.{row-found, place-refused, digits-kept, digits-shown}
 use Rattle.screen.proofs.show.place_in.Statement.{statement}

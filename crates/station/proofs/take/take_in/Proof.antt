@@ -4,8 +4,8 @@ use mathlib.Core.Path.{_≡_, refl, subst}
 use native.Mathlib.Omega.{arith}
 use lib.ListN.{length}
 use mathlib.Core.Logic.{inl, inr}
-use Rattle.carrier.specs.Message.{MessageIs}
-use Rattle.carrier.specs.declared.carrier.Message.the-variants.{Size, Carrier, «Type» as OtherType, Version, NoRequest, Request, NoQuery, Query as AQuery}
+use Rattle.read_carrier.specs.Message.{MessageIs}
+use Rattle.read_carrier.specs.declared.carrier.Message.the-variants.{Size, Carrier, «Type» as OtherType, Version, NoRequest, Request, NoQuery, Query as AQuery}
 use Rattle.tables.specs.Layout.{used-size}
 use Rattle.tables.proofs.AnswerLaws.{not-said, was-said}
 use Rattle.station.proofs.TakeLaws.{handled}

@@ -1,6 +1,6 @@
 use borrow.Author.Needs.{needs}
 use mathlib.Core.Path.{subst}
-use Rattle.running.specs.Running.{RunIs}
+use Rattle.requests.specs.Running.{RunIs}
 use Rattle.station.proofs.TakeLaws.{forgotten, request-refused, request-taken}
 use Rattle.station.proofs.take.take_request.Statement.{statement}
 use Rattle.station.proofs.take.take_request.Tie as tie

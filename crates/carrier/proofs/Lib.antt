@@ -1,6 +1,0 @@
-pub mod CarrierLaws
-pub mod MessageLaws
-pub mod MessageOne
-pub mod KindLaws
-pub mod TrueLength
-pub mod OneMeaning

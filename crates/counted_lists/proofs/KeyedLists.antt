@@ -1,0 +1,115 @@
+-- Lists by a key, whatever the entries: what putting, adding and taking out mean, when there is no room, and that no key is there twice. Assumes nothing.
+use mathlib.Core.Path.{_≡_, refl, sym, ap, _∙_}
+use mathlib.Core.Logic.{_↔_, _≢_}
+use mathlib.Core.Bool.{Bool, true, false, cond, true≢false}
+use mathlib.Core.List.{List, [], _∷_, _++_}
+use mathlib.Core.Option.{none, some, Option·some-ne-none}
+use Prim.Native.Nat.{ℕ, suc, _≤_, _<_}
+use native.Mathlib.Omega.{arith}
+use borrow.Author.Tests.{lt-ltb, le-ltb, ltb-false}
+use lib.Dec.{ltb}
+use lib.ListN.{length, length-append}
+use Rattle.lists.proofs.Bools.{is-false}
+use Rattle.lists.specs.Every.{All}
+use Rattle.lists.proofs.Every.{all-turn, all-right}
+use Rattle.slots.specs.Slots.{unless, indexOf, putAt}
+use Rattle.slots.proofs.Changes.{index-absent, index-end, index-found, unless-absent, unless-found, unless-fewer, put-found}
+use Rattle.slots.proofs.Tables.{index-le, put-all, put-end, unless-all}
+use Rattle.counted_lists.specs.Counted.{put-last, put-keyed, Without, Distinct}
+
+-- what is done where a test passes is not done where it does not
+cond-none : {A : Type 0} (b : Bool) (a : A) → (cond b (some a) none ≡ none) ↔ (b ≡ false)
+cond-none true a = (λ e. absurd (Option·some-ne-none a e), λ e. absurd (true≢false e))
+cond-none false a = (λ e. refl, λ e. refl)
+
+-- an entry is added where fewer are there than have room
+pub last-room : {A : Type 0} (n : ℕ) (a : A) (ls : List A) → length ls < n → put-last n a ls ≡ some (ls ++ (a ∷ []))
+last-room n a ls h = rw (lt-ltb (length ls) n h)
+
+-- and not where the list is full
+pub last-no-room : {A : Type 0} (n : ℕ) (a : A) (ls : List A) → length ls ≤ n → (put-last n a ls ≡ none) ↔ (length ls ≡ n)
+last-no-room n a ls h = (
+  λ e. let k : n ≤ length ls = ltb-false _ _ (cond-none (ltb (length ls) n) (ls ++ (a ∷ [])) .0 e) in omega arith,
+  λ e. cond-none (ltb (length ls) n) (ls ++ (a ∷ [])) .1 (le-ltb (length ls) n (omega arith)),
+)
+
+module _ {A K : Type 0} (key : A → K) (has : K → A → Bool) (decides : (k : K) (a : A) → (has k a ≡ true) ↔ (key a ≡ k)) where
+  -- the test says no of each entry where none has the key
+  pub without-says : (k : K) (ls : List A) → Without key k ls → All (λ a. has k a ≡ false) ls
+  without-says k ls h = all-turn (λ a. key a ≢ k) (λ a. has k a ≡ false) (λ a q. is-false (has k a) (λ e. q (decides k a .0 e))) ls h
+
+  pub says-without : (k : K) (ls : List A) → All (λ a. has k a ≡ false) ls → Without key k ls
+  says-without k ls h = all-turn (λ a. has k a ≡ false) (λ a. key a ≢ k) (λ a q e. true≢false (sym (decides k a .1 e) ∙ q)) ls h
+
+  -- ---- putting
+
+  -- an entry goes where its key is found, if that is inside the room
+  put-at : (n : ℕ) (a : A) (ls : List A) (i : ℕ) → indexOf (has (key a)) ls ≡ i → i < n → put-keyed (has (key a)) n a ls ≡ some (putAt i a ls)
+  put-at n a ls i e h = rw (e, lt-ltb i n h)
+
+  -- a new key is put at the end
+  pub keyed-new : (n : ℕ) (a : A) (ls : List A) → Without key (key a) ls → length ls < n → put-keyed (has (key a)) n a ls ≡ some (ls ++ (a ∷ []))
+  keyed-new n a ls h r = put-at n a ls (length ls) (index-absent (has (key a)) ls (without-says (key a) ls h)) r ∙ ap some (put-end ls a)
+
+  -- a known one is overwritten in its place, also in a full list
+  pub keyed-known : (n : ℕ) (a : A) (before : List A) (b : A) (after : List A) → Without key (key a) before → key b ≡ key a → length (before ++ b ∷ after) ≤ n
+      → put-keyed (has (key a)) n a (before ++ b ∷ after) ≡ some (before ++ a ∷ after)
+  keyed-known n a before b after h e r =
+      put-at n a (before ++ b ∷ after) (length before) (index-found (has (key a)) before b after (without-says (key a) before h) (decides (key a) b .1 e)) (omega (arith, length-append before (b ∷ after)))
+      ∙ ap some (put-found before b after a)
+
+  -- there is no room where the list is full and no entry has the key
+  pub keyed-no-room : (n : ℕ) (a : A) (ls : List A) → length ls ≤ n → (put-keyed (has (key a)) n a ls ≡ none) ↔ ((length ls ≡ n) × Without key (key a) ls)
+  keyed-no-room n a ls h = (
+    λ e.
+        let k : n ≤ indexOf (has (key a)) ls = ltb-false _ _ (cond-none (ltb (indexOf (has (key a)) ls) n) (putAt (indexOf (has (key a)) ls) a ls) .0 e) in
+        let i : indexOf (has (key a)) ls ≡ length ls = omega (arith, index-le (has (key a)) ls) in
+        (omega arith, says-without (key a) ls (index-end (has (key a)) ls i)),
+    λ p.
+        let i : indexOf (has (key a)) ls ≡ length ls = index-absent (has (key a)) ls (without-says (key a) ls (p .1)) in
+        cond-none (ltb (indexOf (has (key a)) ls) n) (putAt (indexOf (has (key a)) ls) a ls) .1 (le-ltb (indexOf (has (key a)) ls) n (omega (arith, p .0))),
+  )
+
+  -- ---- taking out
+
+  -- the one entry with the key is taken out, and the others keep their order
+  pub drop-known : (k : K) (before : List A) (b : A) (after : List A) → Without key k before → key b ≡ k → Without key k after → unless (has k) (before ++ b ∷ after) ≡ before ++ after
+  drop-known k before b after h e l = unless-found (has k) before b after (without-says k before h) (decides k b .1 e) (without-says k after l)
+
+  -- what is not there is not taken out
+  pub drop-absent : (k : K) (ls : List A) → Without key k ls → unless (has k) ls ≡ ls
+  drop-absent k ls h = unless-absent (has k) ls (without-says k ls h)
+
+  -- after an entry was taken out, any has room
+  pub keyed-freed : (n : ℕ) (k : K) (before : List A) (b : A) (after : List A) → key b ≡ k → length (before ++ b ∷ after) ≤ n → (a : A) → put-keyed (has (key a)) n a (unless (has k) (before ++ b ∷ after)) ≢ none
+  keyed-freed n k before b after q h a e =
+      let s : length (unless (has k) (before ++ b ∷ after)) < length (before ++ b ∷ after) = unless-fewer (has k) before b after (decides k b .1 q) in
+      let p = keyed-no-room n a (unless (has k) (before ++ b ∷ after)) (omega arith) .0 e in
+      omega (arith, p .0)
+
+  -- ---- no key is there twice
+
+  -- an entry put by its key leaves no two of one key
+  pub put-distinct : (a : A) (ls : List A) → Distinct key ls → Distinct key (putAt (indexOf (has (key a)) ls) a ls)
+  put-distinct a [] d = (tt, tt)
+  put-distinct a (x ∷ xs) d = go (has (key a) x) refl (put-distinct a xs (d .1))
+    where
+      go : (b : Bool) → has (key a) x ≡ b → Distinct key (putAt (indexOf (has (key a)) xs) a xs) → Distinct key (putAt (cond b 0 (suc (indexOf (has (key a)) xs))) a (x ∷ xs))
+      go true e r = (all-turn (λ y. key y ≢ key x) (λ y. key y ≢ key a) (λ y n q. n (q ∙ sym (decides (key a) x .0 e))) xs (d .0), d .1)
+      go false e r = (put-all (λ y. key y ≢ key x) (indexOf (has (key a)) xs) a xs (λ q. true≢false (sym (decides (key a) x .1 (sym q)) ∙ e)) (d .0), r)
+
+-- entries taken out leave no two of one key
+pub unless-distinct : {A K : Type 0} (key : A → K) (p : A → Bool) (ls : List A) → Distinct key ls → Distinct key (unless p ls)
+unless-distinct key p [] d = tt
+unless-distinct key p (x ∷ xs) d = go (p x) (unless-distinct key p xs (d .1))
+  where
+    go : (b : Bool) → Distinct key (unless p xs) → Distinct key (cond b (unless p xs) (x ∷ unless p xs))
+    go true r = r
+    go false r = (unless-all (λ y. key y ≢ key x) p xs (d .0), r)
+
+-- where no key is there twice, no other entry has an entry's key
+pub others-without : {A K : Type 0} (key : A → K) (before : List A) (a : A) (after : List A) → Distinct key (before ++ a ∷ after) → Without key (key a) before × Without key (key a) after
+others-without key [] a after d = (tt, d .0)
+others-without key (x ∷ xs) a after d =
+    let r = others-without key xs a after (d .1) in
+    (((λ e. all-right (λ y. key y ≢ key x) xs (a ∷ after) (d .0) .0 (sym e)), r .0), r .1)

@@ -1,5 +1,0 @@
-pub mod JudgeLaws
-pub mod Determined
-pub mod Demand
-pub mod Theorems
-pub mod StandardReply

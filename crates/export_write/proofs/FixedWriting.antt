@@ -1,0 +1,174 @@
+-- The emergency key, home numbers and system code are written as their settings. Assumes nothing.
+use Prim.Native.Nat.{ℕ, _+_, _-_, _*_, _/_, _%_, _≤_, _<_}
+use mathlib.Core.Path.{_≡_, refl, sym, ap, ap₂, _∙_}
+use mathlib.Core.Bool.{true, false}
+use mathlib.Core.List.{List, [], _∷_, _++_, append-nil}
+use native.Mathlib.Omega.{arith}
+use borrow.Rule.Slice.PartMut.{midOf}
+use lib.ListN.{getD, take}
+use Rattle.lists.specs.Every.{All}
+use Rattle.slots.specs.Slots.{u24}
+use Rattle.writing.specs.declared.KeyTarget.{KeyTarget}
+use Rattle.writing.specs.declared.KeyTarget.the-variants.{Current, ToGroup, ToIndividual}
+use Rattle.writing.specs.declared.HomeNumbers.{HomeNumbers}
+use Rattle.writing.specs.declared.SystemCode.{SystemCode}
+use Rattle.writing.specs.Canonical.{plain, canonical, canonical-all, FitsField}
+use Rattle.writing.specs.Fields.{Field, val, res}
+use Rattle.writing.specs.Settings.{Setting, key, home, system, kind, unicode16}
+use Rattle.writing.specs.Writing.{bit, flag, current, to-group, type-byte, body, key-address}
+use Rattle.writing.proofs.Whole.{Whole}
+use Rattle.tables.specs.Allowed.{HomeOk, SystemOk, TargetOk}
+use Rattle.store_check.specs.Checks.{KeyOk}
+use Rattle.tables.specs.Layout.{key-bytes, key-flags, home-bytes, system-bytes, key-address as kept-address}
+use Rattle.tables.specs.Tables.{Key}
+use Rattle.tables.proofs.EntryCodes.{bit-small}
+use Rattle.export_write.specs.Writers.{Wrote, Kept}
+use Rattle.export_write.proofs.PlainLaws.{plain-byte, plain-three}
+use Rattle.export_write.proofs.WroteLaws.{wrote-both, wrote-as}
+
+-- ---- home numbers
+
+-- their values fit
+home-fits : (h : HomeNumbers) → HomeOk h → All FitsField (body unicode16 (home h))
+home-fits h ok = (omega (arith, ok .nzi), (omega (arith, ok .np), (tt, tt)))
+
+-- their three bytes
+home-plain : (h : HomeNumbers) → HomeOk h → (p : List ℕ) → p ≡ home-bytes h
+    → plain (body unicode16 (home h))
+    ≡ (getD p 0 0 % 2 * 128 + getD p 1 0 / 2) ∷ (getD p 1 0 % 2 * 128 + getD p 2 0 % 4 * 32 + getD p 3 0 / 8) ∷ (getD p 3 0 % 8 * 32) ∷ []
+home-plain h ok p e =
+    let a : h .nzi < 512 = ok .nzi in
+    let b : h .np ≤ 806 = ok .np in
+    let e0 : getD p 0 0 ≡ h .nzi / 256 = ap (λ (l : List ℕ). getD l 0 0) e in
+    let e1 : getD p 1 0 ≡ h .nzi % 256 = ap (λ (l : List ℕ). getD l 1 0) e in
+    let e2 : getD p 2 0 ≡ h .np / 256 = ap (λ (l : List ℕ). getD l 2 0) e in
+    let e3 : getD p 3 0 ≡ h .np % 256 = ap (λ (l : List ℕ). getD l 3 0) e in
+    let v : ℕ = h .nzi * 32768 + h .np * 32 in
+    let x : v / 65536 ≡ getD p 0 0 % 2 * 128 + getD p 1 0 / 2 = omega arith in
+    let y : v % 65536 / 256 ≡ getD p 1 0 % 2 * 128 + getD p 2 0 % 4 * 32 + getD p 3 0 / 8 = omega arith in
+    let z : v % 65536 % 256 ≡ getD p 3 0 % 8 * 32 = omega arith in
+    plain-three v (body unicode16 (home h)) [] refl (omega arith) (omega arith) (0, refl) tt ∙ (λ i. x i ∷ y i ∷ z i ∷ [])
+
+-- they are written as their setting
+pub home-wrote : (p : List ℕ) (at end : ℕ) (s t : List ℕ)
+    → Wrote ((getD p 0 0 % 2 * 128 + getD p 1 0 / 2) ∷ (getD p 1 0 % 2 * 128 + getD p 2 0 % 4 * 32 + getD p 3 0 / 8) ∷ (getD p 3 0 % 8 * 32) ∷ []) (at + 3) s t end
+    → (h : HomeNumbers) → Kept HomeOk home-bytes p h
+    → (type-byte (kind (home h)) ≡ 0xCD) × All FitsField (body unicode16 (home h)) × Wrote (plain (body unicode16 (home h))) (at + 3) s t end
+home-wrote p at end s t w h k = (refl, home-fits h (k .0), wrote-as _ (plain (body unicode16 (home h))) (at + 3) end s t (sym (home-plain h (k .0) p (k .1))) w)
+
+-- ---- the system code
+
+-- its values fit
+system-fits : (s : SystemCode) → SystemOk s → All FitsField (body unicode16 (system s))
+system-fits s ok = (omega (arith, ok .lai), (omega (arith, ok .la), (omega (arith, ok .roaming), (omega (arith, bit-small (s .par)), (tt, tt)))))
+
+-- its three bytes
+system-plain : (s : SystemCode) → SystemOk s → (p : List ℕ) → p ≡ system-bytes s
+    → plain (body unicode16 (system s))
+    ≡ (getD p 0 0 % 16 * 16 + getD p 1 0 / 16) ∷ (getD p 1 0 % 16 * 16 + getD p 2 0 / 8 % 16) ∷ (getD p 2 0 % 8 * 32) ∷ []
+system-plain s ok p e =
+    let a : s .lai < 4096 = ok .lai in
+    let b : s .la ≤ 8 = ok .la in
+    let c : s .roaming < 3 = ok .roaming in
+    let d : bit (s .par) ≤ 1 = bit-small (s .par) in
+    let e0 : getD p 0 0 ≡ s .lai / 256 = ap (λ (l : List ℕ). getD l 0 0) e in
+    let e1 : getD p 1 0 ≡ s .lai % 256 = ap (λ (l : List ℕ). getD l 1 0) e in
+    let e2 : getD p 2 0 ≡ s .la * 8 + s .roaming * 2 + bit (s .par) = ap (λ (l : List ℕ). getD l 2 0) e in
+    let v : ℕ = s .lai * 4096 + (s .la * 256 + (s .roaming * 64 + bit (s .par) * 32)) in
+    let x : v / 65536 ≡ getD p 0 0 % 16 * 16 + getD p 1 0 / 16 = omega arith in
+    let y : v % 65536 / 256 ≡ getD p 1 0 % 16 * 16 + getD p 2 0 / 8 % 16 = omega arith in
+    let z : v % 65536 % 256 ≡ getD p 2 0 % 8 * 32 = omega arith in
+    plain-three v (body unicode16 (system s)) [] refl (omega arith) (omega arith) (0, refl) tt ∙ (λ i. x i ∷ y i ∷ z i ∷ [])
+
+-- it is written as its setting
+pub system-wrote : (p : List ℕ) (at end : ℕ) (s t : List ℕ)
+    → Wrote ((getD p 0 0 % 16 * 16 + getD p 1 0 / 16) ∷ (getD p 1 0 % 16 * 16 + getD p 2 0 / 8 % 16) ∷ (getD p 2 0 % 8 * 32) ∷ []) (at + 3) s t end
+    → (x : SystemCode) → Kept SystemOk system-bytes p x
+    → (type-byte (kind (system x)) ≡ 0xCF) × All FitsField (body unicode16 (system x)) × Wrote (plain (body unicode16 (system x))) (at + 3) s t end
+system-wrote p at end s t w x k = (refl, system-fits x (k .0), wrote-as _ (plain (body unicode16 (system x))) (at + 3) end s t (sym (system-plain x (k .0) p (k .1))) w)
+
+-- ---- the emergency key
+
+-- what an emergency key's target says of the address that is kept and sent
+address-fits : (t : KeyTarget) → TargetOk t → All FitsField (key-address t)
+address-fits (Current g) h = tt
+address-fits (ToGroup a) h = (h .1, tt)
+address-fits (ToIndividual a) h = (h .1, tt)
+
+-- its values fit
+key-fits : (k : Key) → KeyOk k → All FitsField (body unicode16 (key (k .target) (k .flags)))
+key-fits k ok = (
+  omega (arith, bit-small (current (k .target))),
+  (
+    omega (arith, bit-small (to-group (k .target))),
+    (
+      omega (arith, bit-small (k .flags .voice)),
+      (omega (arith, bit-small (k .flags .status)), (omega (arith, bit-small (k .flags .siren)), (tt, address-fits (k .target) ok))),
+    ),
+  ),
+)
+
+-- it is absent or has three bytes
+address-whole : (t : KeyTarget) → Whole (key-address t)
+address-whole (Current g) = (0, refl)
+address-whole (ToGroup a) = (3, refl)
+address-whole (ToIndividual a) = (3, refl)
+
+-- an address that is sent is the one that is kept
+address-sent : (t : KeyTarget) → TargetOk t → (n : ℕ) → (current t ≡ false → n ≡ 3) → (current t ≡ true → n ≡ 0)
+    → take n (u24 (kept-address t)) ≡ plain (key-address t)
+address-sent (Current g) h n a b = rw (b refl)
+address-sent (ToGroup x) h n a b = rw (a refl) (sym (plain-three (x .0) (val 24 (x .0) ∷ []) [] refl (omega arith) (h .1) (0, refl) tt))
+address-sent (ToIndividual x) h n a b = rw (a refl) (sym (plain-three (x .0) (val 24 (x .0) ∷ []) [] refl (omega arith) (h .1) (0, refl) tt))
+
+-- the flags of a kept key
+module _ (k : Key) where
+  rest-small : bit (to-group (k .target)) * 8 + bit (k .flags .voice) * 4 + bit (k .flags .status) * 2 + bit (k .flags .siren) ≤ 15
+  rest-small = omega (arith, bit-small (to-group (k .target)), bit-small (k .flags .voice), bit-small (k .flags .status), bit-small (k .flags .siren))
+
+  -- it is below 16 where the key does not call the current place
+  pub flags-below : current (k .target) ≡ false → key-flags k < 16
+  flags-below e = let z : bit (current (k .target)) ≡ 0 = ap bit e in omega (arith, rest-small)
+
+  pub flags-above : current (k .target) ≡ true → 16 ≤ key-flags k
+  flags-above e = let z : bit (current (k .target)) ≡ 1 = ap bit e in omega arith
+
+  -- the byte of flags, and the address that is sent
+  pub key-plain : KeyOk k → plain (body unicode16 (key (k .target) (k .flags))) ≡ (key-flags k % 32 * 8) ∷ plain (key-address (k .target))
+  key-plain ok =
+      let a = bit-small (current (k .target)) in
+      let f : key-flags k < 32 = omega (arith, rest-small, a) in
+      let fs : List Field = flag (current (k .target)) ∷ flag (to-group (k .target)) ∷ flag (k .flags .voice) ∷ flag (k .flags .status) ∷ flag (k .flags .siren) ∷ res 3 ∷ [] in
+      plain-byte (key-flags k % 32 * 8) fs (key-address (k .target)) refl (omega arith) (omega arith) (address-whole (k .target)) (address-fits (k .target) ok)
+
+-- it is written as its setting
+pub key-wrote : (p : List ℕ) (at m end last : ℕ) (s t u : List ℕ) → Wrote ((getD p 0 0 % 32 * 8) ∷ []) (at + 3) s t m
+    → (getD p 0 0 < 16 → last ≡ 4) → (16 ≤ getD p 0 0 → last ≡ 1) → Wrote (midOf 1 (last - 1) p) m t u end
+    → (k : Key) → Kept KeyOk key-bytes p k
+    → (type-byte (kind (key (k .target) (k .flags))) ≡ 0xCB) × All FitsField (body unicode16 (key (k .target) (k .flags)))
+    × Wrote (plain (body unicode16 (key (k .target) (k .flags)))) (at + 3) s u end
+key-wrote p at m end last s t u v a b w k (ok, e) =
+    let f : getD p 0 0 ≡ key-flags k = ap (λ (l : List ℕ). getD l 0 0) e in
+    let x : midOf 1 (last - 1) p ≡ plain (key-address (k .target))
+    = ap (midOf 1 (last - 1)) e ∙ address-sent (k .target) ok (last - 1)
+    (λ z. let y : last ≡ 4 = a (omega (arith, flags-below k z)) in omega arith)
+    (λ z. let y : last ≡ 1 = b (omega (arith, flags-above k z)) in omega arith) in
+    let y : ((getD p 0 0 % 32 * 8) ∷ []) ++ midOf 1 (last - 1) p ≡ plain (body unicode16 (key (k .target) (k .flags)))
+    = ap₂ (λ (n : ℕ) (l : List ℕ). (n % 32 * 8) ∷ l) f x ∙ sym (key-plain k ok) in (
+      refl,
+      key-fits k ok,
+      wrote-as (((getD p 0 0 % 32 * 8) ∷ []) ++ midOf 1 (last - 1) p) (plain (body unicode16 (key (k .target) (k .flags)))) (at + 3) end s u y
+          (wrote-both ((getD p 0 0 % 32 * 8) ∷ []) (midOf 1 (last - 1) p) (at + 3) m end s t u v w),
+    )
+
+-- ---- the three
+
+-- one after the other
+pub three-wrote : (a b c : Setting) (at m n r : ℕ) (s t u v : List ℕ) → Wrote (canonical unicode16 a) at s t m → Wrote (canonical unicode16 b) m t u n
+    → Wrote (canonical unicode16 c) n u v r → Wrote (canonical-all unicode16 (a ∷ b ∷ c ∷ [])) at s v r
+three-wrote a b c at m n r s t u v x y z =
+    let A : List ℕ = canonical unicode16 a in
+    let B : List ℕ = canonical unicode16 b in
+    let C : List ℕ = canonical unicode16 c in
+    wrote-both A (B ++ (C ++ [])) at m r s t v x
+    (wrote-both B (C ++ []) m n r t u v y (wrote-as C (C ++ []) n r u v (sym (append-nil C)) z))

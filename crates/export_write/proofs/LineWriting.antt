@@ -1,0 +1,157 @@
+-- Line contacts are written as a replace and an add for each. Assumes nothing.
+use Prim.Native.Nat.{ℕ, zero, suc, _+_, _-_, _*_, _/_, _%_, _≤_, _<_}
+use mathlib.Core.Path.{_≡_, refl, sym, ap, _∙_, subst}
+use mathlib.Core.List.{List, [], _∷_, _++_, map, append-nil}
+use mathlib.Core.Option.{none, some}
+use native.Mathlib.Nat.{not-suc-le-zero, le-of-suc-le-suc}
+use native.Mathlib.Numerals.{add-one}
+use native.Mathlib.Omega.{arith}
+use borrow.Rule.Slice.PartMut.{midOf}
+use lib.ListN.{length, getD, take, drop, drop-of-length-le}
+use lib.Seq.{take-all, drop-at, drop-cons}
+use Rattle.lists.specs.Every.{All}
+use Rattle.lists.proofs.Every.{all-get, all-append}
+use Rattle.slots.specs.Slots.{front, slot, zeros?, Listed, Placed, Found}
+use Rattle.slots.proofs.Keys.{used-at}
+use Rattle.slots.proofs.Tables.{all-front, front-length, place-read}
+use Rattle.writing.specs.declared.Operation.the-variants.{Add, Replace}
+use Rattle.writing.specs.Canonical.{plain, canonical, canonical-all, FitsField}
+use Rattle.writing.specs.Fields.{Field, val, res}
+use Rattle.writing.specs.Settings.{lines, kind, unicode16}
+use Rattle.writing.specs.Writing.{flag, op, number, text, type-byte, body}
+use Rattle.writing.proofs.CanonicalLaws.{plain-append}
+use Rattle.writing.proofs.Whole.{append-whole, number-whole, text-whole}
+use Rattle.tables.specs.Allowed.{LineOk}
+use Rattle.tables.specs.Layout.{text-bytes, digit-bytes, line-bytes, line-flags}
+use Rattle.tables.specs.Tables.{Line}
+use Rattle.tables.proofs.EntryCodes.{bit-small, line-code, line-keyed, line-shown}
+use Rattle.tables.proofs.TextCodes.{text-length, digits-length}
+use Rattle.export_write.specs.LineSettings.{no-line-flags, line-add}
+use Rattle.export_write.specs.LineWriters.{LinesIn, line-settings}
+use Rattle.export_write.specs.Writers.{Wrote, Kept, WritesText, WritesNumber, WritesSetting}
+use Rattle.export_write.proofs.NumberWriting.{number-fits}
+use Rattle.export_write.proofs.PlainLaws.{plain-byte}
+use Rattle.export_write.proofs.TextWriting.{text-fits}
+use Rattle.export_write.proofs.WroteLaws.{Writing, writing-more, writing-end, wrote-both, wrote-as}
+
+-- ---- one contact
+
+module _ (l : Line) (ok : LineOk l) where
+  contact-fits : All FitsField (number (l .number) ++ text unicode16 (l .text))
+  contact-fits = all-append FitsField (number (l .number)) (text unicode16 (l .text)) (number-fits (l .number) (ok .number .2)) (text-fits (l .text) (ok .text .units))
+
+  -- its values fit
+  line-fits : All FitsField (body unicode16 (line-add l))
+  line-fits = (
+    omega arith,
+    (
+      omega (arith, bit-small (l .flags .encryption)),
+      (
+        omega (arith, bit-small (l .flags .emergency)),
+        (
+          omega (arith, ok .priority),
+          (
+            omega (arith, bit-small (l .flags .pabx)),
+            (tt, (omega arith, subst (All FitsField) (sym (append-nil (number (l .number) ++ text unicode16 (l .text)))) contact-fits)),
+          ),
+        ),
+      ),
+    ),
+  )
+
+  -- the bytes of its fields after DataLength
+  line-plain : plain (body unicode16 (line-add l)) ≡ (64 + line-flags (l .flags) % 32 * 2) ∷ 1 ∷ plain (number (l .number)) ++ plain (text unicode16 (l .text))
+  line-plain =
+      let f = l .flags in
+      let b1 = bit-small (f .encryption) in
+      let b2 = bit-small (f .emergency) in
+      let b3 = bit-small (f .pabx) in
+      let pr : f .priority < 4 = ok .priority in
+      let N : List Field = number (l .number) in
+      let T : List Field = text unicode16 (l .text) in
+      let (n, d) = number-whole (l .number) in
+      let (m, e) = text-whole unicode16 (l .text) in
+      let v : ℕ = 64 + line-flags f % 32 * 2 in
+      let fs : List Field = op Add ∷ flag (f .encryption) ∷ flag (f .emergency) ∷ val 2 (f .priority) ∷ flag (f .pabx) ∷ res 1 ∷ [] in
+      let w = append-whole N T (n, d) (m, e) in
+      ap (λ (x : List Field). plain (fs ++ (val 8 1 ∷ x))) (append-nil (N ++ T))
+      ∙ plain-byte v fs (val 8 1 ∷ N ++ T) refl (omega arith) (omega arith) (1 + w .0, omega (arith, w .1)) (omega arith, contact-fits)
+      ∙ ap (λ (x : List ℕ). v ∷ x) (plain-byte 1 (val 8 1 ∷ []) (N ++ T) refl refl (omega arith) w contact-fits)
+      ∙ ap (λ (x : List ℕ). v ∷ 1 ∷ x) (plain-append N T n m d e (text-fits (l .text) (ok .text .units)))
+
+-- it is written as its setting
+pub line-wrote : (p : List ℕ) (at m n end : ℕ) (s t u v : List ℕ) → Wrote ((64 + getD p 0 0 % 32 * 2) ∷ 1 ∷ []) (at + 3) s t m
+    → WritesNumber (midOf 1 18 p) m t u n → WritesText (midOf 19 32 p) n u v end
+    → (l : Line) → Kept LineOk line-bytes p l
+    → (type-byte (kind (line-add l)) ≡ 0xCA) × All FitsField (body unicode16 (line-add l)) × Wrote (plain (body unicode16 (line-add l))) (at + 3) s v end
+line-wrote p at m n end s t u v a b c l (ok, e) =
+    let f : getD p 0 0 ≡ line-flags (l .flags) = ap (λ (x : List ℕ). getD x 0 0) e in
+    let N : List ℕ = plain (number (l .number)) in
+    let T : List ℕ = plain (text unicode16 (l .text)) in
+    let head : List ℕ = (64 + getD p 0 0 % 32 * 2) ∷ 1 ∷ [] in
+    let dg : midOf 1 18 p ≡ digit-bytes (l .number) = ap (midOf 1 18) e ∙ line-keyed .stands l in
+    let tx : midOf 19 32 p ≡ text-bytes 16 (l .text)
+    = ap (midOf 19 32) e ∙ ap (take 32) (drop-at (digit-bytes (l .number)) (text-bytes 16 (l .text)) 18 (digits-length (l .number)))
+    ∙ take-all 32 (text-bytes 16 (l .text)) (omega (arith, text-length 16 (l .text))) in
+    let x : head ++ (N ++ T) ≡ plain (body unicode16 (line-add l)) = ap (λ (i : ℕ). (64 + i % 32 * 2) ∷ 1 ∷ N ++ T) f ∙ sym (line-plain l ok) in (
+      refl,
+      line-fits l ok,
+      wrote-as (head ++ (N ++ T)) (plain (body unicode16 (line-add l))) (at + 3) end s v x
+          (wrote-both head (N ++ T) (at + 3) m end s t v a
+          (wrote-both N T m n end t u v (b .wrote (l .number) (ok .number, dg)) (c .wrote (l .text) (16, (ok .text, tx))))),
+    )
+
+-- ---- the walk
+
+-- a contact, to name one that is not there
+abbrev no-line : Line
+no-line = record { flags = no-line-flags; number = []; text = [] }
+
+-- entry k of a list table stands in place k
+front-get : {A : Type 0} (n : ℕ) (xs : List A) (k : ℕ) (d : A) → k < length xs → length xs ≤ n → getD (front n xs) k none ≡ some (getD xs k d)
+front-get n [] k d h l = absurd (not-suc-le-zero h)
+front-get zero (x ∷ xs) k d h l = absurd (not-suc-le-zero l)
+front-get (suc n) (x ∷ xs) zero d h l = refl
+front-get (suc n) (x ∷ xs) (suc k) d h l = front-get n xs k d (le-of-suc-le-suc h) (le-of-suc-le-suc l)
+
+-- so its bytes are read there
+pub entry-read : {A : Type 0} (P : A → Type 0) (w : ℕ) (f : A → List ℕ) → ((a : A) → length (f a) ≡ w) → (n : ℕ) (xs : List A) (s : List ℕ) (d : A) → Listed P w f n xs s
+    → (k : ℕ) → k < length xs → Kept P f (midOf (k * w) (k * w + w - k * w) s) (getD xs k d)
+entry-read P w f long n xs s d t k h =
+    let p : Placed P w f n (front n xs) s = record { many = front-length n xs; each = all-front P n xs (t .each); bytes = t .bytes } in
+    let few : length xs ≤ n = t .few in
+    let e = place-read P w f long n (front n xs) s p k (omega arith) in
+    (all-get P xs k d (t .each) h, e ∙ ap (slot w f) (front-get n xs k d h few))
+
+-- as many contacts as stand before the first empty slot
+pub lines-used : (s : List ℕ) (ls : List Line) (r : ℕ) → LinesIn s ls → Found (0 < 51) zeros? 51 s r → length ls ≡ r / 51
+lines-used s ls r (n, t) f = let e : r ≡ length ls * 51 = used-at LineOk 51 line-bytes (line-code .long) line-shown (omega arith) n ls s t r f in omega arith
+
+-- the adds up to a contact are written
+abbrev pub Lined : (part buffer₀ buffer : List ℕ) → (at to i : ℕ) → Type 0
+Lined part buffer₀ buffer at to i =
+    (ls : List Line) → LinesIn part ls
+    → Writing (canonical-all unicode16 (map line-add ls)) at buffer₀ buffer to (canonical-all unicode16 (map line-add (drop i ls)))
+
+-- and the next
+pub lined-more : (part buffer₀ buffer after : List ℕ) (at to i used r : ℕ) → i < used / 51 → Found (0 < 51) zeros? 51 part used → Lined part buffer₀ buffer at to i
+    → WritesSetting (Kept LineOk line-bytes (midOf (i * 51) (i * 51 + 51 - i * 51) part)) line-add to 49 buffer after r
+    → Lined part buffer₀ after at r (i + 1)
+lined-more part buffer₀ buffer after at to i used r low f g h ls (n, t) =
+    let c : length ls ≡ used / 51 = lines-used part ls used (n, t) f in
+    let k : i < length ls = omega arith in
+    let l : Line = getD ls i no-line in
+    writing-more (canonical-all unicode16 (map line-add ls)) at to r buffer₀ buffer after (canonical-all unicode16 (map line-add (drop i ls)))
+    (canonical unicode16 (line-add l)) (canonical-all unicode16 (map line-add (drop (i + 1) ls))) (g ls (n, t))
+    (rw add-one (ap (λ (x : List Line). canonical-all unicode16 (map line-add x)) (drop-cons ls i no-line k)))
+    (h .wrote l (entry-read LineOk 51 line-bytes (line-code .long) n ls part no-line t i k))
+
+-- none is left
+pub lined-end : (part before buffer₀ buffer : List ℕ) (at m to i used : ℕ) → used / 51 ≤ i → Found (0 < 51) zeros? 51 part used
+    → Wrote (0xCA ∷ 0 ∷ 4 ∷ 0xC0 ∷ 0 ∷ []) at before buffer₀ m → Lined part buffer₀ buffer m to i
+    → (ls : List Line) → LinesIn part ls → Wrote (canonical-all unicode16 (line-settings ls)) at before buffer to
+lined-end part before buffer₀ buffer at m to i used high f w g ls k =
+    let c : length ls ≡ used / 51 = lines-used part ls used k f in
+    wrote-both (canonical unicode16 (lines Replace no-line-flags [])) (canonical-all unicode16 (map line-add ls)) at m to before buffer₀ buffer w
+    (writing-end (canonical-all unicode16 (map line-add ls)) m to buffer₀ buffer (canonical-all unicode16 (map line-add (drop i ls))) (g ls k)
+    (ap (λ (x : List Line). canonical-all unicode16 (map line-add x)) (drop-of-length-le ls {i = i} (omega arith))))

@@ -1,0 +1,9 @@
+// Writes what a set holds as settings, table by table.
+pub mod channels;
+mod entries;
+pub mod fixed;
+pub mod lines;
+pub mod members;
+pub mod text_lists;
+mod texts;
+pub mod writers;

@@ -1,2 +1,0 @@
-pub mod FrequencyLaws
-pub mod Theorems

@@ -1,0 +1,5 @@
+pub mod Demand
+pub mod Determined
+pub mod JudgeLaws
+pub mod StandardReply
+pub mod Theorems

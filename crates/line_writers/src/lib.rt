@@ -1,2 +1,0 @@
-// Writes line contacts as settings.
-pub mod lines;

@@ -1,0 +1,15 @@
+// Runs cases that were worked out by hand, of the tables and the screen's rows: a line each, with the number answered and what was left behind.
+mod channel_cases;
+mod line_cases;
+mod screen_cases;
+mod slot_cases;
+mod text_cases;
+
+fn main() {
+    let mut store = [0u8; 12288];
+    line_cases::run(&mut store);
+    channel_cases::run(&mut store);
+    text_cases::run(&mut store);
+    slot_cases::run(&mut store);
+    screen_cases::run(&mut store);
+}

@@ -1,0 +1,5 @@
+pub mod ExportBits
+pub mod Packed
+pub mod RowBits
+pub mod ShownPart
+pub mod Theorems

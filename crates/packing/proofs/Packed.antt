@@ -1,0 +1,52 @@
+-- A packed answer by its case. Assumes nothing.
+use Prim.Native.Nat.{ℕ, _+_, _*_, _<_}
+use mathlib.Core.Path.{_≡_, sym, subst}
+use mathlib.Core.List.{List}
+use native.Mathlib.Omega.{arith}
+use Rattle.lists.specs.Ladder.{Answers}
+use Rattle.plan.specs.Answers.{Said, answer, refused}
+use Rattle.writing.specs.Carrier.{result-number}
+use Rattle.writing.specs.Writing.{bit}
+use Rattle.tables.specs.declared.start.Started.{Started}
+use Rattle.tables.specs.declared.limits.Limits.{Limits}
+use Rattle.tables.specs.Store.{started, begins, starting}
+use Rattle.station.specs.declared.answers.Answer.{Answer as Station}
+use Rattle.station.specs.declared.answers.Answer.the-variants.{Untouched, Replied}
+use Rattle.station.specs.declared.answers.Refusal.{Refusal}
+use Rattle.station.specs.declared.answers.Reply.{Reply}
+use Rattle.station.specs.Answers.{refusal-number, said}
+use Rattle.packing.specs.Packing.{Starts, Packs, PacksValue}
+
+-- ---- conversions
+
+-- a number that packs one case packs the answer that is that case
+pub packed-case : {A : Type 0} (say : A → Said) (a b : A) (r : ℕ) → a ≡ b → PacksValue (answer (say b)) r → PacksValue (answer (say a)) r
+packed-case say a b r e p = subst (λ x. PacksValue (answer (say x)) r) (sym e) p
+
+-- a refusal is its number
+pub value-refused : (n : ℕ) → n < 256 → PacksValue (refused n) n
+value-refused n h = record { number = h; value = omega arith; bits = omega arith }
+
+-- ---- starting
+
+-- STARTS: what the call answers, by its number
+pub starts-packed : (m : Limits) (before after : List ℕ) (a : Started) (r : ℕ) → r ≡ started a → Answers (starting m before) (begins a after) → Starts m before after r
+starts-packed m before after a r e x = subst (λ (n : ℕ). Starts m before after n) (sym e) x
+
+-- ---- taking
+
+-- the number alone, where nothing was touched
+pub packed-refusal : (a : Station) (x : Refusal) (r : ℕ) → a ≡ Untouched x → r ≡ refusal-number x → r < 256 → Packs (said a) r
+packed-refusal a x r e p h = subst (λ y. Packs (said y) r) (sym e) (record { number = omega (arith, p); failed = omega arith; reply-length = omega arith; bits = omega (arith, p) })
+
+-- all of a reply's values
+pub packed-reply : (a : Station) (x : Reply) (number send reboot : ℕ) → a ≡ Replied x → number ≡ result-number (x .result) → send ≡ bit (x .send) → reboot ≡ bit (x .reboot)
+    → number < 256 → x .failed < 256 → x .length < 256
+    → Packs (said a) (number + x .failed * 256 + send * 65536 + reboot * 131072 + x .length * 16777216)
+packed-reply a x number send reboot e k p q hr hf hl =
+    subst (λ y. Packs (said y) (number + x .failed * 256 + send * 65536 + reboot * 131072 + x .length * 16777216)) (sym e) (record {
+      number = subst (λ (i : ℕ). i < 256) k hr;
+      failed = hf;
+      reply-length = hl;
+      bits = λ t. k t + x .failed * 256 + p t * 65536 + q t * 131072 + x .length * 16777216;
+    })

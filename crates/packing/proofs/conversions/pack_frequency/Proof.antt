@@ -1,0 +1,27 @@
+use borrow.Author.Needs.{needs}
+use native.Mathlib.Omega.{arith}
+use Rattle.plan.specs.Answers.{frequency}
+use Rattle.packing.proofs.Packed.{packed-case, value-refused}
+use Rattle.packing.proofs.conversions.pack_frequency.Statement.{statement}
+use Rattle.packing.proofs.conversions.pack_frequency.Tie as tie
+
+enum-known-answer : tie.Need-enum-known-answer
+enum-known-answer c = search needs
+
+pack-requires : tie.Need-pack-requires
+pack-requires c κs = search needs
+
+enum-told : tie.Need-enum-told
+enum-told c = search needs
+
+returns : tie.Need-returns
+returns c =
+    packed-case frequency _ _ _ (c .before .before .answer .given .1) (c .pack .ensures)
+
+returns-2 : tie.Need-returns-2
+returns-2 c =
+    packed-case frequency _ _ _ (c .enum-told .given .1) (value-refused 22 (omega arith))
+
+pub pack-frequency-spec : {M : Type 1} → statement M
+pack-frequency-spec =
+    tie.close (tie.spec enum-known-answer pack-requires enum-told returns returns-2)

@@ -1,0 +1,119 @@
+-- How an answer is packed in one number for C, and what each C function of a set with limits m answers.
+use Prim.Native.Nat.{ℕ, _+_, _*_, _≤_, _<_}
+use mathlib.Core.Path.{_≡_}
+use mathlib.Core.List.{List, []}
+use Rattle.lists.specs.Ladder.{Answers}
+use Rattle.plan.specs.Answers.{Answer, Answered}
+use Rattle.writing.specs.Writing.{bit}
+use Rattle.tables.specs.declared.limits.Limits.{Limits}
+use Rattle.tables.specs.Layout.{Roomy}
+use Rattle.tables.specs.Store.{starting}
+use Rattle.station.specs.Answers.{Said}
+use Rattle.station.specs.Taking.{taken}
+use Rattle.export.specs.Exportable.{Exportable}
+use Rattle.export.specs.Exporting.{Told, exporting}
+use Rattle.screen.specs.declared.answers.Place.{Place}
+use Rattle.screen.specs.Rows.{row-named}
+use Rattle.screen.specs.Screen.{Part, of-store, of-scratch, leaves, showing, numbering}
+
+-- ---- the limits
+
+-- limits under which every place in a store and every length has 16 bits
+pub record Packable (m : Limits) : Type 0 where
+  pub roomy : Roomy m
+  pub size : m .size ≤ 65535
+  pub exportable : Exportable m
+
+-- ---- starting
+
+-- the number that starting answers
+abbrev pub Starts : (m : Limits) (before after : List ℕ) (r : ℕ) → Type 0
+Starts m before after r = Answers (starting m before) (record { number = r; store = after })
+
+-- ---- taking
+
+-- bits 0-7 number, 8-15 failed ID, 16 send, 17 reboot, 24-31 reply length
+abbrev pub packed : Said → ℕ
+packed s = s .number + s .failed * 256 + bit (s .send) * 65536 + bit (s .reboot) * 131072 + s .reply-length * 16777216
+
+-- each value has its bits
+pub record Packs (s : Said) (r : ℕ) : Type 0 where
+  pub number : s .number < 256
+  pub failed : s .failed < 256
+  pub reply-length : s .reply-length < 256
+  pub bits : r ≡ packed s
+
+-- an outcome that the contract of taking allows, with its answer packed
+pub record Takes (m : Limits) (message store reply store-after reply-after : List ℕ) (r : ℕ) : Type 0 where
+  pub answer : Said
+  pub allowed : Answers (taken m message store reply) (record { answer = answer; store = store-after; reply = reply-after })
+  pub packs : Packs answer r
+
+-- ---- exporting
+
+-- bits 0-7 number, 16-31 length
+abbrev pub packed-export : Told → ℕ
+packed-export t = t .number + t .request-length * 65536
+
+pub record PacksExport (t : Told) (r : ℕ) : Type 0 where
+  pub number : t .number < 256
+  pub request-length : t .request-length < 65536
+  pub bits : r ≡ packed-export t
+
+-- an outcome that the contract of exporting allows, with its answer packed
+pub record Exports (m : Limits) (part : ℕ) (store buffer buffer-after : List ℕ) (r : ℕ) : Type 0 where
+  pub answer : Told
+  pub allowed : Answers (exporting m part store buffer) (record { answer = answer; buffer = buffer-after })
+  pub packs : PacksExport answer r
+
+-- ---- the screen's rows
+
+-- whether the row is shown
+abbrev pub Numbers : (m : Limits) (table row : ℕ) (store scratch : List ℕ) (r : ℕ) → Type 0
+Numbers m table row store scratch r = Answers (numbering m store scratch (row-named table row)) r
+
+-- bit 0: 0 store, 1 scratch; 16-31 offset; 32-47 length
+abbrev pub packed-part : Part → ℕ
+packed-part (of-store start bytes) = start * 65536 + bytes * 4294967296
+packed-part (of-scratch bytes) = 1 + bytes * 4294967296
+
+-- the part of a place that the code answers
+abbrev pub part-of : Place → Part
+part-of p = leaves p [] .part
+
+abbrev pub start-of : Part → ℕ
+start-of (of-store start bytes) = start
+start-of (of-scratch bytes) = 0
+
+abbrev pub length-of : Part → ℕ
+length-of (of-store start bytes) = bytes
+length-of (of-scratch bytes) = bytes
+
+pub record PacksPart (p : Part) (r : ℕ) : Type 0 where
+  pub start : start-of p < 65536
+  pub bytes : length-of p < 65536
+  pub bits : r ≡ packed-part p
+
+-- an outcome that the contract of a row allows, with its part packed; its number is that of Numbers
+pub record Shows (m : Limits) (table row : ℕ) (store scratch scratch-after : List ℕ) (r : ℕ) : Type 0 where
+  pub number : ℕ
+  pub part : Part
+  pub allowed : Answers (showing m store scratch (row-named table row)) (record { number = number; part = part; scratch = scratch-after })
+  pub packs : PacksPart part r
+
+-- ---- conversions
+
+-- bits 0-7 number, 8-39 value
+abbrev pub packed-value : Answer → ℕ
+packed-value a = a .number + a .value * 256
+
+pub record PacksValue (a : Answer) (r : ℕ) : Type 0 where
+  pub number : a .number < 256
+  pub value : a .value < 4294967296
+  pub bits : r ≡ packed-value a
+
+-- an answer that the contract of a conversion allows, packed
+pub record Converts (Has : ℕ → ℕ → Type 0) (refusal x r : ℕ) : Type 0 where
+  pub answer : Answer
+  pub allowed : Answered Has refusal x answer
+  pub packs : PacksValue answer r

@@ -1,0 +1,6 @@
+// What C answers are packed as, for sets of any limits.
+mod bits;
+pub mod conversions;
+pub mod exports;
+pub mod messages;
+pub mod rows;

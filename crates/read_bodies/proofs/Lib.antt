@@ -1,0 +1,3 @@
+mod ListLaws
+mod SlotLaws
+pub mod FixedLaws

@@ -1,0 +1,77 @@
+-- The heads of settings that hold a list, and the range of quick texts. Assumes nothing.
+use Prim.Native.Nat.{ℕ}
+use mathlib.Core.Path.{_≡_, refl, sym, subst}
+use mathlib.Core.List.{List, [], _∷_}
+use native.Mathlib.Omega.{arith}
+use lib.ListN.{length}
+use Rattle.lists.specs.Every.{All}
+use Rattle.lists.proofs.Every.{all-turn}
+use Rattle.writing.specs.declared.Kind.the-variants.{Lines, QuickTexts, Channels, StatusTexts}
+use Rattle.writing.specs.declared.Operation.{Operation}
+use Rattle.writing.specs.declared.Operation.the-variants.{Add, Delete, Replace}
+use Rattle.writing.specs.Fields.{val, res, each}
+use Rattle.writing.specs.Ranges.{text-limits, InQuick}
+use Rattle.writing.specs.Settings.{Entry, unicode16}
+use Rattle.writing.specs.Writing.{flag, op, op-code, contact, quick-text, status-text}
+use Rattle.read_fields.specs.Entries.{channel-list, QuickFrom}
+use Rattle.settings.proofs.BodyLaws.{Headed, one-op}
+use Rattle.read_bodies.specs.Units.{LeastIs}
+
+abbrev pub lines-head : Headed Lines
+lines-head = record {
+  head = λ x. op (x .0) ∷ flag (x .1 .encryption) ∷ flag (x .1 .emergency) ∷ val 2 (x .1 .priority) ∷ flag (x .1 .pabx) ∷ res 1 ∷ val 8 (length (x .2)) ∷ [];
+  tail = λ x. each (contact unicode16) (x .2);
+  size = 2;
+  split = λ x. refl;
+  wide = λ x. refl;
+  some-byte = omega arith;
+}
+
+abbrev pub quick-head : Headed QuickTexts
+quick-head = record {
+  head = λ x. op (x .0) ∷ val 6 (length (x .1)) ∷ [];
+  tail = λ x. each (quick-text unicode16) (x .1);
+  size = 1;
+  split = λ x. refl;
+  wide = λ x. refl;
+  some-byte = omega arith;
+}
+
+abbrev pub channels-head : Headed Channels
+channels-head = record {
+  head = λ x. op (x .0) ∷ res 4 ∷ val 10 (length (x .1)) ∷ [];
+  tail = λ x. channel-list (x .1);
+  size = 2;
+  split = λ x. refl;
+  wide = λ x. refl;
+  some-byte = omega arith;
+}
+
+abbrev pub status-head : Headed StatusTexts
+status-head = record {
+  head = λ x. op (x .0) ∷ res 6 ∷ val 8 (length (x .1)) ∷ [];
+  tail = λ x. each (status-text unicode16) (x .1);
+  size = 2;
+  split = λ x. refl;
+  wide = λ x. refl;
+  some-byte = omega arith;
+}
+
+-- the range of quick texts in an operation is that from its least number of units
+quick-one : (o : Operation) (n : ℕ) (e : Entry) → LeastIs o n → InQuick text-limits o e → QuickFrom text-limits n e
+quick-one Add n e l i = (omega (arith, i .0), i .1)
+quick-one Delete n e l i = (omega arith, i)
+quick-one Replace n e l i = (omega (arith, i .0), i .1)
+
+one-quick : (o : Operation) (n : ℕ) (e : Entry) → LeastIs o n → QuickFrom text-limits n e → InQuick text-limits o e
+one-quick Add n e l i = (omega (arith, i .0), i .1)
+one-quick Delete n e l i = i .1
+one-quick Replace n e l i = (omega (arith, i .0), i .1)
+
+pub quick-in : (o : Operation) (n : ℕ) (es : List Entry) → LeastIs o n → All (QuickFrom text-limits n) es → All (InQuick text-limits o) es
+quick-in o n es l i = all-turn (QuickFrom text-limits n) (InQuick text-limits o) (λ e. one-quick o n e l) es i
+
+pub quick-from : (o p : Operation) (n : ℕ) (es : List Entry) → op-code o ≡ op-code p → LeastIs o n → All (InQuick text-limits p) es → All (QuickFrom text-limits n) es
+quick-from o p n es e l i =
+    all-turn (InQuick text-limits o) (QuickFrom text-limits n) (λ x. quick-one o n x l) es
+    (subst (λ (q : Operation). All (InQuick text-limits q) es) (sym (one-op o p e)) i)

@@ -1,0 +1,64 @@
+-- The heads of slots, and which slots are in range. Assumes nothing.
+use Prim.Native.Nat.{ℕ, _≤_}
+use mathlib.Core.Path.{_≡_, refl, sym, subst}
+use mathlib.Core.Bool.{Bool, true, false}
+use mathlib.Core.Logic.{_≢_}
+use mathlib.Core.List.{[], _∷_}
+use native.Mathlib.Omega.{arith}
+use Rattle.writing.specs.declared.Kind.the-variants.{Group, Individual}
+use Rattle.writing.specs.declared.Operation.{Operation}
+use Rattle.writing.specs.declared.Operation.the-variants.{Add, Delete, Replace}
+use Rattle.writing.specs.Fields.{val, res}
+use Rattle.writing.specs.Ranges.{InAddress, InSlot}
+use Rattle.writing.specs.Settings.{unicode16}
+use Rattle.writing.specs.Writing.{flag, op, op-code, text}
+use Rattle.settings.specs.Settings.{AddressRefused}
+use Rattle.settings.proofs.BodyLaws.{Headed, one-op}
+use Rattle.read_bodies.specs.Refused.{GroupRefused, IndividualRefused}
+
+abbrev pub group-head : Headed Group
+group-head = record {
+  head = λ x. op (x .0) ∷ val 2 (x .1 .attribute) ∷ flag (x .1 .broadcast) ∷ flag (x .1 .encryption) ∷ flag (x .1 .ovcm) ∷ flag (x .1 .emergency)
+      ∷ val 2 (x .1 .priority) ∷ res 2 ∷ val 4 (x .2 .index) ∷ val 24 (x .2 .address .0) ∷ [];
+  tail = λ x. text unicode16 (x .2 .text);
+  size = 5;
+  split = λ x. refl;
+  wide = λ x. refl;
+  some-byte = omega arith;
+}
+
+abbrev pub individual-head : Headed Individual
+individual-head = record {
+  head = λ x. op (x .0) ∷ flag (x .1 .encryption) ∷ flag (x .1 .emergency) ∷ val 2 (x .1 .priority) ∷ res 6 ∷ val 4 (x .2 .index)
+      ∷ val 24 (x .2 .address .0) ∷ [];
+  tail = λ x. text unicode16 (x .2 .text);
+  size = 5;
+  split = λ x. refl;
+  wide = λ x. refl;
+  some-byte = omega arith;
+}
+
+-- what is in range of a slot is said by its cuts
+pub group-in : (o p : Operation) (a b x y : ℕ) → op-code o ≡ op-code p → a ≡ b → x ≡ y → InSlot p ((b ≢ 0) × InAddress y) → InSlot o ((a ≢ 0) × InAddress x)
+group-in o p a b x y e d f i =
+    subst (λ (q : Operation). InSlot q ((a ≢ 0) × InAddress x)) (sym (one-op o p e))
+    (subst (λ (z : ℕ). InSlot p ((z ≢ 0) × InAddress x)) (sym d) (subst (λ (z : ℕ). InSlot p ((b ≢ 0) × InAddress z)) (sym f) i))
+
+pub individual-in : (o p : Operation) (x y : ℕ) → op-code o ≡ op-code p → x ≡ y → InSlot p (InAddress y) → InSlot o (InAddress x)
+individual-in o p x y e f i =
+    subst (λ (q : Operation). InSlot q (InAddress x)) (sym (one-op o p e)) (subst (λ (z : ℕ). InSlot p (InAddress z)) (sym f) i)
+
+-- an add is refused as its address is, a group's where its attribute is not 0
+pub group-add : (attribute a : ℕ) (r : Bool) → (attribute ≡ 0 → ⊥) → AddressRefused a r → GroupRefused Add attribute a r
+group-add attribute a true n h = λ i. h (i .1)
+group-add attribute a false n h = (n, h)
+
+pub individual-add : (a : ℕ) (r : Bool) → AddressRefused a r → IndividualRefused Add a r
+individual-add a true h = h
+individual-add a false h = h
+
+-- a slot's operation in range is add or delete
+pub slot-op : (o : Operation) (P : Type 0) → InSlot o P → op-code o ≤ 2
+slot-op Add P i = omega arith
+slot-op Delete P i = omega arith
+slot-op Replace P i = absurd i

@@ -1,0 +1,118 @@
+// Settings of a slot: one group or one individual.
+use plan::numbers::GroupAddress;
+use plan::numbers::IndividualAddress;
+use read_fields::bytes::flag;
+use read_fields::bytes::number;
+use read_fields::bytes::remaining;
+use read_fields::texts::TextRead;
+use read_fields::texts::read_text;
+use settings::addresses::address_refused;
+use settings::rows::OperationRead;
+use settings::rows::operation_of;
+use settings::settings::BodyRead;
+use settings::settings::GroupPlace;
+use settings::settings::IndividualPlace;
+use settings::settings::Setting;
+use writing::GroupFlags;
+use writing::IndividualFlags;
+use writing::Operation;
+ghost use mathlib.Core.Path.{_≡_};
+ghost use Prim.Native.Nat.{ℕ};
+ghost use Rattle.settings.specs.Settings.{BodyAt};
+ghost use Rattle.read_bodies.specs.Refused.{GroupRefused, IndividualRefused};
+ghost use Rattle.writing.specs.declared.Kind.{Kind};
+
+fn group_refused(operation: Operation, attribute: u8, address: u32) -> bool
+    ensures { λ r. ⌜ GroupRefused operation attribute address r ⌝ }
+{
+    match operation {
+        Operation::Add => {
+            if attribute == 0 {
+                return true;
+            }
+            address_refused(address)
+        }
+        Operation::Delete => false,
+        Operation::Replace => true, // 11 in D1
+    }
+}
+
+fn individual_refused(operation: Operation, address: u32) -> bool
+    ensures { λ r. ⌜ IndividualRefused operation address r ⌝ }
+{
+    match operation {
+        Operation::Add => address_refused(address),
+        Operation::Delete => false,
+        Operation::Replace => true, // 11 in D2
+    }
+}
+
+pub fn read_group(m: &[u8], p: usize, operations: u8) -> BodyRead
+    ensures { λ r. ⌜ (operations ≡ 2 → (left : ℕ) → BodyAt Kind.Group left (now (m .entry)) p r) ⌝ }
+{
+    if remaining(m, p) < 5 {
+        return BodyRead::NoBody;
+    }
+    let n = number(m, p, 5);
+    let o = operation_of(n / 0x40_0000_0000 % 4, operations);
+    let OperationRead::Is(operation) = o else {
+        return BodyRead::NoBody;
+    };
+    let attribute = (n / 0x10_0000_0000 % 4) as u8;
+    let address = (n % 0x100_0000) as u32;
+    if group_refused(operation, attribute, address) {
+        return BodyRead::NoBody;
+    }
+    let units = read_text(m, p + 5, 16);
+    let TextRead::Text(text, next) = units else {
+        return BodyRead::NoBody;
+    };
+    let flags = GroupFlags {
+        attribute,
+        broadcast: flag(n / 0x8_0000_0000),
+        encryption: flag(n / 0x4_0000_0000),
+        ovcm: flag(n / 0x2_0000_0000),
+        emergency: flag(n / 0x1_0000_0000),
+        priority: (n / 0x4000_0000 % 4) as u8,
+    };
+    let index = (n / 0x100_0000 % 16) as u8;
+    let place = GroupPlace {
+        index,
+        address: GroupAddress(address),
+        text,
+    };
+    BodyRead::Body(Setting::Group(operation, flags, place), next)
+}
+
+pub fn read_individual(m: &[u8], p: usize, operations: u8) -> BodyRead
+    ensures { λ r. ⌜ (operations ≡ 2 → (left : ℕ) → BodyAt Kind.Individual left (now (m .entry)) p r) ⌝ }
+{
+    if remaining(m, p) < 5 {
+        return BodyRead::NoBody;
+    }
+    let n = number(m, p, 5);
+    let o = operation_of(n / 0x40_0000_0000 % 4, operations);
+    let OperationRead::Is(operation) = o else {
+        return BodyRead::NoBody;
+    };
+    let address = (n % 0x100_0000) as u32;
+    if individual_refused(operation, address) {
+        return BodyRead::NoBody;
+    }
+    let units = read_text(m, p + 5, 16);
+    let TextRead::Text(text, next) = units else {
+        return BodyRead::NoBody;
+    };
+    let flags = IndividualFlags {
+        encryption: flag(n / 0x20_0000_0000),
+        emergency: flag(n / 0x10_0000_0000),
+        priority: (n / 0x4_0000_0000 % 4) as u8,
+    };
+    let index = (n / 0x100_0000 % 16) as u8;
+    let place = IndividualPlace {
+        index,
+        address: IndividualAddress(address),
+        text,
+    };
+    BodyRead::Body(Setting::Individual(operation, flags, place), next)
+}

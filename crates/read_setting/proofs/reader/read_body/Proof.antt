@@ -1,0 +1,98 @@
+use borrow.Author.Needs.{needs}
+use native.Mathlib.Omega.{arith}
+use Rattle.settings.proofs.RowLaws.{one-of-ten}
+use Rattle.read_setting.proofs.SettingLaws.{by-row}
+use Rattle.writing.specs.declared.Kind.the-variants.{Lines, Key, QuickTexts, Home, Channels, System, StatusTexts, Group, Individual, Last}
+use Rattle.read_setting.proofs.reader.read_body.Statement.{statement}
+use Rattle.read_setting.proofs.reader.read_body.Tie as tie
+
+read-lines-requires : tie.Need-read-lines-requires
+read-lines-requires c κs = search needs
+
+read-key-requires : tie.Need-read-key-requires
+read-key-requires c κs = search needs
+
+read-quick-texts-requires : tie.Need-read-quick-texts-requires
+read-quick-texts-requires c κs = search needs
+
+read-home-requires : tie.Need-read-home-requires
+read-home-requires c κs = search needs
+
+read-channels-requires : tie.Need-read-channels-requires
+read-channels-requires c κs = search needs
+
+read-system-requires : tie.Need-read-system-requires
+read-system-requires c κs = search needs
+
+read-status-texts-requires : tie.Need-read-status-texts-requires
+read-status-texts-requires c κs = search needs
+
+read-group-requires : tie.Need-read-group-requires
+read-group-requires c κs = search needs
+
+read-individual-requires : tie.Need-read-individual-requires
+read-individual-requires c κs = search needs
+
+read-last-requires : tie.Need-read-last-requires
+read-last-requires c κs = search needs
+
+returns : tie.Need-returns
+returns c = λ k is. by-row Lines k (c .before .before .before .args .row) _ _ _ (c .read-lines .result) is (omega arith) (λ is. c .read-lines .ensures (is .operations) (c .before .before .before .args .left))
+
+returns-2 : tie.Need-returns-2
+returns-2 c = λ k is. by-row Key k (c .before .before .before .args .row) _ _ _ (c .read-key .result) is (omega arith) (λ is. c .read-key .ensures (c .before .before .before .args .left))
+
+returns-3 : tie.Need-returns-3
+returns-3 c = λ k is. by-row QuickTexts k (c .before .before .before .args .row) _ _ _ (c .read-quick-texts .result) is (omega arith) (λ is. c .read-quick-texts .ensures (is .operations) (c .before .before .before .args .left))
+
+returns-4 : tie.Need-returns-4
+returns-4 c = λ k is. by-row Home k (c .before .before .before .args .row) _ _ _ (c .read-home .result) is (omega arith) (λ is. c .read-home .ensures (c .before .before .before .args .left))
+
+returns-5 : tie.Need-returns-5
+returns-5 c = λ k is. by-row Channels k (c .before .before .before .args .row) _ _ _ (c .read-channels .result) is (omega arith) (λ is. c .read-channels .ensures (is .operations) (c .before .before .before .args .left))
+
+returns-6 : tie.Need-returns-6
+returns-6 c = λ k is. by-row System k (c .before .before .before .args .row) _ _ _ (c .read-system .result) is (omega arith) (λ is. c .read-system .ensures (c .before .before .before .args .left))
+
+returns-7 : tie.Need-returns-7
+returns-7 c = λ k is. by-row StatusTexts k (c .before .before .before .args .row) _ _ _ (c .read-status-texts .result) is (omega arith) (λ is. c .read-status-texts .ensures (is .operations) (c .before .before .before .args .left))
+
+returns-8 : tie.Need-returns-8
+returns-8 c = λ k is. by-row Group k (c .before .before .before .args .row) _ _ _ (c .read-group .result) is (omega arith) (λ is. c .read-group .ensures (is .operations) (c .before .before .before .args .left))
+
+returns-9 : tie.Need-returns-9
+returns-9 c = λ k is. by-row Individual k (c .before .before .before .args .row) _ _ _ (c .read-individual .result) is (omega arith) (λ is. c .read-individual .ensures (is .operations) (c .before .before .before .args .left))
+
+returns-10 : tie.Need-returns-10
+returns-10 c = λ k is. by-row Last k (c .before .before .before .args .row) _ _ _ (c .read-last .result) is (omega arith) (λ is. c .read-last .ensures)
+
+returns-11 : tie.Need-returns-11
+returns-11 c =
+    let r = c .match .rest in
+    λ k is. absurd (one-of-ten (r .0 .0 .0 .0 .0 .0 .0 .0 .0 .1) (r .0 .0 .0 .0 .0 .0 .0 .0 .1) (r .0 .0 .0 .0 .0 .0 .0 .1) (r .0 .0 .0 .0 .0 .0 .1) (r .0 .0 .0 .0 .0 .1) (r .0 .0 .0 .0 .1) (r .0 .0 .0 .1) (r .0 .0 .1) (r .0 .1) (r .1) k (is .type))
+
+pub read-body-spec : {M : Type 1} → statement M
+read-body-spec =
+    tie.close
+    (tie.spec
+    read-lines-requires
+    read-key-requires
+    read-quick-texts-requires
+    read-home-requires
+    read-channels-requires
+    read-system-requires
+    read-status-texts-requires
+    read-group-requires
+    read-individual-requires
+    read-last-requires
+    returns
+    returns-2
+    returns-3
+    returns-4
+    returns-5
+    returns-6
+    returns-7
+    returns-8
+    returns-9
+    returns-10
+    returns-11)

@@ -1,0 +1,131 @@
+-- One setting of a request after another, as the code takes them on its working copy. Assumes nothing.
+use Prim.Native.Nat.{ℕ, suc, _+_, _-_, _≤_, _<_}
+use mathlib.Core.Path.{_≡_, refl, sym, ap, _∙_, subst}
+use mathlib.Core.List.{List, [], _∷_, _++_}
+use mathlib.Core.Bool.{Bool, true, false}
+use mathlib.Core.Option.{Option, none}
+use native.Mathlib.Omega.{arith}
+use denote.Enum.Declared.{tagOf}
+use types.Run.{OneOf, miss}
+use lib.ListN.{length, drop, length-append, length-drop, drop-of-length-le}
+use lib.Seq.{drop-cons}
+use Rattle.lists.specs.Bytes.{Bytes}
+use Rattle.writing.specs.declared.LastFlags.{LastFlags}
+use Rattle.writing.specs.declared.Result.the-variants.{NoRoom}
+use Rattle.writing.specs.Canonical.{Fits}
+use Rattle.writing.specs.Settings.{Setting, unicode16}
+use Rattle.writing.proofs.CanonicalLaws.{has-writing}
+use Rattle.writing.proofs.Whole.{length-written}
+use Rattle.read_fields.specs.declared.hashes.HashPlace.{HashPlace}
+use Rattle.read_setting.specs.declared.reader.SettingRead.the-variants.{Taken}
+use Rattle.settings.specs.declared.settings.Setting.{Setting as Read}
+use Rattle.settings.proofs.settings.Setting.{the-type}
+use Rattle.settings.specs.declared.settings.Setting.the-variants.{Lines, Key, QuickTexts, Home, Channels, System, StatusTexts, Group, Individual, Last}
+use Rattle.read_fields.specs.Places.{StandsAt}
+use Rattle.read_setting.specs.Settings.{SettingAt}
+use Rattle.tables.specs.declared.limits.Limits.{Limits}
+use Rattle.tables.specs.Store.{Holds, Applied}
+use Rattle.tables.specs.Tables.{Tables}
+use Rattle.requests.specs.declared.run.Step.the-variants.{Next, Fault as StepFault}
+use Rattle.requests.specs.Judge.{done, taken, over, fault, refused}
+use Rattle.requests.specs.Running.{FlagsAre, Stepped, StepIs, Ran}
+use Rattle.requests.specs.Requests.{Runs, Fault, Judged, item-of, or-else, LastItem, last-item}
+use Rattle.requests.proofs.RunLaws.{one-more, item-end, stands-in, at-full}
+
+-- ---- FF's bits of a setting that was read
+
+-- another setting than FF says no and no
+said-none : {s t : Setting} → s ≡ t → item-of t ≡ none → last-item [] .flags ≡ or-else (item-of s) (last-item []) .flags
+said-none e n = sym (ap (λ x. or-else (item-of x) (last-item []) .flags) e ∙ ap (λ (x : Option LastItem). or-else x (last-item []) .flags) n)
+
+pub flags-last : (f : LastFlags) (p : HashPlace) → FlagsAre (Last f p) f
+flags-last f p m s (v, e, _, _) = sym (ap (λ x. or-else (item-of x) (last-item []) .flags) e)
+
+pub flags-none : (r : Read) → OneOf (0 ∷ 1 ∷ 2 ∷ 3 ∷ 4 ∷ 5 ∷ 6 ∷ 7 ∷ 8 ∷ []) (tagOf the-type r) → FlagsAre r (last-item [] .flags)
+flags-none (Lines o f p) k m s (es, e, _) = said-none e refl
+flags-none (Key t f) k m s e = said-none e refl
+flags-none (QuickTexts o p) k m s (es, e, _) = said-none e refl
+flags-none (Home h) k m s e = said-none e refl
+flags-none (Channels o p) k m s (es, e, _) = said-none e refl
+flags-none (System x) k m s e = said-none e refl
+flags-none (StatusTexts o p) k m s (es, e, _) = said-none e refl
+flags-none (Group o f p) k m s (es, e, _) = said-none e refl
+flags-none (Individual o f p) k m s (es, e, _) = said-none e refl
+flags-none (Last f p) k m s x = absurd (miss (0 ∷ 1 ∷ 2 ∷ 3 ∷ 4 ∷ 5 ∷ 6 ∷ 7 ∷ 8 ∷ []) 9 tt k)
+
+module _ (lim : Limits) (m : List ℕ) where
+  -- ---- one setting
+
+  module _ (b : Bytes m) (left at : ℕ) (s t : List ℕ) where
+    -- a setting that stands there has a byte there
+    stands-within : (x : Setting) (next : ℕ) → StandsAt unicode16 m at next x → at < length m
+    stands-within x next y =
+        let n : length (y .bytes) ≡ suc _ = length-written unicode16 x (y .bytes) (y .written) in
+        let e : length m - at ≡ length (y .bytes ++ y .rest) = sym (length-drop at m) ∙ ap length (y .split) in
+        omega (arith, n, e, length-append (y .bytes) (y .rest))
+
+    -- a setting that was read fits its fields, since it is written
+    fits : (x : Setting) (next : ℕ) → StandsAt unicode16 m at next x → Fits unicode16 x
+    fits x next y = has-writing unicode16 x (y .bytes) (y .written)
+
+    pub step-taken : (r : Read) (next : ℕ) (f : LastFlags) (k : Bool) → SettingAt left m at (Taken r next) → FlagsAre r f
+        → Applied lim m r s t k → k ≡ true → StepIs lim left m at s t (Next next f)
+    step-taken r next f k (x, means, i, stands) g a e was roomy holds =
+        let (u, q, h) = a was x left roomy holds means i (fits x next stands) .room e in
+        record { setting = x; tables = u; range = i; stands = stands; applied = q; holds = h; flags = g m x means }
+
+    pub step-full : (r : Read) (next : ℕ) (k : Bool) → SettingAt left m at (Taken r next)
+        → Applied lim m r s t k → k ≡ false → StepIs lim left m at s t (StepFault NoRoom)
+    step-full r next k (x, means, i, stands) a e was roomy holds =
+        at-full lim m b left was at x next (stands-within x next stands) i stands (a was x left roomy holds means i (fits x next stands) .full e)
+
+  -- ---- all of them
+
+  module _ (count at : ℕ) (was : Tables) where
+    -- so many settings were taken, up to the place p
+    pub record Along (work : List ℕ) (p n : ℕ) (f : LastFlags) : Type 0 where
+      pub settings : List Setting
+      pub tables : Tables
+      pub counted : length settings ≡ n
+      pub runs : Runs lim count was (drop at m) settings tables (drop p m)
+      pub holds : Holds lim tables work
+      pub flags : f ≡ last-item settings .flags
+
+    pub along-start : (work : List ℕ) → Holds lim was work → Along work at 0 (last-item [] .flags)
+    along-start work h = record { settings = []; tables = was; counted = refl; runs = done; holds = h; flags = refl }
+
+    module _ (work : List ℕ) (p n : ℕ) (f : LastFlags) (l : Along work p n f) where
+      -- one setting more
+      pub along-on : Bytes m → (t : List ℕ) (next : ℕ) (g : LastFlags) → n < count → Stepped lim (count - n - 1) m p next (l .tables) t g → Along t next (n + 1) g
+      along-on b t next g h z =
+          let (w, e, q) = stands-in lim m b (count - n - 1) was p (z .setting) next (z .stands) in
+          let c : length (l .settings) ≡ n = l .counted in
+          let k : length (l .settings ++ (z .setting ∷ [])) ≡ n + 1 = length-append (l .settings) (z .setting ∷ []) ∙ omega arith in
+          record {
+            settings = l .settings ++ (z .setting ∷ []);
+            tables = z .tables;
+            counted = k;
+            runs = one-more lim (count - n - 1) (z .setting) w (drop next m) (l .runs) (omega arith) e q (z .range) (z .applied);
+            holds = z .holds;
+            flags = z .flags ∙ sym (ap (λ (x : LastItem). x .flags) (item-end lim (l .runs) (omega arith) (z .setting)));
+          }
+
+      -- the next is at fault
+      pub along-fault : (number : ℕ) → n < count → Fault lim (count - n - 1) (l .tables) (drop p m) number → Judged lim count was (drop at m) (refused number (n + 1))
+      along-fault number h z =
+          let c : length (l .settings) ≡ n = l .counted in
+          subst (λ (k : ℕ). Judged lim count was (drop at m) (refused number (k + 1))) c (fault (count - n - 1) (omega arith) (l .runs) z)
+
+      -- bytes are left over
+      pub along-over : count ≤ n → n ≤ count → p < length m → Judged lim count was (drop at m) (refused 4 0)
+      along-over x y h =
+          let c : length (l .settings) ≡ n = l .counted in
+          let q = subst (λ (r : List ℕ). Runs lim count was (drop at m) (l .settings) (l .tables) r) (drop-cons m p 0 h) (l .runs) in
+          over {l = l .settings} (omega arith) q
+
+      -- none are
+      pub along-end : count ≤ n → n ≤ count → length m ≤ p → Ran lim count m at was work f
+      along-end x y h =
+          let c : length (l .settings) ≡ n = l .counted in
+          let q = subst (λ (r : List ℕ). Runs lim count was (drop at m) (l .settings) (l .tables) r) (drop-of-length-le m h) (l .runs) in
+          record { settings = l .settings; tables = l .tables; judged = taken {l = l .settings} (omega arith) q; holds = l .holds; flags = l .flags }

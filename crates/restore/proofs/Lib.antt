@@ -1,0 +1,9 @@
+pub mod Determined
+pub mod ExportedBytes
+pub mod Fitting
+pub mod PartRuns
+pub mod Readable
+pub mod Requests
+pub mod RestoreLaws
+pub mod Restored
+pub mod StandardRequests

@@ -1,0 +1,67 @@
+-- What taking the exported requests leaves of another set's tables, "the same tables", and how long the requests are.
+use Prim.Native.Nat.{ℕ, _+_, _*_, _/_, _≤_}
+use mathlib.Core.Path.{_≡_}
+use mathlib.Core.Bool.{Bool, _||_}
+use mathlib.Core.List.{List, [], _∷_, map}
+use lib.ListN.{length}
+use Rattle.lists.specs.Ladder.{Answers}
+use Rattle.tables.specs.declared.limits.Limits.{Limits}
+use Rattle.writing.specs.declared.Kind.{Kind}
+use Rattle.writing.specs.declared.Kind.the-variants as Kind
+use Rattle.tables.specs.Owns.{mix, only}
+use Rattle.tables.specs.Tables.{Tables}
+use Rattle.requests.specs.Requests.{forget}
+use Rattle.station.specs.Taking.{After, taken}
+use Rattle.export.specs.declared.parts.Part.{Part}
+use Rattle.export.specs.declared.parts.Part.the-variants.{Lines, Fixed, QuickTexts, Channels, StatusTexts, Groups, Individuals}
+use Rattle.export.specs.Exported.{exported, request-bytes}
+
+-- the kinds of setting whose tables a part writes out
+abbrev pub part-kinds : Part → Kind → Bool
+part-kinds Lines k = only Kind.Lines k
+part-kinds Fixed k = only Kind.Key k || only Kind.Home k || only Kind.System k
+part-kinds QuickTexts k = only Kind.QuickTexts k
+part-kinds Channels k = only Kind.Channels k
+part-kinds StatusTexts k = only Kind.StatusTexts k
+part-kinds Groups k = only Kind.Group k
+part-kinds Individuals k = only Kind.Individual k
+
+-- the tables u, with those of one part as t has them
+abbrev pub with-part : Part → Tables → Tables → Tables
+with-part p t u = mix (part-kinds p) u t
+
+-- "The same tables" leaves the kept hash aside
+abbrev pub SameTables : Tables → Tables → Type 0
+SameTables t u = forget t ≡ forget u
+
+-- ---- the seven requests, taken in turn
+
+-- parts 1 to 7
+abbrev pub seven : List Part
+seven = Lines ∷ Fixed ∷ QuickTexts ∷ Channels ∷ StatusTexts ∷ Groups ∷ Individuals ∷ []
+
+-- the requests of these parts, as exporting the tables writes them
+abbrev pub requests : Tables → List Part → List (List ℕ)
+requests t ps = map (λ p. request-bytes (exported p t)) ps
+
+-- a set that takes these messages one after the other, each with a long enough reply buffer, may have its store go from one to the other
+abbrev pub TakenInTurn : Limits → List (List ℕ) → List ℕ → List ℕ → Type 0
+TakenInTurn m [] store after = after ≡ store
+TakenInTurn m (message ∷ messages) store after =
+    (reply : List ℕ) × (a : After) × (20 ≤ length reply) × Answers (taken m message store reply) a × TakenInTurn m messages (a .store) after
+
+-- ---- room for an export
+
+-- the most bytes of a part's settings
+abbrev pub longest-settings : Limits → Part → ℕ
+longest-settings m Lines = 5 + 49 * m .lines
+longest-settings m Fixed = 7 + 6 + 6
+longest-settings m QuickTexts = (4 + 63 * 49) + (4 + 49)
+longest-settings m Channels = 5 + (3 * m .channels + 1) / 2
+longest-settings m StatusTexts = 5 + 96 * 35
+longest-settings m Groups = 16 * 42
+longest-settings m Individuals = 16 * 42
+
+-- the most bytes of a part's request: start bytes, carrier and ParamSum are 8
+abbrev pub longest : Limits → Part → ℕ
+longest m p = 8 + longest-settings m p

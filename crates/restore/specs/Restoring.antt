@@ -1,0 +1,80 @@
+-- What restoring one set's tables in another answers and leaves: demand 2, "the seven exported requests, taken by any other started set, give it the same tables".
+use Prim.Native.Nat.{ℕ, _≤_, _<_}
+use mathlib.Core.Path.{_≡_}
+use mathlib.Core.List.{List, [], _∷_}
+use lib.ListN.{length}
+use Rattle.lists.specs.Ladder.{Ladder, rung, foot}
+use Rattle.tables.specs.declared.limits.Limits.{Limits}
+use Rattle.tables.specs.Layout.{layout}
+use Rattle.tables.specs.Limits.{handheld}
+use Rattle.tables.specs.Store.{StoreOf, Holds}
+use Rattle.tables.specs.Tables.{Tables, no-hash}
+use Rattle.slots.specs.Slots.{written-over}
+use Rattle.station.specs.Replies.{reply-bytes}
+use Rattle.requests.specs.Requests.{forget}
+use Rattle.export.specs.declared.parts.Part.{Part}
+use Rattle.export.specs.Exported.{part-number, exported, request-bytes}
+use Rattle.restore.specs.declared.restore.Restored.{Restored}
+use Rattle.restore.specs.declared.restore.Restored.the-variants.{Same, ReplyBuffer, NotAStore, Buffer}
+use Rattle.restore.specs.Restored.{with-part, seven, requests}
+
+-- each case's number
+abbrev pub number : Restored → ℕ
+number Same = 0
+number ReplyBuffer = 10
+number NotAStore = 11
+number Buffer = 15
+
+-- the number, and the other set's store and the lent buffers afterwards
+pub record After : Type 0 where
+  pub answer : ℕ
+  pub to : List ℕ
+  pub buffer : List ℕ
+  pub reply : List ℕ
+
+-- these bytes were written over a buffer, one after the other from its start: "Bytes past the request's length stay"
+abbrev pub written-in-turn : List (List ℕ) → List ℕ → List ℕ
+written-in-turn [] buffer = buffer
+written-in-turn (bytes ∷ more) buffer = written-in-turn more (written-over bytes buffer)
+
+module _ (m : Limits) (from to buffer reply : List ℕ) where
+  -- "10 to 17 touch no byte of any buffer"
+  abbrev pub stays : ℕ → After
+  stays n = record { answer = n; to = to; buffer = buffer; reply = reply }
+
+  -- the same tables, the kept hash aside; what the buffer and the reply buffer hold is the requests and the reply of a taken one
+  abbrev pub restores : Tables → After
+  restores t = record {
+    answer = 0;
+    to = layout m (forget t);
+    buffer = written-in-turn (requests t seven) buffer;
+    reply = written-over (reply-bytes 0 0 no-hash) reply;
+  }
+
+  -- the refusals of taking, then those of exporting
+  abbrev pub restoring : Ladder After
+  restoring =
+      rung (length reply < 20) (stays 10)
+      (rung (StoreOf m to → ⊥) (stays 11)
+      (rung (length buffer < m .message) (stays 15)
+      (rung (StoreOf m from → ⊥) (stays 11)
+      (foot (λ a. (t : Tables) × Holds m t from × (a ≡ restores t))))))
+
+-- ---- inner steps: no promise cites these
+
+-- a part was exported and taken
+pub record PartMoved (p : Part) (t u : Tables) (to-after buffer buffer-after reply reply-after : List ℕ) : Type 0 where
+  pub to-is : to-after ≡ layout handheld (with-part p t (forget u))
+  pub buffer-is : buffer-after ≡ written-over (request-bytes (exported p t)) buffer
+  pub reply-is : reply-after ≡ written-over (reply-bytes 0 0 no-hash) reply
+
+abbrev pub Moved : ℕ → (from to to-after buffer buffer-after reply reply-after : List ℕ) → Type 0
+Moved n from to to-after buffer buffer-after reply reply-after =
+    (p : Part) (t u : Tables) → part-number p ≡ n → Holds handheld t from → Holds handheld u to → 20 ≤ length reply → 4096 ≤ length buffer
+    → PartMoved p t u to-after buffer buffer-after reply reply-after
+
+-- all seven were
+abbrev pub AllMoved : (from to to-after buffer buffer-after reply reply-after : List ℕ) → Type 0
+AllMoved from to to-after buffer buffer-after reply reply-after =
+    (t u : Tables) → Holds handheld t from → Holds handheld u to → 20 ≤ length reply → 4096 ≤ length buffer
+    → record { answer = 0; to = to-after; buffer = buffer-after; reply = reply-after } ≡ restores handheld from to buffer reply t

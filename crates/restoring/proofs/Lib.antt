@@ -1,9 +1,0 @@
-pub mod Readable
-pub mod Fitting
-pub mod PartRuns
-pub mod Requests
-pub mod Restored
-pub mod ExportedBytes
-pub mod RestoreLaws
-pub mod Determined
-pub mod StandardRequests

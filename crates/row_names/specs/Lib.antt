@@ -1,2 +1,0 @@
-pub mod Naming
-pub mod Rows

@@ -1,0 +1,56 @@
+-- `screen::names::address_of` meets its contract. Assumes nothing.
+use borrow.Author.Needs.{needs}
+use Rattle.screen.proofs.SlotLaws.{address-is}
+use Rattle.screen.proofs.names.address_of.Statement.{statement}
+use Rattle.screen.proofs.names.address_of.Tie as tie
+
+shared-slice-read-wide : tie.Need-shared-slice-read-wide
+shared-slice-read-wide c = search needs
+
+wide-requires : tie.Need-wide-requires
+wide-requires c κs = search needs
+
+mul-result : tie.Need-mul-result
+mul-result c = search needs
+
+shared-slice-read-wide-2 : tie.Need-shared-slice-read-wide-2
+shared-slice-read-wide-2 c = search needs
+
+wide-requires-2 : tie.Need-wide-requires-2
+wide-requires-2 c κs = search needs
+
+mul-result-2 : tie.Need-mul-result-2
+mul-result-2 c = search needs
+
+add-result : tie.Need-add-result
+add-result c = search needs
+
+shared-slice-read-wide-3 : tie.Need-shared-slice-read-wide-3
+shared-slice-read-wide-3 c = search needs
+
+wide-requires-3 : tie.Need-wide-requires-3
+wide-requires-3 c κs = search needs
+
+add-result-2 : tie.Need-add-result-2
+add-result-2 c = search needs
+
+returns : tie.Need-returns
+returns c =
+    address-is (c .before .before .before .before .before .before .before .args .s .now) (c .before .before .before .before .wide .result) (c .before .before .wide2 .result) (c .wide3 .result)
+    (c .before .before .before .before .wide .ensures .0) (c .before .before .wide2 .ensures .0) (c .wide3 .ensures .0)
+
+pub address-of-spec : {M : Type 1} → statement M
+address-of-spec =
+    tie.close
+    (tie.spec
+    shared-slice-read-wide
+    wide-requires
+    mul-result
+    shared-slice-read-wide-2
+    wide-requires-2
+    mul-result-2
+    add-result
+    shared-slice-read-wide-3
+    wide-requires-3
+    add-result-2
+    returns)

@@ -1,0 +1,61 @@
+-- How a row's text is found: inner steps, no promise cites these.
+use Prim.Native.Nat.{ℕ, _+_, _*_, _-_, _≤_, _<_}
+use mathlib.Core.Path.{_≡_}
+use mathlib.Core.List.{List, []}
+use mathlib.Core.Option.{Option, none, some}
+use lib.ListN.{length, take, drop}
+use Rattle.lists.specs.Ladder.{Ladder}
+use Rattle.writing.specs.Ranges.{InNumber}
+use Rattle.writing.specs.Settings.{Number}
+use Rattle.tables.specs.declared.limits.Limits.{Limits}
+use Rattle.tables.specs.Layout.{quick-width, status-width, member-width, line-width, digit-bytes, part-start}
+use Rattle.tables.specs.Limits.{quick-places, status-places, slot-places}
+use Rattle.tables.specs.Store.{Holds}
+use Rattle.tables.specs.Tables.{Tables}
+use Rattle.screen.specs.declared.rows.Refusal.the-variants.{ScratchSize, NotAStore, Absent}
+use Rattle.screen.specs.declared.names.Name.{Name}
+use Rattle.screen.specs.declared.names.Name.the-variants.{Refused, Text as TextAt, Digits, Group as GroupNumber, Individual as IndividualNumber}
+use Rattle.screen.specs.declared.names.SlotPlace.{SlotPlace}
+use Rattle.screen.specs.declared.names.SlotPlace.the-variants.{At, Beyond}
+use Rattle.screen.specs.declared.rows.Row.{Row}
+use Rattle.screen.specs.declared.rows.Row.the-variants.{Line, QuickText, StatusText, Group, Individual, NoTable}
+use Rattle.screen.specs.Rows.{Caption, line, group, individual, caption, text-of, Shows, stored, text-start, judged}
+
+-- ---- slots
+
+-- place n of a table of slots of w bytes, of which h stand before the text
+abbrev pub Slotted : (base places n w h : ℕ) → SlotPlace → Type 0
+Slotted base places n w h (At s) = (n < places) × (s .start ≡ base + n * w) × (s .text ≡ base + n * w + h) × (s .end ≡ base + n * w + w)
+Slotted base places n w h Beyond = places ≤ n
+
+-- the row's slot
+abbrev pub SlotIs : Limits → Row → SlotPlace → Type 0
+SlotIs m (Line n) r = Slotted (part-start m 9) (m .lines) n line-width 19 r
+SlotIs m (QuickText n) r = Slotted (part-start m 4) quick-places n quick-width 0 r
+SlotIs m (StatusText n) (At s) = (32 ≤ n) × Slotted (part-start m 5) status-places (n - 32) status-width 1 (At s)
+SlotIs m (StatusText n) Beyond = 32 ≤ n → status-places ≤ n - 32
+SlotIs m (Group n) r = Slotted (part-start m 6) slot-places n member-width 4 r
+SlotIs m (Individual n) r = Slotted (part-start m 7) slot-places n member-width 4 r
+SlotIs m NoTable (At s) = ⊥
+SlotIs m NoTable Beyond = Unit {0}
+
+-- ---- names
+
+-- what stands in a row of these bytes, and what was found there
+abbrev pub Named : Limits → List ℕ → Row → Option Caption → Name → Type 0
+Named m s row o (Refused ScratchSize) = ⊥
+Named m s row o (Refused NotAStore) = ⊥
+Named m s row o (Refused Absent) = o ≡ none
+Named m s row o (TextAt at n) =
+    (c : Caption) × (o ≡ some c) × Shows c (stored (text-of c)) × (at ≡ text-start m row) × (n ≡ 2 * length (text-of c)) × (at + n ≤ length s)
+Named m s row o (Digits at) = (ds : Number) × (o ≡ some (line [] ds)) × InNumber ds × (take 18 (drop at s) ≡ digit-bytes ds) × (at + 18 ≤ length s)
+Named m s row o (GroupNumber a) = o ≡ some (group [] a)
+Named m s row o (IndividualNumber a) = o ≡ some (individual [] a)
+
+-- for all tables that these bytes are the store of
+abbrev pub NameIs : Limits → List ℕ → Row → Name → Type 0
+NameIs m s row r = (t : Tables) → Holds m t s → Named m s row (caption t row) r
+
+-- the tests of both calls, and then what was found
+abbrev pub naming : Limits → List ℕ → ℕ → Row → Ladder Name
+naming m store room row = judged m store room row Refused (λ r. (t : Tables) × Holds m t store × Named m store row (caption t row) r)

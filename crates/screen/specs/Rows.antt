@@ -1,0 +1,146 @@
+-- What stands in a row of the screen, what is shown of it, where its text stands, and the tests of the calls: document 01, "Numbers, channels, screen".
+use Prim.Native.Nat.{ℕ, zero, suc, _+_, _*_, _-_, _/_, _%_, _<_}
+use mathlib.Core.Path.{_≡_}
+use mathlib.Core.Bool.{cond}
+use mathlib.Core.List.{List, [], _∷_, _++_, map}
+use mathlib.Core.Option.{Option, none, some}
+use lib.Dec.{eqb, ltb}
+use lib.ListN.{take, getD}
+use Rattle.lists.specs.Ladder.{Ladder, rung, foot}
+use Rattle.plan.specs.declared.numbers.GroupAddress.{GroupAddress}
+use Rattle.plan.specs.declared.numbers.IndividualAddress.{IndividualAddress}
+use Rattle.plan.specs.Numbers.{Individual as IndividualPlan, Group as GroupPlan}
+use Rattle.slots.specs.Slots.{flat, u16}
+use Rattle.writing.specs.Settings.{Text, Number}
+use Rattle.tables.specs.declared.limits.Limits.{Limits}
+use Rattle.tables.specs.Layout.{part-start, quick-width, status-width, member-width, line-width}
+use Rattle.tables.specs.Store.{StoreOf, Holds}
+use Rattle.tables.specs.Tables.{Tables}
+use Rattle.screen.specs.declared.rows.Refusal.{Refusal}
+use Rattle.screen.specs.declared.rows.Refusal.the-variants.{ScratchSize, NotAStore, Absent}
+use Rattle.screen.specs.declared.rows.Row.{Row}
+use Rattle.screen.specs.declared.rows.Row.the-variants.{Line, QuickText, StatusText, Group, Individual, NoTable}
+
+-- ---- which row
+
+-- plain numbers for C: 1 lines, 2 quick texts, 3 status texts, 4 groups, 5 individuals
+abbrev pub row-named : ℕ → ℕ → Row
+row-named table place =
+    cond (eqb table 1) (Line place)
+    (cond (eqb table 2) (QuickText place)
+    (cond (eqb table 3) (StatusText place)
+    (cond (eqb table 4) (Group place)
+    (cond (eqb table 5) (Individual place) NoTable))))
+
+-- what stands in a row: a text, and what it names, by kind
+pub data Caption : Type 0 where
+  text : Text → Caption
+  line : Text → Number → Caption
+  group : Text → GroupAddress → Caption
+  individual : Text → IndividualAddress → Caption
+
+-- of what is there
+abbrev pub of : {A B : Type 0} → (A → B) → Option A → Option B
+of f none = none
+of f (some a) = some (f a)
+
+-- "A screen row is named by table (line position from 0, quick index, status code, group or individual index)"; none: "screen row absent"
+abbrev pub caption : Tables → Row → Option Caption
+caption t (Line n) = of (λ l. line (l .text) (l .number)) (getD (map some (t .lines)) n none)
+caption t (QuickText n) = of text (getD (t .quick) n none)
+caption t (StatusText n) = cond (ltb n 32) none (of text (getD (t .status) (n - 32) none))
+caption t (Group n) = of (λ g. group (g .text) (g .address)) (getD (t .groups) n none)
+caption t (Individual n) = of (λ i. individual (i .text) (i .address)) (getD (t .individuals) n none)
+caption t NoTable = none
+
+-- the row's text
+abbrev pub text-of : Caption → Text
+text-of (text us) = us
+text-of (line us ds) = us
+text-of (group us a) = us
+text-of (individual us a) = us
+
+-- ---- numbers
+
+-- "digits (as ASCII codes)": 0 to 9, then A to F in upper case
+abbrev pub ascii : ℕ → ℕ
+ascii d = cond (ltb d 10) (48 + d) (55 + d)
+
+-- the n lowest digits of x in a base, highest first
+abbrev pub digits : (base n x : ℕ) → List ℕ
+digits base zero x = []
+digits base (suc n) x = digits base n (x / base) ++ (x % base ∷ [])
+
+-- "eight dialled digits, or six upper-case hex digits for an address outside the plan"
+pub data AddressText (Plan : ℕ → ℕ → Type 0) (address : ℕ) (us : Text) : Type 0 where
+  dialled : (number : ℕ) → Plan number address → us ≡ map ascii (digits 10 8 number) → AddressText Plan address us
+  outside : ((number : ℕ) → Plan number address → ⊥) → us ≡ map ascii (digits 16 6 address) → AddressText Plan address us
+
+-- a group's number is by the group plan
+abbrev pub GroupText : GroupAddress → Text → Type 0
+GroupText a us = AddressText GroupPlan (a .0) us
+
+-- and an individual's by the individual plan
+abbrev pub IndividualText : IndividualAddress → Text → Type 0
+IndividualText a us = AddressText IndividualPlan (a .0) us
+
+-- the number of what a row names, by the kind of its address
+abbrev pub NumberText : Caption → Text → Type 0
+NumberText (text us) ns = ⊥
+NumberText (line us ds) ns = ns ≡ map ascii ds
+NumberText (group us a) ns = GroupText a ns
+NumberText (individual us a) ns = IndividualText a ns
+
+-- ---- what is shown
+
+-- the units of a stored text, or those of a number
+pub data Display : Type 0 where
+  stored : Text → Display
+  written : Text → Display
+
+-- a text that is not empty, or else the number
+abbrev pub text-or : Text → (Text → Type 0) → Display → Type 0
+text-or (u ∷ us) Number d = d ≡ stored (u ∷ us)
+text-or [] Number d = (ns : Text) × Number ns × (d ≡ written ns)
+
+-- "the stored text's own part of the store, or the part of its scratch where the number was written, when a line, group or individual text is empty";
+-- "An empty status text is shown as an empty part"
+abbrev pub Shows : Caption → Display → Type 0
+Shows (text us) d = d ≡ stored us
+Shows (line us ds) d = text-or us (NumberText (line us ds)) d
+Shows (group us a) d = text-or us (NumberText (group us a)) d
+Shows (individual us a) d = text-or us (NumberText (individual us a)) d
+
+-- the units shown
+abbrev pub units : Display → Text
+units (stored us) = us
+units (written us) = us
+
+-- ---- where a row's text stands
+
+-- the first byte of a row's text: the part's, the slots before it, and what its slot has before the text
+abbrev pub text-start : Limits → Row → ℕ
+text-start m (Line n) = part-start m 9 + n * line-width + 19
+text-start m (QuickText n) = part-start m 4 + n * quick-width
+text-start m (StatusText n) = part-start m 5 + (n - 32) * status-width + 1
+text-start m (Group n) = part-start m 6 + n * member-width + 4
+text-start m (Individual n) = part-start m 7 + n * member-width + 4
+text-start m NoTable = 0
+
+-- "Text units and digits (as ASCII codes) are 16 bits, high byte first, without the end unit"
+abbrev pub unit-bytes : Text → List ℕ
+unit-bytes us = flat (map u16 us)
+
+-- ---- the tests
+
+-- no tables that this is the store of have the row
+abbrev pub NoRow : Limits → List ℕ → Row → Type 0
+NoRow m store row = (t : Tables) → Holds m t store → caption t row ≡ none
+
+-- "Screen: 15, 11, 17": the tests of both calls, by the scratch's size
+abbrev pub judged : {A : Type 0} → Limits → List ℕ → ℕ → Row → (Refusal → A) → (A → Type 0) → Ladder A
+judged m store room row refuse There =
+    rung (room < 36) (refuse ScratchSize)
+    (rung (StoreOf m store → ⊥) (refuse NotAStore)
+    (rung (NoRow m store row) (refuse Absent)
+    (foot There)))

@@ -1,0 +1,65 @@
+// The whole store: a setting that was read is applied to its part.
+use settings::settings::Setting;
+use store_lists::channels::apply_channels;
+use store_lists::lines::apply_lines;
+use store_places::fixed::put_hash;
+use store_places::fixed::put_home;
+use store_places::fixed::put_key;
+use store_places::fixed::put_system;
+use store_places::members::apply_group;
+use store_places::members::apply_individual;
+use store_places::quick::apply_quick;
+use store_places::status::apply_status;
+use tables::limits::Limits;
+use tables::limits::roomy;
+use tables::places::CHANNEL_SLOT;
+use tables::places::GROUPS;
+use tables::places::HASH;
+use tables::places::HOME;
+use tables::places::INDIVIDUALS;
+use tables::places::KEY;
+use tables::places::LINE_SLOT;
+use tables::places::LISTS;
+use tables::places::QUICK;
+use tables::places::STATUS;
+use tables::places::SYSTEM;
+ghost use Rattle.tables.specs.Store.{Applied};
+
+// Whether there was room. Bytes that are no store of these limits may be left as they were.
+pub fn apply(store: &mut [u8], limits: Limits, m: &[u8], setting: Setting) -> bool
+    ensures { λ r. ⌜ Applied limits (now (m .entry)) setting (now (store .entry)) (now (store .exit)) r ⌝ }
+{
+    if store.len() != limits.size {
+        return false;
+    }
+    if !roomy(limits) {
+        return false;
+    }
+    let lines = LISTS + limits.channels * CHANNEL_SLOT;
+    let end = lines + limits.lines * LINE_SLOT;
+    match setting {
+        Setting::Lines(op, flags, list) => {
+            return apply_lines(&mut store[lines..end], m, op, flags, list);
+        }
+        Setting::Channels(op, list) => {
+            return apply_channels(&mut store[LISTS..lines], m, op, list);
+        }
+        Setting::Key(target, flags) => put_key(&mut store[KEY..HOME], target, flags),
+        Setting::QuickTexts(op, list) => apply_quick(&mut store[QUICK..STATUS], m, op, list),
+        Setting::Home(numbers) => put_home(&mut store[HOME..SYSTEM], numbers),
+        Setting::System(code) => put_system(&mut store[SYSTEM..QUICK], code),
+        Setting::StatusTexts(op, list) => apply_status(&mut store[STATUS..GROUPS], m, op, list),
+        Setting::Group(op, flags, slot) => apply_group(
+            &mut store[GROUPS..INDIVIDUALS],
+            m,
+            op,
+            flags,
+            slot,
+        ),
+        Setting::Individual(op, flags, slot) => {
+            apply_individual(&mut store[INDIVIDUALS..LISTS], m, op, flags, slot)
+        }
+        Setting::Last(_, hash) => put_hash(&mut store[HASH..KEY], m, hash),
+    }
+    true
+}

@@ -1,0 +1,172 @@
+-- Lines of which no two have one number: each line's number is looked for behind it. Assumes nothing.
+use mathlib.Core.Path.{_≡_, refl, sym, ap, _∙_, subst}
+use mathlib.Core.Bool.{Bool, true, false, cond, true≢false}
+use mathlib.Core.Logic.{_↔_, _≢_}
+use mathlib.Core.List.{List, [], _∷_, _++_, map, append-assoc}
+use Prim.Native.Nat.{ℕ, suc, _+_, _*_, _-_, _≤_, _<_}
+use native.Mathlib.Nat.{mul-le-mul-right}
+use native.Mathlib.Omega.{arith}
+use borrow.Rule.Slice.PartMut.{midOf}
+use lib.ListN.{length, take, drop, length-drop, length-map, take-append-drop}
+use lib.Seq.{drop-drop, length-take-le, take-add, take-all, take-at}
+use Rattle.lists.specs.Every.{All}
+use Rattle.lists.proofs.Every.{all-made, all-turn}
+use Rattle.lists.proofs.Seqs.{cut}
+use Rattle.slots.specs.Slots.{flat, front, indexOf, pad, places, same?, zeros?, fit, Found, KeyAt, Listed}
+use Rattle.slots.proofs.Keys.{key-at, found-known, used-at}
+use Rattle.slots.proofs.Pads.{pad-is}
+use Rattle.slots.proofs.Parts.{slots-length}
+use Rattle.slots.proofs.Runs.{same-not, same-refl}
+use Rattle.slots.proofs.Tables.{front-bytes}
+use Rattle.writing.specs.Settings.{Number}
+use Rattle.tables.specs.Allowed.{LineOk, Distinct}
+use Rattle.tables.specs.Apply.{has-number}
+use Rattle.tables.specs.Layout.{digit-bytes, line-bytes, line-width}
+use Rattle.tables.specs.Tables.{Line}
+use Rattle.tables.proofs.EntryCodes.{line-code, line-keyed, line-shown}
+use Rattle.tables.proofs.TextCodes.{digits-length, digits-same, digits-shown}
+
+-- ---- entries that fill their places
+
+-- their slots are their bytes
+full-bytes : {A : Type 0} (w : ℕ) (f : A → List ℕ) (ls : List A) → places w f (front (length ls) ls) ≡ flat (map f ls)
+full-bytes w f [] = refl
+full-bytes w f (a ∷ ls) = ap (λ (l : List ℕ). f a ++ l) (full-bytes w f ls)
+
+module _ {A : Type 0} (P : A → Type 0) (w : ℕ) (f : A → List ℕ) (long : (a : A) → length (f a) ≡ w) where
+  -- how many bytes they are
+  bytes-long : (ls : List A) → length (flat (map f ls)) ≡ length ls * w
+  bytes-long ls = slots-length w (map f ls) (all-made (λ x. length x ≡ w) f long ls) ∙ ap (λ (n : ℕ). n * w) (length-map ls f)
+
+  -- a list table begins with them
+  front-taken : (n : ℕ) (ls : List A) (s : List ℕ) → Listed P w f n ls s → take (length ls * w) s ≡ flat (map f ls)
+  front-taken n ls s t =
+      let h : length ls * w ≤ n * w = mul-le-mul-right w (t .few) in
+      let e : s ≡ pad 0 (n * w) (flat (map f ls)) = t .bytes ∙ front-bytes w f long n ls in
+      let k : take (n * w) (flat (map f ls)) ≡ flat (map f ls) = take-all (n * w) (flat (map f ls)) (omega (arith, bytes-long ls)) in
+      (rw (e, pad-is 0 (n * w) (flat (map f ls)), k) (take-at (flat (map f ls)) _ (length ls * w) (bytes-long ls)))
+
+  -- entries that fill their places are listed
+  full-listed : (ls : List A) (s : List ℕ) → All P ls → s ≡ flat (map f ls) → Listed P w f (length ls) ls s
+  full-listed ls s p e = record { few = omega arith; each = p; bytes = e ∙ sym (full-bytes w f ls) }
+
+-- ---- a search that ends behind the last entry
+
+-- found nothing
+index-all : {A : Type 0} (p : A → Bool) (ls : List A) → indexOf p ls ≡ length ls → All (λ x. p x ≡ false) ls
+index-all p [] e = tt
+index-all {A} p (a ∷ ls) e = go (p a) refl e (index-all p ls)
+  where
+    go : (b : Bool) → p a ≡ b → cond b 0 (suc (indexOf p ls)) ≡ suc (length ls) → (indexOf p ls ≡ length ls → All (λ (x : A). p x ≡ false) ls) → (p a ≡ false) × All (λ (x : A). p x ≡ false) ls
+    go true q h r = absurd (omega arith)
+    go false q h r = (q, r (omega arith))
+
+-- and where there is nothing it ends there
+all-index : {A : Type 0} (p : A → Bool) (ls : List A) → All (λ x. p x ≡ false) ls → indexOf p ls ≡ length ls
+all-index p [] h = refl
+all-index p (a ∷ ls) h = rw (h .0) (ap suc (all-index p ls (h .1)))
+
+-- ---- lines
+
+-- no line behind has the number where a search for it finds nothing
+none-has : (d : Number) (ls : List Line) → (indexOf (has-number d) ls ≡ length ls) ↔ All (λ x. x .number ≢ d) ls
+none-has d ls = (
+  λ e. all-turn (λ x. has-number d x ≡ false) (λ x. x .number ≢ d) (λ x h q. true≢false (sym (same-refl d) ∙ ap (λ (k : Number). same? k d) (sym q) ∙ h)) ls (index-all (has-number d) ls e),
+  λ h. all-index (has-number d) ls (all-turn (λ x. x .number ≢ d) (λ x. has-number d x ≡ false) (λ x q. same-not (x .number) d q) ls h),
+)
+
+-- the lines from `at` on, which are distinct where all are
+pub record Behind (s : List ℕ) (at end : ℕ) (ls : List Line) : Type 0 where
+  pub left : List Line
+  pub each : All LineOk left
+  pub here : midOf at (end - at) s ≡ flat (map line-bytes left)
+  pub same : Distinct ls ↔ Distinct left
+
+-- the same with the next line
+record Next (s : List ℕ) (at end : ℕ) (ls : List Line) : Type 0 where
+  line : Line
+  later : List Line
+  each : LineOk line × All LineOk later
+  here : midOf at (end - at) s ≡ line-bytes line ++ flat (map line-bytes later)
+  same : Distinct ls ↔ Distinct (line ∷ later)
+
+-- at the start all lines stand there
+pub lines-start : (n : ℕ) (ls : List Line) (s : List ℕ) (end : ℕ) → Found (0 < line-width) zeros? line-width s end → Listed LineOk line-width line-bytes n ls s → Behind s 0 end ls
+lines-start n ls s end found t =
+    let u : end ≡ length ls * line-width = used-at LineOk line-width line-bytes (line-code .long) line-shown (omega arith) n ls s t end found in
+    let k : end - 0 ≡ length ls * line-width = omega arith in
+    record { left = ls; each = t .each; here = ap (λ (i : ℕ). take i s) k ∙ front-taken LineOk line-width line-bytes (line-code .long) n ls s t; same = (λ d. d, λ d. d) }
+
+module _ (s : List ℕ) (at end : ℕ) (ls : List Line) (fits : end ≤ length s) (q : Behind s at end ls) where
+  -- the bytes up to the end
+  bytes-left : length (midOf at (end - at) s) ≡ end - at
+  bytes-left = length-take-le (end - at) (drop at s) (omega (arith, length-drop at s))
+
+  -- where bytes are left there is a line
+  next : line-width ≤ end - at → Next s at end ls
+  next h = go (q .left) (q .each) (q .here) (q .same)
+    where
+      go : (ms : List Line) → All LineOk ms → midOf at (end - at) s ≡ flat (map line-bytes ms) → Distinct ls ↔ Distinct ms → Next s at end ls
+      go [] p e d = absurd (omega (arith, bytes-left, ap length e))
+      go (l ∷ ms) p e d = record { line = l; later = ms; each = p; here = e; same = d }
+
+  -- where none are, no line is left, and none has a number twice
+  pub lines-end : end - at < line-width → Distinct ls
+  lines-end h = go (q .left) (q .each) (q .here) (q .same)
+    where
+      go : (ms : List Line) → All LineOk ms → midOf at (end - at) s ≡ flat (map line-bytes ms) → Distinct ls ↔ Distinct ms → Distinct ls
+      go [] p e d = d .1 tt
+      go (l ∷ ms) p e d = absurd (omega (arith, bytes-left, ap length e, bytes-long LineOk line-width line-bytes (line-code .long) (l ∷ ms)))
+
+  module _ (h : line-width ≤ end - at) where
+    -- the line, and those behind it
+    line-cut : (take line-width (drop at s) ≡ line-bytes (next h .line)) × (midOf (at + line-width) (end - (at + line-width)) s ≡ flat (map line-bytes (next h .later)))
+    line-cut =
+        let n = next h in
+        let k : end - at ≡ line-width + (end - (at + line-width)) = omega arith in
+        let e : take line-width (drop at s) ++ take (end - (at + line-width)) (drop line-width (drop at s)) ≡ line-bytes (n .line) ++ flat (map line-bytes (n .later))
+        = sym (take-add line-width (end - (at + line-width)) (drop at s)) ∙ ap (λ (i : ℕ). take i (drop at s)) (sym k) ∙ n .here in
+        let l : length (take line-width (drop at s)) ≡ length (line-bytes (n .line)) = length-take-le line-width (drop at s) (omega (arith, length-drop at s)) ∙ sym (line-code .long (n .line)) in
+        let c = cut (take line-width (drop at s)) (line-bytes (n .line)) l e in
+        (c .0, ap (take (end - (at + line-width))) (sym (drop-drop line-width at s)) ∙ c .1)
+
+    -- its number
+    line-key : midOf (at + 1) (at + 1 + 18 - (at + 1)) s ≡ digit-bytes (next h .line .number)
+    line-key =
+        let l = next h .line in
+        let k : at + 1 + 18 - (at + 1) ≡ 18 = omega arith in
+        let e : drop at s ≡ line-bytes l ++ drop line-width (drop at s) = sym (take-append-drop line-width (drop at s)) ∙ ap (λ (x : List ℕ). x ++ drop line-width (drop at s)) (line-cut .0) in
+        ap (λ (i : ℕ). take i (drop (at + 1) s)) k ∙ ap (take 18) (sym (drop-drop 1 at s) ∙ ap (drop 1) e ∙ append-assoc (digit-bytes (l .number)) _ (drop line-width (drop at s)))
+        ∙ take-at (digit-bytes (l .number)) _ 18 (digits-length (l .number))
+
+    module _ (r : ℕ) (found : Found (KeyAt line-width 1 (midOf (at + 1) (at + 1 + 18 - (at + 1)) s) × (length (midOf (at + 1) (at + 1 + 18 - (at + 1)) s) ≡ 18)) (fit 1 (midOf (at + 1) (at + 1 + 18 - (at + 1)) s)) line-width (midOf (at + line-width) (end - (at + line-width)) s) r) where
+      -- the search ends at the first line behind that has the number
+      key-found : r ≡ indexOf (has-number (next h .line .number)) (next h .later) * line-width
+      key-found =
+          let n = next h in
+          let d = n .line .number in
+          let o = n .each .0 .number in
+          key-at LineOk line-width line-bytes 1 18 (λ l. digit-bytes (l .number)) line-keyed (digit-bytes d) (digits-length d) (digits-shown d (o .0)) (has-number d)
+          (λ a p. digits-same (a .number) d (p .number .1) (o .1)) (length (n .later)) (n .later) (midOf (at + line-width) (end - (at + line-width)) s)
+          (full-listed LineOk line-width line-bytes (line-code .long) (n .later) (midOf (at + line-width) (end - (at + line-width)) s) (n .each .1) (line-cut .1)) r
+          (subst (λ (k : List ℕ). Found (KeyAt line-width 1 k) (fit 1 k) line-width (midOf (at + line-width) (end - (at + line-width)) s) r) line-key
+          (found-known line-width 1 18 _ (midOf (at + line-width) (end - (at + line-width)) s) _ r (ap length line-key ∙ digits-length d) found))
+
+      -- at the end where none has it
+      key-none : (r ≡ end - (at + line-width)) ↔ All (λ x. x .number ≢ next h .line .number) (next h .later)
+      key-none =
+          let n = next h in
+          let t = none-has (n .line .number) (n .later) in
+          let l : end - (at + line-width) ≡ length (n .later) * line-width
+          = sym (length-take-le (end - (at + line-width)) (drop (at + line-width) s) (omega (arith, length-drop (at + line-width) s))) ∙ ap length (line-cut .1) ∙ bytes-long LineOk line-width line-bytes (line-code .long) (n .later) in
+          (λ e. t .0 (omega (arith, key-found)), λ a. omega (arith, key-found, t .1 a))
+
+      -- the line's number is no other's: those behind decide
+      pub lines-more : r ≡ end - (at + line-width) → Behind s (at + line-width) end ls
+      lines-more e =
+          let n = next h in
+          record { left = n .later; each = n .each .1; here = line-cut .1; same = (λ d. n .same .0 d .1, λ d. n .same .1 (key-none .0 e, d)) }
+
+      -- it is another's too
+      pub lines-stop : (r ≡ end - (at + line-width) → ⊥) → Distinct ls → ⊥
+      lines-stop e d = e (key-none .1 (next h .same .0 d .0))

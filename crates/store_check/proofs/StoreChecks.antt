@@ -1,0 +1,250 @@
+-- A store, part by part: which bytes are one. Assumes nothing.
+use mathlib.Core.Path.{_≡_, sym, ap, ap₂, _∙_, subst}
+use mathlib.Core.Bool.{Bool, true}
+use mathlib.Core.Logic.{_↔_, Iff·rfl, Iff·trans, Iff·and}
+use mathlib.Core.Option.{Option}
+use mathlib.Core.List.{List, [], _++_, append-assoc, append-nil}
+use Prim.Native.Nat.{ℕ, _+_, _*_, _-_}
+use native.Mathlib.Omega.{arith}
+use borrow.Rule.Slice.PartMut.{midOf}
+use lib.ListN.{length, drop, replicate, length-append, length-drop}
+use Rattle.slots.specs.Slots.{places, front, zeros?, u16, EntryOf, PlacesOf, ListOf, Listed}
+use Rattle.slots.proofs.Runs.{zeros-all, zeros-are}
+use Rattle.slots.proofs.Tables.{front-length, places-length}
+use Rattle.writing.specs.declared.HomeNumbers.{HomeNumbers}
+use Rattle.writing.specs.declared.SystemCode.{SystemCode}
+use Rattle.writing.specs.Ranges.{InChannel}
+use Rattle.writing.specs.Settings.{Hash, Text}
+use Rattle.tables.specs.declared.limits.Limits.{Limits}
+use Rattle.tables.specs.Allowed.{QuickOk, StatusOk, GroupOk, IndividualOk, LineOk, HashOk, HomeOk, SystemOk, Distinct, Allowed, PlacesOk, ListOk, LinesOk}
+use Rattle.store_check.specs.Checks.{Both, joined, KeyOk, FixedOf, IndexedOf, ChannelsOf, LinesOf}
+use Rattle.tables.specs.Layout.{quick-bytes, status-bytes, group-bytes, individual-bytes, line-bytes, hash-bytes, key-bytes, home-bytes, system-bytes, used-size, layout, Roomy, IsStore, line-width, lists-at, member-size, quick-at, quick-size, status-size}
+use Rattle.tables.specs.Tables.{Line, GroupMember, IndividualMember, Key, Tables}
+use Rattle.store_check.proofs.CheckLaws.{Same, entry-same, parts-are, last-is, rest-is}
+use Rattle.tables.proofs.EntryCodes.{quick-code, status-code, group-code, individual-code, channel-code, line-code}
+use Rattle.tables.proofs.FixedCodes.{hash-code, key-code, home-code, system-code}
+
+-- ---- how long the parts are
+
+-- one after the other
+joined-long : {A B : Type 0} (f : A → List ℕ) (g : B → List ℕ) (x : A × B) (j k : ℕ) → length (f (x .0)) ≡ j → length (g (x .1)) ≡ k → length (joined f g x) ≡ j + k
+joined-long f g x j k p q = length-append (f (x .0)) (g (x .1)) ∙ ap₂ (λ (a b : ℕ). a + b) p q
+
+module _ {A : Type 0} (P : A → Type 0) (w : ℕ) (f : A → List ℕ) (long : (a : A) → length (f a) ≡ w) (n : ℕ) where
+  -- an indexed table
+  table-long : (os : List (Option A)) → PlacesOk P n os → length (places w f os) ≡ n * w
+  table-long os p = places-length w f long os ∙ ap (λ (i : ℕ). i * w) (p .0)
+
+  -- a list table
+  list-long : (ls : List A) → length (places w f (front n ls)) ≡ n * w
+  list-long ls = places-length w f long (front n ls) ∙ ap (λ (i : ℕ). i * w) (front-length n ls)
+
+-- ---- tables as entries
+
+-- an indexed table
+pub places-entry : {A : Type 0} (P : A → Type 0) (w : ℕ) (f : A → List ℕ) (n : ℕ) (s : List ℕ) → PlacesOf P w f n s ↔ EntryOf (PlacesOk P n) (places w f) s
+places-entry P w f n s = (
+  λ t. record { entry = t .entries; holds = (t .placed .many, t .placed .each); bytes = t .placed .bytes },
+  λ x. record { entries = x .entry; placed = record { many = x .holds .0; each = x .holds .1; bytes = x .bytes } },
+)
+
+-- a list table
+pub list-entry : {A : Type 0} (P : A → Type 0) (w : ℕ) (f : A → List ℕ) (n : ℕ) (s : List ℕ) → ListOf P w f n s ↔ EntryOf (ListOk P n) (λ xs. places w f (front n xs)) s
+list-entry P w f n s = (
+  λ t. record { entry = t .entries; holds = (t .listed .few, t .listed .each); bytes = t .listed .bytes },
+  λ x. record { entries = x .entry; listed = record { few = x .holds .0; each = x .holds .1; bytes = x .bytes } },
+)
+
+-- ---- lines
+
+-- a list table of lines
+abbrev LinesIn : ℕ → List ℕ → Type 0
+LinesIn n s = ListOf LineOk line-width line-bytes n s
+
+-- lines are a list table of lines
+pub lines-list : (n : ℕ) (s : List ℕ) → LinesOf n s → LinesIn n s
+lines-list n s x = list-entry LineOk line-width line-bytes n s .1 (record { entry = x .entry; holds = x .holds .0; bytes = x .bytes })
+
+-- of which a test decides whether they are distinct
+pub lines-decided : (n : ℕ) (s : List ℕ) → LinesIn n s → (b : Bool) → ((n : ℕ) (ls : List Line) → Listed LineOk line-width line-bytes n ls s → (b ≡ true) ↔ Distinct ls) → (b ≡ true) ↔ LinesOf n s
+lines-decided n s t b d = (
+  λ e. record { entry = t .entries; holds = ((t .listed .few, t .listed .each), d n (t .entries) (t .listed) .0 e); bytes = t .listed .bytes },
+  λ x. d n (x .entry) (record { few = x .holds .0 .0; each = x .holds .0 .1; bytes = x .bytes }) .1 (x .holds .1),
+)
+
+-- ---- the indexed tables
+
+-- 7264 bytes are the four where each is
+pub indexed-is : (s : List ℕ) → length s ≡ 7264 → (PlacesOf QuickOk 46 quick-bytes 64 (midOf 0 quick-size s) × (PlacesOf StatusOk 33 status-bytes 96 (midOf quick-size status-size s) × (PlacesOf GroupOk 36 group-bytes 16 (midOf 6112 member-size s) × PlacesOf IndividualOk 36 individual-bytes 16 (midOf 6688 member-size s)))) ↔ IndexedOf s
+indexed-is s l =
+    Iff·trans (Iff·and (places-entry QuickOk 46 quick-bytes 64 (midOf 0 quick-size s))
+    (Iff·trans (Iff·and (places-entry StatusOk 33 status-bytes 96 (midOf quick-size status-size s))
+    (Iff·trans (Iff·and (places-entry GroupOk 36 group-bytes 16 (midOf 6112 member-size s))
+    (Iff·trans (places-entry IndividualOk 36 individual-bytes 16 (midOf 6688 member-size s)) (last-is (PlacesOk IndividualOk 16) (places 36 individual-bytes) 6688 member-size s (omega arith))))
+    (parts-are (PlacesOk GroupOk 16) (PlacesOk IndividualOk 16) (places 36 group-bytes) (places 36 individual-bytes) 6112 member-size s (table-long GroupOk 36 group-bytes (group-code .long) 16))))
+    (parts-are (PlacesOk StatusOk 96) _ (places 33 status-bytes) _ quick-size status-size s (table-long StatusOk 33 status-bytes (status-code .long) 96))))
+    (parts-are (PlacesOk QuickOk 64) _ (places 46 quick-bytes) _ 0 quick-size s (table-long QuickOk 46 quick-bytes (quick-code .long) 64))
+
+-- ---- the whole
+
+-- the bytes that no table uses
+spare-is : (k : ℕ) (s : List ℕ) → length s ≡ k → (zeros? s ≡ true) ↔ EntryOf (λ (u : Unit {0}). Unit {0}) (λ u. replicate k 0) s
+spare-is k s l = (
+  λ z. record { entry = tt; holds = tt; bytes = zeros-are s z ∙ ap (λ (i : ℕ). replicate i 0) l },
+  λ x. ap zeros? (x .bytes) ∙ zeros-all k,
+)
+
+-- eleven parts in five runs
+regroup : (a b c d e f g h i j k : List ℕ) → (a ++ (b ++ (c ++ d))) ++ ((e ++ (f ++ (g ++ h))) ++ (i ++ (j ++ k))) ≡ a ++ (b ++ (c ++ (d ++ (e ++ (f ++ (g ++ (h ++ (i ++ (j ++ (k ++ []))))))))))
+regroup a b c d e f g h i j k = simp (append-assoc, append-nil)
+
+-- the parts that every store begins with
+abbrev Fixed : Type 0
+Fixed = Hash × (Key × (HomeNumbers × SystemCode))
+
+-- as the rules allow them
+abbrev FixedOk : Fixed → Type 0
+FixedOk = Both HashOk (Both KeyOk (Both HomeOk SystemOk))
+
+-- their bytes
+abbrev fixed-bytes : Fixed → List ℕ
+fixed-bytes = joined hash-bytes (joined key-bytes (joined home-bytes system-bytes))
+
+-- they are 22 bytes
+fixed-long : (x : Fixed) → FixedOk x → length (fixed-bytes x) ≡ 22
+fixed-long x p =
+    joined-long hash-bytes (joined key-bytes (joined home-bytes system-bytes)) x 11 11 (hash-code .long (x .0))
+    (joined-long key-bytes (joined home-bytes system-bytes) (x .1) 4 7 (key-code .long (x .1 .0))
+    (joined-long home-bytes system-bytes (x .1 .1) 4 3 (home-code .long (x .1 .1 .0)) (system-code .long (x .1 .1 .1))))
+
+-- the indexed tables
+abbrev Indexed : Type 0
+Indexed = List (Option Text) × (List (Option Text) × (List (Option GroupMember) × List (Option IndividualMember)))
+
+-- as the rules allow them
+abbrev IndexedOk : Indexed → Type 0
+IndexedOk = Both (PlacesOk QuickOk 64) (Both (PlacesOk StatusOk 96) (Both (PlacesOk GroupOk 16) (PlacesOk IndividualOk 16)))
+
+-- their bytes
+abbrev indexed-bytes : Indexed → List ℕ
+indexed-bytes = joined (places 46 quick-bytes) (joined (places 33 status-bytes) (joined (places 36 group-bytes) (places 36 individual-bytes)))
+
+-- they are 7264 bytes
+indexed-long : (x : Indexed) → IndexedOk x → length (indexed-bytes x) ≡ 7264
+indexed-long x p =
+    joined-long (places 46 quick-bytes) (joined (places 33 status-bytes) (joined (places 36 group-bytes) (places 36 individual-bytes))) x quick-size 4320
+    (table-long QuickOk 46 quick-bytes (quick-code .long) 64 (x .0) (p .0))
+    (joined-long (places 33 status-bytes) (joined (places 36 group-bytes) (places 36 individual-bytes)) (x .1) status-size 1152
+    (table-long StatusOk 33 status-bytes (status-code .long) 96 (x .1 .0) (p .1 .0))
+    (joined-long (places 36 group-bytes) (places 36 individual-bytes) (x .1 .1) member-size member-size
+    (table-long GroupOk 36 group-bytes (group-code .long) 16 (x .1 .1 .0) (p .1 .1 .0))
+    (table-long IndividualOk 36 individual-bytes (individual-code .long) 16 (x .1 .1 .1) (p .1 .1 .1))))
+
+module _ (m : Limits) where
+  -- the list tables, and what is spare
+  abbrev Rest : Type 0
+  Rest = List ℕ × (List Line × Unit {0})
+
+  -- as the rules allow them
+  abbrev RestOk : Rest → Type 0
+  RestOk = Both (ListOk InChannel (m .channels)) (Both (LinesOk (m .lines)) (λ u. Unit {0}))
+
+  -- the channels' bytes
+  abbrev channels-bytes : List ℕ → List ℕ
+  channels-bytes cs = places 2 u16 (front (m .channels) cs)
+
+  -- the lines' bytes
+  abbrev lines-bytes : List Line → List ℕ
+  lines-bytes ls = places line-width line-bytes (front (m .lines) ls)
+
+  -- the bytes that no table uses
+  abbrev spare-bytes : Unit {0} → List ℕ
+  spare-bytes u = replicate (m .size - used-size m) 0
+
+  -- all of them
+  abbrev rest-bytes : Rest → List ℕ
+  rest-bytes = joined channels-bytes (joined lines-bytes spare-bytes)
+
+  -- the tables, run by run
+  runs-of : Tables → Fixed × (Indexed × Rest)
+  runs-of t = ((t .hash, (t .key, (t .home, t .system))), ((t .quick, (t .status, (t .groups, t .individuals))), (t .channels, (t .lines, tt))))
+
+  -- runs as tables
+  tables : Fixed × (Indexed × Rest) → Tables
+  tables x =
+      record {
+        hash = x .0 .0;
+        key = x .0 .1 .0;
+        home = x .0 .1 .1 .0;
+        system = x .0 .1 .1 .1;
+        quick = x .1 .0 .0;
+        status = x .1 .0 .1 .0;
+        groups = x .1 .0 .1 .1 .0;
+        individuals = x .1 .0 .1 .1 .1;
+        channels = x .1 .1 .0;
+        lines = x .1 .1 .1 .0;
+      }
+
+  -- their bytes
+  runs-bytes : (t : Tables) → joined fixed-bytes (joined indexed-bytes rest-bytes) (runs-of t) ≡ layout m t
+  unfolding layout runs-of
+  runs-bytes t =
+      regroup (hash-bytes (t .hash)) (key-bytes (t .key)) (home-bytes (t .home)) (system-bytes (t .system)) (places 46 quick-bytes (t .quick)) (places 33 status-bytes (t .status))
+      (places 36 group-bytes (t .groups)) (places 36 individual-bytes (t .individuals)) (channels-bytes (t .channels)) (lines-bytes (t .lines)) (spare-bytes tt)
+
+  -- the parts of a store are tables
+  tables-of : Same (Both FixedOk (Both IndexedOk RestOk)) (joined fixed-bytes (joined indexed-bytes rest-bytes)) (Allowed m) (layout m)
+  unfolding runs-of tables
+  tables-of =
+      record {
+        to = tables;
+        back = runs-of;
+        good = λ x p.
+            record {
+              hash = p .0 .0;
+              key = p .0 .1 .0;
+              home = p .0 .1 .1 .0;
+              system = p .0 .1 .1 .1;
+              quick = p .1 .0 .0;
+              status = p .1 .0 .1 .0;
+              groups = p .1 .0 .1 .1 .0;
+              individuals = p .1 .0 .1 .1 .1;
+              channels = p .1 .1 .0;
+              lines = p .1 .1 .1 .0 .0;
+              distinct = p .1 .1 .1 .0 .1;
+            };
+        back-good = λ t p. ((p .hash, (p .key, (p .home, p .system))), ((p .quick, (p .status, (p .groups, p .individuals))), (p .channels, ((p .lines, p .distinct), tt))));
+        bytes = λ x p. runs-bytes (tables x);
+        back-bytes = λ t p. sym (runs-bytes t);
+      }
+
+  module _ (s : List ℕ) (room : Roomy m) (l : length s ≡ m .size) where
+    -- a part, as the code reads it
+    part-is : {A : Type 0} (P : A → Type 0) (f : A → List ℕ) (a k : ℕ) → EntryOf P f (midOf a (a + k - a) s) ↔ EntryOf P f (midOf a k s)
+    part-is P f a k =
+        let e : a + k - a ≡ k = omega arith in
+        (subst (λ (i : ℕ). EntryOf P f (midOf a i s)) e, subst (λ (i : ℕ). EntryOf P f (midOf a i s)) (sym e))
+
+    -- the bytes that no table uses
+    spare-part : (zeros? (midOf (lists-at + m .channels * 2 + m .lines * line-width) (length s - (lists-at + m .channels * 2 + m .lines * line-width)) s) ≡ true) ↔ EntryOf (λ u. Unit {0}) spare-bytes (drop (lists-at + m .channels * 2 + m .lines * line-width) s)
+    spare-part =
+        let a = lists-at + m .channels * 2 + m .lines * line-width in
+        let e : midOf a (length s - a) s ≡ drop a s = rest-is s a (length s - a) (omega arith) in
+        let k : length (drop a s) ≡ m .size - used-size m = omega (arith, length-drop a s) in
+        Iff·trans (λ z. ap zeros? (sym e) ∙ z, λ z. ap zeros? e ∙ z) (spare-is (m .size - used-size m) (drop a s) k)
+
+    -- the bytes of a store's size are a store where each part is what it has to be
+    pub store-is : (FixedOf (midOf 0 22 s) × (IndexedOf (midOf quick-at 7264 s) × (ChannelsOf (m .channels) (midOf lists-at (lists-at + m .channels * 2 - lists-at) s) × (LinesOf (m .lines) (midOf (lists-at + m .channels * 2) (lists-at + m .channels * 2 + m .lines * line-width - (lists-at + m .channels * 2)) s) × (zeros? (midOf (lists-at + m .channels * 2 + m .lines * line-width) (length s - (lists-at + m .channels * 2 + m .lines * line-width)) s) ≡ true))))) ↔ IsStore m s
+    store-is =
+        let w = Iff·trans (Iff·and Iff·rfl
+        (Iff·trans (Iff·and Iff·rfl
+        (Iff·trans (Iff·and (part-is (ListOk InChannel (m .channels)) channels-bytes lists-at (m .channels * 2))
+        (Iff·trans (Iff·and (part-is (LinesOk (m .lines)) lines-bytes (lists-at + m .channels * 2) (m .lines * line-width)) spare-part)
+        (parts-are (LinesOk (m .lines)) (λ u. Unit {0}) lines-bytes spare-bytes (lists-at + m .channels * 2) (m .lines * line-width) s (λ ls p. list-long LineOk line-width line-bytes (line-code .long) (m .lines) ls))))
+        (parts-are (ListOk InChannel (m .channels)) (Both (LinesOk (m .lines)) (λ u. Unit {0})) channels-bytes (joined lines-bytes spare-bytes) lists-at (m .channels * 2) s (λ cs p. list-long InChannel 2 u16 (channel-code .long) (m .channels) cs))))
+        (parts-are IndexedOk RestOk indexed-bytes rest-bytes 22 7264 s indexed-long)))
+        (Iff·trans (parts-are FixedOk (Both IndexedOk RestOk) fixed-bytes (joined indexed-bytes rest-bytes) 0 22 s fixed-long)
+        (entry-same (Both FixedOk (Both IndexedOk RestOk)) (joined fixed-bytes (joined indexed-bytes rest-bytes)) (Allowed m) (layout m) tables-of s)) in (
+          λ x. let t = w .0 x in record { tables = t .entry; allowed = t .holds; bytes-are = t .bytes },
+          λ y. w .1 (record { entry = y .tables; holds = y .allowed; bytes = y .bytes-are }),
+        )

@@ -1,0 +1,42 @@
+use borrow.Author.Needs.{needs}
+use native.Mathlib.Omega.{arith}
+use Rattle.tables.proofs.AnswerLaws.{refused, turned}
+use Rattle.store_check.proofs.EntryChecks.{status-is}
+use Rattle.slots.proofs.Tables.{slot-wide}
+use Rattle.store_check.proofs.checks_entries.status_ok.Statement.{statement}
+use Rattle.store_check.proofs.checks_entries.status_ok.Tie as tie
+
+shared-slice-read-if1 : tie.Need-shared-slice-read-if1
+shared-slice-read-if1 c = search needs
+
+returns : tie.Need-returns
+returns c = refused (λ x. c .if1 .taken (status-is (c .before .before .before .args .s .now) (c .before .before .before .pre) .1 x .0))
+
+sub-text-ok : tie.Need-sub-text-ok
+sub-text-ok c = search needs
+
+part-text-ok-start : tie.Need-part-text-ok-start
+part-text-ok-start c = search needs
+
+part-text-ok-end : tie.Need-part-text-ok-end
+part-text-ok-end c = search needs
+
+text-ok-requires : tie.Need-text-ok-requires
+text-ok-requires c κs = search needs
+
+returns-2 : tie.Need-returns-2
+returns-2 c =
+    let t = status-is (c .before .before .before .before .before .args .s .now) (c .before .before .before .before .before .pre) in
+    turned (c .text-ok .result) (c .text-ok .ensures 16 (slot-wide (c .before .before .before .before .before .args .s .now) 1 32 (omega arith))) (λ x. t .0 (c .before .before .if1 .left, x)) (λ x. t .1 x .1)
+
+pub status-ok-spec : {M : Type 1} → statement M
+status-ok-spec =
+    tie.close
+    (tie.spec
+    shared-slice-read-if1
+    returns
+    sub-text-ok
+    part-text-ok-start
+    part-text-ok-end
+    text-ok-requires
+    returns-2)

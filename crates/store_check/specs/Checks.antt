@@ -1,0 +1,84 @@
+-- What the checks of a store's bytes decide, part by part: inner steps, no promise cites these.
+use Prim.Native.Nat.{ℕ}
+use mathlib.Core.List.{List, _++_}
+use Rattle.slots.specs.Slots.{EntryOf, places, front, u16}
+use Rattle.writing.specs.Ranges.{InChannel}
+use Rattle.writing.specs.Settings.{Text}
+use Rattle.store_check.specs.declared.checks_tables.Table.{Table}
+use Rattle.store_check.specs.declared.checks_tables.Table.the-variants.{QuickTexts, StatusTexts, Groups, Individuals, Channels, Lines}
+use Rattle.tables.specs.Limits.{quick-places, status-places, slot-places}
+use Rattle.tables.specs.Tables.{Line, GroupMember, IndividualMember, Key}
+use Rattle.tables.specs.Allowed.{QuickOk, StatusOk, GroupOk, IndividualOk, LineOk, HashOk, HomeOk, SystemOk, TargetOk, PlacesOk, ListOk, LinesOk}
+use Rattle.tables.specs.Layout.{quick-bytes, status-bytes, group-bytes, individual-bytes, line-bytes, hash-bytes, key-bytes, home-bytes, system-bytes, quick-width, status-width, member-width, channel-width, line-width}
+
+-- ---- two entries, one after the other
+
+-- both are as they have to be
+abbrev pub Both : {A B : Type 0} → (A → Type 0) → (B → Type 0) → A × B → Type 0
+Both P Q x = P (x .0) × Q (x .1)
+
+-- the bytes of the first, then those of the second
+abbrev pub joined : {A B : Type 0} → (A → List ℕ) → (B → List ℕ) → A × B → List ℕ
+joined f g x = f (x .0) ++ g (x .1)
+
+-- ---- the tables that are made of slots
+
+-- what an entry is
+abbrev pub EntryIn : Table → Type 0
+EntryIn QuickTexts = Text
+EntryIn StatusTexts = Text
+EntryIn Groups = GroupMember
+EntryIn Individuals = IndividualMember
+EntryIn Channels = ℕ
+EntryIn Lines = Line
+
+-- which entries the rules allow
+abbrev pub OkIn : (t : Table) → EntryIn t → Type 0
+OkIn QuickTexts = QuickOk
+OkIn StatusTexts = StatusOk
+OkIn Groups = GroupOk
+OkIn Individuals = IndividualOk
+OkIn Channels = InChannel
+OkIn Lines = LineOk
+
+-- an entry's bytes
+abbrev pub bytes-in : (t : Table) → EntryIn t → List ℕ
+bytes-in QuickTexts = quick-bytes
+bytes-in StatusTexts = status-bytes
+bytes-in Groups = group-bytes
+bytes-in Individuals = individual-bytes
+bytes-in Channels = u16
+bytes-in Lines = line-bytes
+
+-- how many they are
+abbrev pub width-in : Table → ℕ
+width-in QuickTexts = quick-width
+width-in StatusTexts = status-width
+width-in Groups = member-width
+width-in Individuals = member-width
+width-in Channels = channel-width
+width-in Lines = line-width
+
+-- ---- the parts of a store
+
+-- the key calls where it may
+abbrev pub KeyOk : Key → Type 0
+KeyOk k = TargetOk (k .target)
+
+-- the bytes are a hash, a key, home numbers and a system code
+abbrev pub FixedOf : List ℕ → Type 0
+FixedOf s = EntryOf (Both HashOk (Both KeyOk (Both HomeOk SystemOk))) (joined hash-bytes (joined key-bytes (joined home-bytes system-bytes))) s
+
+-- the bytes are quick texts, status texts, groups and individuals
+abbrev pub IndexedOf : List ℕ → Type 0
+IndexedOf s =
+    EntryOf (Both (PlacesOk QuickOk quick-places) (Both (PlacesOk StatusOk status-places) (Both (PlacesOk GroupOk slot-places) (PlacesOk IndividualOk slot-places))))
+    (joined (places quick-width quick-bytes) (joined (places status-width status-bytes) (joined (places member-width group-bytes) (places member-width individual-bytes)))) s
+
+-- the bytes are channels in n places
+abbrev pub ChannelsOf : ℕ → List ℕ → Type 0
+ChannelsOf n s = EntryOf (ListOk InChannel n) (λ cs. places channel-width u16 (front n cs)) s
+
+-- the bytes are lines in n places
+abbrev pub LinesOf : ℕ → List ℕ → Type 0
+LinesOf n s = EntryOf (LinesOk n) (λ ls. places line-width line-bytes (front n ls)) s

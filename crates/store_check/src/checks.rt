@@ -1,0 +1,54 @@
+// Whether lent bytes are a store.
+use super::checks_fixed::fixed_ok;
+use super::checks_lists::channels_ok;
+use super::checks_lists::lines_ok;
+use super::checks_tables::indexed_ok;
+use slots::bytes::is_clear;
+use tables::limits::Limits;
+use tables::limits::roomy;
+use tables::places::CHANNEL_SLOT;
+use tables::places::HASH;
+use tables::places::LINE_SLOT;
+use tables::places::LISTS;
+use tables::places::QUICK;
+ghost use mathlib.Core.Path.{_≡_};
+ghost use mathlib.Core.Bool.{true};
+ghost use mathlib.Core.Logic.{_↔_};
+ghost use lib.ListN.{length};
+ghost use Rattle.tables.specs.Layout.{Roomy, IsStore};
+ghost use Rattle.tables.specs.Store.{StoreOf};
+
+// Whether each part of bytes of the limits' size is what it has to be: docs/STORE.md says where they stand.
+fn parts_ok(store: &[u8], limits: Limits) -> bool
+    requires { ⌜ Roomy limits × (length (now store) ≡ limits .size) ⌝ }
+    ensures { λ r. ⌜ (r ≡ true) ↔ IsStore limits (now (store .entry)) ⌝ }
+{
+    if !fixed_ok(&store[HASH..QUICK]) {
+        return false;
+    }
+    if !indexed_ok(&store[QUICK..LISTS]) {
+        return false;
+    }
+    let lines = LISTS + limits.channels * CHANNEL_SLOT;
+    if !channels_ok(&store[LISTS..lines]) {
+        return false;
+    }
+    let spare = lines + limits.lines * LINE_SLOT;
+    if !lines_ok(&store[lines..spare]) {
+        return false;
+    }
+    is_clear(&store[spare..])
+}
+
+// Whether the bytes are those of tables and a kept hash that the rules allow, in a store with room for them.
+pub fn is_store(store: &[u8], limits: Limits) -> bool
+    ensures { λ r. ⌜ (r ≡ true) ↔ StoreOf limits (now (store .entry)) ⌝ }
+{
+    if store.len() != limits.size {
+        return false;
+    }
+    if !roomy(limits) {
+        return false;
+    }
+    parts_ok(store, limits)
+}

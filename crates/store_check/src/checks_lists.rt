@@ -1,0 +1,52 @@
+// Whether bytes are a list table: channels, and lines of which no two have one number.
+use super::checks_tables::Table;
+use super::checks_tables::list_ok;
+use slots::slots::place_of;
+use slots::slots::used;
+use tables::places::DIGITS;
+use tables::places::LINE_DIGITS;
+use tables::places::LINE_SLOT;
+ghost use mathlib.Core.Path.{_≡_};
+ghost use mathlib.Core.Bool.{true};
+ghost use mathlib.Core.Logic.{_↔_};
+ghost use mathlib.Core.List.{List};
+ghost use Prim.Native.Nat.{ℕ, _*_};
+ghost use lib.ListN.{length};
+ghost use Rattle.slots.specs.Slots.{Listed};
+ghost use Rattle.tables.specs.Tables.{Line};
+ghost use Rattle.tables.specs.Allowed.{LineOk, Distinct};
+ghost use Rattle.tables.specs.Layout.{channel-width, line-width, line-bytes};
+ghost use Rattle.store_check.specs.Checks.{ChannelsOf, LinesOf};
+
+// Whether no two lines of a table have one number.
+fn lines_distinct(s: &[u8]) -> bool
+    ensures { λ r. ⌜ ((n : ℕ) (ls : List Line) → Listed LineOk line-width line-bytes n ls (now (s .entry)) → (r ≡ true) ↔ Distinct ls) ⌝ }
+{
+    let end = used(s, LINE_SLOT);
+    let mut at = 0;
+    while LINE_SLOT <= end - at {
+        let next = at + LINE_SLOT;
+        let a = at + 1;
+        let b = a + 18;
+        if place_of(&s[next..end], LINE_SLOT, LINE_DIGITS, DIGITS, &s[a..b]) != end - next {
+            return false;
+        }
+        at = next;
+    }
+    true
+}
+
+pub(crate) fn channels_ok(s: &[u8]) -> bool
+    ensures { λ r. ⌜ ((n : ℕ) → length (now (s .entry)) ≡ n * channel-width → (r ≡ true) ↔ ChannelsOf n (now (s .entry))) ⌝ }
+{
+    list_ok(Table::Channels, s)
+}
+
+pub(crate) fn lines_ok(s: &[u8]) -> bool
+    ensures { λ r. ⌜ ((n : ℕ) → length (now (s .entry)) ≡ n * line-width → (r ≡ true) ↔ LinesOf n (now (s .entry))) ⌝ }
+{
+    if !list_ok(Table::Lines, s) {
+        return false;
+    }
+    lines_distinct(s)
+}

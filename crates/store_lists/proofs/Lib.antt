@@ -1,0 +1,3 @@
+mod ChannelLaws
+pub mod DigitLaws
+pub mod LineLaws

@@ -1,0 +1,95 @@
+use borrow.Author.Needs.{needs}
+use native.Mathlib.Omega.{arith}
+use Prim.Native.Nat.{_-_}
+use mathlib.Core.Path.{_≡_, refl}
+use lib.ListN.{length}
+use mathlib.Core.Bool.{true}
+use Rattle.tables.specs.Apply.{line-of}
+use Rattle.store_lists.specs.Lists.{LineTable}
+use Rattle.tables.proofs.ListLaws.{tried-room}
+use Rattle.writing.specs.declared.Operation.the-variants.{Delete}
+use Rattle.store_lists.proofs.LineLaws.{LinesLeft, lines-start, lines-end, lines-stuck, lines-on}
+use Rattle.store_lists.proofs.lines.drop_lines.Statement.{statement}
+use Rattle.store_lists.proofs.lines.drop_lines.Tie as tie
+
+abbrev Inv-loop : tie.InvT-loop
+Inv-loop part₀ m flags entries p₀ i₀ part p i = (length part ≡ length part₀) × LinesLeft Delete m flags entries part₀ p i part
+
+abbrev μ-loop : tie.MeasureT-loop
+μ-loop part₀ m flags entries p₀ i₀ part p i = entries .count - i
+
+loop-holds : tie.Need-loop-holds Inv-loop μ-loop
+loop-holds c =
+    let a = c .before .before .args in
+    (refl, lines-start Delete (a .m .now) (a .flags) (a .entries) (a .part .now))
+
+read-contact-requires : tie.Need-read-contact-requires Inv-loop μ-loop
+read-contact-requires c κs = search needs
+
+enum-known-here : tie.Need-enum-known-here Inv-loop μ-loop
+enum-known-here c = search needs
+
+enum-told : tie.Need-enum-told Inv-loop μ-loop
+enum-told c = search needs
+
+same-length : tie.Need-same-length Inv-loop μ-loop
+same-length c = search needs
+
+returns : tie.Need-returns Inv-loop μ-loop
+returns c =
+    let a = c .before .before .before .before .before .before .before .before .args in
+    let l = c .before .before .before .before .before .loop in
+    lines-stuck Delete (a .m .now) (a .flags) (a .entries) (a .part .now) (l .p) (l .i) (l .part) (omega arith) (l .inv .1) (c .before .before .read-contact .ensures) (l .part) true (c .enum-told .given .1)
+
+line-slot-requires : tie.Need-line-slot-requires Inv-loop μ-loop
+line-slot-requires c κs = search needs
+
+slice-aggregate-drop-line : tie.Need-slice-aggregate-drop-line Inv-loop μ-loop
+slice-aggregate-drop-line c = search needs
+
+drop-line-requires : tie.Need-drop-line-requires Inv-loop μ-loop
+drop-line-requires c κs = search needs
+
+add-i : tie.Need-add-i Inv-loop μ-loop
+add-i c = search needs
+
+loop-less : tie.Need-loop-less Inv-loop μ-loop
+loop-less c = search needs
+
+loop-again : tie.Need-loop-again Inv-loop μ-loop
+loop-again c =
+    let a = c .before .before .before .before .before .before .before .before .before .before .before .before .before .before .before .args in
+    let l = c .before .before .before .before .before .before .before .before .before .before .before .before .loop in
+    let x = c .before .before .before .before .before .line-slot in
+    let k = c .before .before .drop-line in
+    (search needs, lines-on Delete (a .m .now) (a .flags) (a .entries) (a .part .now) (l .p) (l .i) (l .part) (omega arith) (l .inv .1) (c .before .before .before .before .before .before .before .before .before .read-contact .ensures) (λ j. (c .before .before .before .before .before .before .before .before .before .before .before .before .before .shared-slice-known .given j) .fits) _ _ (c .before .before .before .before .before .before .before .here .given .1) (x .result) (x .ensures) (k .last .0) true (λ e ok is n ls t. tried-room (LineTable n) _ refl (k .ensures n ls (line-of (a .flags) e) t ok is)) refl)
+
+same-length-2 : tie.Need-same-length-2 Inv-loop μ-loop
+same-length-2 c = search needs
+
+returns-2 : tie.Need-returns-2 Inv-loop μ-loop
+returns-2 c =
+    let a = c .before .before .before .before .before .args in
+    let l = c .before .before .loop in
+    lines-end Delete (a .m .now) (a .flags) (a .entries) (a .part .now) (l .p) (l .i) (l .part) (omega arith) (l .inv .1)
+
+pub drop-lines-spec : {M : Type 1} → statement M
+drop-lines-spec =
+    tie.close
+    (tie.spec
+    Inv-loop
+    μ-loop
+    loop-holds
+    read-contact-requires
+    enum-known-here
+    enum-told
+    same-length
+    returns
+    line-slot-requires
+    slice-aggregate-drop-line
+    drop-line-requires
+    add-i
+    loop-less
+    loop-again
+    same-length-2
+    returns-2)

@@ -1,0 +1,66 @@
+use borrow.Author.Needs.{needs}
+use Rattle.store_places.proofs.QuickLaws.{slot-added, slot-deleted, slot-replaced}
+use Rattle.store_places.proofs.quick.change_slot.Statement.{statement}
+use Rattle.store_places.proofs.quick.change_slot.Tie as tie
+
+enum-told : tie.Need-enum-told
+enum-told c = search needs
+
+put-if-absent-requires : tie.Need-put-if-absent-requires
+put-if-absent-requires c κs = search needs
+
+enum-told-2 : tie.Need-enum-told-2
+enum-told-2 c = search needs
+
+wipe-requires : tie.Need-wipe-requires
+wipe-requires c κs = search needs
+
+enum-told-3 : tie.Need-enum-told-3
+enum-told-3 c = search needs
+
+put-if-absent-requires-2 : tie.Need-put-if-absent-requires-2
+put-if-absent-requires-2 c κs = search needs
+
+same-length : tie.Need-same-length
+same-length c = search needs
+
+returns : tie.Need-returns
+returns c =
+    let a = c .before .before .before .before .before .before .before .before .args in
+    let y = c .before .before .put-if-absent in
+    slot-added (a .m .now) (a .text) (a .slot .now) (y .last .0) (a .operation) (c .before .before .before .before .enum-told .given .1) (y .ensures)
+
+same-length-2 : tie.Need-same-length-2
+same-length-2 c = search needs
+
+returns-2 : tie.Need-returns-2
+returns-2 c =
+    let a = c .before .before .before .before .before .before .before .before .args in
+    let y = c .before .before .wipe in
+    slot-deleted (a .m .now) (a .text) (a .slot .now) (y .last .0) (a .operation) (c .before .before .before .before .enum-told2 .given .1) (y .ensures)
+
+same-length-3 : tie.Need-same-length-3
+same-length-3 c = search needs
+
+returns-3 : tie.Need-returns-3
+returns-3 c =
+    let a = c .before .before .before .before .before .before .before .before .args in
+    let y = c .before .before .put-if-absent2 in
+    slot-replaced (a .m .now) (a .text) (a .slot .now) (y .last .0) (a .operation) (c .before .before .before .before .enum-told3 .given .1) (y .ensures)
+
+pub change-slot-spec : {M : Type 1} → statement M
+change-slot-spec =
+    tie.close
+    (tie.spec
+    enum-told
+    put-if-absent-requires
+    enum-told-2
+    wipe-requires
+    enum-told-3
+    put-if-absent-requires-2
+    same-length
+    returns
+    same-length-2
+    returns-2
+    same-length-3
+    returns-3)

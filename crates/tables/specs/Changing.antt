@@ -1,0 +1,24 @@
+-- What functions that change a table, or put a text, promise: the bytes at exit, for every table that the bytes at entry are.
+use Prim.Native.Nat.{ℕ, _*_, _≤_}
+use mathlib.Core.Path.{_≡_}
+use mathlib.Core.Bool.{Bool, true, false}
+use mathlib.Core.List.{List}
+use mathlib.Core.Option.{Option, none, some}
+use lib.ListN.{length}
+use Rattle.writing.specs.Settings.{Text, unicode16}
+use Rattle.read_fields.specs.Parts.{TextIs}
+use Rattle.read_fields.specs.declared.texts.TextPlace.{TextPlace}
+use Rattle.tables.specs.Layout.{text-bytes}
+
+-- whatever table the bytes s are, the change has room for it, and makes it the table that the bytes t are
+abbrev pub Changed : {T : Type 0} → (T → List ℕ → Type 0) → (T → Option T) → List ℕ → List ℕ → Type 0
+Changed {T} Is change s t = (was : T) → Is was s → (u : T) × (change was ≡ some u) × Is u t
+
+-- room for n units becomes the text's units, and zeros after them
+abbrev pub TextPut : List ℕ → TextPlace → List ℕ → List ℕ → Type 0
+TextPut m p s t = (n : ℕ) (us : Text) (next : ℕ) → TextIs unicode16 m p us next → length us ≤ n → length s ≡ 2 * n → t ≡ text-bytes n us
+
+-- what trying to change a table answers: its bytes are those of the table afterwards, or there was no room
+pub record Tried {T : Type 0} (Is : T → List ℕ → Type 0) (after : Option T) (bytes : List ℕ) (r : Bool) : Type 0 where
+  pub room : r ≡ true → (t : T) × (after ≡ some t) × Is t bytes
+  pub full : r ≡ false → after ≡ none

@@ -1,0 +1,69 @@
+-- The tables by kind of setting: which is whose, and tables taken from one set or from the other.
+use mathlib.Core.Path.{_≡_}
+use mathlib.Core.Bool.{Bool, true, false, cond, _||_}
+use mathlib.Core.List.{List, [], _∷_}
+use mathlib.Core.Option.{Option}
+use Prim.Native.Nat.{ℕ}
+use lib.Dec.{eqb}
+use Rattle.writing.specs.declared.Kind.{Kind}
+use Rattle.writing.specs.declared.Kind.the-variants.{Lines, Key, QuickTexts, Home, Channels, System, StatusTexts, Group, Individual, Last}
+use Rattle.writing.specs.declared.HomeNumbers.{HomeNumbers}
+use Rattle.writing.specs.declared.SystemCode.{SystemCode}
+use Rattle.writing.specs.Settings.{Text, Hash, Setting, kind}
+use Rattle.writing.specs.Writing.{type-byte}
+use Rattle.tables.specs.Tables as T
+use Rattle.tables.specs.Tables.{Line, GroupMember, IndividualMember, Tables}
+
+-- what a table of each kind is
+abbrev pub Own : Kind → Type 0
+Own Lines = List Line
+Own Key = T.Key
+Own QuickTexts = List (Option Text)
+Own Home = HomeNumbers
+Own Channels = List ℕ
+Own System = SystemCode
+Own StatusTexts = List (Option Text)
+Own Group = List (Option GroupMember)
+Own Individual = List (Option IndividualMember)
+Own Last = Hash
+
+-- the table of a kind
+abbrev pub own : (k : Kind) → Tables → Own k
+own Lines t = t .lines
+own Key t = t .key
+own QuickTexts t = t .quick
+own Home t = t .home
+own Channels t = t .channels
+own System t = t .system
+own StatusTexts t = t .status
+own Group t = t .groups
+own Individual t = t .individuals
+own Last t = t .hash
+
+-- t, with the tables of the kinds that p says yes of as u has them
+abbrev pub mix : (Kind → Bool) → Tables → Tables → Tables
+mix p t u = record {
+  hash = cond (p Last) (u .hash) (t .hash);
+  key = cond (p Key) (u .key) (t .key);
+  home = cond (p Home) (u .home) (t .home);
+  system = cond (p System) (u .system) (t .system);
+  quick = cond (p QuickTexts) (u .quick) (t .quick);
+  status = cond (p StatusTexts) (u .status) (t .status);
+  groups = cond (p Group) (u .groups) (t .groups);
+  individuals = cond (p Individual) (u .individuals) (t .individuals);
+  channels = cond (p Channels) (u .channels) (t .channels);
+  lines = cond (p Lines) (u .lines) (t .lines);
+}
+
+-- the kind k alone
+abbrev pub only : Kind → Kind → Bool
+only k j = eqb (type-byte k) (type-byte j)
+
+-- whether settings touch a table
+abbrev pub touches : List Setting → Kind → Bool
+touches [] k = false
+touches (s ∷ l) k = only (kind s) k || touches l k
+
+-- two sets have the same tables of the kinds that p says yes of
+abbrev pub Agree : (Kind → Bool) → Tables → Tables → Type 0
+Agree p t u = (k : Kind) → p k ≡ true → own k t ≡ own k u

@@ -1,4 +1,0 @@
-pub mod EntryWriting
-pub mod MemberWriting
-pub mod TextLists
-pub mod TextSettings

@@ -1,3 +1,0 @@
-pub mod EntrySettings
-pub mod EntryWriters
-pub mod MemberWriters
