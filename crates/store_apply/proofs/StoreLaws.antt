@@ -33,7 +33,7 @@ use Rattle.store_places.specs.Changes.{QuicksAre, QuickApplied, StatusesAre, St
 use Rattle.tables.specs.Layout.{layout, used-size, key-address, key-bytes, home-bytes, system-bytes, hash-bytes, channel-width, line-width, groups-at, hash-size, home-at, home-size, individuals-at, key-at, key-size, lists-at, member-size, quick-at, quick-size, status-at, status-size, system-at, system-size}
 use Rattle.tables.specs.Changing.{Tried}
 use Rattle.store_lists.specs.Lists.{ChannelTable, ChannelsApplied, LineTable, LinesApplied}
-use Rattle.tables.specs.Store.{Holds, Applied}
+use Rattle.tables.specs.Store.{Works, Applied}
 use Rattle.tables.specs.Tables.{Tables, Key as KeyOf}
 use Rattle.writing.specs.declared.Kind.the-variants as K
 use Rattle.tables.specs.Owns.{put-own}
@@ -46,7 +46,7 @@ use Rattle.tables.proofs.ListLaws.{tried-room}
 -- ---- a part put back
 
 -- what was tried on a part was tried on the store
-joined : (l : Limits) (was : Tables) (left : ℕ) (x : Setting) → Allowed l was → InRange text-limits left x → Fits unicode16 x → {T : Type 0} (Is : T → List ℕ → Type 0) (o : Option T) (w : T → Tables) (y t : List ℕ) (k : Bool) → apply l x was ≡ with-room w o → ((u : T) → Is u y → t ≡ layout l (w u)) → Tried Is o y k → Tried (Holds l) (apply l x was) t k
+joined : (l : Limits) (was : Tables) (left : ℕ) (x : Setting) → Allowed l was → InRange text-limits left x → Fits unicode16 x → {T : Type 0} (Is : T → List ℕ → Type 0) (o : Option T) (w : T → Tables) (y t : List ℕ) (k : Bool) → apply l x was ≡ with-room w o → ((u : T) → Is u y → t ≡ layout l (w u)) → Tried Is o y k → Tried (Works l) (apply l x was) t k
 joined l was left x ok r p Is o w y t k e back h = record {
   room = λ q.
       let (u, c, i) = h .room q in
@@ -56,7 +56,7 @@ joined l was left x ok r p Is o w y t k e back h = record {
 }
 
 -- a fixed part has its length
-wide : (l : Limits) (was : Tables) (s : List ℕ) → used-size l ≤ l .size → Holds l was s → (a n : ℕ) → a + n ≤ lists-at → length (midOf a n s) ≡ n
+wide : (l : Limits) (was : Tables) (s : List ℕ) → used-size l ≤ l .size → Works l was s → (a n : ℕ) → a + n ≤ lists-at → length (midOf a n s) ≡ n
 wide l was s room is a n h =
     let e : length s ≡ l .size = ap length (is .1) ∙ layout-length l was room (is .0) in
     let k : a + n - a ≡ n = omega arith in
