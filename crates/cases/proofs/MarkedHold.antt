@@ -6,13 +6,14 @@ use lib.Dec.{lit≤}
 use Rattle.lists.specs.Every.{All}
 use Rattle.plan.specs.Frequencies.{Transmits, simplex, paired}
 use Rattle.plan.specs.Numbers.{Individual, IndividualShort, of-700, of-350, GroupShort, of-100}
-use Rattle.writing.specs.declared.Kind.the-variants.{Home}
+use Rattle.writing.specs.declared.Kind.the-variants.{Home, Channels}
 use Rattle.plan.proofs.NumberLaws.{individuals, groups}
 use Rattle.writing.specs.Ranges.{text-limits, InRange}
 use Rattle.writing.specs.Settings.{home}
 use Rattle.tables.specs.Allowed.{Allowed}
 use Rattle.tables.specs.Limits.{handheld}
-use Rattle.tables.specs.Tables.{fresh, with-channels}
+use Rattle.tables.specs.Tables.{fresh}
+use Rattle.tables.specs.Owns.{put-own}
 use Rattle.tables.proofs.AllowedLaws.{channels-allowed}
 use Rattle.tables.proofs.FreshLaws.{fresh-allowed}
 use Rattle.cases.specs.Marked.{Holds, two-channels, one-contact, marked}
@@ -33,7 +34,7 @@ contact-in-range : InRange text-limits 0 one-contact
 contact-in-range = (((lit≤ tt, lit≤ tt, (lit≤ tt, (lit≤ tt, (lit≤ tt, (lit≤ tt, tt))))), lit≤ tt), tt)
 
 -- the tables before 10 are a set's
-channel-300 : Allowed handheld (with-channels fresh (300 ∷ []))
+channel-300 : Allowed handheld (put-own Channels fresh (300 ∷ []))
 channel-300 = channels-allowed handheld fresh (fresh-allowed handheld) (300 ∷ []) (lit≤ tt, ((lit≤ tt, lit≤ tt), tt))
 
 -- THE MARKED CASES

@@ -19,7 +19,9 @@ use Rattle.writing.specs.Writing.{number, Written}
 use Rattle.tables.specs.declared.limits.Limits.{Limits}
 use Rattle.tables.specs.Layout.{layout}
 use Rattle.tables.specs.Limits.{handheld}
-use Rattle.tables.specs.Tables.{Line, Tables, fresh, with-channels, with-lines}
+use Rattle.tables.specs.Tables.{Line, Tables, fresh}
+use Rattle.writing.specs.declared.Kind.the-variants.{Lines, Channels}
+use Rattle.tables.specs.Owns.{put-own}
 use Rattle.requests.specs.Requests.{Fault}
 use Rattle.slots.specs.Slots.{written-over}
 use Rattle.station.specs.Taking.{After, taken}
@@ -103,10 +105,10 @@ marked =
     ∷ refused-setting (0xCD ∷ 0x00 ∷ 0x05 ∷ 0x07 ∷ 0xE4 ∷ 0xE0 ∷ []) 4
     ∷ setting-is two-channels (0xCE ∷ 0x00 ∷ 0x07 ∷ 0xC0 ∷ 0x02 ∷ 0x0F ∷ 0x12 ∷ 0x80 ∷ [])  -- the setting of 10
     ∷ setting-is one-contact (0xCA ∷ 0x00 ∷ 0x09 ∷ 0x42 ∷ 0x01 ∷ 0x23 ∷ 0x45 ∷ 0xFF ∷ 0x00 ∷ 0x00 ∷ [])  -- the setting of 11
-    ∷ taken-is (with-channels fresh (300 ∷ []))
+    ∷ taken-is (put-own Channels fresh (300 ∷ []))
     (0x02 ∷ 0x02 ∷ 0x00 ∷ 0x0C ∷ 0x08 ∷ 0x07 ∷ 0x08 ∷ 0x01 ∷ 0xCE ∷ 0x00 ∷ 0x07 ∷ 0xC0 ∷ 0x02 ∷ 0x0F ∷ 0x12 ∷ 0x80 ∷ []) reply-0
-    (with-channels fresh (241 ∷ 640 ∷ []))  -- 10
+    (put-own Channels fresh (241 ∷ 640 ∷ []))  -- 10
     ∷ taken-is fresh
     (0x02 ∷ 0x02 ∷ 0x00 ∷ 0x0E ∷ 0x08 ∷ 0x07 ∷ 0x08 ∷ 0x01 ∷ 0xCA ∷ 0x00 ∷ 0x09 ∷ 0x42 ∷ 0x01 ∷ 0x23 ∷ 0x45 ∷ 0xFF ∷ 0x00 ∷ 0x00 ∷ []) reply-0
-    (with-lines fresh (line-2345 ∷ []))  -- 11
+    (put-own Lines fresh (line-2345 ∷ []))  -- 11
     ∷ []

@@ -18,7 +18,9 @@ use Rattle.writing.specs.declared.Operation.{Operation}
 use Rattle.writing.specs.Settings.{Setting, Slot, kind, lines, key, quick-texts, home, channels, system, status-texts, group, individual, last}
 use Rattle.tables.specs.declared.limits.Limits.{Limits}
 use Rattle.tables.specs.Apply.{apply, slot-after}
-use Rattle.tables.specs.Tables.{Tables, GroupMember, IndividualMember, with-groups, with-individuals}
+use Rattle.tables.specs.Tables.{Tables, GroupMember, IndividualMember}
+use Rattle.writing.specs.declared.Kind.the-variants.{Group, Individual}
+use Rattle.tables.specs.Owns.{put-own}
 use Rattle.tables.proofs.RoomSentences.{with-own, own-table}
 use Rattle.laws_taking.specs.Demands.{InTurn}
 use Rattle.requests.specs.Requests.{forget, or-else}
@@ -154,7 +156,7 @@ group-places = record { forgets = λ t. refl; step = λ m s t u i e. by m s (for
     by m (individual o f s) an-individual t u i e = not-for (λ x. x .groups) m (individual o f s) t u i none e refl refl
     by m (group o f s) a-group t u i e =
         let g : Option GroupMember = slot-after o (record { flags = f; address = s .address; text = s .text }) in
-        is-set (t .groups) (u .groups) (s .index) i g (sym (ap (λ x. x .groups) (Option·some-injective (with-groups t (set (t .groups) (s .index) g)) u e)))
+        is-set (t .groups) (u .groups) (s .index) i g (sym (ap (λ x. x .groups) (Option·some-injective (put-own Group t (set (t .groups) (s .index) g)) u e)))
 
 pub individual-places : Places (λ t. t .individuals) to-individual
 individual-places = record { forgets = λ t. refl; step = λ m s t u i e. by m s (for-slot s) t u i e }
@@ -164,4 +166,4 @@ individual-places = record { forgets = λ t. refl; step = λ m s t u i e. by m s
     by m (group o f s) a-group t u i e = not-for (λ x. x .individuals) m (group o f s) t u i none e refl refl
     by m (individual o f s) an-individual t u i e =
         let g : Option IndividualMember = slot-after o (record { flags = f; address = s .address; text = s .text }) in
-        is-set (t .individuals) (u .individuals) (s .index) i g (sym (ap (λ x. x .individuals) (Option·some-injective (with-individuals t (set (t .individuals) (s .index) g)) u e)))
+        is-set (t .individuals) (u .individuals) (s .index) i g (sym (ap (λ x. x .individuals) (Option·some-injective (put-own Individual t (set (t .individuals) (s .index) g)) u e)))

@@ -16,7 +16,9 @@ use Rattle.tables.specs.Allowed.{Allowed}
 use Rattle.tables.proofs.AllowedLaws.{apply-allowed}
 use Rattle.writing.proofs.CanonicalLaws.{has-writing}
 use Rattle.tables.specs.Apply.{apply}
-use Rattle.tables.specs.Tables.{Tables, no-hash, with-hash}
+use Rattle.tables.specs.Tables.{Tables, no-hash}
+use Rattle.writing.specs.declared.Kind.the-variants.{Last}
+use Rattle.tables.specs.Owns.{put-own}
 use Rattle.tables.proofs.RoomSentences.{own-table}
 use Rattle.laws_taking.specs.Demands.{InTurn}
 use Rattle.requests.specs.Judge.{done, step}
@@ -68,7 +70,7 @@ module _ (m : Limits) where
   kept-by (status-texts o es) t u e = ap (λ (x : Tables). x .hash) (own-table m (status-texts o es) t u e)
   kept-by (group o f x) t u e = ap (λ (x : Tables). x .hash) (own-table m (group o f x) t u e)
   kept-by (individual o f x) t u e = ap (λ (x : Tables). x .hash) (own-table m (individual o f x) t u e)
-  kept-by (last f h) t u e = sym (ap (λ (x : Tables). x .hash) (Option·some-injective (with-hash t h) u e))
+  kept-by (last f h) t u e = sym (ap (λ (x : Tables). x .hash) (Option·some-injective (put-own Last t h) u e))
 
   hash-or-none : (o : Option LastItem) → hash-or o no-hash ≡ or-else o (last-item []) .hash
   hash-or-none none = refl

@@ -24,7 +24,7 @@ use Rattle.settings.specs.declared.settings.Setting.the-variants.{Lines, Key, Q
 use Rattle.read_fields.specs.Places.{StandsAt}
 use Rattle.read_setting.specs.Settings.{SettingAt}
 use Rattle.tables.specs.declared.limits.Limits.{Limits}
-use Rattle.tables.specs.Store.{Holds, Applied}
+use Rattle.tables.specs.Store.{Works, Applied}
 use Rattle.tables.specs.Tables.{Tables}
 use Rattle.requests.specs.declared.run.Step.the-variants.{Next, Fault as StepFault}
 use Rattle.requests.specs.Judge.{done, taken, over, fault, refused}
@@ -88,10 +88,10 @@ module _ (lim : Limits) (m : List ℕ) where
       pub tables : Tables
       pub counted : length settings ≡ n
       pub runs : Runs lim count was (drop at m) settings tables (drop p m)
-      pub holds : Holds lim tables work
+      pub holds : Works lim tables work
       pub flags : f ≡ last-item settings .flags
 
-    pub along-start : (work : List ℕ) → Holds lim was work → Along work at 0 (last-item [] .flags)
+    pub along-start : (work : List ℕ) → Works lim was work → Along work at 0 (last-item [] .flags)
     along-start work h = record { settings = []; tables = was; counted = refl; runs = done; holds = h; flags = refl }
 
     module _ (work : List ℕ) (p n : ℕ) (f : LastFlags) (l : Along work p n f) where

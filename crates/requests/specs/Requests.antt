@@ -12,7 +12,9 @@ use Rattle.writing.specs.Settings.{Setting, Hash, unicode16, lines, key, quick-
 use Rattle.writing.specs.Writing.{Written, type-byte}
 use Rattle.tables.specs.declared.limits.Limits.{Limits}
 use Rattle.tables.specs.Apply.{apply}
-use Rattle.tables.specs.Tables.{Tables, no-hash, with-hash}
+use Rattle.tables.specs.Tables.{Tables, no-hash}
+use Rattle.writing.specs.declared.Kind.the-variants.{Last}
+use Rattle.tables.specs.Owns.{put-own}
 use Rattle.requests.specs.Judge as Judge
 use Rattle.requests.specs.Judge.{Outcome}
 
@@ -40,7 +42,7 @@ Judged m = Judge.Judged Setting Tables WrittenIn (InRange text-limits) (apply m)
 
 -- "After each taken request the hash kept is that request's own; with code 0 or no FF, none"
 abbrev pub forget : Tables → Tables
-forget t = with-hash t no-hash
+forget t = put-own Last t no-hash
 
 -- ---- FF, the last item
 

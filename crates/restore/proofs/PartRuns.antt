@@ -18,7 +18,9 @@ use Rattle.writing.proofs.CanonicalLaws.{canonical-written, plain-bytes}
 use Rattle.tables.specs.declared.limits.Limits.{Limits}
 use Rattle.tables.specs.Allowed.{Allowed, Distinct}
 use Rattle.tables.specs.Apply.{and-then, in-turn, with-room, quick-step, status-step, channel-step, slot-after, apply}
-use Rattle.tables.specs.Tables.{Line, Member, Tables, with-lines, with-quick, with-groups, with-individuals, with-status, with-channels}
+use Rattle.tables.specs.Tables.{Line, Member, Tables}
+use Rattle.writing.specs.declared.Kind.the-variants as K
+use Rattle.tables.specs.Owns.{put-own}
 use Rattle.tables.proofs.Sentences.{line-add-new, others-without, channel-add, quick-add-free}
 use Rattle.requests.specs.Judge.{done, step}
 use Rattle.requests.specs.Requests.{Runs}
@@ -64,14 +66,14 @@ turn-runs m (s ∷ ss) u v f r e = go (apply m s u) refl e (λ w. turn-runs m ss
 
 -- each line is new, so it goes to the end
 lines-turn : (m : Limits) (u : Tables) (before after : List Line) → Distinct (before ++ after) → length before + length after ≤ m .lines
-    → in-turn (apply m) (map line-add after) (with-lines u before) ≡ some (with-lines u (before ++ after))
-lines-turn m u before [] d h = ap (λ ls. some (with-lines u ls)) (sym (append-nil before))
+    → in-turn (apply m) (map line-add after) (put-own K.Lines u before) ≡ some (put-own K.Lines u (before ++ after))
+lines-turn m u before [] d h = ap (λ ls. some (put-own K.Lines u ls)) (sym (append-nil before))
 lines-turn m u before (l ∷ after) d h =
-    let e : apply m (line-add l) (with-lines u before) ≡ some (with-lines u (before ++ (l ∷ [])))
-    = ap (λ o. with-room (with-lines u) (and-then o some)) (line-add-new (m .lines) (l .flags) (record { number = l .number; text = l .text }) before (others-without before l after d .0) (omega arith)) in
-    then-turn (apply m) (line-add l) (map line-add after) (with-lines u before) (with-lines u (before ++ (l ∷ []))) e
+    let e : apply m (line-add l) (put-own K.Lines u before) ≡ some (put-own K.Lines u (before ++ (l ∷ [])))
+    = ap (λ o. with-room (put-own K.Lines u) (and-then o some)) (line-add-new (m .lines) (l .flags) (record { number = l .number; text = l .text }) before (others-without before l after d .0) (omega arith)) in
+    then-turn (apply m) (line-add l) (map line-add after) (put-own K.Lines u before) (put-own K.Lines u (before ++ (l ∷ []))) e
     ∙ lines-turn m u (before ++ (l ∷ [])) after (subst Distinct (sym (append-snoc before l after)) d) (omega (arith, length-append before (l ∷ [])))
-    ∙ ap (λ ls. some (with-lines u ls)) (append-snoc before l after)
+    ∙ ap (λ ls. some (put-own K.Lines u ls)) (append-snoc before l after)
 
 -- ---- texts
 
@@ -104,12 +106,12 @@ quick-full q h = ap (λ n. in-turn (quick-step Add) (entries 0 q) (replicate n n
 
 -- settings of one add each do as one setting of them all
 quick-adds : (m : Limits) (u : Tables) (es : List Entry) (q : List (Option Text))
-    → in-turn (apply m) (map quick-add es) (with-quick u q) ≡ with-room (with-quick u) (in-turn (quick-step Add) es q)
+    → in-turn (apply m) (map quick-add es) (put-own K.QuickTexts u q) ≡ with-room (put-own K.QuickTexts u) (in-turn (quick-step Add) es q)
 quick-adds m u [] q = refl
 quick-adds m u (e ∷ es) q = quick-adds m u es _
 
 quick-cut : (m : Limits) (u : Tables) (es : List Entry) (o : Option (List (Option Text)))
-    → and-then (with-room (with-quick u) o) (in-turn (apply m) (map quick-add es)) ≡ with-room (with-quick u) (and-then o (in-turn (quick-step Add) es))
+    → and-then (with-room (put-own K.QuickTexts u) o) (in-turn (apply m) (map quick-add es)) ≡ with-room (put-own K.QuickTexts u) (and-then o (in-turn (quick-step Add) es))
 quick-cut m u es none = refl
 quick-cut m u es (some q) = quick-adds m u es q
 
@@ -170,15 +172,15 @@ module _ (m : Limits) (t u : Tables) (ok : Allowed m t) (old : Allowed m u) wher
   part-turn QuickTexts =
       let es : List Entry = entries 0 (t .quick) in
       quick-cut m u (drop 63 es) (in-turn (quick-step Add) (take 63 es) (replicate 64 none))
-      ∙ ap (with-room (with-quick u))
+      ∙ ap (with-room (put-own K.QuickTexts u))
       (sym (turn-append (quick-step Add) (take 63 es) (drop 63 es) (replicate 64 none))
       ∙ ap (λ l. in-turn (quick-step Add) l (replicate 64 none)) (take-append-drop 63 es) ∙ quick-full (t .quick) (ok .quick .0))
-  part-turn Channels = ap (λ o. and-then (with-room (with-channels u) o) some) (channels-turn (m .channels) [] (t .channels) (omega (arith, ok .channels .0)))
-  part-turn StatusTexts = ap (λ o. and-then (with-room (with-status u) o) some) (status-full (t .status) (ok .status .0))
+  part-turn Channels = ap (λ o. and-then (with-room (put-own K.Channels u) o) some) (channels-turn (m .channels) [] (t .channels) (omega (arith, ok .channels .0)))
+  part-turn StatusTexts = ap (λ o. and-then (with-room (put-own K.StatusTexts u) o) some) (status-full (t .status) (ok .status .0))
   part-turn Groups =
-      slots-turn m group no-group-flags (record { 0 = 0 }) (with-groups u) (λ o g s q. refl) [] (u .groups) (t .groups) 0 refl (old .groups .0 ∙ sym (ok .groups .0))
+      slots-turn m group no-group-flags (record { 0 = 0 }) (put-own K.Group u) (λ o g s q. refl) [] (u .groups) (t .groups) 0 refl (old .groups .0 ∙ sym (ok .groups .0))
   part-turn Individuals =
-      slots-turn m individual no-individual-flags (record { 0 = 0 }) (with-individuals u) (λ o g s q. refl) [] (u .individuals) (t .individuals) 0 refl
+      slots-turn m individual no-individual-flags (record { 0 = 0 }) (put-own K.Individual u) (λ o g s q. refl) [] (u .individuals) (t .individuals) 0 refl
       (old .individuals .0 ∙ sym (ok .individuals .0))
 
   -- PART RUNS: so they run to their end over their canonical writing

@@ -13,7 +13,9 @@ use Rattle.tables.specs.declared.limits.Limits.{Limits}
 use Rattle.tables.specs.Allowed.{Allowed}
 use Rattle.tables.specs.Layout.{layout, Roomy}
 use Rattle.tables.specs.Store.{Holds}
-use Rattle.tables.specs.Tables.{Tables, no-hash, with-key, with-home}
+use Rattle.tables.specs.Tables.{Tables, no-hash}
+use Rattle.writing.specs.declared.Kind.the-variants.{Key, Home}
+use Rattle.tables.specs.Owns.{put-own}
 use Rattle.tables.proofs.AllowedLaws.{key-allowed, home-allowed, system-allowed, quick-allowed, status-allowed, groups-allowed, individuals-allowed, channels-allowed, lines-allowed, forget-allowed}
 use Rattle.tables.proofs.LayoutLaws.{holds-store, layout-one}
 use Rattle.requests.specs.Judge.{kept, taken as all-taken}
@@ -51,8 +53,8 @@ part-hash Individuals t u = refl
 part-allowed : (m : Limits) (p : Part) (t u : Tables) → Allowed m t → Allowed m u → Allowed m (with-part p t u)
 part-allowed m Lines t u ok old = lines-allowed m u old (t .lines) (ok .lines, ok .distinct)
 part-allowed m Fixed t u ok old =
-    let a : Allowed m (with-key u (t .key)) = key-allowed m u old (t .key) (ok .key) in
-    let b : Allowed m (with-home (with-key u (t .key)) (t .home)) = home-allowed m _ a (t .home) (ok .home) in
+    let a : Allowed m (put-own Key u (t .key)) = key-allowed m u old (t .key) (ok .key) in
+    let b : Allowed m (put-own Home (put-own Key u (t .key)) (t .home)) = home-allowed m _ a (t .home) (ok .home) in
     system-allowed m _ b (t .system) (ok .system)
 part-allowed m QuickTexts t u ok old = quick-allowed m u old (t .quick) (ok .quick)
 part-allowed m Channels t u ok old = channels-allowed m u old (t .channels) (ok .channels)

@@ -2,13 +2,12 @@
 use Prim.Native.Nat.{ℕ, _≤_, _<_}
 use mathlib.Core.Path.{_≡_, refl, sym, ap, ap₂, _∙_, subst}
 use mathlib.Core.Logic.{_⊎_, inl, inr}
-use mathlib.Core.List.{List, _++_}
+use mathlib.Core.List.{List}
 use mathlib.Core.Bool.{Bool, true, false}
 use native.Mathlib.Omega.{arith}
 use borrow.Rule.Slice.PartMut.{midOf, putMid, mid-len}
-use lib.ListN.{length, take, drop}
+use lib.ListN.{length, drop}
 use Rattle.lists.specs.Ladder.{Ladder, rung, foot, Answers}
-use Rattle.slots.proofs.Runs.{copy-whole}
 use Rattle.writing.specs.declared.LastFlags.{LastFlags}
 use Rattle.writing.specs.declared.Result.{Result}
 use Rattle.writing.specs.declared.Result.the-variants.{Taken, NoMatch}
@@ -23,8 +22,8 @@ use Rattle.read_carrier.proofs.MessageOne.{query-opens}
 use Rattle.read_fields.specs.declared.hashes.HashPlace.{HashPlace}
 use Rattle.tables.specs.declared.limits.Limits.{Limits}
 use Rattle.tables.specs.Allowed.{HashOk}
-use Rattle.tables.specs.Layout.{layout, hash-bytes, used-size, hash-size}
-use Rattle.tables.specs.Store.{StoreOf, Holds}
+use Rattle.tables.specs.Layout.{Roomy, layout, hash-bytes, used-size, hash-size}
+use Rattle.tables.specs.Store.{StoreOf, Holds, Works, Saved}
 use Rattle.tables.specs.Tables.{Tables, no-hash}
 use Rattle.tables.proofs.AllowedLaws.{forget-allowed}
 use Rattle.tables.proofs.Frames.{hash-get, hash-put}
@@ -87,25 +86,14 @@ module _ (message : List ℕ) (place : HashPlace) (store reply after : List ℕ)
 
 -- ---- a request
 
-module _ (m : Limits) (store work copy : List ℕ) (s : StoreOf m store) (l : length work ≡ m .size)
-    (c : copy ≡ take (length work) store ++ drop (length store) work) where
-  -- the copy is the store
-  copy-is : copy ≡ store
-  copy-is = c ∙ copy-whole store work (l ∙ sym (s .size))
+-- a working copy with no hash kept
+pub forgotten : (m : Limits) (t : Tables) (w y : List ℕ) → Roomy m → Works m t w → (length (midOf 0 hash-size w) ≡ 11 → y ≡ hash-bytes no-hash) → Works m (forget t) (putMid 0 hash-size w y)
+forgotten m t w y room (ok, is) e =
+    let r : used-size m ≤ m .size = room in
+    let l : length w ≡ m .size = ap length is ∙ layout-length m t room ok in
+    (forget-allowed m t ok, ap₂ (putMid 0 hash-size) is (e (mid-len 0 11 w (omega arith))) ∙ hash-put m t ok no-hash)
 
-  -- the hash's part of it
-  copy-part : length (midOf 0 hash-size copy) ≡ 11
-  copy-part =
-      let r : used-size m ≤ m .size = s .roomy in
-      let e : length copy ≡ m .size = ap length copy-is ∙ s .size in
-      mid-len 0 11 copy (omega arith)
-
-  -- the copy with no hash kept
-  pub forgotten : (t : Tables) (y : List ℕ) → Holds m t store → (length (midOf 0 hash-size copy) ≡ 11 → y ≡ hash-bytes no-hash) → Holds m (forget t) (putMid 0 hash-size copy y)
-  forgotten t y (ok, is) e =
-      (forget-allowed m t ok, ap₂ (putMid 0 hash-size) (copy-is ∙ is) (e copy-part) ∙ hash-put m t ok no-hash)
-
-module _ (m : Limits) (message : List ℕ) (count at : ℕ) (store reply : List ℕ) (s : StoreOf m store) (t : Tables) (w v : List ℕ) (h : Holds m (forget t) w) where
+module _ (m : Limits) (message : List ℕ) (count at : ℕ) (store reply : List ℕ) (s : StoreOf m store) (t : Tables) (w v : List ℕ) (h : Works m (forget t) w) where
   -- what the settings from a place on come to
   abbrev Settled : After → Type 0
   Settled a = (o : Outcome Setting Tables) × Judged m count (forget t) (drop at message) o × (a ≡ settled m message store reply o)
@@ -115,15 +103,13 @@ module _ (m : Limits) (message : List ℕ) (count at : ℕ) (store reply : List 
       → TurnedDown result failed reply after a → Settled (leaves a store after)
   request-refused result failed after a r d = (refused (result-number result) failed, r (forget t) (s .roomy) h, d m message store)
 
-  -- all good: the copy is the store, and the reply carries the hash that is kept now
+  -- all good: the copy is saved, and the reply carries the hash that is kept now
   pub request-taken : (f : LastFlags) (n : ℕ) (store-after after : List ℕ) → RunIs m count message at w v (Good f)
-      → store-after ≡ take (length store) v ++ drop (length v) store → ReplyWritten 0 0 (midOf 0 hash-size store-after) reply after n
+      → Saved m v store store-after → ReplyWritten 0 0 (midOf 0 hash-size store-after) reply after n
       → Settled (leaves (Replied (record { result = Taken; failed = 0; send = f .reply; reboot = f .reboot; length = n })) store-after after)
   request-taken f n store-after after r c x =
       let z = r (forget t) (s .roomy) h in
-      let (ok, is) = z .holds in
-      let k : length v ≡ m .size = ap length is ∙ layout-length m (z .tables) (s .roomy) ok in
-      let e : store-after ≡ layout m (z .tables) = c ∙ copy-whole v store (s .size ∙ sym k) ∙ is in
+      let (ok, e) = c (s .size) (z .tables) (s .roomy) (z .holds) in
       let b : midOf 0 hash-size store-after ≡ hash-bytes (z .tables .hash) = ap (midOf 0 hash-size) e ∙ hash-get m (z .tables) ok in (
         kept (z .settings) (z .tables),
         z .judged,

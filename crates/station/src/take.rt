@@ -10,12 +10,13 @@ use read_carrier::carrier::read_message;
 use read_fields::hashes::HashPlace;
 use requests::run::Run;
 use requests::run::take_settings;
-use slots::bytes::copy;
 use store_check::checks::is_store;
 use store_places::fixed::clear_hash;
 use tables::limits::Limits;
 use tables::places::HASH;
 use tables::places::KEY;
+use tables::working::load;
+use tables::working::save;
 use writing::Result;
 ghost use Prim.Native.Nat.{_≤_};
 ghost use mathlib.Core.Path.{_≡_};
@@ -61,7 +62,7 @@ fn answer_query(m: &[u8], place: HashPlace, store: &[u8], reply: &mut [u8]) -> A
     })
 }
 
-// A request, judged and applied on a working copy that is copied back only when all is good.
+// A request, judged and applied on a working copy that is saved only when all is good.
 fn take_request(
     m: &[u8],
     count: u8,
@@ -74,13 +75,13 @@ fn take_request(
     requires { ⌜ (20 ≤ length (now reply)) × StoreOf limits (now store) × (length (now work) ≡ limits .size) ⌝ }
     ensures { λ r. ⌜ Requested limits (now (m .entry)) count at (now (store .entry)) (now (store .exit)) (now (reply .entry)) (now (reply .exit)) r ⌝ }
 {
-    copy(work, store);
+    load(work, store, limits);
     clear_hash(&mut work[HASH..KEY]);
     let run = take_settings(work, limits, m, at, count);
     match run {
         Run::Fault(result, failed) => turn_down(reply, result, failed),
         Run::Good(flags) => {
-            copy(store, work);
+            save(store, work, limits);
             let length = write_reply(reply, 0, 0, &store[HASH..KEY]);
             Answer::Replied(Reply {
                 result: Result::Taken,

@@ -13,11 +13,11 @@ use Rattle.tables.specs.declared.limits.Limits.{Limits}
 use Rattle.tables.specs.Apply.{apply}
 use Rattle.tables.specs.Layout.{layout, Roomy}
 use Rattle.tables.specs.Changing.{Tried}
-use Rattle.tables.specs.Store.{Holds, Applied}
+use Rattle.tables.specs.Store.{Works, Applied}
 use Rattle.tables.specs.Tables.{Tables}
 
 -- two tries at one change: one answer, and where there was room one content
-tried-determined : (m : Limits) (o : Option Tables) (t u : List ℕ) (a b : Bool) → Tried (Holds m) o t a → Tried (Holds m) o u b → (a ≡ b) × (a ≡ true → t ≡ u)
+tried-determined : (m : Limits) (o : Option Tables) (t u : List ℕ) (a b : Bool) → Tried (Works m) o t a → Tried (Works m) o u b → (a ≡ b) × (a ≡ true → t ≡ u)
 tried-determined m o t u true true p q =
     let (x, e, h) = p .room refl in
     let (y, f, k) = q .room refl in
@@ -27,6 +27,6 @@ tried-determined m o t u false true p q = absurd (Option·none-ne-some (q .room 
 tried-determined m o t u false false p q = (refl, λ e. absurd (true≢false (sym e)))
 
 -- APPLIED-DETERMINED: on a store, one answer, and where there was room one content
-pub applied-determined : (m : Limits) (msg : List ℕ) (r : Read) (s t u : List ℕ) (a b : Bool) (was : Tables) (set : Setting) (left : ℕ) → Roomy m → Holds m was s → Meant msg r set → InRange text-limits left set → Fits unicode16 set → Applied m msg r s t a → Applied m msg r s u b → (a ≡ b) × (a ≡ true → t ≡ u)
+pub applied-determined : (m : Limits) (msg : List ℕ) (r : Read) (s t u : List ℕ) (a b : Bool) (was : Tables) (set : Setting) (left : ℕ) → Roomy m → Works m was s → Meant msg r set → InRange text-limits left set → Fits unicode16 set → Applied m msg r s t a → Applied m msg r s u b → (a ≡ b) × (a ≡ true → t ≡ u)
 applied-determined m msg r s t u a b was set left room is q i f x y =
     tried-determined m (apply m set was) t u a b (x was set left room is q i f) (y was set left room is q i f)

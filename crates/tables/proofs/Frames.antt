@@ -16,7 +16,9 @@ use Rattle.tables.specs.declared.limits.Limits.{Limits}
 use Rattle.tables.specs.Allowed.{Allowed, QuickOk, StatusOk, GroupOk, IndividualOk, LineOk}
 use Rattle.tables.specs.Layout.{parts, part-widths, used-size, layout, hash-bytes, key-bytes, home-bytes, system-bytes, quick-bytes, status-bytes, group-bytes, individual-bytes, line-bytes, quick-width, status-width, member-width, channel-width, line-width, groups-at, hash-size, home-at, home-size, individuals-at, key-at, key-size, lists-at, member-size, quick-at, quick-size, status-at, status-size, system-at, system-size}
 use Rattle.tables.specs.Limits.{quick-places, status-places, slot-places}
-use Rattle.tables.specs.Tables.{Line, GroupMember, IndividualMember, Key, Tables, with-hash, with-key, with-home, with-system, with-quick, with-status, with-groups, with-individuals, with-channels, with-lines}
+use Rattle.tables.specs.Tables.{Line, GroupMember, IndividualMember, Tables}
+use Rattle.writing.specs.declared.Kind.the-variants.{Lines, Key, QuickTexts, Home, Channels, System, StatusTexts, Group, Individual, Last}
+use Rattle.tables.specs.Owns.{Own, put-own}
 use Rattle.tables.proofs.LayoutLaws.{parts-wide}
 
 -- the widths of all parts, the spare bytes at the end
@@ -43,80 +45,80 @@ module _ (m : Limits) (t : Tables) (ok : Allowed m t) where
   hash-get = part-get m t ok 0 (omega arith) 0 11 refl refl
 
   -- and put back
-  pub hash-put : (x : Hash) → putMid 0 hash-size (layout m t) (hash-bytes x) ≡ layout m (with-hash t x)
-  hash-put x = part-put m t ok 0 (omega arith) 0 11 refl refl (with-hash t x) (hash-bytes x) refl
+  pub hash-put : (x : Hash) → putMid 0 hash-size (layout m t) (hash-bytes x) ≡ layout m (put-own Last t x)
+  hash-put x = part-put m t ok 0 (omega arith) 0 11 refl refl (put-own Last t x) (hash-bytes x) refl
 
   -- the emergency key
   pub key-get : midOf key-at key-size (layout m t) ≡ key-bytes (t .key)
   key-get = part-get m t ok 1 (omega arith) 11 4 refl refl
 
   -- and put back
-  pub key-put : (x : Key) → putMid key-at key-size (layout m t) (key-bytes x) ≡ layout m (with-key t x)
-  key-put x = part-put m t ok 1 (omega arith) 11 4 refl refl (with-key t x) (key-bytes x) refl
+  pub key-put : (x : Own Key) → putMid key-at key-size (layout m t) (key-bytes x) ≡ layout m (put-own Key t x)
+  key-put x = part-put m t ok 1 (omega arith) 11 4 refl refl (put-own Key t x) (key-bytes x) refl
 
   -- the home numbers
   pub home-get : midOf home-at home-size (layout m t) ≡ home-bytes (t .home)
   home-get = part-get m t ok 2 (omega arith) 15 4 refl refl
 
   -- and put back
-  pub home-put : (x : HomeNumbers) → putMid home-at home-size (layout m t) (home-bytes x) ≡ layout m (with-home t x)
-  home-put x = part-put m t ok 2 (omega arith) 15 4 refl refl (with-home t x) (home-bytes x) refl
+  pub home-put : (x : HomeNumbers) → putMid home-at home-size (layout m t) (home-bytes x) ≡ layout m (put-own Home t x)
+  home-put x = part-put m t ok 2 (omega arith) 15 4 refl refl (put-own Home t x) (home-bytes x) refl
 
   -- the system code
   pub system-get : midOf system-at system-size (layout m t) ≡ system-bytes (t .system)
   system-get = part-get m t ok 3 (omega arith) 19 3 refl refl
 
   -- and put back
-  pub system-put : (x : SystemCode) → putMid system-at system-size (layout m t) (system-bytes x) ≡ layout m (with-system t x)
-  system-put x = part-put m t ok 3 (omega arith) 19 3 refl refl (with-system t x) (system-bytes x) refl
+  pub system-put : (x : SystemCode) → putMid system-at system-size (layout m t) (system-bytes x) ≡ layout m (put-own System t x)
+  system-put x = part-put m t ok 3 (omega arith) 19 3 refl refl (put-own System t x) (system-bytes x) refl
 
   -- the quick texts
   pub quick-get : midOf quick-at quick-size (layout m t) ≡ places quick-width quick-bytes (t .quick)
   quick-get = part-get m t ok 4 (omega arith) quick-at quick-size refl refl
 
   -- and put back
-  pub quick-put : (x : List (Option Text)) → putMid quick-at quick-size (layout m t) (places quick-width quick-bytes x) ≡ layout m (with-quick t x)
-  quick-put x = part-put m t ok 4 (omega arith) quick-at quick-size refl refl (with-quick t x) (places quick-width quick-bytes x) refl
+  pub quick-put : (x : List (Option Text)) → putMid quick-at quick-size (layout m t) (places quick-width quick-bytes x) ≡ layout m (put-own QuickTexts t x)
+  quick-put x = part-put m t ok 4 (omega arith) quick-at quick-size refl refl (put-own QuickTexts t x) (places quick-width quick-bytes x) refl
 
   -- the status texts
   pub status-get : midOf status-at status-size (layout m t) ≡ places status-width status-bytes (t .status)
   status-get = part-get m t ok 5 (omega arith) status-at status-size refl refl
 
   -- and put back
-  pub status-put : (x : List (Option Text)) → putMid status-at status-size (layout m t) (places status-width status-bytes x) ≡ layout m (with-status t x)
-  status-put x = part-put m t ok 5 (omega arith) status-at status-size refl refl (with-status t x) (places status-width status-bytes x) refl
+  pub status-put : (x : List (Option Text)) → putMid status-at status-size (layout m t) (places status-width status-bytes x) ≡ layout m (put-own StatusTexts t x)
+  status-put x = part-put m t ok 5 (omega arith) status-at status-size refl refl (put-own StatusTexts t x) (places status-width status-bytes x) refl
 
   -- the group slots
   pub groups-get : midOf groups-at member-size (layout m t) ≡ places member-width group-bytes (t .groups)
   groups-get = part-get m t ok 6 (omega arith) groups-at member-size refl refl
 
   -- and put back
-  pub groups-put : (x : List (Option GroupMember)) → putMid groups-at member-size (layout m t) (places member-width group-bytes x) ≡ layout m (with-groups t x)
-  groups-put x = part-put m t ok 6 (omega arith) groups-at member-size refl refl (with-groups t x) (places member-width group-bytes x) refl
+  pub groups-put : (x : List (Option GroupMember)) → putMid groups-at member-size (layout m t) (places member-width group-bytes x) ≡ layout m (put-own Group t x)
+  groups-put x = part-put m t ok 6 (omega arith) groups-at member-size refl refl (put-own Group t x) (places member-width group-bytes x) refl
 
   -- the individual slots
   pub individuals-get : midOf individuals-at member-size (layout m t) ≡ places member-width individual-bytes (t .individuals)
   individuals-get = part-get m t ok 7 (omega arith) individuals-at member-size refl refl
 
   -- and put back
-  pub individuals-put : (x : List (Option IndividualMember)) → putMid individuals-at member-size (layout m t) (places member-width individual-bytes x) ≡ layout m (with-individuals t x)
-  individuals-put x = part-put m t ok 7 (omega arith) individuals-at member-size refl refl (with-individuals t x) (places member-width individual-bytes x) refl
+  pub individuals-put : (x : List (Option IndividualMember)) → putMid individuals-at member-size (layout m t) (places member-width individual-bytes x) ≡ layout m (put-own Individual t x)
+  individuals-put x = part-put m t ok 7 (omega arith) individuals-at member-size refl refl (put-own Individual t x) (places member-width individual-bytes x) refl
 
   -- the channels
   pub channels-get : midOf lists-at (m .channels * channel-width) (layout m t) ≡ places channel-width u16 (front (m .channels) (t .channels))
   channels-get = part-get m t ok 8 (omega arith) lists-at (m .channels * channel-width) refl refl
 
   -- and put back
-  pub channels-put : (x : List ℕ) → putMid lists-at (m .channels * channel-width) (layout m t) (places channel-width u16 (front (m .channels) x)) ≡ layout m (with-channels t x)
-  channels-put x = part-put m t ok 8 (omega arith) lists-at (m .channels * channel-width) refl refl (with-channels t x) (places channel-width u16 (front (m .channels) x)) refl
+  pub channels-put : (x : List ℕ) → putMid lists-at (m .channels * channel-width) (layout m t) (places channel-width u16 (front (m .channels) x)) ≡ layout m (put-own Channels t x)
+  channels-put x = part-put m t ok 8 (omega arith) lists-at (m .channels * channel-width) refl refl (put-own Channels t x) (places channel-width u16 (front (m .channels) x)) refl
 
   -- the line contacts
   pub lines-get : midOf (lists-at + m .channels * channel-width) (m .lines * line-width) (layout m t) ≡ places line-width line-bytes (front (m .lines) (t .lines))
   lines-get = part-get m t ok 9 (omega arith) (lists-at + m .channels * channel-width) (m .lines * line-width) (omega arith) refl
 
   -- and put back
-  pub lines-put : (x : List Line) → putMid (lists-at + m .channels * channel-width) (m .lines * line-width) (layout m t) (places line-width line-bytes (front (m .lines) x)) ≡ layout m (with-lines t x)
-  lines-put x = part-put m t ok 9 (omega arith) (lists-at + m .channels * channel-width) (m .lines * line-width) (omega arith) refl (with-lines t x) (places line-width line-bytes (front (m .lines) x)) refl
+  pub lines-put : (x : List Line) → putMid (lists-at + m .channels * channel-width) (m .lines * line-width) (layout m t) (places line-width line-bytes (front (m .lines) x)) ≡ layout m (put-own Lines t x)
+  lines-put x = part-put m t ok 9 (omega arith) (lists-at + m .channels * channel-width) (m .lines * line-width) (omega arith) refl (put-own Lines t x) (places line-width line-bytes (front (m .lines) x)) refl
 
   -- the bytes that no table uses are 0
   pub spare-get : midOf (lists-at + m .channels * channel-width + m .lines * line-width) (m .size - used-size m) (layout m t) ≡ replicate (m .size - used-size m) 0
@@ -129,7 +131,7 @@ module _ (m : Limits) (t : Tables) (ok : Allowed m t) where
   quick-placed = record { many = ok .quick .0; each = ok .quick .1; bytes = quick-get }
 
   -- a table of slots put back
-  pub quick-back : (x : List (Option Text)) (y : List ℕ) → Placed QuickOk quick-width quick-bytes quick-places x y → putMid quick-at quick-size (layout m t) y ≡ layout m (with-quick t x)
+  pub quick-back : (x : List (Option Text)) (y : List ℕ) → Placed QuickOk quick-width quick-bytes quick-places x y → putMid quick-at quick-size (layout m t) y ≡ layout m (put-own QuickTexts t x)
   quick-back x y p = ap (putMid quick-at quick-size (layout m t)) (p .bytes) ∙ quick-put x
 
   -- the status texts
@@ -137,7 +139,7 @@ module _ (m : Limits) (t : Tables) (ok : Allowed m t) where
   status-placed = record { many = ok .status .0; each = ok .status .1; bytes = status-get }
 
   -- a table of slots put back
-  pub status-back : (x : List (Option Text)) (y : List ℕ) → Placed StatusOk status-width status-bytes status-places x y → putMid status-at status-size (layout m t) y ≡ layout m (with-status t x)
+  pub status-back : (x : List (Option Text)) (y : List ℕ) → Placed StatusOk status-width status-bytes status-places x y → putMid status-at status-size (layout m t) y ≡ layout m (put-own StatusTexts t x)
   status-back x y p = ap (putMid status-at status-size (layout m t)) (p .bytes) ∙ status-put x
 
   -- the group slots
@@ -145,7 +147,7 @@ module _ (m : Limits) (t : Tables) (ok : Allowed m t) where
   groups-placed = record { many = ok .groups .0; each = ok .groups .1; bytes = groups-get }
 
   -- a table of slots put back
-  pub groups-back : (x : List (Option GroupMember)) (y : List ℕ) → Placed GroupOk member-width group-bytes slot-places x y → putMid groups-at member-size (layout m t) y ≡ layout m (with-groups t x)
+  pub groups-back : (x : List (Option GroupMember)) (y : List ℕ) → Placed GroupOk member-width group-bytes slot-places x y → putMid groups-at member-size (layout m t) y ≡ layout m (put-own Group t x)
   groups-back x y p = ap (putMid groups-at member-size (layout m t)) (p .bytes) ∙ groups-put x
 
   -- the individual slots
@@ -153,7 +155,7 @@ module _ (m : Limits) (t : Tables) (ok : Allowed m t) where
   individuals-placed = record { many = ok .individuals .0; each = ok .individuals .1; bytes = individuals-get }
 
   -- a table of slots put back
-  pub individuals-back : (x : List (Option IndividualMember)) (y : List ℕ) → Placed IndividualOk member-width individual-bytes slot-places x y → putMid individuals-at member-size (layout m t) y ≡ layout m (with-individuals t x)
+  pub individuals-back : (x : List (Option IndividualMember)) (y : List ℕ) → Placed IndividualOk member-width individual-bytes slot-places x y → putMid individuals-at member-size (layout m t) y ≡ layout m (put-own Individual t x)
   individuals-back x y p = ap (putMid individuals-at member-size (layout m t)) (p .bytes) ∙ individuals-put x
 
   -- the channels
@@ -161,7 +163,7 @@ module _ (m : Limits) (t : Tables) (ok : Allowed m t) where
   channels-listed = record { few = ok .channels .0; each = ok .channels .1; bytes = channels-get }
 
   -- a table of slots put back
-  pub channels-back : (x : List ℕ) (y : List ℕ) → Listed InChannel channel-width u16 (m .channels) x y → putMid lists-at (m .channels * channel-width) (layout m t) y ≡ layout m (with-channels t x)
+  pub channels-back : (x : List ℕ) (y : List ℕ) → Listed InChannel channel-width u16 (m .channels) x y → putMid lists-at (m .channels * channel-width) (layout m t) y ≡ layout m (put-own Channels t x)
   channels-back x y p = ap (putMid lists-at (m .channels * channel-width) (layout m t)) (p .bytes) ∙ channels-put x
 
   -- the line contacts
@@ -169,5 +171,5 @@ module _ (m : Limits) (t : Tables) (ok : Allowed m t) where
   lines-listed = record { few = ok .lines .0; each = ok .lines .1; bytes = lines-get }
 
   -- a table of slots put back
-  pub lines-back : (x : List Line) (y : List ℕ) → Listed LineOk line-width line-bytes (m .lines) x y → putMid (lists-at + m .channels * channel-width) (m .lines * line-width) (layout m t) y ≡ layout m (with-lines t x)
+  pub lines-back : (x : List Line) (y : List ℕ) → Listed LineOk line-width line-bytes (m .lines) x y → putMid (lists-at + m .channels * channel-width) (m .lines * line-width) (layout m t) y ≡ layout m (put-own Lines t x)
   lines-back x y p = ap (putMid (lists-at + m .channels * channel-width) (m .lines * line-width) (layout m t)) (p .bytes) ∙ lines-put x

@@ -5,12 +5,13 @@ use mathlib.Core.Bool.{false}
 use mathlib.Core.List.{List, [], _∷_, _++_, map}
 use mathlib.Core.Option.{Option}
 use native.Mathlib.Omega.{arith}
-use lib.ListN.{length, getD, length-replicate}
+use lib.ListN.{length, getD, take, drop, length-replicate}
 use Rattle.lists.specs.Bytes.{Bytes}
 use Rattle.lists.proofs.Bytes.{bytes-zeros}
 use Rattle.lists.specs.Every.{All}
 use Rattle.slots.specs.Slots.{places, front, u16, zeros?, Present, sum}
 use Rattle.slots.proofs.Codes.{Code, places-one, list-one}
+use Rattle.slots.proofs.Runs.{copy-whole}
 use Rattle.slots.proofs.Parts.{flat-bytes, flat-length, parts-one}
 use Rattle.slots.proofs.Tables.{all-front, front-length, places-bytes, places-length}
 use Rattle.writing.specs.Ranges.{InChannel}
@@ -54,6 +55,12 @@ holds-store m t store room holds = record {
   roomy = room;
   store = record { tables = t; allowed = holds .0; bytes-are = holds .1 };
 }
+
+-- HOLDS-COPIED: and so are those that they were copied to
+pub holds-copied : (m : Limits) (from to after : List ℕ) → after ≡ take (length to) from ++ drop (length from) to → length to ≡ m .size
+    → (t : Tables) → Roomy m → Holds m t from → Holds m t after
+holds-copied m from to after c l t room holds =
+    (holds .0, c ∙ copy-whole from to (l ∙ sym (holds-store m t from room holds .size)) ∙ holds .1)
 
 -- ---- bytes
 

@@ -53,8 +53,20 @@ starting m before =
 abbrev pub Holds : Limits → Tables → List ℕ → Type 0
 Holds l t s = Allowed l t × (s ≡ layout l t)
 
--- what applying a setting that was read answers, on a store that was s and becomes t
+-- the working copy that settings are tried on has these tables: it is laid out as the store is
+abbrev pub Works : Limits → Tables → List ℕ → Type 0
+Works l t work = Holds l t work
+
+-- a working copy as long as the store takes the store's tables
+abbrev pub Loaded : Limits → List ℕ → List ℕ → List ℕ → Type 0
+Loaded l store work after = length work ≡ l .size → (t : Tables) → Roomy l → Holds l t store → Works l t after
+
+-- and the store those of the working copy
+abbrev pub Saved : Limits → List ℕ → List ℕ → List ℕ → Type 0
+Saved l work store after = length store ≡ l .size → (t : Tables) → Roomy l → Works l t work → Holds l t after
+
+-- what applying a setting that was read answers, on a working copy that was s and becomes t
 abbrev pub Applied : Limits → List ℕ → Read → List ℕ → List ℕ → Bool → Type 0
 Applied l m r s t k =
-    (was : Tables) (set : Setting) (left : ℕ) → Roomy l → Holds l was s → Meant m r set → InRange text-limits left set → Fits unicode16 set
-    → Tried (Holds l) (apply l set was) t k
+    (was : Tables) (set : Setting) (left : ℕ) → Roomy l → Works l was s → Meant m r set → InRange text-limits left set → Fits unicode16 set
+    → Tried (Works l) (apply l set was) t k

@@ -4,3 +4,4 @@ pub mod limits;
 pub mod places;
 pub mod start;
 pub mod texts;
+pub mod working;
