@@ -5,6 +5,7 @@ use mathlib.Core.List.{List, [], _∷_, map}
 use native.Mathlib.Omega.{arith}
 use lib.ListN.{length, drop, take}
 use Rattle.lists.specs.Bytes.{Bytes}
+use Rattle.writing.specs.declared.Coding.{Coding}
 use Rattle.writing.specs.declared.Kind.the-variants.{Key, Home, System, Last}
 use Rattle.writing.specs.declared.KeyTarget.{KeyTarget}
 use Rattle.writing.specs.declared.KeyTarget.the-variants.{Current, ToGroup, ToIndividual}
@@ -19,8 +20,8 @@ use Rattle.settings.specs.Settings.{BodyAt}
 use Rattle.settings.specs.declared.settings.BodyRead.the-variants.{NoBody}
 use Rattle.settings.proofs.BodyLaws.{Headed}
 
-abbrev pub key-head : Headed Key
-key-head = record {
+abbrev pub key-head : (c : Coding) → Headed c Key
+key-head c = record {
   head = λ x. flag (current (x .0)) ∷ flag (to-group (x .0)) ∷ flag (x .1 .voice) ∷ flag (x .1 .status) ∷ flag (x .1 .siren) ∷ res 3 ∷ [];
   tail = λ x. key-address (x .0);
   size = 1;
@@ -29,12 +30,12 @@ key-head = record {
   some-byte = omega arith;
 }
 
-abbrev pub home-head : Headed Home
-home-head = record
+abbrev pub home-head : (c : Coding) → Headed c Home
+home-head c = record
     { head = λ x. val 9 (x .nzi) ∷ val 10 (x .np) ∷ res 5 ∷ []; tail = λ x. []; size = 3; split = λ x. refl; wide = λ x. refl; some-byte = omega arith }
 
-abbrev pub system-head : Headed System
-system-head = record {
+abbrev pub system-head : (c : Coding) → Headed c System
+system-head c = record {
   head = λ x. val 12 (x .lai) ∷ val 4 (x .la) ∷ val 2 (x .roaming) ∷ flag (x .par) ∷ res 5 ∷ [];
   tail = λ x. [];
   size = 3;
@@ -43,8 +44,8 @@ system-head = record {
   some-byte = omega arith;
 }
 
-abbrev pub last-head : Headed Last
-last-head = record {
+abbrev pub last-head : (c : Coding) → Headed c Last
+last-head c = record {
   head = λ x. flag (x .0 .reboot) ∷ flag (x .0 .reply) ∷ val 6 (x .1 .code) ∷ [];
   tail = λ x. map (val 8) (x .1 .value);
   size = 1;
@@ -79,7 +80,7 @@ key-address-out (ToIndividual a) m q next h n i x =
     (r, subst InAddress (omega (arith, s)) i)
 
 -- the last item is out of range before the last place
-pub not-last : (left : ℕ) (m : List ℕ) (p : ℕ) → 0 < left → BodyAt Last left m p NoBody
-not-last left m p l s next e i y =
+pub not-last : (c : Coding) (left : ℕ) (m : List ℕ) (p : ℕ) → 0 < left → BodyAt c Last left m p NoBody
+not-last c left m p l s next e i y =
     let (x, d) = of-kind Last s e in
     omega (arith, subst (InRange text-limits left) d i .1)

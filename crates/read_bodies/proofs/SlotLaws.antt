@@ -5,33 +5,33 @@ use mathlib.Core.Bool.{Bool, true, false}
 use mathlib.Core.Logic.{_≢_}
 use mathlib.Core.List.{[], _∷_}
 use native.Mathlib.Omega.{arith}
+use Rattle.writing.specs.declared.Coding.{Coding}
 use Rattle.writing.specs.declared.Kind.the-variants.{Group, Individual}
 use Rattle.writing.specs.declared.Operation.{Operation}
 use Rattle.writing.specs.declared.Operation.the-variants.{Add, Delete, Replace}
 use Rattle.writing.specs.Fields.{val, res}
 use Rattle.writing.specs.Ranges.{InAddress, InSlot}
-use Rattle.writing.specs.Settings.{unicode16}
 use Rattle.writing.specs.Writing.{flag, op, op-code, text}
 use Rattle.settings.specs.Settings.{AddressRefused}
 use Rattle.settings.proofs.BodyLaws.{Headed, one-op}
 use Rattle.read_bodies.specs.Refused.{GroupRefused, IndividualRefused}
 
-abbrev pub group-head : Headed Group
-group-head = record {
+abbrev pub group-head : (c : Coding) → Headed c Group
+group-head c = record {
   head = λ x. op (x .0) ∷ val 2 (x .1 .attribute) ∷ flag (x .1 .broadcast) ∷ flag (x .1 .encryption) ∷ flag (x .1 .ovcm) ∷ flag (x .1 .emergency)
       ∷ val 2 (x .1 .priority) ∷ res 2 ∷ val 4 (x .2 .index) ∷ val 24 (x .2 .address .0) ∷ [];
-  tail = λ x. text unicode16 (x .2 .text);
+  tail = λ x. text c (x .2 .text);
   size = 5;
   split = λ x. refl;
   wide = λ x. refl;
   some-byte = omega arith;
 }
 
-abbrev pub individual-head : Headed Individual
-individual-head = record {
+abbrev pub individual-head : (c : Coding) → Headed c Individual
+individual-head c = record {
   head = λ x. op (x .0) ∷ flag (x .1 .encryption) ∷ flag (x .1 .emergency) ∷ val 2 (x .1 .priority) ∷ res 6 ∷ val 4 (x .2 .index)
       ∷ val 24 (x .2 .address .0) ∷ [];
-  tail = λ x. text unicode16 (x .2 .text);
+  tail = λ x. text c (x .2 .text);
   size = 5;
   split = λ x. refl;
   wide = λ x. refl;

@@ -12,6 +12,7 @@ use settings::rows::operation_of;
 use settings::settings::BodyRead;
 use settings::settings::Entries;
 use settings::settings::Setting;
+use writing::Coding;
 use writing::LineFlags;
 use writing::Operation;
 ghost use mathlib.Core.Path.{_≡_};
@@ -20,8 +21,8 @@ ghost use Rattle.settings.specs.Settings.{BodyAt};
 ghost use Rattle.read_bodies.specs.Units.{LeastIs};
 ghost use Rattle.writing.specs.declared.Kind.{Kind};
 
-pub fn read_lines(m: &[u8], p: usize, operations: u8) -> BodyRead
-    ensures { λ r. ⌜ (operations ≡ 3 → (left : ℕ) → BodyAt Kind.Lines left (now (m .entry)) p r) ⌝ }
+pub fn read_lines(m: &[u8], p: usize, operations: u8, coding: Coding) -> BodyRead
+    ensures { λ r. ⌜ (operations ≡ 3 → (left : ℕ) → BodyAt coding Kind.Lines left (now (m .entry)) p r) ⌝ }
 {
     if remaining(m, p) < 2 {
         return BodyRead::NoBody;
@@ -39,12 +40,21 @@ pub fn read_lines(m: &[u8], p: usize, operations: u8) -> BodyRead
     };
     let start = p + 2;
     let count = (n % 256) as usize;
-    let walked = walk_contacts(m, start, count);
+    let walked = walk_contacts(m, start, count, coding);
     let Walk::To(next) = walked else {
         return BodyRead::NoBody;
     };
     BodyRead::Body(
-        Setting::Lines(operation, flags, Entries { start, count, next }),
+        Setting::Lines(
+            operation,
+            flags,
+            Entries {
+                start,
+                count,
+                next,
+                coding,
+            },
+        ),
         next,
     )
 }
@@ -60,8 +70,8 @@ fn least_units(operation: Operation) -> usize
     }
 }
 
-pub fn read_quick_texts(m: &[u8], p: usize, operations: u8) -> BodyRead
-    ensures { λ r. ⌜ (operations ≡ 3 → (left : ℕ) → BodyAt Kind.QuickTexts left (now (m .entry)) p r) ⌝ }
+pub fn read_quick_texts(m: &[u8], p: usize, operations: u8, coding: Coding) -> BodyRead
+    ensures { λ r. ⌜ (operations ≡ 3 → (left : ℕ) → BodyAt coding Kind.QuickTexts left (now (m .entry)) p r) ⌝ }
 {
     if remaining(m, p) < 1 {
         return BodyRead::NoBody;
@@ -73,18 +83,26 @@ pub fn read_quick_texts(m: &[u8], p: usize, operations: u8) -> BodyRead
     };
     let start = p + 1;
     let count = (n % 64) as usize;
-    let walked = walk_quick(m, start, count, least_units(operation));
+    let walked = walk_quick(m, start, count, least_units(operation), coding);
     let Walk::To(next) = walked else {
         return BodyRead::NoBody;
     };
     BodyRead::Body(
-        Setting::QuickTexts(operation, Entries { start, count, next }),
+        Setting::QuickTexts(
+            operation,
+            Entries {
+                start,
+                count,
+                next,
+                coding,
+            },
+        ),
         next,
     )
 }
 
-pub fn read_channels(m: &[u8], p: usize, operations: u8) -> BodyRead
-    ensures { λ r. ⌜ (operations ≡ 3 → (left : ℕ) → BodyAt Kind.Channels left (now (m .entry)) p r) ⌝ }
+pub fn read_channels(m: &[u8], p: usize, operations: u8, coding: Coding) -> BodyRead
+    ensures { λ r. ⌜ (operations ≡ 3 → (left : ℕ) → BodyAt coding Kind.Channels left (now (m .entry)) p r) ⌝ }
 {
     if remaining(m, p) < 2 {
         return BodyRead::NoBody;
@@ -101,13 +119,21 @@ pub fn read_channels(m: &[u8], p: usize, operations: u8) -> BodyRead
         return BodyRead::NoBody;
     };
     BodyRead::Body(
-        Setting::Channels(operation, Entries { start, count, next }),
+        Setting::Channels(
+            operation,
+            Entries {
+                start,
+                count,
+                next,
+                coding,
+            },
+        ),
         next,
     )
 }
 
-pub fn read_status_texts(m: &[u8], p: usize, operations: u8) -> BodyRead
-    ensures { λ r. ⌜ (operations ≡ 3 → (left : ℕ) → BodyAt Kind.StatusTexts left (now (m .entry)) p r) ⌝ }
+pub fn read_status_texts(m: &[u8], p: usize, operations: u8, coding: Coding) -> BodyRead
+    ensures { λ r. ⌜ (operations ≡ 3 → (left : ℕ) → BodyAt coding Kind.StatusTexts left (now (m .entry)) p r) ⌝ }
 {
     if remaining(m, p) < 2 {
         return BodyRead::NoBody;
@@ -119,12 +145,20 @@ pub fn read_status_texts(m: &[u8], p: usize, operations: u8) -> BodyRead
     };
     let start = p + 2;
     let count = (n % 256) as usize;
-    let walked = walk_status(m, start, count);
+    let walked = walk_status(m, start, count, coding);
     let Walk::To(next) = walked else {
         return BodyRead::NoBody;
     };
     BodyRead::Body(
-        Setting::StatusTexts(operation, Entries { start, count, next }),
+        Setting::StatusTexts(
+            operation,
+            Entries {
+                start,
+                count,
+                next,
+                coding,
+            },
+        ),
         next,
     )
 }

@@ -13,6 +13,7 @@ use settings::settings::BodyRead;
 use settings::settings::GroupPlace;
 use settings::settings::IndividualPlace;
 use settings::settings::Setting;
+use writing::Coding;
 use writing::GroupFlags;
 use writing::IndividualFlags;
 use writing::Operation;
@@ -47,8 +48,8 @@ fn individual_refused(operation: Operation, address: u32) -> bool
     }
 }
 
-pub fn read_group(m: &[u8], p: usize, operations: u8) -> BodyRead
-    ensures { λ r. ⌜ (operations ≡ 2 → (left : ℕ) → BodyAt Kind.Group left (now (m .entry)) p r) ⌝ }
+pub fn read_group(m: &[u8], p: usize, operations: u8, coding: Coding) -> BodyRead
+    ensures { λ r. ⌜ (operations ≡ 2 → (left : ℕ) → BodyAt coding Kind.Group left (now (m .entry)) p r) ⌝ }
 {
     if remaining(m, p) < 5 {
         return BodyRead::NoBody;
@@ -63,7 +64,7 @@ pub fn read_group(m: &[u8], p: usize, operations: u8) -> BodyRead
     if group_refused(operation, attribute, address) {
         return BodyRead::NoBody;
     }
-    let units = read_text(m, p + 5, 16);
+    let units = read_text(m, p + 5, 16, coding);
     let TextRead::Text(text, next) = units else {
         return BodyRead::NoBody;
     };
@@ -84,8 +85,8 @@ pub fn read_group(m: &[u8], p: usize, operations: u8) -> BodyRead
     BodyRead::Body(Setting::Group(operation, flags, place), next)
 }
 
-pub fn read_individual(m: &[u8], p: usize, operations: u8) -> BodyRead
-    ensures { λ r. ⌜ (operations ≡ 2 → (left : ℕ) → BodyAt Kind.Individual left (now (m .entry)) p r) ⌝ }
+pub fn read_individual(m: &[u8], p: usize, operations: u8, coding: Coding) -> BodyRead
+    ensures { λ r. ⌜ (operations ≡ 2 → (left : ℕ) → BodyAt coding Kind.Individual left (now (m .entry)) p r) ⌝ }
 {
     if remaining(m, p) < 5 {
         return BodyRead::NoBody;
@@ -99,7 +100,7 @@ pub fn read_individual(m: &[u8], p: usize, operations: u8) -> BodyRead
     if individual_refused(operation, address) {
         return BodyRead::NoBody;
     }
-    let units = read_text(m, p + 5, 16);
+    let units = read_text(m, p + 5, 16, coding);
     let TextRead::Text(text, next) = units else {
         return BodyRead::NoBody;
     };

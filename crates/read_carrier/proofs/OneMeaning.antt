@@ -6,7 +6,8 @@ use lib.ListN.{length}
 use Rattle.writing.specs.Carrier.{Request, reply, Reply}
 use Rattle.writing.specs.Fields.{bitsOf, Field, Shows}
 use Rattle.writing.specs.Ranges.{HashSize}
-use Rattle.writing.specs.Settings.{Setting, Hash, Coding}
+use Rattle.writing.specs.declared.Coding.{Coding}
+use Rattle.writing.specs.Settings.{Setting, Hash}
 use Rattle.writing.specs.Writing.{WrittenAs}
 use Rattle.writing.proofs.Ends.{Agree, val-ends, res-ends, vals-end}
 use Rattle.writing.proofs.Unique.{no-two-lists}

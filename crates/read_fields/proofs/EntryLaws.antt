@@ -8,7 +8,8 @@ use lib.ListN.{length, drop, take}
 use Rattle.lists.specs.Bytes.{Bytes}
 use Rattle.writing.specs.Fields.{Field, val, res, widths}
 use Rattle.writing.specs.Ranges.{TextLimits, InContact, InNumber}
-use Rattle.writing.specs.Settings.{Coding, Contact, Entry, unicode16}
+use Rattle.writing.specs.declared.Coding.{Coding}
+use Rattle.writing.specs.Settings.{Contact, Entry}
 use Rattle.writing.specs.Writing.{text, number, contact, quick-text, status-text}
 use Rattle.writing.proofs.Unique.{number-ends, text-ends}
 use Rattle.writing.proofs.Whole.{number-whole, entry-whole}
@@ -26,6 +27,7 @@ use Rattle.read_fields.specs.declared.entries.EntryPlace.{EntryPlace}
 use Rattle.read_fields.specs.declared.entries.EntryRead.the-variants.{Entry as AnEntry, NoEntry}
 use Rattle.read_fields.proofs.Heads.{Cut, head-in, head-out}
 use Rattle.read_fields.proofs.Parts.{part-join, part-split}
+use Rattle.read_fields.proofs.TextWalk.{text-read}
 use Rattle.read_fields.proofs.Walk.{one-part}
 
 -- ---- line contacts
@@ -60,12 +62,11 @@ module _ (c : Coding) (k : TextLimits) (m : List ℕ) (at : ℕ) where
         → ContactAt c k m at (AContact (record { number = p; text = u }) next)
     the-contact u next t d =
         let (ds, s, j, is) = subst (NumberAt m at) e n in
-        let (us, z, l, tis) = subst (TextAt c m q (k .short)) d t in (
+        let (us, l, tis, there) = text-read c m q (k .short) u next t d in (
           record { number = ds; text = us },
           (j, l),
           record { middle = q; end = next; number = is; text = tis },
-          part-join (number ds) (text c us) m at q next (subst (λ (z : ℕ). PartAt (number ds) m z q) s (is .stands))
-              (subst (λ (z : ℕ). PartAt (text c us) m z next) z (tis .stands)),
+          part-join (number ds) (text c us) m at q next (subst (λ (z : ℕ). PartAt (number ds) m z q) s (is .stands)) there,
         )
 
 -- ---- an index or a code in one byte, and a text
@@ -85,11 +86,11 @@ pub status-byte : OneByte (λ i. val 8 i ∷ []) (λ N. N % 256)
 status-byte = record { wide = λ i. refl; says = λ i N c. omega (arith, c .0); said = λ N. (omega arith, tt) }
 
 -- a quick text is whole bytes, and so is a status text
-pub quick-whole : (e : Entry) → (n : ℕ) × (widths (quick-text unicode16 e) ≡ 8 * n)
-quick-whole e = entry-whole unicode16 (res 2 ∷ val 6 (e .index) ∷ []) refl (e .text)
+pub quick-whole : (c : Coding) (e : Entry) → (n : ℕ) × (widths (quick-text c e) ≡ 8 * n)
+quick-whole c e = entry-whole c (res 2 ∷ val 6 (e .index) ∷ []) refl (e .text)
 
-pub status-whole : (e : Entry) → (n : ℕ) × (widths (status-text unicode16 e) ≡ 8 * n)
-status-whole e = entry-whole unicode16 (val 8 (e .index) ∷ []) refl (e .text)
+pub status-whole : (c : Coding) (e : Entry) → (n : ℕ) × (widths (status-text c e) ≡ 8 * n)
+status-whole c e = entry-whole c (val 8 (e .index) ∷ []) refl (e .text)
 
 module _ (head : ℕ → List Field) (index : ℕ → ℕ) (one : OneByte head index) (c : Coding) (In : Entry → Type 0) (m : List ℕ) (at : ℕ) (h : Bytes m) where
   abbrev form : Entry → List Field
@@ -103,37 +104,35 @@ module _ (head : ℕ → List Field) (index : ℕ → ℕ) (one : OneByte head i
       (r, one .says (e .index) _ k, y)
 
   -- none where no byte is left
-  pub no-byte : (at + 1 ≤ length m → ⊥) → EntryAt c form In m at NoEntry
+  pub no-byte : (at + 1 ≤ length m → ⊥) → EntryAt form In m at NoEntry
   no-byte never e next i x = never (entry-parts e next x .0)
 
   module _ {N : ℕ} (byte : N ≡ be 0 (take 1 (drop at m))) where
     -- none where the index is out of range
-    pub no-index : ((e : Entry) → In e → e .index ≡ index N → ⊥) → EntryAt c form In m at NoEntry
+    pub no-index : ((e : Entry) → In e → e .index ≡ index N → ⊥) → EntryAt form In m at NoEntry
     no-index never e next i x = never e i (entry-parts e next x .1 ∙ ap index (sym byte))
 
     module _ (limit : ℕ) (short : (e : Entry) → In e → length (e .text) ≤ limit) where
       -- none where no text stands
-      pub no-entry-text : {t : TextRead} → TextAt c m (at + 1) limit t → t ≡ NoText → EntryAt c form In m at NoEntry
+      pub no-entry-text : {t : TextRead} → TextAt c m (at + 1) limit t → t ≡ NoText → EntryAt form In m at NoEntry
       no-entry-text t d e next i x = subst (TextAt c m (at + 1) limit) d t (e .text) next (short e i) (entry-parts e next x .2)
 
       module _ {t : TextRead} (u : TextPlace) (next : ℕ) (at-text : TextAt c m (at + 1) limit t) (d : t ≡ AText u next) where
         -- none where the text that stands is out of range
-        pub no-such-text : ((e : Entry) → In e → length (e .text) ≡ u .units → ⊥) → EntryAt c form In m at NoEntry
+        pub no-such-text : ((e : Entry) → In e → length (e .text) ≡ u .units → ⊥) → EntryAt form In m at NoEntry
         no-such-text never e after i x =
-            let (us, z, l, tis) = subst (TextAt c m (at + 1) limit) d at-text in
-            let y : PartAt (text c us) m (at + 1) next = subst (λ (z : ℕ). PartAt (text c us) m z next) z (tis .stands) in
+            let (us, l, tis, y) = text-read c m (at + 1) limit u next at-text d in
             let same : us ≡ e .text = one-part (text c) (text-ends c) us (e .text) m (at + 1) next after y (entry-parts e after x .2) .0 in
             never e i (sym (ap length same) ∙ tis .units)
 
         -- the entry where index and text are in range
         pub the-entry : (i : ℕ) → i ≡ index N → at + 1 ≤ length m → ((us : List ℕ) → length us ≤ limit → length us ≡ u .units → In (record { index = i; text = us }))
-            → EntryAt c form In m at (AnEntry (record { index = i; text = u }) next)
+            → EntryAt form In m at (AnEntry (record { index = i; text = u }) next)
         the-entry i e room range =
-            let (us, z, l, tis) = subst (TextAt c m (at + 1) limit) d at-text in (
+            let (us, l, tis, y) = text-read c m (at + 1) limit u next at-text d in (
               record { index = i; text = us },
               range us l (tis .units),
               record { index = refl; end = next; text = tis },
               head-in (head i) (text c us) m at 1 (one .wide i) (omega arith) h next room
-                  (subst (Cut (head i)) byte (subst (λ (j : ℕ). Cut (head j) N) (sym e) (one .said N)))
-                  (subst (λ (z : ℕ). PartAt (text c us) m z next) z (tis .stands)),
+                  (subst (Cut (head i)) byte (subst (λ (j : ℕ). Cut (head j) N) (sym e) (one .said N))) y,
             )

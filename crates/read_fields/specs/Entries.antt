@@ -6,7 +6,8 @@ use mathlib.Core.Bool.{Bool, true, false}
 use lib.ListN.{length}
 use Rattle.lists.specs.Every.{All}
 use Rattle.writing.specs.Fields.{Field, val, each}
-use Rattle.writing.specs.Settings.{Coding, Contact, Entry}
+use Rattle.writing.specs.declared.Coding.{Coding}
+use Rattle.writing.specs.Settings.{Contact, Entry}
 use Rattle.writing.specs.Writing.{contact, quick-text, status-text, fill}
 use Rattle.writing.specs.Ranges.{TextLimits, InContact, InStatus, InChannel}
 use Rattle.read_fields.specs.Places.{PartAt}
@@ -23,37 +24,37 @@ use Rattle.read_fields.specs.declared.entries.Walk.the-variants.{To, Sto
 -- ---- one entry
 
 -- the contact's number and text stand at these places
-pub record ContactIs (c : Coding) (m : List ℕ) (p : ContactPlace) (e : Contact) : Type 0 where
+pub record ContactIs (m : List ℕ) (p : ContactPlace) (e : Contact) : Type 0 where
   pub middle : ℕ
   pub end : ℕ
   pub number : NumberIs m (p .number) (e .number) middle
-  pub text : TextIs c m (p .text) (e .text) end
+  pub text : TextIs m (p .text) (e .text) end
 
 -- the entry has this index, and its text stands at this place
-pub record EntryIs (c : Coding) (m : List ℕ) (p : EntryPlace) (e : Entry) : Type 0 where
+pub record EntryIs (m : List ℕ) (p : EntryPlace) (e : Entry) : Type 0 where
   pub index : e .index ≡ p .index
   pub end : ℕ
-  pub text : TextIs c m (p .text) (e .text) end
+  pub text : TextIs m (p .text) (e .text) end
 
 -- a contact in range stands at `at`, or none does
 abbrev pub ContactAt : Coding → TextLimits → List ℕ → ℕ → ContactRead → Type 0
-ContactAt c k m at (AContact p next) = (e : Contact) × InContact k e × ContactIs c m p e × PartAt (contact c e) m at next
+ContactAt c k m at (AContact p next) = (e : Contact) × InContact k e × ContactIs m p e × PartAt (contact c e) m at next
 ContactAt c k m at NoContact = (e : Contact) (next : ℕ) → InContact k e → PartAt (contact c e) m at next → ⊥
 
 -- an entry of this form and range stands at `at`, or none does
-abbrev pub EntryAt : Coding → (Entry → List Field) → (Entry → Type 0) → List ℕ → ℕ → EntryRead → Type 0
-EntryAt c form In m at (AnEntry p next) = (e : Entry) × In e × EntryIs c m p e × PartAt (form e) m at next
-EntryAt c form In m at NoEntry = (e : Entry) (next : ℕ) → In e → PartAt (form e) m at next → ⊥
+abbrev pub EntryAt : (Entry → List Field) → (Entry → Type 0) → List ℕ → ℕ → EntryRead → Type 0
+EntryAt form In m at (AnEntry p next) = (e : Entry) × In e × EntryIs m p e × PartAt (form e) m at next
+EntryAt form In m at NoEntry = (e : Entry) (next : ℕ) → In e → PartAt (form e) m at next → ⊥
 
 -- a quick text of at least so many units: 1, or 0 in a delete
 abbrev pub QuickFrom : TextLimits → ℕ → Entry → Type 0
 QuickFrom k least e = (least ≤ length (e .text)) × (length (e .text) ≤ k .quick)
 
 abbrev pub QuickAt : Coding → TextLimits → ℕ → List ℕ → ℕ → EntryRead → Type 0
-QuickAt c k least = EntryAt c (quick-text c) (QuickFrom k least)
+QuickAt c k least = EntryAt (quick-text c) (QuickFrom k least)
 
 abbrev pub StatusAt : Coding → TextLimits → List ℕ → ℕ → EntryRead → Type 0
-StatusAt c k = EntryAt c (status-text c) (InStatus k)
+StatusAt c k = EntryAt (status-text c) (InStatus k)
 
 -- ---- as many as were counted
 

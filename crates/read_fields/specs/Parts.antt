@@ -6,7 +6,8 @@ use mathlib.Core.List.{List}
 use lib.ListN.{length}
 use Rattle.lists.specs.Every.{All}
 use Rattle.writing.specs.Fields.{Field, each}
-use Rattle.writing.specs.Settings.{Coding, Contact, Entry, Text, Number}
+use Rattle.writing.specs.declared.Coding.{Coding}
+use Rattle.writing.specs.Settings.{Contact, Entry, Text, Number}
 use Rattle.writing.specs.Writing.{text, number, contact, quick-text, status-text, fill}
 use Rattle.writing.specs.Ranges.{TextLimits, InNumber, InContact}
 use Rattle.read_fields.specs.Places.{PartAt}
@@ -21,14 +22,14 @@ use Rattle.read_fields.specs.declared.numbers.Digits.the-variants.{Two, 
 
 -- ---- texts
 
--- the text stands at this place, up to `next`
-pub record TextIs (c : Coding) (m : List ℕ) (p : TextPlace) (us : Text) (next : ℕ) : Type 0 where
+-- the text stands at this place, under the coding that the place says, up to `next`
+pub record TextIs (m : List ℕ) (p : TextPlace) (us : Text) (next : ℕ) : Type 0 where
   pub units : length us ≡ p .units
-  pub stands : PartAt (text c us) m (p .start) next
+  pub stands : PartAt (text (p .coding) us) m (p .start) next
 
--- a text of at most `limit` units stands at `at`, or none does
+-- a text of at most `limit` units stands at `at` under this coding, which its place says, or none does
 abbrev pub TextAt : Coding → List ℕ → ℕ → ℕ → TextRead → Type 0
-TextAt c m at limit (AText p next) = (us : Text) × (p .start ≡ at) × (length us ≤ limit) × TextIs c m p us next
+TextAt c m at limit (AText p next) = (us : Text) × (p .start ≡ at) × (p .coding ≡ c) × (length us ≤ limit) × TextIs m p us next
 TextAt c m at limit NoText = (us : Text) (next : ℕ) → length us ≤ limit → PartAt (text c us) m at next → ⊥
 
 -- ---- numbers

@@ -4,7 +4,8 @@ use mathlib.Core.Path.{_≡_}
 use mathlib.Core.List.{List, [], _∷_, _++_}
 use lib.ListN.{length, drop}
 use Rattle.writing.specs.Fields.{bitsOf, Field, Shows}
-use Rattle.writing.specs.Settings.{Coding, Setting}
+use Rattle.writing.specs.declared.Coding.{Coding}
+use Rattle.writing.specs.Settings.{Setting}
 use Rattle.writing.specs.Writing.{fields}
 
 -- the fields are written in m from place `from`, and end before place `next`

@@ -67,16 +67,16 @@ module _ (lim : Limits) where
     stands-at s w r e (x, _) = record { bytes = w; rest = r; split = e; ends = refl; written = x }
 
     -- no byte is left: 4
-    pub at-end : SettingAt left m p Missing → Fault lim left u (drop p m) 4
+    pub at-end : SettingAt unicode16 left m p Missing → Fault lim left u (drop p m) 4
     at-end h = subst (λ (l : List ℕ). Fault lim left u l 4) (sym (drop-of-length-le m h)) missing
 
     -- the type is none of the ten: 3
-    pub at-unknown : SettingAt left m p Unknown → Fault lim left u (drop p m) 3
+    pub at-unknown : SettingAt unicode16 left m p Unknown → Fault lim left u (drop p m) 3
     at-unknown (h, never) =
         subst (λ (l : List ℕ). Fault lim left u l 3) (sym (drop-cons m p 0 h)) (unknown (λ k. never (k .0) (k .1)))
 
     -- no setting in range is written there: 4
-    pub at-field : SettingAt left m p BadField → Fault lim left u (drop p m) 4
+    pub at-field : SettingAt unicode16 left m p BadField → Fault lim left u (drop p m) 4
     at-field (h, k, e, never) =
         subst (λ (l : List ℕ). Fault lim left u l 4) (sym (drop-cons m p 0 h))
         (field (k, e) (λ s w r q x i. never s (p + length w) i (stands-at s w r (drop-cons m p 0 h ∙ q) x)))

@@ -68,13 +68,13 @@ module _ (lim : Limits) (m : List ℕ) where
     fits : (x : Setting) (next : ℕ) → StandsAt unicode16 m at next x → Fits unicode16 x
     fits x next y = has-writing unicode16 x (y .bytes) (y .written)
 
-    pub step-taken : (r : Read) (next : ℕ) (f : LastFlags) (k : Bool) → SettingAt left m at (Taken r next) → FlagsAre r f
+    pub step-taken : (r : Read) (next : ℕ) (f : LastFlags) (k : Bool) → SettingAt unicode16 left m at (Taken r next) → FlagsAre r f
         → Applied lim m r s t k → k ≡ true → StepIs lim left m at s t (Next next f)
     step-taken r next f k (x, means, i, stands) g a e was roomy holds =
         let (u, q, h) = a was x left roomy holds means i (fits x next stands) .room e in
         record { setting = x; tables = u; range = i; stands = stands; applied = q; holds = h; flags = g m x means }
 
-    pub step-full : (r : Read) (next : ℕ) (k : Bool) → SettingAt left m at (Taken r next)
+    pub step-full : (r : Read) (next : ℕ) (k : Bool) → SettingAt unicode16 left m at (Taken r next)
         → Applied lim m r s t k → k ≡ false → StepIs lim left m at s t (StepFault NoRoom)
     step-full r next k (x, means, i, stands) a e was roomy holds =
         at-full lim m b left was at x next (stands-within x next stands) i stands (a was x left roomy holds means i (fits x next stands) .full e)

@@ -73,25 +73,25 @@ ChannelIs m p i x = (es : List ℕ) (next : ℕ) → PartAt (channel-list es) m 
 module _ (o : Operation) (m : List ℕ) (p : Entries) (s : List ℕ) where
   -- on a part that was s, whatever its places, the channels from place i on are left, and it is now t
   abbrev pub ChannelsLeft : ℕ → List ℕ → Type 0
-  ChannelsLeft i t = (n : ℕ) → Going (EntriesAre channel-list m p) FromPlace InChannel (channel-step n o) (ChannelTable n) s i (p .count - i) t
+  ChannelsLeft i t = (n : ℕ) → Going (EntriesAre (λ c. channel-list) m p) FromPlace InChannel (channel-step n o) (ChannelTable n) s i (p .count - i) t
 
   -- what all channels in turn answer
   abbrev pub ChannelsDone : List ℕ → Bool → Type 0
-  ChannelsDone t r = (n : ℕ) (cs ns : List ℕ) → ChannelTable n cs s → EntriesAre channel-list m p ns → All InChannel ns → Tried (ChannelTable n) (in-turn (channel-step n o) ns cs) t r
+  ChannelsDone t r = (n : ℕ) (cs ns : List ℕ) → ChannelTable n cs s → EntriesAre (λ c. channel-list) m p ns → All InChannel ns → Tried (ChannelTable n) (in-turn (channel-step n o) ns cs) t r
 
   -- at the start all are left
   pub channels-start : ChannelsLeft 0 s
-  channels-start n = going-start (EntriesAre channel-list m p) FromPlace InChannel (channel-step n o) (ChannelTable n) s 0 (p .count - 0) (λ ns e. (omega (arith, e .counted), refl))
+  channels-start n = going-start (EntriesAre (λ c. channel-list) m p) FromPlace InChannel (channel-step n o) (ChannelTable n) s 0 (p .count - 0) (λ ns e. (omega (arith, e .counted), refl))
 
   -- at the end none is left
   pub channels-end : (i : ℕ) (t : List ℕ) → p .count ≤ i → ChannelsLeft i t → ChannelsDone t true
   channels-end i t h g n cs ns l e q =
-      let (u, d, k) = going-end (EntriesAre channel-list m p) FromPlace InChannel (channel-step n o) (ChannelTable n) s i (p .count - i) t (omega arith) (g n) ns cs e q l in
+      let (u, d, k) = going-end (EntriesAre (λ c. channel-list) m p) FromPlace InChannel (channel-step n o) (ChannelTable n) s i (p .count - i) t (omega arith) (g n) ns cs e q l in
       tried-room (ChannelTable n) u d k
 
   module _ (i x : ℕ) (t u : List ℕ) (r : Bool) (h : i < p .count) (g : ChannelsLeft i t) (is : ChannelIs m p i x) (turn : ChannelApplied o x t u r) where
     -- the channel in place i is the next
-    next : (ns : List ℕ) → EntriesAre channel-list m p ns → (b : ℕ) (more : List ℕ) → FromPlace ns (b ∷ more) i → (b ≡ x) × FromPlace ns more (i + 1)
+    next : (ns : List ℕ) → EntriesAre (λ c. channel-list) m p ns → (b : ℕ) (more : List ℕ) → FromPlace ns (b ∷ more) i → (b ≡ x) × FromPlace ns more (i + 1)
     next ns e b more d =
         let k : i < length ns = omega (arith, e .counted) in
         let z : b ∷ more ≡ getD ns i 0 ∷ drop (i + 1) ns = rw add-one (d ∙ drop-cons ns i 0 k) in
@@ -101,15 +101,15 @@ module _ (o : Operation) (m : List ℕ) (p : Entries) (s : List ℕ) where
     pub channels-on : r ≡ true → ChannelsLeft (i + 1) u
     channels-on e n =
         let k : p .count - i - 1 ≡ p .count - (i + 1) = omega arith in
-        subst (λ (left : ℕ). Going (EntriesAre channel-list m p) FromPlace InChannel (channel-step n o) (ChannelTable n) s (i + 1) left u) k
-        (going-next (EntriesAre channel-list m p) FromPlace InChannel (channel-step n o) (ChannelTable n) s i (i + 1) (p .count - i) t x (omega arith) next (g n) u
+        subst (λ (left : ℕ). Going (EntriesAre (λ c. channel-list) m p) FromPlace InChannel (channel-step n o) (ChannelTable n) s (i + 1) left u) k
+        (going-next (EntriesAre (λ c. channel-list) m p) FromPlace InChannel (channel-step n o) (ChannelTable n) s i (i + 1) (p .count - i) t x (omega arith) next (g n) u
         (λ cs l q. turn n cs l q .room e))
 
     -- it had none
     pub channels-stop : r ≡ false → ChannelsDone u false
     channels-stop e n cs ns l d q =
         tried-full (ChannelTable n)
-        (going-full (EntriesAre channel-list m p) FromPlace InChannel (channel-step n o) (ChannelTable n) s i (i + 1) (p .count - i) t x (omega arith) next (g n)
+        (going-full (EntriesAre (λ c. channel-list) m p) FromPlace InChannel (channel-step n o) (ChannelTable n) s i (i + 1) (p .count - i) t x (omega arith) next (g n)
         (λ cs l q. turn n cs l q .full e) ns cs d q l)
 
 -- ---- replacing
@@ -153,7 +153,7 @@ replace-full m p s h n cs ns l e q =
 module _ (m : List ℕ) (p : Entries) (w : List ℕ) where
   -- whatever channels stand at the place, and however many places the wiped part w has, it is now the table of the first i of them
   abbrev pub ChannelsPut : ℕ → List ℕ → Type 0
-  ChannelsPut i t = (n : ℕ) (ns : List ℕ) → ChannelTable n [] w → EntriesAre channel-list m p ns → All InChannel ns → ChannelTable n (take i ns) t
+  ChannelsPut i t = (n : ℕ) (ns : List ℕ) → ChannelTable n [] w → EntriesAre (λ c. channel-list) m p ns → All InChannel ns → ChannelTable n (take i ns) t
 
   -- none was put
   pub replace-start : ChannelsPut 0 w

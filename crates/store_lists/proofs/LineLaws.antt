@@ -20,7 +20,7 @@ use Rattle.writing.specs.declared.Operation.{Operation}
 use Rattle.writing.specs.declared.Operation.the-variants.{Add, Replace}
 use Rattle.writing.specs.Fields.{each}
 use Rattle.writing.specs.Ranges.{text-limits, InContact}
-use Rattle.writing.specs.Settings.{Contact, unicode16}
+use Rattle.writing.specs.Settings.{Contact}
 use Rattle.writing.specs.Writing.{bit, contact}
 use Rattle.writing.proofs.Unique.{contact-ends}
 use Rattle.writing.proofs.Whole.{contact-whole}
@@ -115,28 +115,28 @@ line-dropped x s t r n ls l i ok e =
 -- ---- the loops
 
 -- a contact in range that stands at a place makes a line in range
-line-ok : (m : List ℕ) → Bytes m → (f : LineFlags) (p : ContactPlace) (e : Contact) → ContactIs unicode16 m p e → InContact text-limits e → f .priority < 4 → LineOk (line-of f e)
+line-ok : (m : List ℕ) → Bytes m → (f : LineFlags) (p : ContactPlace) (e : Contact) → ContactIs m p e → InContact text-limits e → f .priority < 4 → LineOk (line-of f e)
 line-ok m h f p e is range low = record {
   priority = low;
   number = range .0;
-  text = record { short = range .1; units = text-out m (p .text .start) (is .end) (e .text) h (is .text .stands) .units };
+  text = record { short = range .1; units = text-out (p .text .coding) m (p .text .start) (is .end) (e .text) h (is .text .stands) .units };
 }
 
 module _ (o : Operation) (m : List ℕ) (f : LineFlags) (p : Entries) (s : List ℕ) where
   -- on a part that was s, whatever its places, i contacts are done, the others are left at a place, and it is now t
   abbrev pub LinesLeft : ℕ → ℕ → List ℕ → Type 0
   LinesLeft at i t =
-      f .priority < 4 → (n : ℕ) → Applying (contact unicode16) (contact-ends unicode16) (contact-whole unicode16) (InContact text-limits) (line-step n o f) (LineTable n) m s
+      f .priority < 4 → (n : ℕ) → Applying (contact (p .coding)) (contact-ends (p .coding)) (contact-whole (p .coding)) (InContact text-limits) (line-step n o f) (LineTable n) m s
       (p .start) (p .count) at (p .count - i) t
 
   -- what all contacts in turn answer
   abbrev pub LinesDone : List ℕ → Bool → Type 0
   LinesDone t r =
-      f .priority < 4 → (n : ℕ) (ls : List Line) (es : List Contact) → LineTable n ls s → EntriesAre (each (contact unicode16)) m p es → All (InContact text-limits) es
+      f .priority < 4 → (n : ℕ) (ls : List Line) (es : List Contact) → LineTable n ls s → EntriesAre (λ c. each (contact c)) m p es → All (InContact text-limits) es
       → Tried (LineTable n) (in-turn (line-step n o f) es ls) t r
 
   -- the contacts stand where the setting says
-  start : (es : List Contact) → EntriesAre (each (contact unicode16)) m p es → Starting (contact unicode16) m (p .start) (p .count) es
+  start : (es : List Contact) → EntriesAre (λ c. each (contact c)) m p es → Starting (contact (p .coding)) m (p .start) (p .count) es
   start es e = (e .counted, (p .next, e .stands))
 
   -- at the start all are left
@@ -149,10 +149,10 @@ module _ (o : Operation) (m : List ℕ) (f : LineFlags) (p : Entries) (s : List 
       let (u, d, k) = applying-end (g low n) (omega arith) es ls (start es e) q l in
       tried-room (LineTable n) u d k
 
-  module _ (at i : ℕ) (t : List ℕ) (h : i < p .count) (g : LinesLeft at i t) {c : ContactRead} (read : ContactAt unicode16 text-limits m at c) where
+  module _ (at i : ℕ) (t : List ℕ) (h : i < p .count) (g : LinesLeft at i t) {c : ContactRead} (read : ContactAt (p .coding) text-limits m at c) where
     -- no contact stands there, so this is not reached
     pub lines-stuck : (u : List ℕ) (r : Bool) → c ≡ NoContact → LinesDone u r
-    lines-stuck u r z low n ls es l e q = absurd (applying-stuck (g low n) (omega arith) (subst (ContactAt unicode16 text-limits m at) z read) es ls (start es e) q l)
+    lines-stuck u r z low n ls es l e q = absurd (applying-stuck (g low n) (omega arith) (subst (ContactAt (p .coding) text-limits m at) z read) es ls (start es e) q l)
 
     -- one does, x is the slot of its line, and applying it to t answered r and left u
     module _ (b : Bytes m) (place : ContactPlace) (q : ℕ) (is : c ≡ AContact place q) (x : List ℕ) (slot : LineSlot m f place x) (u : List ℕ) (r : Bool)
@@ -160,14 +160,14 @@ module _ (o : Operation) (m : List ℕ) (f : LineFlags) (p : Entries) (s : List 
       -- it had room
       pub lines-on : r ≡ true → LinesLeft q (i + 1) u
       lines-on z low n =
-          let (e, range, there, stands) = subst (ContactAt unicode16 text-limits m at) is read in
+          let (e, range, there, stands) = subst (ContactAt (p .coding) text-limits m at) is read in
           let d : p .count - (i + 1) ≡ p .count - i - 1 = omega arith in
           (rw d (applying-next (g low n) (omega arith) e q stands u (λ j ls l. turn e (line-ok m b f place e there range low) (slot e there range low) n ls l .room z)))
 
       -- it had none
       pub lines-full : r ≡ false → LinesDone u false
       lines-full z low n ls es l k j =
-          let (e, range, there, stands) = subst (ContactAt unicode16 text-limits m at) is read in
+          let (e, range, there, stands) = subst (ContactAt (p .coding) text-limits m at) is read in
           tried-full (LineTable n)
           (applying-full (g low n) (omega arith) e q stands (λ j ls l. turn e (line-ok m b f place e there range low) (slot e there range low) n ls l .full z) es ls (start es k) j l)
 

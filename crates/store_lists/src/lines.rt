@@ -52,10 +52,11 @@ fn drop_line(part: &mut [u8], slot: &[u8])
 fn put_lines(part: &mut [u8], m: &[u8], flags: LineFlags, entries: Entries) -> bool
     ensures { λ r. ⌜ LinesApplied Add (now (m .entry)) flags entries (now (part .entry)) (now (part .exit)) r ⌝ }
 {
+    let coding = entries.coding;
     let mut p = entries.start;
     let mut i = 0;
     while i < entries.count {
-        let here = read_contact(m, p);
+        let here = read_contact(m, p, coding);
         let ContactRead::Contact(place, next) = here else {
             return false;
         };
@@ -73,10 +74,11 @@ fn put_lines(part: &mut [u8], m: &[u8], flags: LineFlags, entries: Entries) -> b
 fn drop_lines(part: &mut [u8], m: &[u8], flags: LineFlags, entries: Entries)
     ensures { λ _. ⌜ LinesApplied Delete (now (m .entry)) flags entries (now (part .entry)) (now (part .exit)) true ⌝ }
 {
+    let coding = entries.coding;
     let mut p = entries.start;
     let mut i = 0;
     while i < entries.count {
-        let here = read_contact(m, p);
+        let here = read_contact(m, p, coding);
         let ContactRead::Contact(place, next) = here else {
             return;
         };

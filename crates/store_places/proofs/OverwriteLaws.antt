@@ -13,7 +13,7 @@ use Rattle.slots.proofs.Parts.{put-part, get-part}
 use Rattle.slots.proofs.Tables.{slot-wide, place-fits, place-written}
 use Rattle.writing.specs.declared.Operation.{Operation}
 use Rattle.writing.specs.declared.Operation.the-variants.{Add, Delete, Replace}
-use Rattle.writing.specs.Settings.{Text, unicode16}
+use Rattle.writing.specs.Settings.{Text}
 use Rattle.read_fields.specs.Parts.{TextIs}
 use Rattle.read_fields.specs.declared.texts.TextPlace.{TextPlace}
 use Rattle.tables.specs.Apply.{slot-after}
@@ -82,7 +82,7 @@ module _ {A : Type 0} (P : A → Type 0) (w : ℕ) (f : A → List ℕ) (long : 
     (t : Placed P w f n os s) (k : ℕ) (h : k < n) where
   -- the place was set to such an entry, or emptied
   pub place-overwritten : (o : Operation) (a : A) {m : List ℕ} {p : TextPlace} (head : List ℕ) (limit : ℕ) (us : Text) (next : ℕ)
-      → TextIs unicode16 m p us next → w ≡ length head + 2 * limit → Present (Made P f head limit us) (slot-after o a)
+      → TextIs m p us next → w ≡ length head + 2 * limit → Present (Made P f head limit us) (slot-after o a)
       → (u : List ℕ) → (k * w + w ≤ length s → PlaceSet m o p head w k s u) → Placed P w f n (set os k (slot-after o a)) u
   place-overwritten o a {m} {p} head limit us next is wide made u changed =
       let fits : k * w + w ≤ length s = place-fits P w f long n os s t k h in

@@ -15,7 +15,8 @@ use Rattle.slots.proofs.Tables.{slot-long, place-fits}
 use Rattle.writing.specs.declared.Operation.{Operation}
 use Rattle.writing.specs.declared.Operation.the-variants.{Add, Delete, Replace}
 use Rattle.writing.specs.Ranges.{text-limits, InQuick}
-use Rattle.writing.specs.Settings.{Text, Entry, unicode16}
+use Rattle.writing.specs.declared.Coding.{Coding}
+use Rattle.writing.specs.Settings.{Text, Entry}
 use Rattle.writing.specs.Writing.{quick-text}
 use Rattle.writing.proofs.Unique.{quick-ends}
 use Rattle.read_fields.specs.Entries.{QuickFrom, QuickAt}
@@ -107,7 +108,7 @@ module _ (m : List ℕ) (o : Operation) (p : EntryPlace) (s : List ℕ) where
       → QuickStep m o p s (putMid (p .index * quick-width) (p .index * quick-width + quick-width - p .index * quick-width) s y)
   place-stepped b y changed e is l i qs h =
       let k : p .index < quick-places = omega (arith, is .index) in
-      let us = text-out m (p .text .start) (is .end) (e .text) b (is .text .stands) .units in (
+      let us = text-out (p .text .coding) m (p .text .start) (is .end) (e .text) b (is .text .stands) .units in (
         set qs (e .index) (quick-slot o (getD qs (e .index) none) (e .text)),
         quick-one o e qs,
         subst⁻¹ (λ (j : ℕ). QuicksAre (set qs j (quick-slot o (getD qs j none) (e .text))) (putMid (p .index * quick-width) (p .index * quick-width + quick-width - p .index * quick-width) s y))
@@ -119,8 +120,8 @@ module _ (m : List ℕ) (o : Operation) (p : EntryPlace) (s : List ℕ) where
 -- ---- the loop over the entries
 
 -- an index has 6 bits
-index-small : (m : List ℕ) (p q : ℕ) (e : Entry) → PartAt (quick-text unicode16 e) m p q → e .index < quick-places
-index-small m p q e x =
+index-small : (k : Coding) (m : List ℕ) (p q : ℕ) (e : Entry) → PartAt (quick-text k e) m p q → e .index < quick-places
+index-small k m p q e x =
     let (a, b, c, d, f, (i, r, h, k, y, z)) = x .written in
     subst (_< 64) h k
 
@@ -129,23 +130,23 @@ pub quick-from : (o : Operation) (e : Entry) → InQuick text-limits o e → Qui
 quick-from o e i = (omega arith, quick-short o e i)
 
 -- the loop over the entries has come to p with left of them left, and made s of s₀
-abbrev pub QuickGoing : List ℕ → Operation → List ℕ → ℕ → ℕ → ℕ → ℕ → List ℕ → Type 0
-QuickGoing m o s₀ at count p left s =
-    Applying (quick-text unicode16) (quick-ends unicode16) quick-whole (InQuick text-limits o) (quick-step o) QuicksAre m s₀ at count p left s
+abbrev pub QuickGoing : Coding → List ℕ → Operation → List ℕ → ℕ → ℕ → ℕ → ℕ → List ℕ → Type 0
+QuickGoing c m o s₀ at count p left s =
+    Applying (quick-text c) (quick-ends c) (quick-whole c) (InQuick text-limits o) (quick-step o) QuicksAre m s₀ at count p left s
 
-module _ (m : List ℕ) (o : Operation) (s₀ : List ℕ) (entries : Entries) (p left : ℕ) (s : List ℕ) (g : QuickGoing m o s₀ (entries .start) (entries .count) p left s) where
+module _ (m : List ℕ) (o : Operation) (s₀ : List ℕ) (entries : Entries) (p left : ℕ) (s : List ℕ) (g : QuickGoing (entries .coding) m o s₀ (entries .start) (entries .count) p left s) where
   -- the entry that was read has been applied
-  pub quick-next : {r : EntryRead} (a : EntryPlace) (q : ℕ) (t : List ℕ) → 0 < left → QuickAt unicode16 text-limits 0 m p r → r ≡ AnEntry a q → QuickStep m o a s t
-      → QuickGoing m o s₀ (entries .start) (entries .count) q (left - 1) t
+  pub quick-next : {r : EntryRead} (a : EntryPlace) (q : ℕ) (t : List ℕ) → 0 < left → QuickAt (entries .coding) text-limits 0 m p r → r ≡ AnEntry a q → QuickStep m o a s t
+      → QuickGoing (entries .coding) m o s₀ (entries .start) (entries .count) q (left - 1) t
   quick-next a q t l read e stepped =
-      entry-applied g (QuickFrom text-limits 0) read l a q t e (λ x is z i. stepped x is (index-small m p q x z) i)
+      entry-applied g (QuickFrom text-limits 0) read l a q t e (λ x is z i. stepped x is (index-small (entries .coding) m p q x z) i)
 
   -- s₀ is what the table was, emptied where it is to be replaced
   module _ (was : List ℕ) (started : s₀ ≡ start-from o (replicate (length was) 0) was) where
     -- none could be read where one is left
-    pub quick-missing : {r : EntryRead} (t : List ℕ) → 0 < left → QuickAt unicode16 text-limits 0 m p r → r ≡ NoEntry → QuickApplied m o entries was t
-    quick-missing t l read e es h i = placed-missing QuickOk quick-width quick-bytes quick-long quick-places entries g o was started es h i (QuickFrom text-limits 0) (quick-from o) read e l t
+    pub quick-missing : {r : EntryRead} (t : List ℕ) → 0 < left → QuickAt (entries .coding) text-limits 0 m p r → r ≡ NoEntry → QuickApplied m o entries was t
+    quick-missing t l read e es h i = placed-missing QuickOk quick-width quick-bytes quick-long quick-places entries g o was started es (h .counted, (entries .next, h .stands)) i (QuickFrom text-limits 0) (quick-from o) read e l t
 
     -- all have been applied
     pub quick-done : left ≤ 0 → QuickApplied m o entries was s
-    quick-done l es h i = placed-done QuickOk quick-width quick-bytes quick-long quick-places entries g o was started es h i l
+    quick-done l es h i = placed-done QuickOk quick-width quick-bytes quick-long quick-places entries g o was started es (h .counted, (entries .next, h .stands)) i l

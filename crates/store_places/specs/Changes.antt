@@ -15,7 +15,7 @@ use Rattle.writing.specs.declared.Operation.the-variants.{Add, Delete, Replace}
 use Rattle.writing.specs.declared.SystemCode.{SystemCode}
 use Rattle.writing.specs.Fields.{each, val}
 use Rattle.writing.specs.Ranges.{text-limits, InQuick, InStatus, HashSize}
-use Rattle.writing.specs.Settings.{Text, Entry, unicode16}
+use Rattle.writing.specs.Settings.{Text, Entry}
 use Rattle.writing.specs.Writing.{quick-text, status-text}
 use Rattle.read_fields.specs.Entries.{EntryIs}
 use Rattle.read_fields.specs.Parts.{TextIs}
@@ -43,17 +43,17 @@ QuicksAre qs s = Placed QuickOk quick-width quick-bytes quick-places qs s
 -- what the entries make of the quick texts
 abbrev pub QuickApplied : List ℕ → Operation → Entries → List ℕ → List ℕ → Type 0
 QuickApplied m o p s t =
-    (es : List Entry) → EntriesAre (each (quick-text unicode16)) m p es → All (InQuick text-limits o) es → Changed QuicksAre (quick-after o es) s t
+    (es : List Entry) → EntriesAre (λ c. each (quick-text c)) m p es → All (InQuick text-limits o) es → Changed QuicksAre (quick-after o es) s t
 
 -- inner steps: one entry
 abbrev pub QuickStep : List ℕ → Operation → EntryPlace → List ℕ → List ℕ → Type 0
 QuickStep m o p s t =
-    (e : Entry) → EntryIs unicode16 m p e → e .index < quick-places → InQuick text-limits o e → Changed QuicksAre (quick-step o e) s t
+    (e : Entry) → EntryIs m p e → e .index < quick-places → InQuick text-limits o e → Changed QuicksAre (quick-step o e) s t
 
 -- a slot that holds q becomes that of what q is changed to
 abbrev pub QuickChanged : List ℕ → TextPlace → (Option Text → Text → Option Text) → List ℕ → List ℕ → Type 0
 QuickChanged m p change s t =
-    (q : Option Text) (us : Text) (next : ℕ) → TextIs unicode16 m p us next → length us ≤ text-limits .quick → Present QuickOk q
+    (q : Option Text) (us : Text) (next : ℕ) → TextIs m p us next → length us ≤ text-limits .quick → Present QuickOk q
     → s ≡ slot quick-width quick-bytes q → t ≡ slot quick-width quick-bytes (change q us)
 
 -- what an operation leaves in a slot
@@ -75,7 +75,7 @@ QuickIfAbsent m p = QuickChanged m p if-absent
 -- a slot of a head and room for n units: the text's bytes behind the head's, or zeros in a delete
 abbrev pub SlotSet : List ℕ → Operation → TextPlace → List ℕ → List ℕ → List ℕ → Type 0
 SlotSet m o p head s t =
-    (n : ℕ) (us : Text) (next : ℕ) → TextIs unicode16 m p us next → Present (λ us. length us ≤ n) (slot-after o us) → length s ≡ length head + 2 * n
+    (n : ℕ) (us : Text) (next : ℕ) → TextIs m p us next → Present (λ us. length us ≤ n) (slot-after o us) → length s ≡ length head + 2 * n
     → t ≡ slot (length s) (λ us. head ++ text-bytes n us) (slot-after o us)
 
 -- place k of slots of w bytes is set so, and the others stand
@@ -97,11 +97,11 @@ StatusesAre ss s = Placed StatusOk status-width status-bytes status-places ss s
 -- what the entries make of the status texts
 abbrev pub StatusApplied : List ℕ → Operation → Entries → List ℕ → List ℕ → Type 0
 StatusApplied m o p s t =
-    (es : List Entry) → EntriesAre (each (status-text unicode16)) m p es → All (InStatus text-limits) es → Changed StatusesAre (status-after o es) s t
+    (es : List Entry) → EntriesAre (λ c. each (status-text c)) m p es → All (InStatus text-limits) es → Changed StatusesAre (status-after o es) s t
 
 -- an inner step: one entry
 abbrev pub StatusStep : List ℕ → Operation → EntryPlace → List ℕ → List ℕ → Type 0
-StatusStep m o p s t = (e : Entry) → EntryIs unicode16 m p e → InStatus text-limits e → Changed StatusesAre (status-step o e) s t
+StatusStep m o p s t = (e : Entry) → EntryIs m p e → InStatus text-limits e → Changed StatusesAre (status-step o e) s t
 
 -- ---- group and individual slots
 
@@ -124,13 +124,13 @@ individual-member f p us = record { flags = f; address = p .address; text = us }
 -- a group slot is set to the member, or emptied, and the others stand; in a delete the member need not be allowed
 abbrev pub GroupApplied : List ℕ → Operation → GroupFlags → GroupPlace → List ℕ → List ℕ → Type 0
 GroupApplied m o f p s t =
-    (gs : List (Option GroupMember)) (us : Text) (next : ℕ) → TextIs unicode16 m (p .text) us next → p .index < slot-places
+    (gs : List (Option GroupMember)) (us : Text) (next : ℕ) → TextIs m (p .text) us next → p .index < slot-places
     → Present GroupOk (slot-after o (group-member f p us)) → GroupsAre gs s → GroupsAre (set gs (p .index) (slot-after o (group-member f p us))) t
 
 -- and so is an individual slot
 abbrev pub IndividualApplied : List ℕ → Operation → IndividualFlags → IndividualPlace → List ℕ → List ℕ → Type 0
 IndividualApplied m o f p s t =
-    (is : List (Option IndividualMember)) (us : Text) (next : ℕ) → TextIs unicode16 m (p .text) us next → p .index < slot-places
+    (is : List (Option IndividualMember)) (us : Text) (next : ℕ) → TextIs m (p .text) us next → p .index < slot-places
     → Present IndividualOk (slot-after o (individual-member f p us)) → IndividualsAre is s
     → IndividualsAre (set is (p .index) (slot-after o (individual-member f p us))) t
 

@@ -51,10 +51,11 @@ pub fn apply_quick(part: &mut [u8], m: &[u8], operation: Operation, entries: Ent
     ensures { λ _. ⌜ QuickApplied (now (m .entry)) operation entries (now (part .entry)) (now (part .exit)) ⌝ }
 {
     empty_to_replace(part, operation);
+    let coding = entries.coding;
     let mut p = entries.start;
     let mut left = entries.count;
     while 0 < left {
-        let here = read_quick(m, p, 0);
+        let here = read_quick(m, p, 0, coding);
         let EntryRead::Entry(place, next) = here else {
             return;
         };

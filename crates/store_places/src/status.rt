@@ -35,10 +35,11 @@ pub fn apply_status(part: &mut [u8], m: &[u8], operation: Operation, entries: En
     ensures { λ _. ⌜ StatusApplied (now (m .entry)) operation entries (now (part .entry)) (now (part .exit)) ⌝ }
 {
     empty_to_replace(part, operation);
+    let coding = entries.coding;
     let mut p = entries.start;
     let mut left = entries.count;
     while 0 < left {
-        let here = read_status(m, p);
+        let here = read_status(m, p, coding);
         let EntryRead::Entry(place, next) = here else {
             return;
         };

@@ -8,7 +8,7 @@ use lib.ListN.{length}
 use Rattle.lists.specs.Every.{All}
 use Rattle.writing.specs.Fields.{Field, widths, each}
 use Rattle.writing.proofs.Ends.{Ends}
-use Rattle.writing.specs.Settings.{Entry, unicode16}
+use Rattle.writing.specs.Settings.{Entry}
 use Rattle.read_fields.specs.Entries.{EntryIs, EntryAt}
 use Rattle.read_fields.specs.Places.{PartAt}
 use Rattle.read_fields.specs.declared.entries.EntryPlace.{EntryPlace}
@@ -167,14 +167,14 @@ module _ {A T : Type 0} {f : A → List Field} {ends : Ends f} {wide : (a : A) �
 
 module _ {T : Type 0} {f : Entry → List Field} {ends : Ends f} {wide : (e : Entry) → (n : ℕ) × (widths (f e) ≡ 8 * n)} {In : Entry → Type 0} {step : Entry → T → Option T}
     {Is : T → List ℕ → Type 0} {m s₀ : List ℕ} {at count p left : ℕ} {s : List ℕ} (g : Applying f ends wide In step Is m s₀ at count p left s)
-    (InRead : Entry → Type 0) {r : EntryRead} (read : EntryAt unicode16 f InRead m p r) (l : 0 < left) where
+    (InRead : Entry → Type 0) {r : EntryRead} (read : EntryAt f InRead m p r) (l : 0 < left) where
   -- the entry that was read has been applied
   pub entry-applied : (a : EntryPlace) (q : ℕ) (t : List ℕ) → r ≡ AnEntry a q
-      → ((e : Entry) → EntryIs unicode16 m a e → PartAt (f e) m p q → In e → Changed Is (step e) s t) → Applying f ends wide In step Is m s₀ at count q (left - 1) t
+      → ((e : Entry) → EntryIs m a e → PartAt (f e) m p q → In e → Changed Is (step e) s t) → Applying f ends wide In step Is m s₀ at count q (left - 1) t
   entry-applied a q t e applied =
-      let (x, i, is, z) = subst (EntryAt unicode16 f InRead m p) e read in
+      let (x, i, is, z) = subst (EntryAt f InRead m p) e read in
       applying-next g l x q z t (λ j. applied x is z j)
 
   -- none was, so none was left
   pub entry-missing : ((e : Entry) → In e → InRead e) → r ≡ NoEntry → (es : List Entry) (start : T) → Starting f m at count es → All In es → Is start s₀ → ⊥
-  entry-missing in-read e = applying-stuck g l (λ x q i y. subst (EntryAt unicode16 f InRead m p) e read x q (in-read x i) y)
+  entry-missing in-read e = applying-stuck g l (λ x q i y. subst (EntryAt f InRead m p) e read x q (in-read x i) y)

@@ -11,7 +11,8 @@ use Rattle.lists.specs.Every.{All}
 use Rattle.lists.proofs.Every.{all-append}
 use Rattle.writing.specs.Canonical.{value, side-by-side, bytes, plain, canonical, canonical-all, FitsField, Fits}
 use Rattle.writing.specs.Fields.{bits, bitsOf, Field, val, item, res, width, widths, Holds, Shows}
-use Rattle.writing.specs.Settings.{Setting, Coding}
+use Rattle.writing.specs.declared.Coding.{Coding}
+use Rattle.writing.specs.Settings.{Setting}
 use Rattle.writing.specs.Writing.{fields, data-length, Written, WrittenAll}
 use Rattle.writing.proofs.Bits.{bits-split, bits-cong, bitsOf-append, bitsOf-one, widths-append}
 use Rattle.writing.proofs.Whole.{body-whole, whole}

@@ -9,7 +9,8 @@ use Rattle.lists.specs.Every.{All}
 use Rattle.lists.proofs.Every.{all?, all-passed, both}
 use Rattle.writing.specs.Canonical.{plain, canonical, FitsField}
 use Rattle.writing.specs.Fields.{bits, bitsOf, Field, val, item, res, width, widths, Holds, Shows}
-use Rattle.writing.specs.Settings.{Setting, Coding}
+use Rattle.writing.specs.declared.Coding.{Coding}
+use Rattle.writing.specs.Settings.{Setting}
 use Rattle.writing.specs.Writing.{fields, Written}
 use Rattle.writing.proofs.Bits.{bitsOf-one}
 use Rattle.writing.proofs.CanonicalLaws.{plain-bytes, plain-shows, canonical-written}

@@ -15,7 +15,8 @@ use Rattle.writing.specs.Fields.{val, widths}
 use Rattle.writing.specs.Ranges.{TextLimits, text-limits, HashSize, no-hash, hash-4, hash-10, InRange, InSlot}
 use Rattle.writing.specs.Rows.{row, no-text, longest-text, Within, Allows, operation}
 use Rattle.writing.specs.declared.Operations.the-variants.{AddOrDelete}
-use Rattle.writing.specs.Settings.{Text, Setting, lines, key, quick-texts, home, channels, system, status-texts, group, individual, last, kind, Coding, unicode16}
+use Rattle.writing.specs.declared.Coding.{Coding}
+use Rattle.writing.specs.Settings.{Text, Setting, lines, key, quick-texts, home, channels, system, status-texts, group, individual, last, kind, unicode16}
 use Rattle.writing.specs.Writing.{unit-width, text, key-address, data-length}
 use Rattle.writing.proofs.Bits.{widths-map}
 use Rattle.writing.proofs.Whole.{unit-whole, text-widths}

@@ -23,7 +23,8 @@ use Rattle.writing.specs.declared.GroupFlags.{GroupFlags}
 use Rattle.writing.specs.declared.IndividualFlags.{IndividualFlags}
 use Rattle.writing.specs.declared.LastFlags.{LastFlags}
 use Rattle.writing.specs.Fields.{bitsOf, Field, val, Shows, widths}
-use Rattle.writing.specs.Settings.{Contact, Entry, Slot, Hash, Setting, lines, key, quick-texts, home, channels, system, status-texts, group, individual, last, kind, Coding}
+use Rattle.writing.specs.declared.Coding.{Coding}
+use Rattle.writing.specs.Settings.{Contact, Entry, Slot, Hash, Setting, lines, key, quick-texts, home, channels, system, status-texts, group, individual, last, kind}
 use Rattle.writing.specs.Writing.{bit, flag, op-code, op, unit-width, text, fill, number, contact, quick-text, status-text, slot, current, to-group, key-address, type-byte, body, data-length, fields, Written, WrittenAll, WrittenAs, request-head}
 use Rattle.writing.proofs.ByKind.{Contents, make, of, kind-make}
 use Rattle.writing.proofs.Bits.{bitsOf-append, length-bitsOf, shows-length, widths-map}

@@ -9,7 +9,9 @@ use Rattle.writing.specs.declared.Result.{Result}
 use Rattle.writing.specs.declared.Result.the-variants.{Taken, OtherVersion as NotVersion1, NoRoom, UnknownType, BadField, NoMatch}
 use Rattle.writing.specs.Fields.{bitsOf, Field, val, res, Shows}
 use Rattle.writing.specs.Ranges.{HashSize}
-use Rattle.writing.specs.Settings.{Setting, Hash, Coding, unicode16}
+use Rattle.writing.specs.declared.Coding.{Coding}
+use Rattle.writing.specs.declared.Coding.the-variants.{Unicode16}
+use Rattle.writing.specs.Settings.{Setting, Hash, unicode16}
 use Rattle.writing.specs.Writing.{hash, request-head, WrittenAs}
 
 -- ---- the carrier
@@ -36,7 +38,7 @@ pub record Carries (coding-type : ℕ) (data-bytes message : List ℕ) : Type 0 
 
 -- "Coding type must be 0111 (16-bit Unicode)"
 abbrev pub coding-type : Coding → ℕ
-coding-type unicode16 = 7
+coding-type Unicode16 = 7
 
 -- ---- requests, result queries and replies
 

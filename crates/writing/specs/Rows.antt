@@ -8,7 +8,8 @@ use Rattle.writing.specs.declared.Operation.the-variants.{Add, Delete, R
 use Rattle.writing.specs.declared.Operations.{Operations}
 use Rattle.writing.specs.declared.Operations.the-variants.{NoOperation, AnyOperation, AddOrDelete}
 use Rattle.writing.specs.Ranges.{TextLimits}
-use Rattle.writing.specs.Settings.{Setting, lines, key, quick-texts, home, channels, system, status-texts, group, individual, last, Coding}
+use Rattle.writing.specs.declared.Coding.{Coding}
+use Rattle.writing.specs.Settings.{Setting, lines, key, quick-texts, home, channels, system, status-texts, group, individual, last}
 use Rattle.writing.specs.Writing.{unit-width}
 
 -- the operation is among them

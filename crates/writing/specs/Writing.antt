@@ -13,7 +13,9 @@ use Rattle.writing.specs.declared.Operation.the-variants.{Add, Delete, R
 use Rattle.writing.specs.declared.KeyTarget.{KeyTarget}
 use Rattle.writing.specs.declared.KeyTarget.the-variants.{Current, ToGroup, ToIndividual}
 use Rattle.writing.specs.Fields.{bitsOf, Field, val, item, res, Shows, widths, each}
-use Rattle.writing.specs.Settings.{Text, Number, Contact, Entry, Slot, Hash, Setting, lines, key, quick-texts, home, channels, system, status-texts, group, individual, last, kind, Coding, unicode16}
+use Rattle.writing.specs.declared.Coding.{Coding}
+use Rattle.writing.specs.declared.Coding.the-variants.{Unicode16}
+use Rattle.writing.specs.Settings.{Text, Number, Contact, Entry, Slot, Hash, Setting, lines, key, quick-texts, home, channels, system, status-texts, group, individual, last, kind}
 
 -- ---- parts of the fields
 
@@ -35,7 +37,7 @@ op o = val 2 (op-code o)
 
 -- "Text: 16-bit units, ended by unit 0000"
 abbrev pub unit-width : Coding → ℕ
-unit-width unicode16 = 16
+unit-width Unicode16 = 16
 
 abbrev pub text : Coding → Text → List Field
 text c us = map (item (unit-width c) 0) us ++ val (unit-width c) 0 ∷ []

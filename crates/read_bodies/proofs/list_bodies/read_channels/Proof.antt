@@ -5,7 +5,6 @@ use mathlib.Core.Path.{refl, sym, subst}
 use mathlib.Core.List.{List, [], _∷_}
 use Rattle.writing.specs.declared.Kind.the-variants.{Channels as KChannels}
 use Rattle.writing.specs.Ranges.{text-limits}
-use Rattle.writing.specs.Settings.{unicode16}
 use Rattle.read_fields.specs.Entries.{ChannelsAt}
 use Rattle.settings.specs.Rows.{OperationIs}
 use Rattle.settings.specs.declared.settings.Setting.the-variants.{Channels}
@@ -18,7 +17,7 @@ remaining-requires : tie.Need-remaining-requires
 remaining-requires c κs = search needs
 
 returns : tie.Need-returns
-returns c = λ ops left. no-room KChannels channels-head left (c .before .before .before .args .m .now) (c .before .before .before .args .p) (λ i. (c .before .before .shared-slice-known .given i) .fits) (omega arith)
+returns c = λ ops left. no-room KChannels (channels-head (c .before .before .before .args .coding)) left (c .before .before .before .args .m .now) (c .before .before .before .args .p) (λ i. (c .before .before .shared-slice-known .given i) .fits) (omega arith)
 
 number-requires : tie.Need-number-requires
 number-requires c κs = search needs
@@ -36,7 +35,7 @@ returns-2 : tie.Need-returns-2
 returns-2 c =
     λ ops left.
     let told = subst (OperationIs (c .before .before .before .number .result / 16384 % 4) (c .before .before .before .before .before .before .before .args .operations)) (c .enum-told .given .1) (c .before .before .operation-of .ensures) in
-    no-body KChannels channels-head left (c .before .before .before .before .before .before .before .args .m .now) (c .before .before .before .before .before .before .before .args .p) (λ i. (c .before .before .before .before .before .before .shared-slice-known .given i) .fits) (c .before .before .before .number .ensures (omega arith, omega arith)) (λ x next k i t. told (x .0) (sym (k .0)) (omega (arith, op-small (x .0), k .0)))
+    no-body KChannels (channels-head (c .before .before .before .before .before .before .before .args .coding)) left (c .before .before .before .before .before .before .before .args .m .now) (c .before .before .before .before .before .before .before .args .p) (λ i. (c .before .before .before .before .before .before .shared-slice-known .given i) .fits) (c .before .before .before .number .ensures (omega arith, omega arith)) (λ x next k i t. told (x .0) (sym (k .0)) (omega (arith, op-small (x .0), k .0)))
 
 add-start : tie.Need-add-start
 add-start c = search needs
@@ -54,14 +53,14 @@ returns-3 : tie.Need-returns-3
 returns-3 c =
     λ ops left.
     let stop = subst (ChannelsAt (c .before .before .before .before .before .before .before .before .before .before .before .args .m .now) (c .before .before .before .before .before .before .before .before .before .before .before .args .p + 2) _) (c .enum-told2 .given .1) (c .before .before .walk-channels .ensures) in
-    no-body KChannels channels-head left (c .before .before .before .before .before .before .before .before .before .before .before .args .m .now) (c .before .before .before .before .before .before .before .before .before .before .before .args .p) (λ i. (c .before .before .before .before .before .before .before .before .before .before .shared-slice-known .given i) .fits) (c .before .before .before .before .before .before .before .number .ensures (omega arith, omega arith)) (λ x next k i t. stop (x .1) next (record { counted = omega (arith, k .1 .1 .0); in-range = i; stands = t }))
+    no-body KChannels (channels-head (c .before .before .before .before .before .before .before .before .before .before .before .args .coding)) left (c .before .before .before .before .before .before .before .before .before .before .before .args .m .now) (c .before .before .before .before .before .before .before .before .before .before .before .args .p) (λ i. (c .before .before .before .before .before .before .before .before .before .before .shared-slice-known .given i) .fits) (c .before .before .before .before .before .before .before .number .ensures (omega arith, omega arith)) (λ x next k i t. stop (x .1) next (record { counted = omega (arith, k .1 .1 .0); in-range = i; stands = t }))
 
 returns-4 : tie.Need-returns-4
 returns-4 c =
     λ ops left.
     let z = subst (ChannelsAt (c .before .before .before .before .before .before .before .before .before .before .before .before .args .m .now) (c .before .before .before .before .before .before .before .before .before .before .before .before .args .p + 2) _) (c .before .walked .given .1) (c .before .before .before .walk-channels .ensures) in
     let told = subst (OperationIs (c .before .before .before .before .before .before .before .before .number .result / 16384 % 4) (c .before .before .before .before .before .before .before .before .before .before .before .before .args .operations)) (c .before .before .before .before .before .o .given .1) (c .before .before .before .before .before .before .before .operation-of .ensures) in
-    the-body KChannels channels-head left (c .before .before .before .before .before .before .before .before .before .before .before .before .args .m .now) (c .before .before .before .before .before .before .before .before .before .before .before .before .args .p) (λ i. (c .before .before .before .before .before .before .before .before .before .before .before .shared-slice-known .given i) .fits) (c .before .before .before .before .before .before .before .before .number .ensures (omega arith, omega arith)) ((c .before .before .before .before .before .o .given .0 .0), z .0) (Channels (c .before .before .before .before .before .o .given .0 .0) (record { start = c .before .before .before .before .before .before .before .before .before .before .before .before .args .p + 2; count = _; next = c .before .walked .given .0 .0 })) (c .before .walked .given .0 .0) (omega arith)
+    the-body KChannels (channels-head (c .before .before .before .before .before .before .before .before .before .before .before .before .args .coding)) left (c .before .before .before .before .before .before .before .before .before .before .before .before .args .m .now) (c .before .before .before .before .before .before .before .before .before .before .before .before .args .p) (λ i. (c .before .before .before .before .before .before .before .before .before .before .before .shared-slice-known .given i) .fits) (c .before .before .before .before .before .before .before .before .number .ensures (omega arith, omega arith)) ((c .before .before .before .before .before .o .given .0 .0), z .0) (Channels (c .before .before .before .before .before .o .given .0 .0) (record { start = c .before .before .before .before .before .before .before .before .before .before .before .before .args .p + 2; count = _; next = c .before .walked .given .0 .0; coding = c .before .before .before .before .before .before .before .before .before .before .before .before .args .coding })) (c .before .walked .given .0 .0) (omega arith)
     (sym (told .0), (tt, (omega (arith, z .1 .counted), tt))) (z .1 .in-range) (z .1 .stands) (z .0, refl, record { counted = z .1 .counted; stands = z .1 .stands })
 
 pub read-channels-spec : {M : Type 1} → statement M

@@ -5,7 +5,6 @@ use Rattle.read_fields.specs.Entries.{QuickAt}
 use Rattle.read_fields.proofs.Walk.{Passed, none-passed, walk-on, walk-stops, walk-ends}
 use Rattle.read_fields.specs.Entries.{QuickFrom}
 use Rattle.writing.specs.Ranges.{text-limits}
-use Rattle.writing.specs.Settings.{unicode16}
 use Rattle.writing.specs.Writing.{quick-text}
 use Rattle.writing.proofs.Unique.{quick-ends}
 use Rattle.read_fields.proofs.EntryLaws.{quick-whole}
@@ -13,10 +12,10 @@ use Rattle.read_fields.proofs.entries.walk_quick.Statement.{statement}
 use Rattle.read_fields.proofs.entries.walk_quick.Tie as tie
 
 abbrev Inv-loop : tie.InvT-loop
-Inv-loop m at count least p₀ left₀ p left = Passed (quick-text unicode16) (QuickFrom text-limits least) (quick-ends unicode16) (quick-whole) m at count p left
+Inv-loop m at count least coding p₀ left₀ p left = Passed (quick-text coding) (QuickFrom text-limits least) (quick-ends coding) (quick-whole coding) m at count p left
 
 abbrev μ-loop : tie.MeasureT-loop
-μ-loop m at count least p₀ left₀ p left = left
+μ-loop m at count least coding p₀ left₀ p left = left
 
 loop-holds : tie.Need-loop-holds Inv-loop μ-loop
 loop-holds c = none-passed _ _ _ _ _ _ _
@@ -31,7 +30,7 @@ enum-told : tie.Need-enum-told Inv-loop μ-loop
 enum-told c = search needs
 
 returns : tie.Need-returns Inv-loop μ-loop
-returns c = walk-stops _ _ _ _ _ _ _ _ _ (omega arith) (c .before .before .before .before .loop .inv) (subst (QuickAt unicode16 text-limits (c .before .before .before .before .before .before .args .least) (c .before .before .before .before .before .before .args .m .now) (c .before .before .before .before .loop .p)) (c .enum-told .given .1) (c .before .before .read-quick .ensures))
+returns c = walk-stops _ _ _ _ _ _ _ _ _ (omega arith) (c .before .before .before .before .loop .inv) (subst (QuickAt (c .before .before .before .before .before .before .args .coding) text-limits (c .before .before .before .before .before .before .args .least) (c .before .before .before .before .before .before .args .m .now) (c .before .before .before .before .loop .p)) (c .enum-told .given .1) (c .before .before .read-quick .ensures))
 
 sub-left : tie.Need-sub-left Inv-loop μ-loop
 sub-left c = omega arith
@@ -41,7 +40,7 @@ loop-less c = omega arith
 
 loop-again : tie.Need-loop-again Inv-loop μ-loop
 loop-again c =
-    let z = subst (QuickAt unicode16 text-limits (c .before .before .before .before .before .before .before .args .least) (c .before .before .before .before .before .before .before .args .m .now) (c .before .before .before .before .before .loop .p)) (c .before .here .given .1) (c .before .before .before .read-quick .ensures) in
+    let z = subst (QuickAt (c .before .before .before .before .before .before .before .args .coding) text-limits (c .before .before .before .before .before .before .before .args .least) (c .before .before .before .before .before .before .before .args .m .now) (c .before .before .before .before .before .loop .p)) (c .before .here .given .1) (c .before .before .before .read-quick .ensures) in
     walk-on _ _ _ _ _ _ _ _ _ _ (z .0) (omega arith) (c .before .before .before .before .before .loop .inv) (z .1) (z .3)
 
 returns-2 : tie.Need-returns-2 Inv-loop μ-loop

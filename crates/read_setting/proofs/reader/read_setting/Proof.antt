@@ -26,7 +26,7 @@ enum-told c = search needs
 returns-2 : tie.Need-returns-2
 returns-2 c =
     let a = c .before .before .before .before .before .before .before .args in
-    no-type (a .left) (a .m .now) (a .at) (omega arith) (c .before .before .row-of .ensures) (c .enum-told .given .1)
+    no-type (a .coding) (a .left) (a .m .now) (a .at) (omega arith) (c .before .before .row-of .ensures) (c .enum-told .given .1)
 
 remaining-requires-2 : tie.Need-remaining-requires-2
 remaining-requires-2 c κs = search needs
@@ -36,7 +36,7 @@ returns-3 c =
     let f = c .before .before .before in
     let a = f .before .before .before .before .before .before .before .args in
     let bytes : Bytes (a .m .now) = λ i. (f .before .before .before .before .before .before .shared-slice-known .given i) .fits in
-    too-short _ (a .m .now) (a .at) bytes (f .found .given .0 .0) (f .before .before .row-of .ensures) (f .found .given .1) (omega arith) (omega arith)
+    too-short (a .coding) _ (a .m .now) (a .at) bytes (f .found .given .0 .0) (f .before .before .row-of .ensures) (f .found .given .1) (omega arith) (omega arith)
 
 add-number : tie.Need-add-number
 add-number c = search needs
@@ -52,7 +52,7 @@ returns-4 c =
     let f = c .before .before .before .before .before in
     let a = f .before .before .before .before .before .before .before .args in
     let bytes : Bytes (a .m .now) = λ i. (f .before .before .before .before .before .before .shared-slice-known .given i) .fits in
-    too-little _ (a .m .now) (a .at) bytes (f .found .given .0 .0) (f .before .before .row-of .ensures) (f .found .given .1) (c .before .number .ensures (omega arith, omega arith)) (omega arith) (omega arith)
+    too-little (a .coding) _ (a .m .now) (a .at) bytes (f .found .given .0 .0) (f .before .before .row-of .ensures) (f .found .given .1) (c .before .number .ensures (omega arith, omega arith)) (omega arith) (omega arith)
 
 cast-if4 : tie.Need-cast-if4
 cast-if4 c = search needs
@@ -62,7 +62,7 @@ returns-5 c =
     let f = c .before .before .before .before .before .before in
     let a = f .before .before .before .before .before .before .before .args in
     let bytes : Bytes (a .m .now) = λ i. (f .before .before .before .before .before .before .shared-slice-known .given i) .fits in
-    too-much _ (a .m .now) (a .at) bytes (f .found .given .0 .0) (f .before .before .row-of .ensures) (f .found .given .1) (c .before .before .number .ensures (omega arith, omega arith)) (omega arith) (omega arith)
+    too-much (a .coding) _ (a .m .now) (a .at) bytes (f .found .given .0 .0) (f .before .before .row-of .ensures) (f .found .given .1) (c .before .before .number .ensures (omega arith, omega arith)) (omega arith) (omega arith)
 
 add-read-body : tie.Need-add-read-body
 add-read-body c = search needs
@@ -81,7 +81,7 @@ returns-6 c =
     let f = c .before .before .before .before .before .before .before .before .before in
     let a = f .before .before .before .before .before .before .before .args in
     let bytes : Bytes (a .m .now) = λ i. (f .before .before .before .before .before .before .shared-slice-known .given i) .fits in
-    no-fields _ (a .m .now) (a .at) bytes (f .found .given .0 .0) (f .before .before .row-of .ensures) (f .found .given .1) (c .before .before .before .before .before .number .ensures (omega arith, omega arith)) (omega arith) (c .before .before .read-body .ensures) (c .enum-told2 .given .1)
+    no-fields (a .coding) _ (a .m .now) (a .at) bytes (f .found .given .0 .0) (f .before .before .row-of .ensures) (f .found .given .1) (c .before .before .before .before .before .number .ensures (omega arith, omega arith)) (omega arith) (c .before .before .read-body .ensures) (c .enum-told2 .given .1)
 
 sub-taken : tie.Need-sub-taken
 sub-taken c =
@@ -89,7 +89,7 @@ sub-taken c =
     let a = f .before .before .before .before .before .before .before .args in
     let bytes : Bytes (a .m .now) = λ i. (f .before .before .before .before .before .before .shared-slice-known .given i) .fits in
     let g = c .before .fields .given in
-    omega (arith, behind _ (a .m .now) (a .at) bytes (f .found .given .0 .0) (f .before .before .row-of .ensures) (f .found .given .1) (c .before .before .before .before .before .before .number .ensures (omega arith, omega arith)) (omega arith) (c .before .before .before .read-body .ensures) (g .0 .0) (g .0 .1 .0) (g .1))
+    omega (arith, behind (a .coding) _ (a .m .now) (a .at) bytes (f .found .given .0 .0) (f .before .before .row-of .ensures) (f .found .given .1) (c .before .before .before .before .before .before .number .ensures (omega arith, omega arith)) (omega arith) (c .before .before .before .read-body .ensures) (g .0 .0) (g .0 .1 .0) (g .1))
 
 sub-taken-2 : tie.Need-sub-taken-2
 sub-taken-2 c =
@@ -97,7 +97,7 @@ sub-taken-2 c =
     let a = f .before .before .before .before .before .before .before .args in
     let bytes : Bytes (a .m .now) = λ i. (f .before .before .before .before .before .before .shared-slice-known .given i) .fits in
     let g = c .before .fields .given in
-    omega (arith, behind _ (a .m .now) (a .at) bytes (f .found .given .0 .0) (f .before .before .row-of .ensures) (f .found .given .1) (c .before .before .before .before .before .before .number .ensures (omega arith, omega arith)) (omega arith) (c .before .before .before .read-body .ensures) (g .0 .0) (g .0 .1 .0) (g .1))
+    omega (arith, behind (a .coding) _ (a .m .now) (a .at) bytes (f .found .given .0 .0) (f .before .before .row-of .ensures) (f .found .given .1) (c .before .before .before .before .before .before .number .ensures (omega arith, omega arith)) (omega arith) (c .before .before .before .read-body .ensures) (g .0 .0) (g .0 .1 .0) (g .1))
 
 returns-7 : tie.Need-returns-7
 returns-7 c =
@@ -105,7 +105,7 @@ returns-7 c =
     let a = f .before .before .before .before .before .before .before .args in
     let bytes : Bytes (a .m .now) = λ i. (f .before .before .before .before .before .before .shared-slice-known .given i) .fits in
     let g = c .before .before .fields .given in
-    other-length _ (a .m .now) (a .at) bytes (f .found .given .0 .0) (f .before .before .row-of .ensures) (f .found .given .1) (c .before .before .before .before .before .before .before .number .ensures (omega arith, omega arith)) (omega arith) (c .before .before .before .before .read-body .ensures) (g .0 .0) (g .0 .1 .0) (g .1) (omega arith)
+    other-length (a .coding) _ (a .m .now) (a .at) bytes (f .found .given .0 .0) (f .before .before .row-of .ensures) (f .found .given .1) (c .before .before .before .before .before .before .before .number .ensures (omega arith, omega arith)) (omega arith) (c .before .before .before .before .read-body .ensures) (g .0 .0) (g .0 .1 .0) (g .1) (omega arith)
 
 returns-8 : tie.Need-returns-8
 returns-8 c =
@@ -113,7 +113,7 @@ returns-8 c =
     let a = f .before .before .before .before .before .before .before .args in
     let bytes : Bytes (a .m .now) = λ i. (f .before .before .before .before .before .before .shared-slice-known .given i) .fits in
     let g = c .before .before .fields .given in
-    the-setting _ (a .m .now) (a .at) bytes (f .found .given .0 .0) (f .before .before .row-of .ensures) (f .found .given .1) (c .before .before .before .before .before .before .before .number .ensures (omega arith, omega arith)) (omega arith) (c .before .before .before .before .read-body .ensures) (g .0 .0) (g .0 .1 .0) (g .1) (omega arith)
+    the-setting (a .coding) _ (a .m .now) (a .at) bytes (f .found .given .0 .0) (f .before .before .row-of .ensures) (f .found .given .1) (c .before .before .before .before .before .before .before .number .ensures (omega arith, omega arith)) (omega arith) (c .before .before .before .before .read-body .ensures) (g .0 .0) (g .0 .1 .0) (g .1) (omega arith)
 
 pub read-setting-spec : {M : Type 1} → statement M
 read-setting-spec =

@@ -13,10 +13,10 @@ use Rattle.store_lists.proofs.lines.drop_lines.Statement.{statement}
 use Rattle.store_lists.proofs.lines.drop_lines.Tie as tie
 
 abbrev Inv-loop : tie.InvT-loop
-Inv-loop part₀ m flags entries p₀ i₀ part p i = (length part ≡ length part₀) × LinesLeft Delete m flags entries part₀ p i part
+Inv-loop part₀ m flags entries coding p₀ i₀ part p i = (length part ≡ length part₀) × LinesLeft Delete m flags entries part₀ p i part
 
 abbrev μ-loop : tie.MeasureT-loop
-μ-loop part₀ m flags entries p₀ i₀ part p i = entries .count - i
+μ-loop part₀ m flags entries coding p₀ i₀ part p i = entries .count - i
 
 loop-holds : tie.Need-loop-holds Inv-loop μ-loop
 loop-holds c =

@@ -8,10 +8,10 @@ use Rattle.store_places.proofs.quick.apply_quick.Statement.{statement}
 use Rattle.store_places.proofs.quick.apply_quick.Tie as tie
 
 abbrev Inv-loop : tie.InvT-loop
-Inv-loop part₀ m operation p₀ left₀ part p left = (length part ≡ length part₀) × QuickGoing m operation part₀ p₀ left₀ p left part
+Inv-loop part₀ m operation coding p₀ left₀ part p left = (length part ≡ length part₀) × QuickGoing coding m operation part₀ p₀ left₀ p left part
 
 abbrev μ-loop : tie.MeasureT-loop
-μ-loop part₀ m operation p₀ left₀ part p left = left
+μ-loop part₀ m operation coding p₀ left₀ part p left = left
 
 empty-to-replace-requires : tie.Need-empty-to-replace-requires Inv-loop μ-loop
 empty-to-replace-requires c κs = search needs
