@@ -27,9 +27,12 @@ use Rattle.settings.specs.declared.settings.Entries.{Entries}
 use Rattle.settings.specs.declared.settings.GroupPlace.{GroupPlace}
 use Rattle.settings.specs.declared.settings.IndividualPlace.{IndividualPlace}
 use Rattle.read_fields.specs.declared.texts.TextPlace.{TextPlace}
-use Rattle.tables.specs.Allowed.{QuickOk, StatusOk, GroupOk, IndividualOk}
+use Rattle.tables.specs.Allowed.{QuickOk, StatusOk}
 use Rattle.tables.specs.Apply.{if-absent, quick-step, quick-after, status-step, status-after, slot-after}
-use Rattle.tables.specs.Layout.{text-bytes, quick-bytes, quick-width, status-bytes, status-width, group-bytes, individual-bytes, member-width, key-address, key-bytes, system-bytes, hash-bytes}
+use Rattle.tables.specs.Layout.{text-bytes, quick-bytes, quick-width, status-bytes, status-width, member-width, key-address, key-bytes, system-bytes, hash-bytes}
+use Rattle.tables.specs.declared.members.Members.{Members}
+use Rattle.tables.specs.declared.members.Members.the-variants.{OfGroups, OfIndividuals}
+use Rattle.tables.specs.Members.{FlagsIn, AddressIn, MemberIn, member-ok, flags-of, number-of, member-bytes}
 use Rattle.tables.specs.Limits.{quick-places, status-places, slot-places}
 use Rattle.tables.specs.Tables.{GroupMember, IndividualMember}
 use Rattle.tables.specs.Changing.{Changed}
@@ -105,34 +108,45 @@ StatusStep m o p s t = (e : Entry) → EntryIs m p e → InStatus text-limits e 
 
 -- ---- group and individual slots
 
--- the bytes are the group slots
+-- the bytes are the slots of a table
+abbrev pub MembersAre : (w : Members) → List (Option (MemberIn w)) → List ℕ → Type 0
+MembersAre w os s = Placed (member-ok w) member-width (member-bytes w) slot-places os s
+
+-- the member that a setting gives
+abbrev pub member : (w : Members) → FlagsIn w → AddressIn w → Text → MemberIn w
+member w f a us = record { flags = f; address = a; text = us }
+
+-- the slot of an index is set to the member, or emptied, and the others stand; in a delete the member need not be allowed
+abbrev pub MemberApplied : (w : Members) → List ℕ → Operation → FlagsIn w → AddressIn w → (index : ℕ) → TextPlace → List ℕ → List ℕ → Type 0
+MemberApplied w m o f a i p s t =
+    (os : List (Option (MemberIn w))) (us : Text) (next : ℕ) → TextIs m p us next → i < slot-places
+    → Present (member-ok w) (slot-after o (member w f a us)) → MembersAre w os s → MembersAre w (set os i (slot-after o (member w f a us))) t
+
+-- an inner step: whichever table it is, where the byte of flags and the address are the member's
+abbrev pub MemberSet : List ℕ → Operation → (index flags address : ℕ) → TextPlace → List ℕ → List ℕ → Type 0
+MemberSet m o i flags address p s t =
+    (w : Members) (f : FlagsIn w) (a : AddressIn w) → ((us : Text) → member-ok w (member w f a us) → flags ≡ flags-of w f) → address ≡ number-of w a
+    → MemberApplied w m o f a i p s t
+
+-- group slots
 abbrev pub GroupsAre : List (Option GroupMember) → List ℕ → Type 0
-GroupsAre gs s = Placed GroupOk member-width group-bytes slot-places gs s
+GroupsAre = MembersAre OfGroups
 
--- the bytes are the individual slots
-abbrev pub IndividualsAre : List (Option IndividualMember) → List ℕ → Type 0
-IndividualsAre is s = Placed IndividualOk member-width individual-bytes slot-places is s
-
--- the member that a group setting gives
 abbrev pub group-member : GroupFlags → GroupPlace → Text → GroupMember
-group-member f p us = record { flags = f; address = p .address; text = us }
+group-member f p = member OfGroups f (p .address)
 
--- the member that an individual setting gives
-abbrev pub individual-member : IndividualFlags → IndividualPlace → Text → IndividualMember
-individual-member f p us = record { flags = f; address = p .address; text = us }
-
--- a group slot is set to the member, or emptied, and the others stand; in a delete the member need not be allowed
 abbrev pub GroupApplied : List ℕ → Operation → GroupFlags → GroupPlace → List ℕ → List ℕ → Type 0
-GroupApplied m o f p s t =
-    (gs : List (Option GroupMember)) (us : Text) (next : ℕ) → TextIs m (p .text) us next → p .index < slot-places
-    → Present GroupOk (slot-after o (group-member f p us)) → GroupsAre gs s → GroupsAre (set gs (p .index) (slot-after o (group-member f p us))) t
+GroupApplied m o f p = MemberApplied OfGroups m o f (p .address) (p .index) (p .text)
 
--- and so is an individual slot
+-- individual slots
+abbrev pub IndividualsAre : List (Option IndividualMember) → List ℕ → Type 0
+IndividualsAre = MembersAre OfIndividuals
+
+abbrev pub individual-member : IndividualFlags → IndividualPlace → Text → IndividualMember
+individual-member f p = member OfIndividuals f (p .address)
+
 abbrev pub IndividualApplied : List ℕ → Operation → IndividualFlags → IndividualPlace → List ℕ → List ℕ → Type 0
-IndividualApplied m o f p s t =
-    (is : List (Option IndividualMember)) (us : Text) (next : ℕ) → TextIs m (p .text) us next → p .index < slot-places
-    → Present IndividualOk (slot-after o (individual-member f p us)) → IndividualsAre is s
-    → IndividualsAre (set is (p .index) (slot-after o (individual-member f p us))) t
+IndividualApplied m o f p = MemberApplied OfIndividuals m o f (p .address) (p .index) (p .text)
 
 -- ---- the fixed parts
 

@@ -22,6 +22,9 @@ use Rattle.writing.specs.Settings.{Text}
 use Rattle.writing.specs.Writing.{bit}
 use Rattle.tables.specs.Allowed.{TextOk, QuickOk, StatusOk, LineOk, GroupOk, IndividualOk}
 use Rattle.tables.specs.Layout.{text-bytes, digit-bytes, quick-bytes, status-bytes, line-bytes, digits-at, group-bytes, individual-bytes, line-flags, group-flags, individual-flags, quick-width, status-width, member-width, channel-width, line-width}
+use Rattle.tables.specs.declared.members.Members.{Members}
+use Rattle.tables.specs.declared.members.Members.the-variants.{OfGroups, OfIndividuals}
+use Rattle.tables.specs.Members.{MemberIn, member-ok, member-bytes}
 use Rattle.tables.specs.Tables.{Line, Member, GroupMember, IndividualMember}
 use Rattle.tables.proofs.TextCodes.{text-length, text-one, text-shown, digits-length, digits-one, digits-shown}
 
@@ -120,20 +123,20 @@ line-shown = keyed-shown LineOk line-width line-bytes digits-at 18 (λ l. digit-
 -- ---- slots, whatever the kind of their flags and address
 
 -- a byte of flags, an address and a text
-abbrev member-bytes : {F A : Type 0} → (F → ℕ) → (A → ℕ) → Member F A → List ℕ
-member-bytes flags-of number-of g = flags-of (g .flags) ∷ u24 (number-of (g .address)) ++ text-bytes (text-limits .short) (g .text)
+abbrev slot-bytes : {F A : Type 0} → (F → ℕ) → (A → ℕ) → Member F A → List ℕ
+slot-bytes flags-of number-of g = flags-of (g .flags) ∷ u24 (number-of (g .address)) ++ text-bytes (text-limits .short) (g .text)
 
 module _ {F A : Type 0} (flags-of : F → ℕ) (number-of : A → ℕ) where
   -- 36 bytes
-  member-long : (g : Member F A) → length (member-bytes flags-of number-of g) ≡ member-width
-  member-long g = omega (arith, text-length 16 (g .text))
+  slot-long : (g : Member F A) → length (slot-bytes flags-of number-of g) ≡ member-width
+  slot-long g = omega (arith, text-length 16 (g .text))
 
   -- where the byte of flags tells the flags, and the number the address, the bytes tell the slot
-  member-code : (P : Member F A → Type 0) → ((g : Member F A) → P g → TextOk 16 (g .text)) → ((a b : Member F A) → P a → P b → flags-of (a .flags) ≡ flags-of (b .flags) → a .flags ≡ b .flags)
-      → ((a b : A) → number-of a ≡ number-of b → a ≡ b) → Code P member-width (member-bytes flags-of number-of)
-  member-code P text-ok flags-one number-one = record { long = member-long; one = one }
+  slot-code : (P : Member F A → Type 0) → ((g : Member F A) → P g → TextOk 16 (g .text)) → ((a b : Member F A) → P a → P b → flags-of (a .flags) ≡ flags-of (b .flags) → a .flags ≡ b .flags)
+      → ((a b : A) → number-of a ≡ number-of b → a ≡ b) → Code P member-width (slot-bytes flags-of number-of)
+  slot-code P text-ok flags-one number-one = record { long = slot-long; one = one }
     where
-      one : (a b : Member F A) → P a → P b → member-bytes flags-of number-of a ≡ member-bytes flags-of number-of b → a ≡ b
+      one : (a b : Member F A) → P a → P b → slot-bytes flags-of number-of a ≡ slot-bytes flags-of number-of b → a ≡ b
       one a b p q e =
           let r = cut (u24 (number-of (a .address))) (u24 (number-of (b .address))) refl (tail-eq-of-cons-eq e) in
           let f = flags-one a b p q (head-eq-of-cons-eq e) in
@@ -142,9 +145,9 @@ module _ {F A : Type 0} (flags-of : F → ℕ) (number-of : A → ℕ) where
           (λ i. record { flags = f i; address = n i; text = t i })
 
   -- a slot with an address is not all zeros
-  member-shown : (g : Member F A) → 1048576 ≤ number-of (g .address) → zeros? (member-bytes flags-of number-of g) ≡ false
-  member-shown g h =
-      is-false (zeros? (member-bytes flags-of number-of g)) (λ z.
+  slot-shown : (g : Member F A) → 1048576 ≤ number-of (g .address) → zeros? (slot-bytes flags-of number-of g) ≡ false
+  slot-shown g h =
+      is-false (zeros? (slot-bytes flags-of number-of g)) (λ z.
       let a = and-parts (eqb (flags-of (g .flags)) 0) (zeros? (u24 (number-of (g .address)) ++ text-bytes 16 (g .text))) z in
       let b = and-parts (zeros? (u24 (number-of (g .address)))) (zeros? (text-bytes 16 (g .text))) (sym (zeros-append (u24 (number-of (g .address))) (text-bytes 16 (g .text))) ∙ a .1) in
       true≢false (sym (b .0) ∙ u24-shown (number-of (g .address)) (λ e. omega arith)))
@@ -177,12 +180,12 @@ group-flags-one f g p q e =
 -- a group slot's bytes
 pub group-code : Code GroupOk member-width group-bytes
 group-code =
-    member-code group-flags (λ x. x .0) GroupOk (λ g p. p .text) (λ a b p q e. group-flags-one (a .flags) (b .flags) (p .priority) (q .priority) e)
+    slot-code group-flags (λ x. x .0) GroupOk (λ g p. p .text) (λ a b p q e. group-flags-one (a .flags) (b .flags) (p .priority) (q .priority) e)
     (λ a b e i. record { 0 = e i })
 
 -- they are not all zeros
 pub group-shown : (g : GroupMember) → GroupOk g → zeros? (group-bytes g) ≡ false
-group-shown g p = member-shown group-flags (λ x. x .0) g (p .address .0 .0)
+group-shown g p = slot-shown group-flags (λ x. x .0) g (p .address .0 .0)
 
 -- ---- individual slots
 
@@ -203,9 +206,21 @@ individual-flags-one f g p q e =
 -- an individual slot's bytes
 pub individual-code : Code IndividualOk member-width individual-bytes
 individual-code =
-    member-code individual-flags (λ x. x .0) IndividualOk (λ g p. p .text) (λ a b p q e. individual-flags-one (a .flags) (b .flags) (p .priority) (q .priority) e)
+    slot-code individual-flags (λ x. x .0) IndividualOk (λ g p. p .text) (λ a b p q e. individual-flags-one (a .flags) (b .flags) (p .priority) (q .priority) e)
     (λ a b e i. record { 0 = e i })
 
 -- they are not all zeros
 pub individual-shown : (g : IndividualMember) → IndividualOk g → zeros? (individual-bytes g) ≡ false
-individual-shown g p = member-shown individual-flags (λ x. x .0) g (p .address .0 .0)
+individual-shown g p = slot-shown individual-flags (λ x. x .0) g (p .address .0 .0)
+
+-- ---- slots of either table
+
+-- a slot's bytes
+pub member-code : (w : Members) → Code (member-ok w) member-width (member-bytes w)
+member-code OfGroups = group-code
+member-code OfIndividuals = individual-code
+
+-- they are not all zeros
+pub member-shown : (w : Members) (x : MemberIn w) → member-ok w x → zeros? (member-bytes w x) ≡ false
+member-shown OfGroups = group-shown
+member-shown OfIndividuals = individual-shown
