@@ -12,11 +12,6 @@ pub and-parts : (a b : Bool) → (a && b) ≡ true → (a ≡ true) × (b ≡ tr
 and-parts true b h = (refl, h)
 and-parts false b h = absurd (false≢true h)
 
--- and together they make it
-pub and-made : (a b : Bool) → a ≡ true → b ≡ true → (a && b) ≡ true
-and-made true b h k = k
-and-made false b h k = h
-
 -- a test that fails leaves the other
 pub or-rest : (a b : Bool) → b ≡ false → (a || b) ≡ a
 or-rest true b e = refl

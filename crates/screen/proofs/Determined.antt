@@ -22,7 +22,7 @@ use Rattle.screen.specs.declared.answers.Answer.{Answer}
 use Rattle.screen.specs.declared.answers.Answer.the-variants.{Shown, Refused}
 use Rattle.screen.specs.declared.answers.Place.{Place}
 use Rattle.screen.specs.declared.answers.Place.the-variants.{Store, Scratch, Refused as NoPlace}
-use Rattle.screen.specs.Screen.{After, Part, of-store, of-scratch, refusal, number, leaves, shows, RowShown, showing, numbering, points-to, bytes-of, PartGiven}
+use Rattle.screen.specs.Screen.{After, Part, of-store, of-scratch, number, leaves, shows, RowShown, showing, numbering, points-to, bytes-of, PartGiven}
 use Rattle.screen.proofs.AnswerLaws.{one-tables}
 
 -- ---- one thing is shown
@@ -51,11 +51,6 @@ shows-one (individual us a) d e p q = text-or-one (AddressText IndividualPlan (a
 -- 15, 11 and 17, counted from 11
 abbrev refusal-at : ℕ → Refusal
 refusal-at n = getD (NotAStore ∷ NotAStore ∷ NotAStore ∷ NotAStore ∷ ScratchSize ∷ []) (n - 11) Absent
-
-refusal-back : (r : Refusal) → refusal-at (refusal r) ≡ r
-refusal-back ScratchSize = refl
-refusal-back NotAStore = refl
-refusal-back Absent = refl
 
 abbrev answer-at : ℕ → Answer
 answer-at n = getD (Shown ∷ []) n (Refused (refusal-at n))

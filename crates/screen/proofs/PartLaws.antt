@@ -1,7 +1,6 @@
 -- A part lies in its slice: a stored text in the store, a number in the bytes that every scratch has. Assumes nothing.
 use Prim.Native.Nat.{ℕ, _+_, _*_, _≤_}
 use mathlib.Core.Path.{_≡_, refl, sym, ap, _∙_, subst}
-use mathlib.Core.Logic.{inl, inr}
 use mathlib.Core.List.{List}
 use native.Mathlib.Omega.{arith}
 use lib.ListN.{length, take, drop, length-take, length-drop}
@@ -9,11 +8,10 @@ use Rattle.lists.specs.Ladder.{Answers}
 use Rattle.writing.specs.Settings.{Text}
 use Rattle.tables.specs.declared.limits.Limits.{Limits}
 use Rattle.tables.specs.Layout.{Roomy}
-use Rattle.tables.specs.Store.{Holds}
-use Rattle.tables.specs.Tables.{Tables}
 use Rattle.tables.proofs.LayoutLaws.{layout-length}
 use Rattle.screen.specs.declared.rows.Row.{Row}
-use Rattle.screen.specs.Rows.{Caption, caption, text-of, Display, stored, written, Shows, text-start, unit-bytes}
+use Rattle.screen.specs.Rows.{text-of, Display, stored, written, Shows, text-start, unit-bytes}
+use Rattle.screen.proofs.AnswerLaws.{shown-by}
 use Rattle.screen.proofs.EntryLaws.{row-there}
 use Rattle.screen.proofs.NameLaws.{text-starts}
 use Rattle.screen.proofs.SlotLaws.{slot-fits}
@@ -46,7 +44,4 @@ module _ (m : Limits) (roomy : Roomy m) (store scratch : List ℕ) (row : Row) w
 
   -- PART FITS: whatever is answered, its part lies in its slice
   pub part-fits : (a : After) → Answers (showing m store scratch row) a → PartFits m store (a .part)
-  part-fits a (inl (l, e)) = subst (λ (x : After). PartFits m store (x .part)) (sym e) (omega arith, omega arith)
-  part-fits a (inr (l, inl (n, e))) = subst (λ (x : After). PartFits m store (x .part)) (sym e) (omega arith, omega arith)
-  part-fits a (inr (l, inr (n, inl (k, e)))) = subst (λ (x : After). PartFits m store (x .part)) (sym e) (omega arith, omega arith)
-  part-fits a (inr (l, inr (n, inr (k, p)))) = subst (λ (x : After). PartFits m store (x .part)) (sym (p .after)) (display-fits a p (p .display) refl)
+  part-fits = shown-by m store scratch row (λ x. PartFits m store (x .part)) (λ why. (omega arith, omega arith)) (λ a p big. display-fits a p (p .display) refl)

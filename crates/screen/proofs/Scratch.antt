@@ -1,12 +1,8 @@
 -- "Scratch bytes not in a written number stay": and a number has at most 18 units. Assumes nothing.
 use Prim.Native.Nat.{ℕ, zero, suc, _+_, _*_, _-_, _/_, _%_, _≤_}
 use mathlib.Core.Path.{_≡_, refl, sym, ap, _∙_, subst}
-use mathlib.Core.Logic.{inl, inr}
-use mathlib.Core.Bool.{Bool, true, false}
 use mathlib.Core.List.{List, [], _∷_, _++_, map}
 use native.Mathlib.Omega.{arith}
-use borrow.Author.Tests.{ltb-true, ltb-false}
-use lib.Dec.{ltb}
 use lib.ListN.{length, drop, getD, length-append, length-drop, length-map}
 use lib.Seq.{getD-append-add, getD-drop}
 use Rattle.lists.specs.Ladder.{Answers}
@@ -15,6 +11,7 @@ use Rattle.writing.specs.Settings.{Text}
 use Rattle.tables.specs.declared.limits.Limits.{Limits}
 use Rattle.screen.specs.declared.rows.Row.{Row}
 use Rattle.screen.specs.Rows.{Caption, text, line, group, individual, ascii, digits, AddressText, dialled, outside, Display, stored, written, Shows, unit-bytes}
+use Rattle.screen.proofs.AnswerLaws.{shown-by}
 use Rattle.screen.proofs.EntryLaws.{HeadIn}
 use Rattle.screen.specs.Screen.{After, Part, of-store, of-scratch, shows, RowShown, showing}
 use Rattle.screen.proofs.NumberLaws.{unit-length}
@@ -73,11 +70,4 @@ module _ (m : Limits) (store scratch : List ℕ) (row : Row) where
 
   -- SCRATCH STAYS: as many bytes, and those past a written number as they were
   pub scratch-stays : (a : After) → Answers (showing m store scratch row) a → Stays scratch a
-  scratch-stays a (inl (l, e)) = subst (Stays scratch) (sym e) (refl, λ i h. refl)
-  scratch-stays a (inr (l, inl (n, e))) = subst (Stays scratch) (sym e) (refl, λ i h. refl)
-  scratch-stays a (inr (l, inr (n, inl (k, e)))) = subst (Stays scratch) (sym e) (refl, λ i h. refl)
-  scratch-stays a (inr (l, inr (n, inr (k, p)))) = subst (Stays scratch) (sym (p .after)) (display-stays (p .display) (go (ltb (length scratch) 36) refl) (written-short a p))
-    where
-      go : (b : Bool) → ltb (length scratch) 36 ≡ b → 36 ≤ length scratch
-      go true e = absurd (l (ltb-true (length scratch) 36 e))
-      go false e = ltb-false (length scratch) 36 e
+  scratch-stays = shown-by m store scratch row (Stays scratch) (λ why. (refl, λ i h. refl)) (λ a p big. display-stays (p .display) big (written-short a p))

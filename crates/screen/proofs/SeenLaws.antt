@@ -1,22 +1,19 @@
--- What a slot of the store shows of the tables: no entry, or an entry whose text stands behind its head. Assumes nothing.
-use Prim.Native.Nat.{ℕ, zero, suc, _+_, _*_, _-_, _≤_, _<_}
+-- Parts of the store, and where a text in one ends. Assumes nothing.
+use Prim.Native.Nat.{ℕ, zero, suc, _+_, _*_, _≤_, _<_}
 use mathlib.Core.Path.{_≡_, refl, sym, ap, _∙_}
-use mathlib.Core.Bool.{true, false}
 use mathlib.Core.List.{List, [], _∷_, _++_, map}
-use mathlib.Core.Option.{Option, none, some}
+use mathlib.Core.Option.{none, some}
 use native.Mathlib.Nat.{not-suc-le-zero, le-of-suc-le-suc, add-zero}
 use native.Mathlib.Omega.{arith}
 use borrow.Rule.Slice.PartMut.{midOf}
 use lib.ListN.{length, take, drop, getD}
 use lib.Seq.{take-take, take-nil, drop-drop, take-at, drop-at, take-all}
 use Rattle.lists.proofs.Every.{all-made}
-use Rattle.slots.specs.Slots.{pad, slot, front, u16, zeros?, bytesBefore, Placed, Found}
+use Rattle.slots.specs.Slots.{pad, front, u16, zeros?, bytesBefore, Found}
 use Rattle.slots.proofs.Numbers.{u16-shown}
-use Rattle.slots.proofs.Tables.{place-read, place-none, place-some}
 use Rattle.writing.specs.Settings.{Text}
 use Rattle.tables.specs.Allowed.{TextOk}
 use Rattle.tables.specs.Layout.{text-bytes}
-use Rattle.tables.proofs.TextCodes.{text-length}
 use Rattle.screen.specs.Rows.{unit-bytes}
 
 -- ---- parts of parts
@@ -64,57 +61,6 @@ text-front zero (u ∷ us) h = absurd (not-suc-le-zero h)
 text-front (suc n) (u ∷ us) h =
     let e : 2 * suc (length us) ≡ suc (suc (2 * length us)) = omega arith in
     ap (λ k. take k (u16 u ++ text-bytes n us)) e ∙ ap (λ l. u16 u ++ l) (text-front n us (le-of-suc-le-suc h))
-
--- ---- an entry with a text
-
--- an entry's bytes are a head and its text
-pub record Texted {A : Type 0} (P : A → Type 0) (w h : ℕ) (f : A → List ℕ) (us : A → Text) : Type 0 where
-  pub units : ℕ
-  pub head : A → List ℕ
-  pub wide : w ≡ h + 2 * units
-  pub long : (a : A) → length (f a) ≡ w
-  pub head-long : (a : A) → length (head a) ≡ h
-  pub bytes : (a : A) → f a ≡ head a ++ text-bytes units (us a)
-  pub ok : (a : A) → P a → TextOk units (us a)
-  pub shown : (a : A) → P a → zeros? (f a) ≡ false
-
--- an entry that a slot from `start` on holds
-pub record Held {A : Type 0} (P : A → Type 0) (w h : ℕ) (f : A → List ℕ) (us : A → Text) (s : List ℕ) (start : ℕ) (o : Option A) : Type 0 where
-  pub entry : A
-  pub is : o ≡ some entry
-  pub ok : P entry
-  pub bytes : midOf start w s ≡ f entry
-  pub ends : (r : ℕ) → Found (0 < 2) zeros? 2 (midOf (start + h) (w - h) s) r → r ≡ 2 * length (us entry)
-  pub text-is : midOf (start + h) (2 * length (us entry)) s ≡ unit-bytes (us entry)
-
-module _ {A : Type 0} (P : A → Type 0) (w h : ℕ) (f : A → List ℕ) (us : A → Text) (k : Texted P w h f us) (n base : ℕ) (os : List (Option A)) (s : List ℕ) (p : Placed P w f n os (midOf base (n * w) s)) (i : ℕ) (l : i < n) (fits : i * w + w ≤ n * w) where
-  -- the slot, cut out of the store
-  slot-here : midOf (i * w) (i * w + w - i * w) (midOf base (n * w) s) ≡ midOf (base + i * w) w s
-  slot-here = let e : i * w + w - i * w ≡ w = omega arith in ap (λ j. midOf (i * w) j (midOf base (n * w) s)) e ∙ part-part s base (n * w) (i * w) w fits
-
-  -- zeros are no entry
-  pub slot-none : zeros? (midOf (base + i * w) w s) ≡ true → getD os i none ≡ none
-  slot-none z = place-none P w f (k .long) n os (midOf base (n * w) s) p i l (k .shown) (ap zeros? slot-here ∙ z)
-
-  -- what is not zeros is one
-  pub slot-some : zeros? (midOf (base + i * w) w s) ≡ false → Held P w h f us s (base + i * w) (getD os i none)
-  slot-some z =
-      let (a, e, q) = place-some P w f (k .long) n os (midOf base (n * w) s) p i l (ap zeros? slot-here ∙ z) in
-      let b : midOf (base + i * w) w s ≡ f a = sym slot-here ∙ place-read P w f (k .long) n os (midOf base (n * w) s) p i l ∙ ap (slot w f) e in
-      let d : w - h ≡ 2 * k .units = omega (arith, k .wide) in
-      let t : midOf (base + i * w + h) (w - h) s ≡ text-bytes (k .units) (us a)
-      = behind s (k .head a) (text-bytes (k .units) (us a)) (base + i * w) w h (w - h) (b ∙ k .bytes a) (k .head-long a) (omega (arith, k .wide)) (text-length (k .units) (us a) ∙ sym d) in
-      let o = k .ok a q in
-      record {
-        entry = a;
-        is = e;
-        ok = q;
-        bytes = b;
-        ends = λ r x. text-ends (k .units) (us a) (midOf (base + i * w + h) (w - h) s) r o t x;
-        text-is =
-            sym (take-take (2 * length (us a)) (w - h) (drop (base + i * w + h) s) (omega (arith, o .short)))
-            ∙ ap (take (2 * length (us a))) t ∙ text-front (k .units) (us a) (o .short);
-      }
 
 -- ---- entries from the front
 

@@ -25,8 +25,8 @@ use Rattle.screen.specs.Rows.{Caption, text, line, group, individual, ca
 use Rattle.screen.proofs.EntryLaws.{Captioned, row-seen, row-there}
 use Rattle.screen.proofs.NameLaws.{text-starts}
 use Rattle.screen.specs.Screen.{After, of-store, refused, shows, RowShown, showing, numbering, bytes-of, RowBytes, PartGiven}
-use Rattle.screen.proofs.AnswerLaws.{shown-number, one-tables}
-use Rattle.screen.proofs.Determined.{one-display}
+use Rattle.screen.proofs.AnswerLaws.{shown-number, one-tables, shown-by, number-same}
+use Rattle.screen.proofs.Determined.{one-display, number-one}
 use Rattle.screen.proofs.NumberLaws.{unit-length}
 
 -- ---- the bytes of a part
@@ -97,29 +97,13 @@ module _ (m : Limits) (store : List ℕ) (row : Row) where
 
       -- NOTHING TOUCHED: on a refusal the part is empty and the scratch stays
       pub refused-untouched : a .number ≢ 0 → (a .part ≡ of-store 0 0) × (a .scratch ≡ scratch)
-      refused-untouched n = by x
-        where
-          by : Answers (showing m store scratch row) a → (a .part ≡ of-store 0 0) × (a .scratch ≡ scratch)
-          by (inl (l, e)) = (ap (λ (y : After). y .part) e, ap (λ (y : After). y .scratch) e)
-          by (inr (l, inl (k, e))) = (ap (λ (y : After). y .part) e, ap (λ (y : After). y .scratch) e)
-          by (inr (l, inr (k, inl (j, e)))) = (ap (λ (y : After). y .part) e, ap (λ (y : After). y .scratch) e)
-          by (inr (l, inr (k, inr (j, p)))) = absurd (n (ap (λ (y : After). y .number) (p .after) ∙ shown-number m scratch row (p .display)))
+      refused-untouched =
+          shown-by m store scratch row (λ y. y .number ≢ 0 → (y .part ≡ of-store 0 0) × (y .scratch ≡ scratch)) (λ why n. (refl, refl))
+          (λ y p big n. absurd (n (shown-number m scratch row (p .display)))) a x
 
       -- JUDGED ALIKE: both calls give one number
       pub alike : (n : ℕ) → Answers (numbering m store scratch row) n → a .number ≡ n
-      alike n y = by x y
-        where
-          by : Answers (showing m store scratch row) a → Answers (numbering m store scratch row) n → a .number ≡ n
-          by (inl (l, e)) (inl (i, d)) = ap (λ (z : After). z .number) e ∙ sym d
-          by (inl (l, e)) (inr (i, d)) = absurd (i l)
-          by (inr (l, e)) (inl (i, d)) = absurd (l i)
-          by (inr (l, inl (k, e))) (inr (i, inl (j, d))) = ap (λ (z : After). z .number) e ∙ sym d
-          by (inr (l, inl (k, e))) (inr (i, inr (j, d))) = absurd (j k)
-          by (inr (l, inr (k, e))) (inr (i, inl (j, d))) = absurd (k j)
-          by (inr (l, inr (k, inl (q, e)))) (inr (i, inr (j, inl (r, d)))) = ap (λ (z : After). z .number) e ∙ sym d
-          by (inr (l, inr (k, inl (q, e)))) (inr (i, inr (j, inr (r, d)))) = absurd (r q)
-          by (inr (l, inr (k, inr (q, e)))) (inr (i, inr (j, inl (r, d)))) = absurd (q r)
-          by (inr (l, inr (k, inr (q, p)))) (inr (i, inr (j, inr (r, d)))) = ap (λ (z : After). z .number) (p .after) ∙ shown-number m scratch row (p .display) ∙ sym d
+      alike n y = number-one m store scratch row (a .number) n (number-same m store scratch row a x) y
 
 -- ---- equal stores
 

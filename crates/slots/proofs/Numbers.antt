@@ -65,10 +65,6 @@ u24-one a b e =
     let q : a % 65536 ≡ b % 65536 = u16-one (a % 65536) (b % 65536) (tail-eq-of-cons-eq e) in
     omega arith
 
--- so they are a code
-pub u24-code : (P : ℕ → Type 0) → Code P 3 u24
-u24-code P = record { long = λ a. refl; one = λ a b p q e. u24-one a b e }
-
 -- a number that is not 0 is not zeros
 pub u24-shown : (a : ℕ) → a ≢ 0 → zeros? (u24 a) ≡ false
 u24-shown a h =

@@ -113,10 +113,6 @@ module _ {A : Type 0} (P : A → Type 0) (w : ℕ) (f : A → List ℕ) (long : 
       let e : k * w + w - k * w ≡ w = omega arith in
       record { many = length-set os k o ∙ t .many; each = all-set (Present P) os k o p (t .each); bytes = rw (e, t .bytes, q) (place-put w f long os k o there) }
 
-  -- it is wiped
-  pub place-wiped : (y : List ℕ) → y ≡ replicate (length (midOf (k * w) (k * w + w - k * w) s)) 0 → Placed P w f n (set os k none) (putMid (k * w) (k * w + w - k * w) s y)
-  place-wiped y e = place-written none y tt (e ∙ ap (λ (i : ℕ). replicate i 0) (slot-wide s (k * w) w place-fits))
-
   -- zeros are no entry
   pub place-none : ((a : A) → P a → zeros? (f a) ≡ false) → zeros? (midOf (k * w) (k * w + w - k * w) s) ≡ true → getD os k none ≡ none
   place-none shown z = go (getD os k none) (all-get (Present P) os k none (t .each) there) (ap zeros? (sym place-read) ∙ z)

@@ -1,22 +1,21 @@
 -- Lines of which no two have one number: each line's number is looked for behind it. Assumes nothing.
 use mathlib.Core.Path.{_≡_, refl, sym, ap, _∙_, subst}
-use mathlib.Core.Bool.{Bool, true, false, cond, true≢false}
 use mathlib.Core.Logic.{_↔_, _≢_}
 use mathlib.Core.List.{List, [], _∷_, _++_, map, append-assoc}
-use Prim.Native.Nat.{ℕ, suc, _+_, _*_, _-_, _≤_, _<_}
+use Prim.Native.Nat.{ℕ, _+_, _*_, _-_, _≤_, _<_}
 use native.Mathlib.Nat.{mul-le-mul-right}
 use native.Mathlib.Omega.{arith}
 use borrow.Rule.Slice.PartMut.{midOf}
 use lib.ListN.{length, take, drop, length-drop, length-map, take-append-drop}
 use lib.Seq.{drop-drop, length-take-le, take-add, take-all, take-at}
 use Rattle.lists.specs.Every.{All}
-use Rattle.lists.proofs.Every.{all-made, all-turn}
+use Rattle.lists.proofs.Every.{all-made}
 use Rattle.lists.proofs.Seqs.{cut}
-use Rattle.slots.specs.Slots.{flat, front, indexOf, pad, places, same?, zeros?, fit, Found, KeyAt, Listed}
+use Rattle.slots.specs.Slots.{flat, front, indexOf, pad, places, zeros?, fit, Found, KeyAt, Listed}
 use Rattle.slots.proofs.Keys.{key-at, found-known, used-at}
 use Rattle.slots.proofs.Pads.{pad-is}
 use Rattle.slots.proofs.Parts.{slots-length}
-use Rattle.slots.proofs.Runs.{same-not, same-refl}
+use Rattle.slots.proofs.Changes.{index-absent, index-end}
 use Rattle.slots.proofs.Tables.{front-bytes}
 use Rattle.writing.specs.Settings.{Number}
 use Rattle.tables.specs.Allowed.{LineOk, Distinct}
@@ -24,6 +23,7 @@ use Rattle.tables.specs.Apply.{has-number}
 use Rattle.tables.specs.Layout.{digit-bytes, line-bytes, line-width, digits-at}
 use Rattle.tables.specs.Tables.{Line}
 use Rattle.tables.proofs.EntryCodes.{line-code, line-keyed, line-shown}
+use Rattle.tables.proofs.Sentences.{says-without, without-says}
 use Rattle.tables.proofs.TextCodes.{digits-length, digits-same, digits-shown}
 
 -- ---- entries that fill their places
@@ -50,30 +50,11 @@ module _ {A : Type 0} (P : A → Type 0) (w : ℕ) (f : A → List ℕ) (long : 
   full-listed : (ls : List A) (s : List ℕ) → All P ls → s ≡ flat (map f ls) → Listed P w f (length ls) ls s
   full-listed ls s p e = record { few = omega arith; each = p; bytes = e ∙ sym (full-bytes w f ls) }
 
--- ---- a search that ends behind the last entry
-
--- found nothing
-index-all : {A : Type 0} (p : A → Bool) (ls : List A) → indexOf p ls ≡ length ls → All (λ x. p x ≡ false) ls
-index-all p [] e = tt
-index-all {A} p (a ∷ ls) e = go (p a) refl e (index-all p ls)
-  where
-    go : (b : Bool) → p a ≡ b → cond b 0 (suc (indexOf p ls)) ≡ suc (length ls) → (indexOf p ls ≡ length ls → All (λ (x : A). p x ≡ false) ls) → (p a ≡ false) × All (λ (x : A). p x ≡ false) ls
-    go true q h r = absurd (omega arith)
-    go false q h r = (q, r (omega arith))
-
--- and where there is nothing it ends there
-all-index : {A : Type 0} (p : A → Bool) (ls : List A) → All (λ x. p x ≡ false) ls → indexOf p ls ≡ length ls
-all-index p [] h = refl
-all-index p (a ∷ ls) h = rw (h .0) (ap suc (all-index p ls (h .1)))
-
 -- ---- lines
 
 -- no line behind has the number where a search for it finds nothing
 none-has : (d : Number) (ls : List Line) → (indexOf (has-number d) ls ≡ length ls) ↔ All (λ x. x .number ≢ d) ls
-none-has d ls = (
-  λ e. all-turn (λ x. has-number d x ≡ false) (λ x. x .number ≢ d) (λ x h q. true≢false (sym (same-refl d) ∙ ap (λ (k : Number). same? k d) (sym q) ∙ h)) ls (index-all (has-number d) ls e),
-  λ h. all-index (has-number d) ls (all-turn (λ x. x .number ≢ d) (λ x. has-number d x ≡ false) (λ x q. same-not (x .number) d q) ls h),
-)
+none-has d ls = (λ e. says-without d ls (index-end (has-number d) ls e), λ h. index-absent (has-number d) ls (without-says d ls h))
 
 -- the lines from `at` on, which are distinct where all are
 pub record Behind (s : List ℕ) (at end : ℕ) (ls : List Line) : Type 0 where

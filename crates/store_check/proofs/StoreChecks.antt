@@ -27,8 +27,9 @@ use Rattle.tables.proofs.FixedCodes.{hash-code, key-code, home-code, system-cod
 -- ---- how long the parts are
 
 -- one after the other
-joined-long : {A B : Type 0} (f : A → List ℕ) (g : B → List ℕ) (x : A × B) (j k : ℕ) → length (f (x .0)) ≡ j → length (g (x .1)) ≡ k → length (joined f g x) ≡ j + k
-joined-long f g x j k p q = length-append (f (x .0)) (g (x .1)) ∙ ap₂ (λ (a b : ℕ). a + b) p q
+both-long : {A B : Type 0} {P : A → Type 0} {Q : B → Type 0} (f : A → List ℕ) (g : B → List ℕ) {j k : ℕ} → ((x : A) → P x → length (f x) ≡ j) → ((y : B) → Q y → length (g y) ≡ k)
+    → (x : A × B) → Both P Q x → length (joined f g x) ≡ j + k
+both-long f g p q x h = length-append (f (x .0)) (g (x .1)) ∙ ap₂ (λ (a b : ℕ). a + b) (p (x .0) (h .0)) (q (x .1) (h .1))
 
 module _ {A : Type 0} (P : A → Type 0) (w : ℕ) (f : A → List ℕ) (long : (a : A) → length (f a) ≡ w) (n : ℕ) where
   -- an indexed table
@@ -112,10 +113,9 @@ fixed-bytes = joined hash-bytes (joined key-bytes (joined home-bytes system-byte
 
 -- they are 22 bytes
 fixed-long : (x : Fixed) → FixedOk x → length (fixed-bytes x) ≡ 22
-fixed-long x p =
-    joined-long hash-bytes (joined key-bytes (joined home-bytes system-bytes)) x 11 11 (hash-code .long (x .0))
-    (joined-long key-bytes (joined home-bytes system-bytes) (x .1) 4 7 (key-code .long (x .1 .0))
-    (joined-long home-bytes system-bytes (x .1 .1) 4 3 (home-code .long (x .1 .1 .0)) (system-code .long (x .1 .1 .1))))
+fixed-long =
+    both-long hash-bytes (joined key-bytes (joined home-bytes system-bytes)) (λ h p. hash-code .long h)
+    (both-long key-bytes (joined home-bytes system-bytes) (λ k p. key-code .long k) (both-long home-bytes system-bytes (λ h p. home-code .long h) (λ s p. system-code .long s)))
 
 -- the indexed tables
 abbrev Indexed : Type 0
@@ -131,14 +131,10 @@ indexed-bytes = joined (places 46 quick-bytes) (joined (places 33 status-bytes) 
 
 -- they are 7264 bytes
 indexed-long : (x : Indexed) → IndexedOk x → length (indexed-bytes x) ≡ 7264
-indexed-long x p =
-    joined-long (places 46 quick-bytes) (joined (places 33 status-bytes) (joined (places 36 group-bytes) (places 36 individual-bytes))) x quick-size 4320
-    (table-long QuickOk 46 quick-bytes (quick-code .long) 64 (x .0) (p .0))
-    (joined-long (places 33 status-bytes) (joined (places 36 group-bytes) (places 36 individual-bytes)) (x .1) status-size 1152
-    (table-long StatusOk 33 status-bytes (status-code .long) 96 (x .1 .0) (p .1 .0))
-    (joined-long (places 36 group-bytes) (places 36 individual-bytes) (x .1 .1) member-size member-size
-    (table-long GroupOk 36 group-bytes (group-code .long) 16 (x .1 .1 .0) (p .1 .1 .0))
-    (table-long IndividualOk 36 individual-bytes (individual-code .long) 16 (x .1 .1 .1) (p .1 .1 .1))))
+indexed-long =
+    both-long (places 46 quick-bytes) (joined (places 33 status-bytes) (joined (places 36 group-bytes) (places 36 individual-bytes))) (table-long QuickOk 46 quick-bytes (quick-code .long) 64)
+    (both-long (places 33 status-bytes) (joined (places 36 group-bytes) (places 36 individual-bytes)) (table-long StatusOk 33 status-bytes (status-code .long) 96)
+    (both-long (places 36 group-bytes) (places 36 individual-bytes) (table-long GroupOk 36 group-bytes (group-code .long) 16) (table-long IndividualOk 36 individual-bytes (individual-code .long) 16)))
 
 module _ (m : Limits) where
   -- the list tables, and what is spare

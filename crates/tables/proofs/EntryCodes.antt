@@ -1,5 +1,5 @@
 -- The bytes of an entry of a table: as many as its slot is wide, not all zeros, and they tell the entry. Assumes nothing.
-use Prim.Native.Nat.{ℕ, suc, _≤_, _<_}
+use Prim.Native.Nat.{ℕ, suc, _+_, _*_, _≤_, _<_}
 use mathlib.Core.Path.{_≡_, refl, sym, ap, _∙_}
 use mathlib.Core.Bool.{Bool, true, false, true≢false}
 use mathlib.Core.List.{List, _∷_, _++_, head-eq-of-cons-eq, tail-eq-of-cons-eq}
@@ -35,7 +35,11 @@ pub bit-small : (b : Bool) → bit b ≤ 1
 bit-small true = omega arith
 bit-small false = omega arith
 
--- and says which
+-- and so are two
+pub both-small : (a b : Bool) → (bit a ≤ 1) × (bit b ≤ 1)
+both-small a b = (bit-small a, bit-small b)
+
+-- a flag's bit says which
 pub bit-one : (a b : Bool) → bit a ≡ bit b → a ≡ b
 bit-one true true e = refl
 bit-one true false e = absurd (omega arith)
@@ -72,20 +76,19 @@ channel-shown n p = u16-shown n (λ e. omega (arith, p .0))
 
 -- ---- line contacts
 
+-- encryption, emergency and priority in one byte
+three-one : (a b c d : Bool) (m n : ℕ) → m < 4 → n < 4 → bit a * 8 + bit b * 4 + m ≡ bit c * 8 + bit d * 4 + n → (a ≡ c) × (b ≡ d) × (m ≡ n)
+three-one a b c d m n p q e =
+    let x = both-small a c in
+    let y = both-small b d in
+    (bit-one a c (omega arith), bit-one b d (omega arith), omega arith)
+
 -- the bytes of flags and IDtype tell them
 line-flags-one : (f g : LineFlags) → f .priority < 4 → g .priority < 4 → line-flags f ≡ line-flags g → bit (f .pabx) ≡ bit (g .pabx) → f ≡ g
 line-flags-one f g p q e x =
-    let a = bit-small (f .encryption) in
-    let b = bit-small (g .encryption) in
-    let c = bit-small (f .emergency) in
-    let d = bit-small (g .emergency) in
-    let u : bit (f .encryption) ≡ bit (g .encryption) = omega arith in
-    let v : bit (f .emergency) ≡ bit (g .emergency) = omega arith in
-    let w : f .priority ≡ g .priority = omega arith in
-    let u' = bit-one (f .encryption) (g .encryption) u in
-    let v' = bit-one (f .emergency) (g .emergency) v in
-    let x' = bit-one (f .pabx) (g .pabx) x in
-    (λ i. record { encryption = u' i; emergency = v' i; priority = w i; pabx = x' i })
+    let (u, v, w) = three-one (f .encryption) (f .emergency) (g .encryption) (g .emergency) (f .priority) (g .priority) p q e in
+    let y = bit-one (f .pabx) (g .pabx) x in
+    (λ i. record { encryption = u i; emergency = v i; priority = w i; pabx = y i })
 
 -- 52 bytes
 line-long : (l : Line) → length (line-bytes l) ≡ line-width
@@ -157,25 +160,17 @@ module _ {F A : Type 0} (flags-of : F → ℕ) (number-of : A → ℕ) where
 -- the byte of flags tells them
 group-flags-one : (f g : GroupFlags) → f .priority < 4 → g .priority < 4 → group-flags f ≡ group-flags g → f ≡ g
 group-flags-one f g p q e =
-    let a = bit-small (f .broadcast) in
-    let b = bit-small (g .broadcast) in
-    let c = bit-small (f .encryption) in
-    let d = bit-small (g .encryption) in
-    let h = bit-small (f .ovcm) in
-    let k = bit-small (g .ovcm) in
-    let m = bit-small (f .emergency) in
-    let n = bit-small (g .emergency) in
+    let a = both-small (f .broadcast) (g .broadcast) in
+    let b = both-small (f .encryption) (g .encryption) in
+    let c = both-small (f .ovcm) (g .ovcm) in
+    let d = both-small (f .emergency) (g .emergency) in
     let u : f .attribute ≡ g .attribute = omega arith in
-    let v : bit (f .broadcast) ≡ bit (g .broadcast) = omega arith in
-    let w : bit (f .encryption) ≡ bit (g .encryption) = omega arith in
-    let x : bit (f .ovcm) ≡ bit (g .ovcm) = omega arith in
-    let y : bit (f .emergency) ≡ bit (g .emergency) = omega arith in
+    let v = bit-one (f .broadcast) (g .broadcast) (omega arith) in
+    let w = bit-one (f .encryption) (g .encryption) (omega arith) in
+    let x = bit-one (f .ovcm) (g .ovcm) (omega arith) in
+    let y = bit-one (f .emergency) (g .emergency) (omega arith) in
     let z : f .priority ≡ g .priority = omega arith in
-    let v' = bit-one (f .broadcast) (g .broadcast) v in
-    let w' = bit-one (f .encryption) (g .encryption) w in
-    let x' = bit-one (f .ovcm) (g .ovcm) x in
-    let y' = bit-one (f .emergency) (g .emergency) y in
-    (λ i. record { attribute = u i; broadcast = v' i; encryption = w' i; ovcm = x' i; emergency = y' i; priority = z i })
+    (λ i. record { attribute = u i; broadcast = v i; encryption = w i; ovcm = x i; emergency = y i; priority = z i })
 
 -- a group slot's bytes
 pub group-code : Code GroupOk member-width group-bytes
@@ -192,16 +187,8 @@ group-shown g p = slot-shown group-flags (λ x. x .0) g (p .address .0 .0)
 -- the byte of flags tells them
 individual-flags-one : (f g : IndividualFlags) → f .priority < 4 → g .priority < 4 → individual-flags f ≡ individual-flags g → f ≡ g
 individual-flags-one f g p q e =
-    let a = bit-small (f .encryption) in
-    let b = bit-small (g .encryption) in
-    let c = bit-small (f .emergency) in
-    let d = bit-small (g .emergency) in
-    let u : bit (f .encryption) ≡ bit (g .encryption) = omega arith in
-    let v : bit (f .emergency) ≡ bit (g .emergency) = omega arith in
-    let w : f .priority ≡ g .priority = omega arith in
-    let u' = bit-one (f .encryption) (g .encryption) u in
-    let v' = bit-one (f .emergency) (g .emergency) v in
-    (λ i. record { encryption = u' i; emergency = v' i; priority = w i })
+    let (u, v, w) = three-one (f .encryption) (f .emergency) (g .encryption) (g .emergency) (f .priority) (g .priority) p q e in
+    (λ i. record { encryption = u i; emergency = v i; priority = w i })
 
 -- an individual slot's bytes
 pub individual-code : Code IndividualOk member-width individual-bytes

@@ -5,8 +5,8 @@ use mathlib.Core.List.{List, [], _∷_, _++_}
 use mathlib.Core.Option.{Option}
 use native.Mathlib.Omega.{arith}
 use borrow.Rule.Slice.PartMut.{putMid, midOf}
-use lib.ListN.{getD, set, take, replicate}
-use Rattle.slots.specs.Slots.{flat, places, front, u16, Placed, Listed, sum}
+use lib.ListN.{getD, set, take}
+use Rattle.slots.specs.Slots.{flat, u16, Placed, Listed, sum}
 use Rattle.slots.proofs.Parts.{parts-get, parts-put}
 use Rattle.writing.specs.declared.HomeNumbers.{HomeNumbers}
 use Rattle.writing.specs.declared.SystemCode.{SystemCode}
@@ -72,104 +72,52 @@ module _ (m : Limits) (t : Tables) (ok : Allowed m t) where
   pub system-put : (x : SystemCode) → putMid system-at system-size (layout m t) (system-bytes x) ≡ layout m (put-own System t x)
   system-put x = part-put m t ok 3 (omega arith) 19 3 refl refl (put-own System t x) (system-bytes x) refl
 
-  -- the quick texts
-  pub quick-get : midOf quick-at quick-size (layout m t) ≡ places quick-width quick-bytes (t .quick)
-  quick-get = part-get m t ok 4 (omega arith) quick-at quick-size refl refl
-
-  -- and put back
-  pub quick-put : (x : List (Option Text)) → putMid quick-at quick-size (layout m t) (places quick-width quick-bytes x) ≡ layout m (put-own QuickTexts t x)
-  quick-put x = part-put m t ok 4 (omega arith) quick-at quick-size refl refl (put-own QuickTexts t x) (places quick-width quick-bytes x) refl
-
-  -- the status texts
-  pub status-get : midOf status-at status-size (layout m t) ≡ places status-width status-bytes (t .status)
-  status-get = part-get m t ok 5 (omega arith) status-at status-size refl refl
-
-  -- and put back
-  pub status-put : (x : List (Option Text)) → putMid status-at status-size (layout m t) (places status-width status-bytes x) ≡ layout m (put-own StatusTexts t x)
-  status-put x = part-put m t ok 5 (omega arith) status-at status-size refl refl (put-own StatusTexts t x) (places status-width status-bytes x) refl
-
-  -- the group slots
-  pub groups-get : midOf groups-at member-size (layout m t) ≡ places member-width group-bytes (t .groups)
-  groups-get = part-get m t ok 6 (omega arith) groups-at member-size refl refl
-
-  -- and put back
-  pub groups-put : (x : List (Option GroupMember)) → putMid groups-at member-size (layout m t) (places member-width group-bytes x) ≡ layout m (put-own Group t x)
-  groups-put x = part-put m t ok 6 (omega arith) groups-at member-size refl refl (put-own Group t x) (places member-width group-bytes x) refl
-
-  -- the individual slots
-  pub individuals-get : midOf individuals-at member-size (layout m t) ≡ places member-width individual-bytes (t .individuals)
-  individuals-get = part-get m t ok 7 (omega arith) individuals-at member-size refl refl
-
-  -- and put back
-  pub individuals-put : (x : List (Option IndividualMember)) → putMid individuals-at member-size (layout m t) (places member-width individual-bytes x) ≡ layout m (put-own Individual t x)
-  individuals-put x = part-put m t ok 7 (omega arith) individuals-at member-size refl refl (put-own Individual t x) (places member-width individual-bytes x) refl
-
-  -- the channels
-  pub channels-get : midOf lists-at (m .channels * channel-width) (layout m t) ≡ places channel-width u16 (front (m .channels) (t .channels))
-  channels-get = part-get m t ok 8 (omega arith) lists-at (m .channels * channel-width) refl refl
-
-  -- and put back
-  pub channels-put : (x : List ℕ) → putMid lists-at (m .channels * channel-width) (layout m t) (places channel-width u16 (front (m .channels) x)) ≡ layout m (put-own Channels t x)
-  channels-put x = part-put m t ok 8 (omega arith) lists-at (m .channels * channel-width) refl refl (put-own Channels t x) (places channel-width u16 (front (m .channels) x)) refl
-
-  -- the line contacts
-  pub lines-get : midOf (lists-at + m .channels * channel-width) (m .lines * line-width) (layout m t) ≡ places line-width line-bytes (front (m .lines) (t .lines))
-  lines-get = part-get m t ok 9 (omega arith) (lists-at + m .channels * channel-width) (m .lines * line-width) (omega arith) refl
-
-  -- and put back
-  pub lines-put : (x : List Line) → putMid (lists-at + m .channels * channel-width) (m .lines * line-width) (layout m t) (places line-width line-bytes (front (m .lines) x)) ≡ layout m (put-own Lines t x)
-  lines-put x = part-put m t ok 9 (omega arith) (lists-at + m .channels * channel-width) (m .lines * line-width) (omega arith) refl (put-own Lines t x) (places line-width line-bytes (front (m .lines) x)) refl
-
-  -- the bytes that no table uses are 0
-  pub spare-get : midOf (lists-at + m .channels * channel-width + m .lines * line-width) (m .size - used-size m) (layout m t) ≡ replicate (m .size - used-size m) 0
-  spare-get = part-get m t ok 10 (omega arith) (lists-at + m .channels * channel-width + m .lines * line-width) (m .size - used-size m) (omega arith) refl
-
   -- ---- as tables of slots
 
   -- the quick texts
   pub quick-placed : Placed QuickOk quick-width quick-bytes quick-places (t .quick) (midOf quick-at quick-size (layout m t))
-  quick-placed = record { many = ok .quick .0; each = ok .quick .1; bytes = quick-get }
+  quick-placed = record { many = ok .quick .0; each = ok .quick .1; bytes = part-get m t ok 4 (omega arith) quick-at quick-size refl refl }
 
-  -- a table of slots put back
+  -- and put back
   pub quick-back : (x : List (Option Text)) (y : List ℕ) → Placed QuickOk quick-width quick-bytes quick-places x y → putMid quick-at quick-size (layout m t) y ≡ layout m (put-own QuickTexts t x)
-  quick-back x y p = ap (putMid quick-at quick-size (layout m t)) (p .bytes) ∙ quick-put x
+  quick-back x y p = part-put m t ok 4 (omega arith) quick-at quick-size refl refl (put-own QuickTexts t x) y (ap (set (parts m t) 4) (p .bytes))
 
   -- the status texts
   pub status-placed : Placed StatusOk status-width status-bytes status-places (t .status) (midOf status-at status-size (layout m t))
-  status-placed = record { many = ok .status .0; each = ok .status .1; bytes = status-get }
+  status-placed = record { many = ok .status .0; each = ok .status .1; bytes = part-get m t ok 5 (omega arith) status-at status-size refl refl }
 
-  -- a table of slots put back
+  -- and put back
   pub status-back : (x : List (Option Text)) (y : List ℕ) → Placed StatusOk status-width status-bytes status-places x y → putMid status-at status-size (layout m t) y ≡ layout m (put-own StatusTexts t x)
-  status-back x y p = ap (putMid status-at status-size (layout m t)) (p .bytes) ∙ status-put x
+  status-back x y p = part-put m t ok 5 (omega arith) status-at status-size refl refl (put-own StatusTexts t x) y (ap (set (parts m t) 5) (p .bytes))
 
   -- the group slots
   pub groups-placed : Placed GroupOk member-width group-bytes slot-places (t .groups) (midOf groups-at member-size (layout m t))
-  groups-placed = record { many = ok .groups .0; each = ok .groups .1; bytes = groups-get }
+  groups-placed = record { many = ok .groups .0; each = ok .groups .1; bytes = part-get m t ok 6 (omega arith) groups-at member-size refl refl }
 
-  -- a table of slots put back
+  -- and put back
   pub groups-back : (x : List (Option GroupMember)) (y : List ℕ) → Placed GroupOk member-width group-bytes slot-places x y → putMid groups-at member-size (layout m t) y ≡ layout m (put-own Group t x)
-  groups-back x y p = ap (putMid groups-at member-size (layout m t)) (p .bytes) ∙ groups-put x
+  groups-back x y p = part-put m t ok 6 (omega arith) groups-at member-size refl refl (put-own Group t x) y (ap (set (parts m t) 6) (p .bytes))
 
   -- the individual slots
   pub individuals-placed : Placed IndividualOk member-width individual-bytes slot-places (t .individuals) (midOf individuals-at member-size (layout m t))
-  individuals-placed = record { many = ok .individuals .0; each = ok .individuals .1; bytes = individuals-get }
+  individuals-placed = record { many = ok .individuals .0; each = ok .individuals .1; bytes = part-get m t ok 7 (omega arith) individuals-at member-size refl refl }
 
-  -- a table of slots put back
+  -- and put back
   pub individuals-back : (x : List (Option IndividualMember)) (y : List ℕ) → Placed IndividualOk member-width individual-bytes slot-places x y → putMid individuals-at member-size (layout m t) y ≡ layout m (put-own Individual t x)
-  individuals-back x y p = ap (putMid individuals-at member-size (layout m t)) (p .bytes) ∙ individuals-put x
+  individuals-back x y p = part-put m t ok 7 (omega arith) individuals-at member-size refl refl (put-own Individual t x) y (ap (set (parts m t) 7) (p .bytes))
 
   -- the channels
   pub channels-listed : Listed InChannel channel-width u16 (m .channels) (t .channels) (midOf lists-at (m .channels * channel-width) (layout m t))
-  channels-listed = record { few = ok .channels .0; each = ok .channels .1; bytes = channels-get }
+  channels-listed = record { few = ok .channels .0; each = ok .channels .1; bytes = part-get m t ok 8 (omega arith) lists-at (m .channels * channel-width) refl refl }
 
-  -- a table of slots put back
+  -- and put back
   pub channels-back : (x : List ℕ) (y : List ℕ) → Listed InChannel channel-width u16 (m .channels) x y → putMid lists-at (m .channels * channel-width) (layout m t) y ≡ layout m (put-own Channels t x)
-  channels-back x y p = ap (putMid lists-at (m .channels * channel-width) (layout m t)) (p .bytes) ∙ channels-put x
+  channels-back x y p = part-put m t ok 8 (omega arith) lists-at (m .channels * channel-width) refl refl (put-own Channels t x) y (ap (set (parts m t) 8) (p .bytes))
 
   -- the line contacts
   pub lines-listed : Listed LineOk line-width line-bytes (m .lines) (t .lines) (midOf (lists-at + m .channels * channel-width) (m .lines * line-width) (layout m t))
-  lines-listed = record { few = ok .lines .0; each = ok .lines .1; bytes = lines-get }
+  lines-listed = record { few = ok .lines .0; each = ok .lines .1; bytes = part-get m t ok 9 (omega arith) (lists-at + m .channels * channel-width) (m .lines * line-width) (omega arith) refl }
 
-  -- a table of slots put back
+  -- and put back
   pub lines-back : (x : List Line) (y : List ℕ) → Listed LineOk line-width line-bytes (m .lines) x y → putMid (lists-at + m .channels * channel-width) (m .lines * line-width) (layout m t) y ≡ layout m (put-own Lines t x)
-  lines-back x y p = ap (putMid (lists-at + m .channels * channel-width) (m .lines * line-width) (layout m t)) (p .bytes) ∙ lines-put x
+  lines-back x y p = part-put m t ok 9 (omega arith) (lists-at + m .channels * channel-width) (m .lines * line-width) (omega arith) refl (put-own Lines t x) y (ap (set (parts m t) 9) (p .bytes))

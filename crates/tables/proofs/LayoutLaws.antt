@@ -68,40 +68,18 @@ holds-copied m from to after c l t room holds =
 pub layout-bytes : (m : Limits) (t : Tables) → Allowed m t → Bytes (layout m t)
 unfolding layout
 layout-bytes m t ok =
-    flat-bytes (parts m t) (
-      hash-are-bytes (t .hash) (ok .hash),
-      (
-        key-are-bytes (t .key) (ok .key),
-        (
-          home-are-bytes (t .home) (ok .home),
-          (
-            system-are-bytes (t .system) (ok .system),
-            (
-              places-bytes QuickOk quick-width quick-bytes quick-are-bytes (t .quick) (ok .quick .1),
-              (
-                places-bytes StatusOk status-width status-bytes status-are-bytes (t .status) (ok .status .1),
-                (
-                  places-bytes GroupOk member-width group-bytes group-are-bytes (t .groups) (ok .groups .1),
-                  (
-                    places-bytes IndividualOk member-width individual-bytes individual-are-bytes (t .individuals) (ok .individuals .1),
-                    (
-                      places-bytes InChannel channel-width u16 channel-are-bytes (front (m .channels) (t .channels)) (all-front InChannel (m .channels) (t .channels) (ok .channels .1)),
-                      (
-                        places-bytes LineOk line-width line-bytes line-are-bytes (front (m .lines) (t .lines)) (all-front LineOk (m .lines) (t .lines) (ok .lines .1)),
-                        (
-                          bytes-zeros (m .size - used-size m),
-                          tt,
-                        ),
-                      ),
-                    ),
-                  ),
-                ),
-              ),
-            ),
-          ),
-        ),
-      ),
-    )
+    let a = hash-are-bytes (t .hash) (ok .hash) in
+    let b = key-are-bytes (t .key) (ok .key) in
+    let c = home-are-bytes (t .home) (ok .home) in
+    let d = system-are-bytes (t .system) (ok .system) in
+    let e = places-bytes QuickOk quick-width quick-bytes quick-are-bytes (t .quick) (ok .quick .1) in
+    let f = places-bytes StatusOk status-width status-bytes status-are-bytes (t .status) (ok .status .1) in
+    let g = places-bytes GroupOk member-width group-bytes group-are-bytes (t .groups) (ok .groups .1) in
+    let h = places-bytes IndividualOk member-width individual-bytes individual-are-bytes (t .individuals) (ok .individuals .1) in
+    let i = places-bytes InChannel channel-width u16 channel-are-bytes (front (m .channels) (t .channels)) (all-front InChannel (m .channels) (t .channels) (ok .channels .1)) in
+    let j = places-bytes LineOk line-width line-bytes line-are-bytes (front (m .lines) (t .lines)) (all-front LineOk (m .lines) (t .lines) (ok .lines .1)) in
+    let k = bytes-zeros (m .size - used-size m) in
+    flat-bytes (parts m t) (a, (b, (c, (d, (e, (f, (g, (h, (i, (j, (k, tt)))))))))))
 
 -- ---- equal bytes are equal tables
 
