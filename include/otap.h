@@ -113,7 +113,7 @@ enum {
  *   0   every byte of the store is written
  *   11  store_length is not OTAP_STORE_BYTES; no byte is touched
  */
-uint32_t otap_start(uint8_t *store, size_t store_length);
+uint32_t otap_start(uint8_t *store, uint64_t store_length);
 
 /*
  * Takes one message, a request or a result query, whole or not at all.
@@ -126,9 +126,9 @@ uint32_t otap_start(uint8_t *store, size_t store_length);
  * A reply has 10, 14 or 20 bytes; bytes of the reply buffer past them stay. It is written for 0 to 5 also where send is no.
  * Unpack with otap_answer_number, otap_take_failed, otap_take_send, otap_take_reboot, otap_take_reply_length.
  */
-uint64_t otap_take(const uint8_t *message, size_t message_length,
-                   uint8_t *store, size_t store_length,
-                   uint8_t *reply, size_t reply_length);
+uint64_t otap_take(const uint8_t *message, uint64_t message_length,
+                   uint8_t *store, uint64_t store_length,
+                   uint8_t *reply, uint64_t reply_length);
 
 /*
  * Writes a part of the store as a request at the buffer's start. The seven parts, taken by any other started set, give it the same tables.
@@ -140,8 +140,8 @@ uint64_t otap_take(const uint8_t *message, size_t message_length,
  * Unpack with otap_answer_number, otap_export_length.
  */
 uint64_t otap_export(uint32_t part,
-                     const uint8_t *store, size_t store_length,
-                     uint8_t *buffer, size_t buffer_length);
+                     const uint8_t *store, uint64_t store_length,
+                     uint8_t *buffer, uint64_t buffer_length);
 
 /*
  * Whether a row can be shown. Touches no byte.
@@ -153,8 +153,8 @@ uint64_t otap_export(uint32_t part,
  * no store: that is how power-on knows whether to keep them or to start.
  */
 uint32_t otap_row_number(uint32_t table, uint32_t row,
-                         const uint8_t *store, size_t store_length,
-                         const uint8_t *scratch, size_t scratch_length);
+                         const uint8_t *store, uint64_t store_length,
+                         const uint8_t *scratch, uint64_t scratch_length);
 
 /*
  * The part of the store or of the scratch that shows a row: 16-bit units, high byte first, without an end unit.
@@ -167,8 +167,8 @@ uint32_t otap_row_number(uint32_t table, uint32_t row,
  * Unpack with otap_part_in_scratch, otap_part_offset, otap_part_length, or with otap_part_bytes.
  */
 uint64_t otap_row_part(uint32_t table, uint32_t row,
-                       const uint8_t *store, size_t store_length,
-                       uint8_t *scratch, size_t scratch_length);
+                       const uint8_t *store, uint64_t store_length,
+                       uint8_t *scratch, uint64_t scratch_length);
 
 /*
  * Conversions of GA/T 1056-2013. Frequencies are in units of 100 Hz; a dialled number has eight digits.
