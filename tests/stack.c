@@ -5,9 +5,15 @@
 
 #include <stdio.h>
 #include <stdlib.h>
-#include <ucontext.h>
 
-enum { STACK = 256 * 1024, PAINT = 0xA5, CALLS = 6 };
+#ifdef __unix__
+#include <ucontext.h>
+enum { STACK = 256 * 1024 };
+#else
+enum { STACK = 32 * 1024 };
+#endif
+
+enum { PAINT = 0xA5, CALLS = 6 };
 
 /* The header's ceiling for each; it has what was measured beside them, and docs/TESTING.md too. */
 static const unsigned long most[CALLS] = {OTAP_START_STACK, OTAP_TAKE_STACK, OTAP_EXPORT_STACK, OTAP_ROW_STACK, OTAP_ROW_STACK, OTAP_CONVERSION_STACK};
@@ -16,7 +22,6 @@ static const char *const names[CALLS] = {"otap_start", "otap_take", "otap_export
 static uint8_t stack[STACK], store[OTAP_STORE_BYTES], filled[OTAP_STORE_BYTES];
 static uint8_t buffer[OTAP_EXPORT_BYTES];
 static Message message;
-static ucontext_t here, there;
 static unsigned which, turn;
 static uint64_t answer;
 
@@ -40,17 +45,35 @@ static void call(void)
     }
 }
 
-static unsigned long depth(void)
+/* Calls on the painted stack, and comes back to this one. */
+#ifdef __unix__
+static void call_there(void)
 {
-    size_t untouched = 0;
-    memset(stack, PAINT, sizeof stack);
-    memcpy(store, filled, sizeof store);
+    static ucontext_t here, there;
     getcontext(&there);
     there.uc_stack.ss_sp = stack;
     there.uc_stack.ss_size = sizeof stack;
     there.uc_link = &here;
     makecontext(&there, call, 0);
     swapcontext(&here, &there);
+}
+#else
+static void call_there(void)
+{
+    uintptr_t top = (uintptr_t)(stack + sizeof stack) & ~(uintptr_t)7;
+    __asm__ volatile("mov r4, sp\n\tmov sp, %0\n\tblx %1\n\tmov sp, r4"
+                     :
+                     : "r"(top), "r"(call)
+                     : "r0", "r1", "r2", "r3", "r4", "r12", "lr", "cc", "memory");
+}
+#endif
+
+static unsigned long depth(void)
+{
+    size_t untouched = 0;
+    memset(stack, PAINT, sizeof stack);
+    memcpy(store, filled, sizeof store);
+    call_there();
     while (untouched < sizeof stack && stack[untouched] == PAINT) {
         untouched++;
     }
