@@ -70,4 +70,11 @@ step "bounds can fail" sees_outside
 step "two banks, cut at every byte" build_and_run_banks && show
 step "banks can fail" banks_can_fail && show
 step "stack" build_and_run stack "-O1 $static" && show
+if [ ! -f target/archive/wasm32/otap_handheld.wasm ]; then
+    echo "left out  wasm32: ./archive wasm32 was not run"
+elif ! command -v node > /dev/null; then
+    echo "left out  wasm32: node is not here"
+else
+    step "wasm32 in node" node tests/wasm.mjs && show
+fi
 exit $failed
