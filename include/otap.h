@@ -7,11 +7,13 @@
  *
  * What the caller has to hold, for no C function can look at it:
  *
- *  - Each pointer is good for as many bytes as its length says, and is not null, also with length 0.
+ *  - Each pointer is good for as many bytes as its length says, and is not null, also with length 0. A length has 64 bits on every processor, since
+ *    that is what every archive takes; a size_t widens by itself.
  *  - The buffers of one call do not overlap. This is not checked.
  *  - While one task is in a call, no other task writes its buffers or reads those that the call may change. See "Screens".
  *  - The stack has room: OTAP_TAKE_STACK and its like, below. otap_take works on a copy of the store there.
- *  - memcpy and memset are there to link with; the archive needs nothing else.
+ *  - memcpy and memset are there to link with (on Cortex-M __aeabi_memcpy and __aeabi_memclr, which come with every C library for Arm); the archive
+ *    needs nothing else.
  *
  * Otherwise anything may be lent: any bytes, of any length, as a message, a store or a buffer. What is wrong is refused with a number.
  * docs/FIRMWARE.md says how firmware calls this: tasks and their lock, power-on, saving a store so that a power cut loses nothing, and updates.
@@ -46,15 +48,15 @@ enum {
 enum { OTAP_LAYOUT = 1 };
 
 /*
- * Stack in bytes: a ceiling for each call, which examples/stack.c holds it to, and what that measured (x86-64, gcc 12 and glibc's memcpy). It is tested
- * on a full store with every kind of message; no theorem bounds it.
+ * Stack in bytes: a ceiling for each call on every processor, which tests/stack.c holds it to, and the most that it measured on x86-64, AArch64,
+ * Cortex-M4 and Cortex-M33 (docs/COSTS.md has each). It is tested on a full store with every kind of message; no theorem bounds it.
  */
 enum {
     OTAP_START_STACK = 256,      /* measured 40 */
-    OTAP_TAKE_STACK = 14336,     /* 13,018: 12,288 of them are the working copy of the store */
-    OTAP_EXPORT_STACK = 1024,    /* 458 */
-    OTAP_ROW_STACK = 1024,       /* 378 otap_row_number, 394 otap_row_part */
-    OTAP_CONVERSION_STACK = 4096 /* 2,592 at most, of otap_transmit and otap_receive */
+    OTAP_TAKE_STACK = 14336,     /* 13,504: 12,288 of them are the working copy of the store */
+    OTAP_EXPORT_STACK = 1024,    /* 632 */
+    OTAP_ROW_STACK = 1024,       /* 552 otap_row_number, 632 otap_row_part */
+    OTAP_CONVERSION_STACK = 4096 /* 2,600 at most, of otap_transmit and otap_receive */
 };
 
 /* The numbers. */

@@ -7,31 +7,22 @@
 #![cfg_attr(not(feature = "reference"), no_std)]
 #![deny(unsafe_code)]
 
-#[cfg(not(without_archive))]
 mod answer;
-#[cfg(not(without_archive))]
 mod calls;
-#[cfg(not(without_archive))]
 mod conversions;
-#[cfg(not(without_archive))]
 mod row;
-#[cfg(not(without_archive))]
 mod store;
 
-#[cfg(not(without_archive))]
 pub use answer::{Answer, Outcome, Refusal};
-#[cfg(not(without_archive))]
 pub use conversions::{
     channel_of_transmit, dialled_of_group, dialled_of_individual, group_of_dialled,
     individual_of_dialled, receive, transmit, GroupAddress, IndividualAddress,
 };
-#[cfg(not(without_archive))]
 pub use row::{Row, Slice, Table};
-#[cfg(not(without_archive))]
 pub use store::{Part, Store, EXPORT_ROOM, LONGEST_MESSAGE, REPLY_ROOM, SCRATCH_ROOM, STORE_SIZE};
 
 // The README's snippet is compiled and run with the doc examples.
-#[cfg(all(doctest, not(without_archive)))]
+#[cfg(doctest)]
 #[doc = include_str!("../../README.md")]
 struct Readme;
 

@@ -1,5 +1,5 @@
 //! The seven conversions over their whole ranges, against the reference.
-#![cfg(all(feature = "reference", not(without_archive)))]
+#![cfg(feature = "reference")]
 
 use otap::reference::plan;
 use otap::{GroupAddress, IndividualAddress, Refusal};

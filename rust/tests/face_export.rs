@@ -1,5 +1,5 @@
 //! Exports and what they give to another set.
-#![cfg(all(feature = "reference", not(without_archive)))]
+#![cfg(feature = "reference")]
 
 mod common;
 

@@ -1,5 +1,4 @@
 //! Every outcome and refusal by its name and its number in document 01, each from a call made by hand.
-#![cfg(not(without_archive))]
 
 use otap::{Outcome, Part, Refusal, Store, Table};
 use otap::{EXPORT_ROOM, REPLY_ROOM, SCRATCH_ROOM, STORE_SIZE};

@@ -1,5 +1,5 @@
 //! Rows of the screen: number, which slice, bytes, and the scratch around them.
-#![cfg(all(feature = "reference", not(without_archive)))]
+#![cfg(feature = "reference")]
 
 mod common;
 

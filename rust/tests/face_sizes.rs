@@ -1,5 +1,5 @@
 //! Buffers of a wrong size: the number, the order of the refusals, and that nothing is touched.
-#![cfg(all(feature = "reference", not(without_archive)))]
+#![cfg(feature = "reference")]
 
 mod common;
 

@@ -1,5 +1,5 @@
 //! Which bytes are a store: those that messages make, those that docs/STORE.md allows, and no others.
-#![cfg(all(feature = "reference", not(without_archive)))]
+#![cfg(feature = "reference")]
 
 mod common;
 

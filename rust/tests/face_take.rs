@@ -1,5 +1,5 @@
 //! Taking messages: the archive behind the face against the reference.
-#![cfg(all(feature = "reference", not(without_archive)))]
+#![cfg(feature = "reference")]
 
 mod common;
 

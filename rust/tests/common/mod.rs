@@ -1,7 +1,6 @@
 //! Small helpers shared by the tests; not every test file uses all of them.
 #![allow(dead_code)]
 
-#[cfg(not(without_archive))]
 pub mod pair;
 
 use otap::reference::message;
