@@ -3,8 +3,8 @@
 use crate::cases;
 use crate::conversions;
 use crate::sides::{Call, Rattle, Side};
-use otap::inputs::Inputs;
 use otap::{Store, STORE_SIZE};
+use otap_reference::inputs::Inputs;
 use std::arch::asm;
 use std::collections::BTreeMap;
 use std::hint::black_box;
