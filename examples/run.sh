@@ -1,6 +1,7 @@
 #!/bin/sh
 # shellcheck disable=SC2086,SC2317,SC2329 # flags are several words, and steps are called by their names
-# examples/run.sh: the C header in each language, and the examples with the archive of this machine; ends with 1 if a step fails. tests/steps.sh says what it heeds.
+# examples/run.sh: the C header in each language, and the examples with this machine's archive; ends with 1 if a step fails.
+# tests/steps.sh says what it heeds.
 set -u
 cd "$(dirname "$0")/.." || exit 1
 . tests/steps.sh

@@ -1,6 +1,6 @@
 /*
- * Lent bytes, on a machine with pages: each buffer stands at the very end of its pages, before a page that cannot be touched, or right after one; what
- * may only be read cannot be written. The processor sees an access outside, and the program ends with 1.
+ * Lent bytes, on a machine with pages: each buffer stands at the very end of its pages, before a page that cannot be touched, or right after one;
+ * what may only be read cannot be written. The processor sees an access outside, and the program ends with 1.
  */
 #ifndef PAGES_H
 #define PAGES_H

@@ -26,7 +26,7 @@ sees_wrong_banks() {
         echo "the edit changes nothing: $2"
         return 1
     fi
-    $CC -std=c99 $warnings -Wno-unused -O2 $static "$built/wrong.c" "$built/banks_test.o" "$archive" -o "$built/wrong" || return 1
+    $CC -std=c99 $warnings -Wno-unused -O2 "$built/wrong.c" "$built/banks_test.o" "$archive" -o "$built/wrong" || return 1
     run_built wrong "$1" > "$built/seen" 2>&1
     if [ $? -ne 1 ] || ! grep '^banks: ' "$built/seen"; then
         echo "not seen: $2"
@@ -65,11 +65,11 @@ EDITS
 need_archive
 step "snippet at work" build_and_run snippet_test "$sanitizers"
 step "numbers and constants" build_and_run numbers "$sanitizers"
-step "bounds of the lent bytes" build_and_run bounds "-O1 $static" && show
+step "bounds of the lent bytes" build_and_run bounds -O1 && show
 step "bounds can fail" sees_outside
 step "two banks, cut at every byte" build_and_run_banks && show
 step "banks can fail" banks_can_fail && show
-step "stack" build_and_run stack "-O1 $static" && show
+step "stack" build_and_run stack -O1 && show
 if [ ! -f target/archive/wasm32/otap_handheld.wasm ]; then
     echo "left out  wasm32: ./archive wasm32 was not run"
 elif ! command -v node > /dev/null; then

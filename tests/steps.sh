@@ -9,7 +9,6 @@ CXX=${CXX:-g++}
 warnings="-Wall -Wextra -Wpedantic -Wconversion -Wshadow -Werror -Iinclude -Iexamples -Itests"
 sanitizers="-g -fsanitize=address,undefined -fno-sanitize-recover=all"
 emulator=
-static=
 built=$(mktemp -d) || exit 1
 trap 'rm -rf "$built"' EXIT
 failed=0
@@ -46,12 +45,12 @@ run_built() {
     $emulator "$built/$program" "$@"
 }
 
-# Before what links the archive. For another processor: its compilers, static programs and an emulator, under which no sanitizer runs.
+# Before what links the archive. For another processor: its compilers, an emulator with their libraries, and no sanitizer, for none runs under it.
 need_archive() {
     if [ "$target" != "$machine" ]; then
         cpu=${target%-linux}
-        CC=$cpu-linux-gnu-gcc CXX=$cpu-linux-gnu-g++ emulator=qemu-$cpu static=-static sanitizers=-static
-        for tool in $CC $CXX $emulator; do
+        CC=$cpu-linux-gnu-gcc CXX=$cpu-linux-gnu-g++ emulator="qemu-$cpu -L /usr/$cpu-linux-gnu" sanitizers=
+        for tool in $CC $CXX qemu-$cpu; do
             command -v $tool > /dev/null && continue
             echo "left out  what links the archive for $target: $tool is not here"
             exit $failed

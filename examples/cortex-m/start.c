@@ -1,4 +1,4 @@
-/* Start-up of a bare Cortex-M under semihosting: memory as link.ld lays it out, then main; a fault ends the program with 1. WORD is main's word, if any. */
+/* Start-up of a bare Cortex-M under semihosting: memory as link.ld lays it out, then main; a fault ends it with 1. WORD is main's word, if any. */
 #include <stdint.h>
 #include <stdlib.h>
 #include <string.h>
