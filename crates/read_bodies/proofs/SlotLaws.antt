@@ -12,7 +12,7 @@ use Rattle.writing.specs.declared.Operation.the-variants.{Add, Delete, Replace}
 use Rattle.writing.specs.Fields.{val, res}
 use Rattle.writing.specs.Ranges.{InAddress, InSlot}
 use Rattle.writing.specs.Writing.{flag, op, op-code, text}
-use Rattle.settings.specs.Settings.{AddressRefused}
+use Rattle.read_fields.specs.Parts.{AddressRefused}
 use Rattle.settings.proofs.BodyLaws.{Headed, one-op}
 use Rattle.read_bodies.specs.Refused.{GroupRefused, IndividualRefused}
 

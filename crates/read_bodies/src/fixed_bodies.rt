@@ -1,12 +1,12 @@
 // Settings that hold neither a list nor a slot: the emergency key, home numbers, system code and the last item.
 use plan::numbers::GroupAddress;
 use plan::numbers::IndividualAddress;
+use read_fields::addresses::address_refused;
 use read_fields::bytes::flag;
 use read_fields::bytes::number;
 use read_fields::bytes::remaining;
 use read_fields::hashes::HashRead;
 use read_fields::hashes::read_hash;
-use settings::addresses::address_refused;
 use settings::settings::BodyRead;
 use settings::settings::Setting;
 use writing::HomeNumbers;

@@ -1,12 +1,12 @@
 // Settings of a slot: one group or one individual.
 use plan::numbers::GroupAddress;
 use plan::numbers::IndividualAddress;
+use read_fields::addresses::address_refused;
 use read_fields::bytes::flag;
 use read_fields::bytes::number;
 use read_fields::bytes::remaining;
 use read_fields::texts::TextRead;
 use read_fields::texts::read_text;
-use settings::addresses::address_refused;
 use settings::rows::OperationRead;
 use settings::rows::operation_of;
 use settings::settings::BodyRead;

@@ -1,6 +1,7 @@
--- What reading a text, a number or an entry answers: it is there, with its place and what follows it, or none is.
+-- What reading a text, a number or an address answers: it is there, with its place and what follows it, or none is.
 use Prim.Native.Nat.{ℕ, zero, suc, _+_, _/_, _%_, _≤_}
 use mathlib.Core.Path.{_≡_}
+use mathlib.Core.Bool.{Bool, true, false}
 use mathlib.Core.Logic.{_≢_, _⊎_}
 use mathlib.Core.List.{List}
 use lib.ListN.{length}
@@ -9,7 +10,7 @@ use Rattle.writing.specs.Fields.{Field, each}
 use Rattle.writing.specs.declared.Coding.{Coding}
 use Rattle.writing.specs.Settings.{Contact, Entry, Text, Number}
 use Rattle.writing.specs.Writing.{text, number, contact, quick-text, status-text, fill}
-use Rattle.writing.specs.Ranges.{TextLimits, InNumber, InContact}
+use Rattle.writing.specs.Ranges.{TextLimits, InNumber, InContact, InAddress}
 use Rattle.read_fields.specs.Places.{PartAt}
 use Rattle.read_fields.specs.declared.texts.TextPlace.{TextPlace}
 use Rattle.read_fields.specs.declared.texts.TextRead.{TextRead}
@@ -55,3 +56,10 @@ DigitsAre b Bad = (b ≢ 255) × (b / 16 ≤ 9 → (b % 16 ≤ 9 → ⊥) × (b 
 abbrev pub EndedAt : ℕ → ℕ → ℕ → NumberRead → Type 0
 EndedAt start count next (ANumber p after) = (1 ≤ count) × (count ≤ 18) × (p .start ≡ start) × (p .digits ≡ count) × (after ≡ next)
 EndedAt start count next NoNumber = 1 ≤ count → count ≤ 18 → ⊥
+
+-- ---- addresses
+
+-- whether an address is out of range
+abbrev pub AddressRefused : ℕ → Bool → Type 0
+AddressRefused a true = InAddress a → ⊥
+AddressRefused a false = InAddress a

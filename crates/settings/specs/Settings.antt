@@ -1,13 +1,12 @@
 -- What a setting that was read means, and what reading its fields answers.
 use Prim.Native.Nat.{ℕ, _+_}
 use mathlib.Core.Path.{_≡_}
-use mathlib.Core.Bool.{Bool, true, false}
 use mathlib.Core.List.{List, map}
 use lib.ListN.{length}
 use Rattle.writing.specs.declared.Coding.{Coding}
 use Rattle.writing.specs.declared.Kind.{Kind}
 use Rattle.writing.specs.Fields.{Field, val, each}
-use Rattle.writing.specs.Ranges.{text-limits, HashSize, InRange, InAddress}
+use Rattle.writing.specs.Ranges.{text-limits, HashSize, InRange}
 use Rattle.writing.specs.Settings.{Setting, Contact, Entry, lines, key, quick-texts, home, channels, system, status-texts, group, individual, last, kind}
 use Rattle.writing.specs.Writing.{contact, quick-text, status-text, body}
 use Rattle.read_fields.specs.Entries.{channel-list}
@@ -46,10 +45,3 @@ Meant m (Last f p) s = (v : List ℕ) × (s ≡ last f (record { code = p .code;
 abbrev pub BodyAt : Coding → Kind → ℕ → List ℕ → ℕ → BodyRead → Type 0
 BodyAt c k left m p (Body r next) = (s : Setting) × (kind s ≡ k) × Meant m r s × InRange text-limits left s × PartAt (body c s) m p next
 BodyAt c k left m p NoBody = (s : Setting) (next : ℕ) → kind s ≡ k → InRange text-limits left s → PartAt (body c s) m p next → ⊥
-
--- ---- an inner step: no promise cites this
-
--- whether an address is out of range
-abbrev pub AddressRefused : ℕ → Bool → Type 0
-AddressRefused a true = InAddress a → ⊥
-AddressRefused a false = InAddress a

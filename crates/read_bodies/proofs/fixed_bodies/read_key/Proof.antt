@@ -12,7 +12,7 @@ use Rattle.writing.specs.declared.KeyTarget.the-variants.{Current}
 use Rattle.writing.specs.Fields.{Field}
 use Rattle.writing.specs.Writing.{bit}
 use Rattle.writing.specs.Ranges.{InAddress}
-use Rattle.settings.specs.Settings.{AddressRefused}
+use Rattle.read_fields.specs.Parts.{AddressRefused}
 use Rattle.read_fields.specs.Places.{PartAt}
 use mathlib.Core.Bool.{false}
 use Rattle.read_bodies.proofs.fixed_bodies.read_key.Statement.{statement}
