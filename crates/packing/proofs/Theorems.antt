@@ -1,7 +1,6 @@
 -- What firmware may rely on: two answers that a contract allows are equal, and the bits of an answer give its values back. Assumes nothing.
 use Prim.Native.Nat.{ℕ, _/_, _%_, _≤_}
 use mathlib.Core.Path.{_≡_, sym, ap, _∙_}
-use mathlib.Core.Bool.{Bool, true, false}
 use mathlib.Core.List.{List}
 use native.Mathlib.Omega.{arith}
 use Rattle.plan.specs.Answers.{Answer}
@@ -9,6 +8,7 @@ use Rattle.plan.proofs.AnswerLaws.{One, determined as value-determined}
 use Rattle.writing.specs.Writing.{bit}
 use Rattle.tables.specs.declared.limits.Limits.{Limits}
 use Rattle.tables.specs.Store.{Begun}
+use Rattle.tables.proofs.EntryCodes.{bit-small}
 use Rattle.tables.proofs.Theorems.{begun-determined}
 use Rattle.station.specs.Answers.{Said}
 use Rattle.station.specs.Taking.{After}
@@ -62,11 +62,6 @@ converts-determined Has one refusal x r q a b =
     a .packs .bits ∙ ap packed-value (value-determined Has one refusal x (a .answer) (b .answer) (a .allowed) (b .allowed)) ∙ sym (b .packs .bits)
 
 -- ---- the values of an answer
-
--- a bit is one bit
-bit-small : (b : Bool) → bit b ≤ 1
-bit-small true = omega arith
-bit-small false = omega arith
 
 -- TAKING: shifts and masks give the values back, and no other bit is set
 pub take-unpacked : (s : Said) (r : ℕ) → Packs s r

@@ -117,6 +117,7 @@ module _ {A : Type 0} {P : A → Type 0} {w h : ℕ} {f : A → List ℕ} (x : T
         shown = sym (take-take (2 * length us) (slot .end - slot .text) (drop (slot .text) s) (omega (arith, d, o .short))) ∙ ap (take (2 * length us)) t ∙ text-front (x .units) us (o .short);
       }
 
+  -- the slot shows the row
   seen : Seen s slot row (of (x .cap) (getD os i none))
   seen =
       record {
@@ -126,9 +127,11 @@ module _ {A : Type 0} {P : A → Type 0} {w h : ℕ} {f : A → List ℕ} (x : T
 
 -- ---- the five tables
 
+-- quick texts are their text alone
 abbrev quick : Texts QuickOk quick-width 0 quick-bytes
 quick = record { long = quick-code .long; shown = quick-shown; units = text-limits .quick; cap = text; head = λ us. []; wide = refl; head-long = λ us. refl; bytes = λ us. refl; ok = λ us p. p .text; head-in = λ s start us p e. tt }
 
+-- a status text has the byte 1 before it
 abbrev status : Texts StatusOk status-width 1 status-bytes
 status = record { long = status-code .long; shown = status-shown; units = text-limits .short; cap = text; head = λ us. 1 ∷ []; wide = refl; head-long = λ us. refl; bytes = λ us. refl; ok = λ us p. p; head-in = λ s start us p e. tt }
 
@@ -138,6 +141,7 @@ address-head s start flags a us e =
     before s (u24 a) (text-bytes (text-limits .short) us) (start + 1) 35 3
     (behind s (flags ∷ []) (u24 a ++ text-bytes (text-limits .short) us) start member-width 1 35 e refl refl (ap (λ j. suc (suc (suc j))) (text-length (text-limits .short) us))) refl (omega arith)
 
+-- a group has flags and an address before its text
 abbrev groups : Texts GroupOk member-width 4 group-bytes
 groups = record {
   long = group-code .long;
@@ -152,6 +156,7 @@ groups = record {
   head-in = λ s start g p e. address-head s start (group-flags (g .flags)) (g .address .0) (g .text) e;
 }
 
+-- and so has an individual
 abbrev individuals : Texts IndividualOk member-width 4 individual-bytes
 individuals = record {
   long = individual-code .long;
@@ -166,6 +171,7 @@ individuals = record {
   head-in = λ s start g p e. address-head s start (individual-flags (g .flags)) (g .address .0) (g .text) e;
 }
 
+-- a line has flags, IDtype and digits before its text
 abbrev contacts : Texts LineOk line-width 20 line-bytes
 contacts = record {
   long = line-code .long;
