@@ -101,7 +101,7 @@ static uint32_t row(uint32_t table, uint32_t at)
 static void rows(void)
 {
     static const struct { uint32_t table, number, first, last; size_t offset; } tables[OTAP_TABLES] = {
-        {OTAP_LINES, 1, 0, OTAP_LINE_ROWS - 1, 7414 + 19},
+        {OTAP_LINES, 1, 0, OTAP_LINE_ROWS - 1, 7414 + 20},
         {OTAP_QUICK_TEXTS, 2, 0, OTAP_QUICK_ROWS - 1, 22},
         {OTAP_STATUS_TEXTS, 3, OTAP_STATUS_FIRST, OTAP_STATUS_LAST, 2966 + 1},
         {OTAP_GROUPS, 4, 0, OTAP_SLOT_ROWS - 1, 6134 + 4},
@@ -165,8 +165,8 @@ static void layout(void)
     for (at = 0; at < OTAP_STORE_BYTES; at++) {
         sum = (sum ^ store[at]) * 16777619u;
     }
-    same("layout", 1, OTAP_LAYOUT, 1);
-    same("sum of a full store of layout 1", 0x0CD8CFF5u, sum, sum);
+    same("layout", 2, OTAP_LAYOUT, 2);
+    same("sum of a full store of layout 2", 0xFC993133u, sum, sum);
 }
 
 static void conversions(void)

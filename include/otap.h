@@ -43,7 +43,7 @@ enum {
 };
 
 /* The number of a store's layout, docs/STORE.md: it changes where the layout does. No store holds it; firmware saves it beside the store. */
-enum { OTAP_LAYOUT = 1 };
+enum { OTAP_LAYOUT = 2 };
 
 /*
  * Stack in bytes: a ceiling for each call, which examples/stack.c holds it to, and what that measured (x86-64, gcc 12 and glibc's memcpy). It is tested

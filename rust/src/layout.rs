@@ -9,7 +9,7 @@ pub const SIZE: usize = 12_288;
 const QUICK: usize = 46;
 const STATUS: usize = 33;
 const SLOT: usize = 36;
-const LINE: usize = 51;
+const LINE: usize = 52;
 
 /// The only bytes that keep this set.
 pub fn bytes(set: &Set) -> Vec<u8> {
@@ -101,15 +101,11 @@ fn individual(slot: &IndividualSlot) -> Vec<u8> {
 
 fn line(line: &Line) -> Vec<u8> {
     let held = &line.flags;
-    let said = flags(&[
-        (held.encryption.into(), 4),
-        (held.emergency.into(), 3),
-        (held.priority, 1),
-        (held.pabx.into(), 0),
-    ]);
-    let mut out = vec![said];
+    let said =
+        flags(&[(held.encryption.into(), 3), (held.emergency.into(), 2), (held.priority, 0)]);
+    let mut out = vec![said, held.pabx.into()];
     out.extend(line.digits.iter().map(|digit| digit + 1));
-    out.resize(19, 0);
+    out.resize(20, 0);
     out.extend(units(&line.text));
     out
 }
@@ -126,9 +122,9 @@ pub fn is_store(bytes: &[u8]) -> bool {
         && all(&bytes[6_134..6_710], SLOT, |slot| slot[0] >= 64 && is_member(slot))
         && all(&bytes[6_710..7_286], SLOT, |slot| slot[0] < 16 && is_member(slot))
         && front(&bytes[7_286..7_414], 2, is_channel)
-        && front(&bytes[7_414..9_046], LINE, is_line)
-        && keys_differ(&bytes[7_414..9_046])
-        && is_empty(&bytes[9_046..])
+        && front(&bytes[7_414..9_078], LINE, is_line)
+        && keys_differ(&bytes[7_414..9_078])
+        && is_empty(&bytes[9_078..])
 }
 
 fn is_empty(bytes: &[u8]) -> bool {
@@ -192,13 +188,13 @@ fn is_channel(slot: &[u8]) -> bool {
 }
 
 fn is_line(slot: &[u8]) -> bool {
-    let digits = &slot[1..19];
+    let digits = &slot[2..20];
     let length = digits.iter().take_while(|&&digit| (1..=10).contains(&digit)).count();
-    slot[0] < 32 && length > 0 && is_empty(&digits[length..]) && is_text(&slot[19..])
+    slot[0] < 16 && slot[1] < 2 && length > 0 && is_empty(&digits[length..]) && is_text(&slot[20..])
 }
 
 fn keys_differ(bytes: &[u8]) -> bool {
     let lines: Vec<&[u8]> = bytes.chunks_exact(LINE).filter(|slot| !is_empty(slot)).collect();
     (1..lines.len())
-        .all(|place| lines[..place].iter().all(|line| line[1..19] != lines[place][1..19]))
+        .all(|place| lines[..place].iter().all(|line| line[2..20] != lines[place][2..20]))
 }

@@ -108,7 +108,7 @@ const SLOTS: [(usize, usize, usize); 6] = [
     (6_134, 16, 36),
     (6_710, 16, 36),
     (7_286, 64, 2),
-    (7_414, 32, 51),
+    (7_414, 32, 52),
 ];
 
 /// Slots copied over others, emptied or exchanged: gaps, equal keys, and entries of another order.

@@ -12,7 +12,7 @@ use Rattle.writing.specs.Ranges.{InChannel}
 use Rattle.writing.specs.Settings.{Setting, unicode16}
 use Rattle.tables.specs.declared.limits.Limits.{Limits}
 use Rattle.tables.specs.Allowed.{LineOk}
-use Rattle.tables.specs.Layout.{layout, line-bytes}
+use Rattle.tables.specs.Layout.{layout, line-bytes, groups-at, individuals-at, line-width, lists-at, member-size, quick-at, quick-size, status-at, status-size}
 use Rattle.tables.specs.Store.{Holds}
 use Rattle.tables.specs.Tables.{Tables}
 use Rattle.tables.proofs.Frames.{key-get, home-get, system-get, quick-placed, status-placed, groups-placed, individuals-placed, channels-listed, lines-listed}
@@ -48,23 +48,23 @@ module _ (m : Limits) (t : Tables) (s : List ℕ) (h : Holds m t s) where
   at-part : (P : List ℕ → Type 0) (a n k : ℕ) → k ≡ n → P (midOf a n (layout m t)) → P (midOf a k s)
   at-part P a n k e p = subst⁻¹ (λ (i : ℕ). P (midOf a i s)) e (subst⁻¹ (λ (x : List ℕ). P (midOf a n x)) (h .1) p)
 
-  pub lines-in : (k : ℕ) → k ≡ m .lines * 51 → LinesIn (midOf (7286 + m .channels * 2) k s) (t .lines)
-  lines-in k e = (m .lines, at-part (λ x. Listed LineOk 51 line-bytes (m .lines) (t .lines) x) (7286 + m .channels * 2) (m .lines * 51) k e (lines-listed m t (h .0)))
+  pub lines-in : (k : ℕ) → k ≡ m .lines * line-width → LinesIn (midOf (lists-at + m .channels * 2) k s) (t .lines)
+  lines-in k e = (m .lines, at-part (λ x. Listed LineOk line-width line-bytes (m .lines) (t .lines) x) (lists-at + m .channels * 2) (m .lines * line-width) k e (lines-listed m t (h .0)))
 
-  pub channels-in : (k : ℕ) → k ≡ m .channels * 2 → ChannelsIn (midOf 7286 k s) (t .channels)
-  channels-in k e = (m .channels, at-part (λ x. Listed InChannel 2 u16 (m .channels) (t .channels) x) 7286 (m .channels * 2) k e (channels-listed m t (h .0)))
+  pub channels-in : (k : ℕ) → k ≡ m .channels * 2 → ChannelsIn (midOf lists-at k s) (t .channels)
+  channels-in k e = (m .channels, at-part (λ x. Listed InChannel 2 u16 (m .channels) (t .channels) x) lists-at (m .channels * 2) k e (channels-listed m t (h .0)))
 
-  pub quick-in : QuicksIn (midOf 22 2944 s) (t .quick)
-  quick-in = at-part (λ x. QuicksIn x (t .quick)) 22 2944 2944 refl (quick-placed m t (h .0))
+  pub quick-in : QuicksIn (midOf quick-at quick-size s) (t .quick)
+  quick-in = at-part (λ x. QuicksIn x (t .quick)) 22 quick-size quick-size refl (quick-placed m t (h .0))
 
-  pub status-in : StatusesIn (midOf 2966 3168 s) (t .status)
-  status-in = at-part (λ x. StatusesIn x (t .status)) 2966 3168 3168 refl (status-placed m t (h .0))
+  pub status-in : StatusesIn (midOf status-at status-size s) (t .status)
+  status-in = at-part (λ x. StatusesIn x (t .status)) status-at status-size status-size refl (status-placed m t (h .0))
 
-  pub groups-in : MembersIn OfGroups (midOf 6134 576 s) (t .groups)
-  groups-in = at-part (λ x. MembersIn OfGroups x (t .groups)) 6134 576 576 refl (groups-placed m t (h .0))
+  pub groups-in : MembersIn OfGroups (midOf groups-at member-size s) (t .groups)
+  groups-in = at-part (λ x. MembersIn OfGroups x (t .groups)) groups-at member-size member-size refl (groups-placed m t (h .0))
 
-  pub individuals-in : MembersIn OfIndividuals (midOf 6710 576 s) (t .individuals)
-  individuals-in = at-part (λ x. MembersIn OfIndividuals x (t .individuals)) 6710 576 576 refl (individuals-placed m t (h .0))
+  pub individuals-in : MembersIn OfIndividuals (midOf individuals-at member-size s) (t .individuals)
+  individuals-in = at-part (λ x. MembersIn OfIndividuals x (t .individuals)) individuals-at member-size member-size refl (individuals-placed m t (h .0))
 
   pub fixed-in : FixedIn (midOf 11 11 s) (t .key, (t .home, t .system))
   fixed-in =
@@ -95,7 +95,7 @@ module _ (m : Limits) (store s u : List ℕ) (r : Settings) (x : Exportable m) w
     };
   }
 
-  pub lines-part : (k room : ℕ) → k ≡ m .lines * 51 → room ≤ 5 + m .lines * 49 → WritesAll (LinesIn (midOf (7286 + m .channels * 2) k store)) line-settings 8 room s u r → PartWritten m Lines store s u r
+  pub lines-part : (k room : ℕ) → k ≡ m .lines * line-width → room ≤ 5 + m .lines * 49 → WritesAll (LinesIn (midOf (lists-at + m .channels * 2) k store)) line-settings 8 room s u r → PartWritten m Lines store s u r
   lines-part k room e l w =
       part-of Lines _ (λ t. t .lines) line-settings room (λ t h. lines-in m t store h k e) (λ t. refl) (omega (arith, x .lines)) (omega (arith, x .counted)) w
 
@@ -103,20 +103,20 @@ module _ (m : Limits) (store s u : List ℕ) (r : Settings) (x : Exportable m) w
   fixed-part w =
       part-of Fixed _ (λ t. (t .key, (t .home, t .system))) fixed-settings 19 (λ t h. fixed-in m t store h) (λ t. refl) (omega (arith, x .status)) (omega arith) w
 
-  pub quick-part : WritesAll (QuicksIn (midOf 22 2944 store)) quick-settings 8 3144 s u r → PartWritten m QuickTexts store s u r
+  pub quick-part : WritesAll (QuicksIn (midOf quick-at quick-size store)) quick-settings 8 3144 s u r → PartWritten m QuickTexts store s u r
   quick-part w = part-of QuickTexts _ (λ t. t .quick) quick-settings 3144 (λ t h. quick-in m t store h) (λ t. refl) (omega (arith, x .status)) (omega arith) w
 
-  pub channels-part : (k room : ℕ) → k ≡ m .channels * 2 → room ≤ 1540 → WritesAll (ChannelsIn (midOf 7286 k store)) channel-settings 8 room s u r → PartWritten m Channels store s u r
+  pub channels-part : (k room : ℕ) → k ≡ m .channels * 2 → room ≤ 1540 → WritesAll (ChannelsIn (midOf lists-at k store)) channel-settings 8 room s u r → PartWritten m Channels store s u r
   channels-part k room e l w =
       part-of Channels _ (λ t. t .channels) channel-settings room (λ t h. channels-in m t store h k e) (λ t. refl) (omega (arith, x .status)) (omega arith) w
 
-  pub status-part : WritesAll (StatusesIn (midOf 2966 3168 store)) status-settings 8 3365 s u r → PartWritten m StatusTexts store s u r
+  pub status-part : WritesAll (StatusesIn (midOf status-at status-size store)) status-settings 8 3365 s u r → PartWritten m StatusTexts store s u r
   status-part w = part-of StatusTexts _ (λ t. t .status) status-settings 3365 (λ t h. status-in m t store h) (λ t. refl) (omega (arith, x .status)) (omega arith) w
 
-  pub groups-part : WritesAll (MembersIn OfGroups (midOf 6134 576 store)) (member-settings OfGroups 0) 8 672 s u r → PartWritten m Groups store s u r
+  pub groups-part : WritesAll (MembersIn OfGroups (midOf groups-at member-size store)) (member-settings OfGroups 0) 8 672 s u r → PartWritten m Groups store s u r
   groups-part w =
       part-of Groups _ (λ t. t .groups) (member-settings OfGroups 0) 672 (λ t h. groups-in m t store h) (λ t. refl) (omega (arith, x .status)) (omega arith) w
 
-  pub individuals-part : WritesAll (MembersIn OfIndividuals (midOf 6710 576 store)) (member-settings OfIndividuals 0) 8 672 s u r → PartWritten m Individuals store s u r
+  pub individuals-part : WritesAll (MembersIn OfIndividuals (midOf individuals-at member-size store)) (member-settings OfIndividuals 0) 8 672 s u r → PartWritten m Individuals store s u r
   individuals-part w =
       part-of Individuals _ (λ t. t .individuals) (member-settings OfIndividuals 0) 672 (λ t h. individuals-in m t store h) (λ t. refl) (omega (arith, x .status)) (omega arith) w

@@ -17,6 +17,14 @@ use slots::bytes::copy;
 use store_check::checks::is_store;
 use tables::limits::HANDHELD;
 use tables::limits::Limits;
+use tables::places::CHANNEL_SLOT;
+use tables::places::GROUPS;
+use tables::places::INDIVIDUALS;
+use tables::places::KEY;
+use tables::places::LINE_SLOT;
+use tables::places::LISTS;
+use tables::places::QUICK;
+use tables::places::STATUS;
 ghost use mathlib.Core.Path.{_≡_};
 ghost use Prim.Native.Nat.{_≤_, _<_};
 ghost use lib.ListN.{length};
@@ -59,16 +67,20 @@ fn write_part(buffer: &mut [u8], part: Part, store: &[u8], limits: Limits) -> Se
     requires { ⌜ Roomy limits × (length (now store) ≡ limits .size) × Exportable limits × (limits .message ≤ length (now buffer)) ⌝ }
     ensures { λ r. ⌜ PartWritten limits part (now (store .entry)) (now (buffer .entry)) (now (buffer .exit)) r ⌝ }
 {
-    let lines = 7286 + limits.channels * 2;
-    let spare = lines + limits.lines * 51;
+    let lines = LISTS + limits.channels * CHANNEL_SLOT;
+    let spare = lines + limits.lines * LINE_SLOT;
     match part {
         Part::Lines => export_lines(buffer, &store[lines..spare]),
-        Part::Fixed => export_fixed(buffer, &store[11..22]),
-        Part::QuickTexts => export_quick(buffer, &store[22..2966]),
-        Part::Channels => export_channels(buffer, &store[7286..lines]),
-        Part::StatusTexts => export_status(buffer, &store[2966..6134]),
-        Part::Groups => export_members(buffer, Members::OfGroups, &store[6134..6710]),
-        Part::Individuals => export_members(buffer, Members::OfIndividuals, &store[6710..7286]),
+        Part::Fixed => export_fixed(buffer, &store[KEY..QUICK]),
+        Part::QuickTexts => export_quick(buffer, &store[QUICK..STATUS]),
+        Part::Channels => export_channels(buffer, &store[LISTS..lines]),
+        Part::StatusTexts => export_status(buffer, &store[STATUS..GROUPS]),
+        Part::Groups => export_members(buffer, Members::OfGroups, &store[GROUPS..INDIVIDUALS]),
+        Part::Individuals => export_members(
+            buffer,
+            Members::OfIndividuals,
+            &store[INDIVIDUALS..LISTS],
+        ),
     }
 }
 

@@ -11,7 +11,7 @@ use Rattle.writing.specs.Canonical.{plain}
 use Rattle.writing.specs.Settings.{Text, Entry, Setting, quick-texts, status-texts, unicode16}
 use Rattle.writing.specs.Writing.{text}
 use Rattle.tables.specs.Allowed.{TextOk, QuickOk, StatusOk}
-use Rattle.tables.specs.Layout.{text-bytes, quick-bytes, quick-width, status-bytes}
+use Rattle.tables.specs.Layout.{text-bytes, quick-bytes, quick-width, status-bytes, quick-size, status-size}
 use Rattle.export_write.specs.declared.entries.TextTable.{TextTable}
 use Rattle.export_write.specs.declared.entries.Entries.{Entries}
 use Rattle.export_write.specs.declared.writers.Settings.{Settings}
@@ -80,7 +80,7 @@ quick-settings os = quick-texts Replace (take 63 (entries 0 os)) ∷ map quick-a
 
 -- it was written
 abbrev pub WritesQuicks : (part before after : List ℕ) → Settings → Type 0
-WritesQuicks part before after r = WritesTable (length part ≡ 2944) (QuicksIn part) quick-settings 3144 before after r
+WritesQuicks part before after r = WritesTable (length part ≡ quick-size) (QuicksIn part) quick-settings 3144 before after r
 
 -- ---- status texts
 
@@ -93,4 +93,4 @@ status-settings os = status-texts Replace (entries 32 os) ∷ []
 
 -- it was written
 abbrev pub WritesStatuses : (part before after : List ℕ) → Settings → Type 0
-WritesStatuses part before after r = WritesTable (length part ≡ 3168) (StatusesIn part) status-settings 3365 before after r
+WritesStatuses part before after r = WritesTable (length part ≡ status-size) (StatusesIn part) status-settings 3365 before after r

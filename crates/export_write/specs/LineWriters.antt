@@ -5,7 +5,7 @@ use lib.ListN.{length}
 use Rattle.writing.specs.declared.Operation.the-variants.{Replace}
 use Rattle.writing.specs.Settings.{Setting, lines}
 use Rattle.tables.specs.Allowed.{LineOk}
-use Rattle.tables.specs.Layout.{line-bytes}
+use Rattle.tables.specs.Layout.{line-bytes, line-width}
 use Rattle.tables.specs.Tables.{Line}
 use Rattle.export_write.specs.declared.writers.Settings.{Settings}
 use Rattle.export_write.specs.LineSettings.{no-line-flags, line-add}
@@ -13,7 +13,7 @@ use Rattle.export_write.specs.Writers.{ListIn, WritesTable}
 
 -- the lent bytes are a table of lines
 abbrev pub LinesIn : List ℕ → List Line → Type 0
-LinesIn = ListIn LineOk 51 line-bytes
+LinesIn = ListIn LineOk line-width line-bytes
 
 -- the settings that export them
 abbrev pub line-settings : List Line → List Setting
@@ -21,4 +21,4 @@ line-settings ls = lines Replace no-line-flags [] ∷ map line-add ls
 
 -- a table of at most 254 lines was written
 abbrev pub WritesLines : (part before after : List ℕ) → Settings → Type 0
-WritesLines part before after r = WritesTable (length part ≤ 12954) (LinesIn part) line-settings (5 + length part / 51 * 49) before after r
+WritesLines part before after r = WritesTable (length part ≤ 254 * line-width) (LinesIn part) line-settings (5 + length part / line-width * 49) before after r

@@ -8,7 +8,7 @@ use Rattle.slots.specs.Slots.{slot, Present, Placed}
 use Rattle.writing.specs.declared.Operation.the-variants.{Add, Delete}
 use Rattle.writing.specs.Settings.{Setting, group, individual}
 use Rattle.tables.specs.Allowed.{GroupOk, IndividualOk}
-use Rattle.tables.specs.Layout.{group-bytes, individual-bytes, member-width}
+use Rattle.tables.specs.Layout.{group-bytes, individual-bytes, member-width, member-size}
 use Rattle.tables.specs.Tables.{GroupMember, IndividualMember}
 use Rattle.export_write.specs.declared.members.Members.{Members}
 use Rattle.export_write.specs.declared.members.Members.the-variants.{OfGroups, OfIndividuals}
@@ -60,4 +60,4 @@ MembersIn w part os = Placed (member-ok w) 36 (member-bytes w) 16 os part
 
 -- it was written
 abbrev pub WritesMembers : Members → (part before after : List ℕ) → Settings → Type 0
-WritesMembers w part before after r = WritesTable (length part ≡ 576) (MembersIn w part) (member-settings w 0) 672 before after r
+WritesMembers w part before after r = WritesTable (length part ≡ member-size) (MembersIn w part) (member-settings w 0) 672 before after r

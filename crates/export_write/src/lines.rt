@@ -7,24 +7,31 @@ use super::writers::Settings;
 use super::writers::start_setting;
 use super::writers::write_bytes;
 use slots::slots::used;
+use tables::places::LINE_DIGITS;
+use tables::places::LINE_IDTYPE;
+use tables::places::LINE_SLOT;
+use tables::places::LINE_TEXT;
 ghost use mathlib.Core.Path.{_≡_};
 ghost use Prim.Native.Nat.{_+_, _≤_};
 ghost use lib.ListN.{length};
 ghost use Rattle.tables.specs.Allowed.{LineOk};
-ghost use Rattle.tables.specs.Layout.{line-bytes};
+ghost use Rattle.tables.specs.Layout.{line-bytes, line-width};
 ghost use Rattle.export_write.specs.LineSettings.{line-add};
 ghost use Rattle.export_write.specs.LineWriters.{WritesLines};
 ghost use Rattle.export_write.specs.Writers.{Kept, WritesSetting};
 
-// An add of the contact in a slot: its flags are sent a bit higher than they are kept.
+// The bytes of 254 lines, for which a request has settings.
+const MOST: usize = 254 * LINE_SLOT;
+
+// An add of the contact in a slot: its flags are sent two bits higher than they are kept, and its IDtype one.
 fn write_line(buffer: &mut [u8], at: usize, slot: &[u8]) -> usize
-    requires { ⌜ (length (now slot) ≡ 51) × (at + 49 ≤ length (now buffer)) ⌝ }
+    requires { ⌜ (length (now slot) ≡ line-width) × (at + 49 ≤ length (now buffer)) ⌝ }
     ensures { λ r. ⌜ WritesSetting (Kept LineOk line-bytes (now (slot .entry))) line-add at 49 (now (buffer .entry)) (now (buffer .exit)) r ⌝ }
 {
-    let head = [64 + slot[0] % 32 * 2, 1];
+    let head = [64 + slot[0] % 16 * 4 + slot[LINE_IDTYPE] % 2 * 2, 1];
     let number = write_bytes(buffer, at + 3, &head);
-    let text = write_number(buffer, number, &slot[1..19]);
-    let end = write_text(buffer, text, &slot[19..51]);
+    let text = write_number(buffer, number, &slot[LINE_DIGITS..LINE_TEXT]);
+    let end = write_text(buffer, text, &slot[LINE_TEXT..LINE_SLOT]);
     start_setting(buffer, at, 0xCA, end)
 }
 
@@ -32,19 +39,19 @@ fn write_line(buffer: &mut [u8], at: usize, slot: &[u8]) -> usize
 pub fn export_lines(buffer: &mut [u8], part: &[u8]) -> Settings
     ensures { λ r. ⌜ WritesLines (now (part .entry)) (now (buffer .entry)) (now (buffer .exit)) r ⌝ }
 {
-    if 12954 < part.len() {
+    if MOST < part.len() {
         return NOTHING;
     }
-    if buffer.len() < FIRST + 5 + part.len() / 51 * 49 {
+    if buffer.len() < FIRST + 5 + part.len() / LINE_SLOT * 49 {
         return NOTHING;
     }
     let replace = [0xCA, 0, 4, 0xC0, 0];
     let mut end = write_bytes(buffer, FIRST, &replace);
-    let count = used(part, 51) / 51;
+    let count = used(part, LINE_SLOT) / LINE_SLOT;
     let mut i = 0;
     while i < count {
-        let a = i * 51;
-        let e = a + 51;
+        let a = i * LINE_SLOT;
+        let e = a + LINE_SLOT;
         end = write_line(buffer, end, &part[a..e]);
         i += 1;
     }

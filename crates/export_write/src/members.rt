@@ -6,6 +6,7 @@ use super::writers::Settings;
 use super::writers::start_setting;
 use super::writers::write_bytes;
 use slots::bytes::is_zeros;
+use tables::places::MEMBER_SIZE;
 ghost use mathlib.Core.Path.{_≡_};
 ghost use mathlib.Core.Bool.{cond};
 ghost use Prim.Native.Nat.{_+_, _≤_, _<_};
@@ -68,7 +69,7 @@ fn write_member(buffer: &mut [u8], at: usize, which: Members, index: u8, slot: &
 pub fn export_members(buffer: &mut [u8], which: Members, part: &[u8]) -> Settings
     ensures { λ r. ⌜ WritesMembers which (now (part .entry)) (now (buffer .entry)) (now (buffer .exit)) r ⌝ }
 {
-    if part.len() != 576 {
+    if part.len() != MEMBER_SIZE {
         return NOTHING;
     }
     if buffer.len() < FIRST + 672 {

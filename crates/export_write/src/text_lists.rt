@@ -8,6 +8,8 @@ use super::writers::Settings;
 use super::writers::start_setting;
 use super::writers::write_bytes;
 use slots::bytes::is_zeros;
+use tables::places::QUICK_SIZE;
+use tables::places::STATUS_SIZE;
 ghost use mathlib.Core.Path.{_≡_};
 ghost use Prim.Native.Nat.{_+_, _≤_};
 ghost use lib.ListN.{length};
@@ -35,7 +37,7 @@ const STATUS: TextTable = TextTable {
 pub fn export_status(buffer: &mut [u8], part: &[u8]) -> Settings
     ensures { λ r. ⌜ WritesStatuses (now (part .entry)) (now (buffer .entry)) (now (buffer .exit)) r ⌝ }
 {
-    if part.len() != 3168 {
+    if part.len() != STATUS_SIZE {
         return NOTHING;
     }
     if buffer.len() < FIRST + 3365 {
@@ -67,7 +69,7 @@ fn write_last_quick(buffer: &mut [u8], at: usize, slot: &[u8]) -> Settings
 pub fn export_quick(buffer: &mut [u8], part: &[u8]) -> Settings
     ensures { λ r. ⌜ WritesQuicks (now (part .entry)) (now (buffer .entry)) (now (buffer .exit)) r ⌝ }
 {
-    if part.len() != 2944 {
+    if part.len() != QUICK_SIZE {
         return NOTHING;
     }
     if buffer.len() < FIRST + 3144 {
@@ -80,7 +82,7 @@ pub fn export_quick(buffer: &mut [u8], part: &[u8]) -> Settings
     if entries.next == 64 {
         return Settings { end, count: 1 };
     }
-    let more = write_last_quick(buffer, end, &part[2898..2944]);
+    let more = write_last_quick(buffer, end, &part[2898..QUICK_SIZE]);
     Settings {
         end: more.end,
         count: 1 + more.count,

@@ -15,9 +15,10 @@ use Rattle.slots.specs.Slots.{front, u24, zeros?, Placed, Found}
 use Rattle.slots.proofs.Tables.{front-length, all-front}
 use Rattle.writing.specs.Ranges.{text-limits, InNumber}
 use Rattle.writing.specs.Settings.{Text, Number}
+use Rattle.writing.specs.Writing.{bit}
 use Rattle.tables.specs.declared.limits.Limits.{Limits}
 use Rattle.tables.specs.Allowed.{Allowed, QuickOk, StatusOk, GroupOk, IndividualOk, LineOk}
-use Rattle.tables.specs.Layout.{layout, text-bytes, quick-bytes, status-bytes, group-bytes, individual-bytes, line-bytes, group-flags, individual-flags, line-flags, digit-bytes, quick-width, status-width, member-width, line-width, part-start, groups-at, individuals-at, lists-at, status-at}
+use Rattle.tables.specs.Layout.{layout, text-bytes, quick-bytes, status-bytes, group-bytes, individual-bytes, line-bytes, group-flags, individual-flags, line-flags, digit-bytes, digits-at, quick-width, status-width, member-width, line-width, part-start, groups-at, individuals-at, lists-at, status-at}
 use Rattle.tables.specs.Limits.{quick-places, status-places, slot-places}
 use Rattle.tables.specs.Store.{Holds}
 use Rattle.tables.specs.Tables.{Tables, Line as LineEntry}
@@ -83,13 +84,13 @@ individual-texted = record {
   shown = individual-shown;
 }
 
-line-texted : Texted LineOk line-width 19 line-bytes (λ l. l .text)
+line-texted : Texted LineOk line-width 20 line-bytes (λ l. l .text)
 line-texted = record {
   units = text-limits .short;
-  head = λ l. line-flags (l .flags) ∷ digit-bytes (l .number);
+  head = λ l. line-flags (l .flags) ∷ bit (l .flags .pabx) ∷ digit-bytes (l .number);
   wide = refl;
   long = line-code .long;
-  head-long = λ l. ap suc (digits-length (l .number));
+  head-long = λ l. ap (λ n. suc (suc n)) (digits-length (l .number));
   bytes = λ l. refl;
   ok = λ l p. p .text;
   shown = line-shown;
@@ -108,7 +109,7 @@ pub data OfKind : Row → Caption → Type 0 where
 -- what the head of a slot keeps of a caption
 abbrev pub HeadIn : List ℕ → ℕ → Caption → Type 0
 HeadIn s start (text us) = Unit {0}
-HeadIn s start (line us ds) = InNumber ds × (midOf (start + 1) 18 s ≡ digit-bytes ds)
+HeadIn s start (line us ds) = InNumber ds × (midOf (start + digits-at) 18 s ≡ digit-bytes ds)
 HeadIn s start (group us a) = midOf (start + 1) 3 s ≡ u24 (a .0)
 HeadIn s start (individual us a) = midOf (start + 1) 3 s ≡ u24 (a .0)
 
@@ -200,8 +201,8 @@ line-captions n = record {
   cap-kind = λ l. a-line;
   cap-head = λ s start l p e. (
     p .number,
-    before s (digit-bytes (l .number)) (text-bytes (text-limits .short) (l .text)) (start + 1) 50 18
-        (behind s (line-flags (l .flags) ∷ []) (digit-bytes (l .number) ++ text-bytes (text-limits .short) (l .text)) start line-width 1 50 e refl refl (length-append (digit-bytes (l .number)) (text-bytes (text-limits .short) (l .text)) ∙ ap₂ (λ i j. i + j) (digits-length (l .number)) (text-length (text-limits .short) (l .text))))
+    before s (digit-bytes (l .number)) (text-bytes (text-limits .short) (l .text)) (start + digits-at) 50 18
+        (behind s (line-flags (l .flags) ∷ bit (l .flags .pabx) ∷ []) (digit-bytes (l .number) ++ text-bytes (text-limits .short) (l .text)) start line-width digits-at 50 e refl refl (length-append (digit-bytes (l .number)) (text-bytes (text-limits .short) (l .text)) ∙ ap₂ (λ i j. i + j) (digits-length (l .number)) (text-length (text-limits .short) (l .text))))
         (digits-length (l .number)) (omega arith),
   );
 }
@@ -230,7 +231,7 @@ pub row-seen : (m : Limits) (t : Tables) (s : List ℕ) (row : Row) (slot : Slot
 row-seen m t s (Line n) slot (ok, e) x =
     let p = placed-in LineOk line-width (m .lines) line-bytes (front (m .lines) (t .lines)) m t s (part-start m 9) e (lines-placed m t ok) in
     subst (λ (o : Option LineEntry). Seen s slot (Line n) (of (line-captions n .cap) o)) (front-get (m .lines) (t .lines) n (x .0))
-    (seen LineOk line-width 19 line-bytes (λ l. l .text) line-texted (Line n) (line-captions n) (m .lines) (part-start m 9) (front (m .lines) (t .lines)) s p n slot x)
+    (seen LineOk line-width 20 line-bytes (λ l. l .text) line-texted (Line n) (line-captions n) (m .lines) (part-start m 9) (front (m .lines) (t .lines)) s p n slot x)
 row-seen m t s (QuickText n) slot (ok, e) x =
     seen QuickOk quick-width 0 quick-bytes (λ us. us) quick-texted (QuickText n) (quick-captions n) quick-places 22 (t .quick) s
     (placed-in QuickOk quick-width quick-places quick-bytes (t .quick) m t s 22 e (quick-placed m t ok)) n slot x
@@ -260,7 +261,7 @@ within os n places g {c} h e = go (ltb n places) refl
 pub row-there : (m : Limits) (t : Tables) → Allowed m t → (row : Row) (c : Caption) → caption t row ≡ some c → (slot : Slot) × SlotIs m row (At slot)
 row-there m t ok (Line n) c e =
     let l : length (map some (t .lines)) ≡ length (t .lines) = length-map (t .lines) some in
-    (record { start = part-start m 9 + n * line-width; text = part-start m 9 + n * line-width + 19; end = part-start m 9 + n * line-width + line-width }, (within (map some (t .lines)) n (m .lines) (line-captions n .cap) (omega (arith, l, ok .lines .0)) e, refl, refl, refl))
+    (record { start = part-start m 9 + n * line-width; text = part-start m 9 + n * line-width + 20; end = part-start m 9 + n * line-width + line-width }, (within (map some (t .lines)) n (m .lines) (line-captions n .cap) (omega (arith, l, ok .lines .0)) e, refl, refl, refl))
 row-there m t ok (QuickText n) c e =
     (record { start = 22 + n * 46; text = 22 + n * 46 + 0; end = 22 + n * 46 + 46 }, (within (t .quick) n quick-places text (omega (arith, ok .quick .0)) e, refl, refl, refl))
 row-there m t ok (StatusText n) c e = go (ltb n 32) refl

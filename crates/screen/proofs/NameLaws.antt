@@ -16,6 +16,7 @@ use Rattle.slots.specs.Slots.{u24, zeros?, Found}
 use Rattle.writing.specs.Settings.{Text}
 use Rattle.tables.specs.declared.limits.Limits.{Limits}
 use Rattle.tables.specs.Allowed.{Allowed}
+use Rattle.tables.specs.Layout.{digits-at}
 use Rattle.tables.specs.Store.{StoreOf, Holds}
 use Rattle.tables.specs.Tables.{Tables}
 use Rattle.screen.specs.declared.names.Name.the-variants.{Refused, Text as TextAt, Digits, Group as GroupNumber, Individual as IndividualNumber}
@@ -142,13 +143,13 @@ module _ (m : Limits) (s : List ℕ) (row : Row) (r : SlotPlace) (slot : Slot) (
               by w d an-individual q o l = absurd (miss (1 ∷ 2 ∷ 5 ∷ []) 4 tt o)
 
       -- a line's digits
-      pub named-digits : (n : ℕ) → row ≡ Line n → NameIs m s row (Digits (slot .start + 1))
+      pub named-digits : (n : ℕ) → row ≡ Line n → NameIs m s row (Digits (slot .start + digits-at))
       named-digits n k t h = by (c .row-is) (subst (λ (w : Row). OfKind w (c .row-is)) k (c .kind)) (c .there) (c .head) (empty t h)
         where
           c : Captioned s slot row (caption t row)
           c = seen t h
 
-          by : (d : Caption) → OfKind (Line n) d → caption t row ≡ some d → HeadIn s (slot .start) d → text-of d ≡ [] → Named m s row (caption t row) (Digits (slot .start + 1))
+          by : (d : Caption) → OfKind (Line n) d → caption t row ≡ some d → HeadIn s (slot .start) d → text-of d ≡ [] → Named m s row (caption t row) (Digits (slot .start + digits-at))
           by d (a-line {us} {ds}) q w l =
               let y = subst (λ (z : Row). SlotIs m z (At slot)) k is in
               (ds, q ∙ ap (λ v. some (line v ds)) l, w .0, w .1, omega (arith, y .1, y .2, found-fits .ends, found-fits .inside))

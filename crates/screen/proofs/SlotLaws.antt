@@ -26,8 +26,8 @@ pub slot-row : (m : Limits) {row case : Row} (r : SlotPlace) → row ≡ case �
 slot-row m r e x = subst (λ (z : Row). SlotIs m z r) (sym e) x
 
 -- lines stand behind the channels
-pub slot-line : (m : Limits) (n base : ℕ) (r : SlotPlace) → base ≡ part-start m 9 → Slotted base (m .lines) n line-width 19 r → SlotIs m (Line n) r
-slot-line m n base r e x = subst (λ (b : ℕ). Slotted b (m .lines) n line-width 19 r) e x
+pub slot-line : (m : Limits) (n base : ℕ) (r : SlotPlace) → base ≡ part-start m 9 → Slotted base (m .lines) n line-width 20 r → SlotIs m (Line n) r
+slot-line m n base r e x = subst (λ (b : ℕ). Slotted b (m .lines) n line-width 20 r) e x
 
 -- status codes start at 32
 pub slot-status : (m : Limits) (n : ℕ) (r : SlotPlace) → 32 ≤ n → Slotted status-at 96 (n - 32) 33 1 r → SlotIs m (StatusText n) r

@@ -30,7 +30,7 @@ Slotted base places n w h Beyond = places ≤ n
 
 -- the row's slot
 abbrev pub SlotIs : Limits → Row → SlotPlace → Type 0
-SlotIs m (Line n) r = Slotted (part-start m 9) (m .lines) n line-width 19 r
+SlotIs m (Line n) r = Slotted (part-start m 9) (m .lines) n line-width 20 r
 SlotIs m (QuickText n) r = Slotted (part-start m 4) quick-places n quick-width 0 r
 SlotIs m (StatusText n) (At s) = (32 ≤ n) × Slotted (part-start m 5) status-places (n - 32) status-width 1 (At s)
 SlotIs m (StatusText n) Beyond = 32 ≤ n → status-places ≤ n - 32

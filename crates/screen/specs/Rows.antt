@@ -120,7 +120,7 @@ units (written us) = us
 
 -- the first byte of a row's text: the part's, the slots before it, and what its slot has before the text
 abbrev pub text-start : Limits → Row → ℕ
-text-start m (Line n) = part-start m 9 + n * line-width + 19
+text-start m (Line n) = part-start m 9 + n * line-width + 20
 text-start m (QuickText n) = part-start m 4 + n * quick-width
 text-start m (StatusText n) = part-start m 5 + (n - 32) * status-width + 1
 text-start m (Group n) = part-start m 6 + n * member-width + 4

@@ -21,7 +21,7 @@ use Rattle.slots.proofs.Tables.{front-bytes}
 use Rattle.writing.specs.Settings.{Number}
 use Rattle.tables.specs.Allowed.{LineOk, Distinct}
 use Rattle.tables.specs.Apply.{has-number}
-use Rattle.tables.specs.Layout.{digit-bytes, line-bytes, line-width}
+use Rattle.tables.specs.Layout.{digit-bytes, line-bytes, line-width, digits-at}
 use Rattle.tables.specs.Tables.{Line}
 use Rattle.tables.proofs.EntryCodes.{line-code, line-keyed, line-shown}
 use Rattle.tables.proofs.TextCodes.{digits-length, digits-same, digits-shown}
@@ -131,26 +131,26 @@ module _ (s : List ℕ) (at end : ℕ) (ls : List Line) (fits : end ≤ length s
         (c .0, ap (take (end - (at + line-width))) (sym (drop-drop line-width at s)) ∙ c .1)
 
     -- its number
-    line-key : midOf (at + 1) (at + 1 + 18 - (at + 1)) s ≡ digit-bytes (next h .line .number)
+    line-key : midOf (at + digits-at) (at + digits-at + 18 - (at + digits-at)) s ≡ digit-bytes (next h .line .number)
     line-key =
         let l = next h .line in
-        let k : at + 1 + 18 - (at + 1) ≡ 18 = omega arith in
+        let k : at + digits-at + 18 - (at + digits-at) ≡ 18 = omega arith in
         let e : drop at s ≡ line-bytes l ++ drop line-width (drop at s) = sym (take-append-drop line-width (drop at s)) ∙ ap (λ (x : List ℕ). x ++ drop line-width (drop at s)) (line-cut .0) in
-        ap (λ (i : ℕ). take i (drop (at + 1) s)) k ∙ ap (take 18) (sym (drop-drop 1 at s) ∙ ap (drop 1) e ∙ append-assoc (digit-bytes (l .number)) _ (drop line-width (drop at s)))
+        ap (λ (i : ℕ). take i (drop (at + digits-at) s)) k ∙ ap (take 18) (sym (drop-drop digits-at at s) ∙ ap (drop digits-at) e ∙ append-assoc (digit-bytes (l .number)) _ (drop line-width (drop at s)))
         ∙ take-at (digit-bytes (l .number)) _ 18 (digits-length (l .number))
 
-    module _ (r : ℕ) (found : Found (KeyAt line-width 1 (midOf (at + 1) (at + 1 + 18 - (at + 1)) s) × (length (midOf (at + 1) (at + 1 + 18 - (at + 1)) s) ≡ 18)) (fit 1 (midOf (at + 1) (at + 1 + 18 - (at + 1)) s)) line-width (midOf (at + line-width) (end - (at + line-width)) s) r) where
+    module _ (r : ℕ) (found : Found (KeyAt line-width digits-at (midOf (at + digits-at) (at + digits-at + 18 - (at + digits-at)) s) × (length (midOf (at + digits-at) (at + digits-at + 18 - (at + digits-at)) s) ≡ 18)) (fit digits-at (midOf (at + digits-at) (at + digits-at + 18 - (at + digits-at)) s)) line-width (midOf (at + line-width) (end - (at + line-width)) s) r) where
       -- the search ends at the first line behind that has the number
       key-found : r ≡ indexOf (has-number (next h .line .number)) (next h .later) * line-width
       key-found =
           let n = next h in
           let d = n .line .number in
           let o = n .each .0 .number in
-          key-at LineOk line-width line-bytes 1 18 (λ l. digit-bytes (l .number)) line-keyed (digit-bytes d) (digits-length d) (digits-shown d (o .0)) (has-number d)
+          key-at LineOk line-width line-bytes digits-at 18 (λ l. digit-bytes (l .number)) line-keyed (digit-bytes d) (digits-length d) (digits-shown d (o .0)) (has-number d)
           (λ a p. digits-same (a .number) d (p .number .1) (o .1)) (length (n .later)) (n .later) (midOf (at + line-width) (end - (at + line-width)) s)
           (full-listed LineOk line-width line-bytes (line-code .long) (n .later) (midOf (at + line-width) (end - (at + line-width)) s) (n .each .1) (line-cut .1)) r
-          (subst (λ (k : List ℕ). Found (KeyAt line-width 1 k) (fit 1 k) line-width (midOf (at + line-width) (end - (at + line-width)) s) r) line-key
-          (found-known line-width 1 18 _ (midOf (at + line-width) (end - (at + line-width)) s) _ r (ap length line-key ∙ digits-length d) found))
+          (subst (λ (k : List ℕ). Found (KeyAt line-width digits-at k) (fit digits-at k) line-width (midOf (at + line-width) (end - (at + line-width)) s) r) line-key
+          (found-known line-width digits-at 18 _ (midOf (at + line-width) (end - (at + line-width)) s) _ r (ap length line-key ∙ digits-length d) found))
 
       -- at the end where none has it
       key-none : (r ≡ end - (at + line-width)) ↔ All (λ x. x .number ≢ next h .line .number) (next h .later)

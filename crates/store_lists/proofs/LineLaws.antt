@@ -21,7 +21,7 @@ use Rattle.writing.specs.declared.Operation.the-variants.{Add, Replace}
 use Rattle.writing.specs.Fields.{each}
 use Rattle.writing.specs.Ranges.{text-limits, InContact}
 use Rattle.writing.specs.Settings.{Contact, unicode16}
-use Rattle.writing.specs.Writing.{contact}
+use Rattle.writing.specs.Writing.{bit, contact}
 use Rattle.writing.proofs.Unique.{contact-ends}
 use Rattle.writing.proofs.Whole.{contact-whole}
 use Rattle.read_fields.specs.declared.entries.ContactPlace.{ContactPlace}
@@ -33,7 +33,7 @@ use Rattle.settings.specs.Settings.{EntriesAre}
 use Rattle.tables.specs.Allowed.{LineOk}
 use Rattle.tables.specs.Apply.{in-turn, has-number, line-of, line-step}
 use Rattle.tables.specs.Changing.{TextPut, Tried}
-use Rattle.tables.specs.Layout.{line-flags, digit-bytes, text-bytes, line-bytes, line-width}
+use Rattle.tables.specs.Layout.{line-flags, digit-bytes, text-bytes, line-bytes, digits-at, line-width}
 use Rattle.store_lists.specs.Lists.{DigitsPut, LineSlot, LineTable, LinePut, LineDropped, LinesApplied}
 use Rattle.tables.specs.Tables.{Line}
 use Rattle.tables.proofs.EntryCodes.{line-keyed}
@@ -45,21 +45,22 @@ use Rattle.tables.proofs.TextLaws.{text-out}
 -- ---- a line's slot
 
 -- a slot that is empty but for its flags and digits has room for its text
-pub slot-room : (b : ℕ) (y : List ℕ) → length y ≡ 18 → line-width ≤ length (putMid 1 18 (b ∷ replicate 50 0) y)
-slot-room b y l = omega (arith, length-append y (replicate 32 0))
+pub slot-room : (b c : ℕ) (y : List ℕ) → length y ≡ 18 → line-width ≤ length (putMid digits-at 18 (b ∷ c ∷ replicate 50 0) y)
+slot-room b c y l = omega (arith, length-append y (replicate 32 0))
 
--- flags, digits and text make the slot
-pub slot-made : (m : List ℕ) (f : LineFlags) (p : ContactPlace) (b : ℕ) (y z : List ℕ) → (f .priority < 4 → b ≡ line-flags f) → DigitsPut m (p .number) (replicate 18 0) y
-    → TextPut m (p .text) (midOf 19 32 (putMid 1 18 (b ∷ replicate 50 0) y)) z → LineSlot m f p (putMid 19 32 (putMid 1 18 (b ∷ replicate 50 0) y) z)
-slot-made m f p b y z flags digits text e is range low =
+-- flags, IDtype, digits and text make the slot
+pub slot-made : (m : List ℕ) (f : LineFlags) (p : ContactPlace) (b c : ℕ) (y z : List ℕ) → (f .priority < 4 → b ≡ line-flags f) → c ≡ bit (f .pabx)
+    → DigitsPut m (p .number) (replicate 18 0) y
+    → TextPut m (p .text) (midOf 20 32 (putMid digits-at 18 (b ∷ c ∷ replicate 50 0) y)) z → LineSlot m f p (putMid 20 32 (putMid digits-at 18 (b ∷ c ∷ replicate 50 0) y) z)
+slot-made m f p b c y z flags kind digits text e is range low =
     let d : y ≡ digit-bytes (e .number) = digits (e .number) (is .middle) (is .number) in
-    let n : length (b ∷ y) ≡ 19 = omega (arith, ap length d, pad-length 0 18 (map suc (e .number))) in
-    let g : midOf 19 32 (b ∷ y ++ replicate 32 0) ≡ replicate 32 0 = get-part (b ∷ y) (replicate 32 0) [] 19 32 n refl in
+    let n : length (b ∷ c ∷ y) ≡ 20 = omega (arith, ap length d, pad-length 0 18 (map suc (e .number))) in
+    let g : midOf 20 32 (b ∷ c ∷ y ++ replicate 32 0) ≡ replicate 32 0 = get-part (b ∷ c ∷ y) (replicate 32 0) [] 20 32 n refl in
     let t : z ≡ text-bytes 16 (e .text) = text 16 (e .text) (is .end) (is .text) (range .1) (ap length g) in
-    put-part (b ∷ y) (replicate 32 0) [] z 19 32 n refl
-    ∙ ap (λ (l : List ℕ). b ∷ y ++ l) (append-nil z)
-    ∙ ap (λ (c : ℕ). c ∷ y ++ z) (flags low)
-    ∙ ap₂ (λ (u v : List ℕ). line-flags f ∷ u ++ v) d t
+    put-part (b ∷ c ∷ y) (replicate 32 0) [] z 20 32 n refl
+    ∙ ap (λ (l : List ℕ). b ∷ c ∷ y ++ l) (append-nil z)
+    ∙ ap₂ (λ (u v : ℕ). u ∷ v ∷ y ++ z) (flags low) kind
+    ∙ ap₂ (λ (u v : List ℕ). line-flags f ∷ bit (f .pabx) ∷ u ++ v) d t
 
 -- ---- a line's key
 
@@ -70,8 +71,8 @@ key l = digit-bytes (l .number)
 -- the slot of a line
 module _ (l : Line) (ok : LineOk l) (x : List ℕ) (e : x ≡ line-bytes l) where
   -- its key is read
-  key-read : midOf 1 18 x ≡ key l
-  key-read = ap (midOf 1 18) e ∙ line-keyed .stands l
+  key-read : midOf digits-at 18 x ≡ key l
+  key-read = ap (midOf digits-at 18) e ∙ line-keyed .stands l
 
   -- the lines with its key are those with its number
   key-same : (a : Line) → LineOk a → same? (key a) (key l) ≡ has-number (l .number) a
@@ -79,11 +80,11 @@ module _ (l : Line) (ok : LineOk l) (x : List ℕ) (e : x ≡ line-bytes l) wher
 
 -- ---- one line
 
-module _ (x s : List ℕ) (r : ℕ) (long : length x ≡ line-width) (found : Found (KeyAt line-width 1 (midOf 1 18 x) × (length (midOf 1 18 x) ≡ 18)) (fit 1 (midOf 1 18 x)) line-width s r) where
+module _ (x s : List ℕ) (r : ℕ) (long : length x ≡ line-width) (found : Found (KeyAt line-width digits-at (midOf digits-at 18 x) × (length (midOf digits-at 18 x) ≡ 18)) (fit digits-at (midOf digits-at 18 x)) line-width s r) where
   -- the place that was found is that of the line's key
-  found-key : (l : Line) → LineOk l → x ≡ line-bytes l → Found (KeyAt line-width 1 (key l)) (fit 1 (key l)) line-width s r
-  found-key l ok e = subst (λ (k : List ℕ). Found (KeyAt line-width 1 k) (fit 1 k) line-width s r) (key-read l ok x e)
-      (found-known line-width 1 18 (midOf 1 18 x) s (fit 1 (midOf 1 18 x)) r (ap length (key-read l ok x e) ∙ digits-length (l .number)) found)
+  found-key : (l : Line) → LineOk l → x ≡ line-bytes l → Found (KeyAt line-width digits-at (key l)) (fit digits-at (key l)) line-width s r
+  found-key l ok e = subst (λ (k : List ℕ). Found (KeyAt line-width digits-at k) (fit digits-at k) line-width s r) (key-read l ok x e)
+      (found-known line-width digits-at 18 (midOf digits-at 18 x) s (fit digits-at (midOf digits-at 18 x)) r (ap length (key-read l ok x e) ∙ digits-length (l .number)) found)
 
   -- a line's slot where its number was, or in the first free place
   pub line-added : (y : List ℕ) → (length s - r < line-width → ⊥) → y ≡ take (length (midOf r (r + line-width - r) s)) x ++ drop (length x) (midOf r (r + line-width - r) s)
@@ -93,23 +94,23 @@ module _ (x s : List ℕ) (r : ℕ) (long : length x ≡ line-width) (found : Fo
       let z : y ≡ line-bytes l = slot-copied s x y r line-width (omega (arith, found .within)) long copied ∙ e in
       let f = found-key l ok e in
       let w : indexOf (has-number (l .number)) ls < n
-      = key-room LineOk line-width line-bytes 1 18 key line-keyed (key l) (digits-length (l .number)) (line-keyed .shown l ok) (has-number (l .number)) (key-same l ok x e) n ls s t r f h in
+      = key-room LineOk line-width line-bytes digits-at 18 key line-keyed (key l) (digits-length (l .number)) (line-keyed .shown l ok) (has-number (l .number)) (key-same l ok x e) n ls s t r f h in
       tried-room (LineTable n) (putAt (indexOf (has-number (l .number)) ls) l ls)
       (ap (λ (b : Bool). cond b (some (putAt (indexOf (has-number (l .number)) ls) l ls)) none) (lt-ltb (indexOf (has-number (l .number)) ls) n w))
-      (key-put LineOk line-width line-bytes 1 18 key line-keyed (key l) (digits-length (l .number)) (line-keyed .shown l ok) (has-number (l .number)) (key-same l ok x e) n ls s t r f l y ok h z)
+      (key-put LineOk line-width line-bytes digits-at 18 key line-keyed (key l) (digits-length (l .number)) (line-keyed .shown l ok) (has-number (l .number)) (key-same l ok x e) n ls s t r f l y ok h z)
 
   -- no place was found
   pub line-refused : length s - r < line-width → LinePut x s s false
   line-refused h n ls l t ok e =
       let w : n ≤ indexOf (has-number (l .number)) ls
-      = key-full LineOk line-width line-bytes 1 18 key line-keyed (key l) (digits-length (l .number)) (line-keyed .shown l ok) (has-number (l .number)) (key-same l ok x e) n ls s t r (found-key l ok e) h in
+      = key-full LineOk line-width line-bytes digits-at 18 key line-keyed (key l) (digits-length (l .number)) (line-keyed .shown l ok) (has-number (l .number)) (key-same l ok x e) n ls s t r (found-key l ok e) h in
       tried-full (LineTable n) (ap (λ (b : Bool). cond b (some (putAt (indexOf (has-number (l .number)) ls) l ls)) none) (le-ltb (indexOf (has-number (l .number)) ls) n w))
 
 -- the lines with a line's number are taken out
-pub line-dropped : (x s t : List ℕ) → Removed line-width 1 (midOf 1 18 x) s t → LineDropped x s t
+pub line-dropped : (x s t : List ℕ) → Removed line-width digits-at (midOf digits-at 18 x) s t → LineDropped x s t
 line-dropped x s t r n ls l i ok e =
-    key-removed LineOk line-width line-bytes 1 18 key line-keyed (key l) (digits-length (l .number)) (line-keyed .shown l ok) (has-number (l .number)) (key-same l ok x e) n ls s i t
-    (subst (λ (k : List ℕ). Removed line-width 1 k s t) (key-read l ok x e) r)
+    key-removed LineOk line-width line-bytes digits-at 18 key line-keyed (key l) (digits-length (l .number)) (line-keyed .shown l ok) (has-number (l .number)) (key-same l ok x e) n ls s i t
+    (subst (λ (k : List ℕ). Removed line-width digits-at k s t) (key-read l ok x e) r)
 
 -- ---- the loops
 

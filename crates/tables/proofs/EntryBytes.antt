@@ -36,9 +36,10 @@ channel-are-bytes n p = u16-bytes n (omega (arith, p .1))
 -- a line contact
 pub line-are-bytes : (l : Line) → LineOk l → Bytes (line-bytes l)
 line-are-bytes l p =
-    bytes-cons _ (digit-bytes (l .number) ++ text-bytes 16 (l .text))
-    (omega (arith, p .priority, bit-small (l .flags .encryption), bit-small (l .flags .emergency), bit-small (l .flags .pabx)))
-    (bytes-append (digit-bytes (l .number)) (text-bytes 16 (l .text)) (digits-are-bytes (l .number) (p .number)) (text-are-bytes 16 (l .text) (p .text)))
+    bytes-cons _ (bit (l .flags .pabx) ∷ digit-bytes (l .number) ++ text-bytes 16 (l .text))
+    (omega (arith, p .priority, bit-small (l .flags .encryption), bit-small (l .flags .emergency)))
+    (bytes-cons (bit (l .flags .pabx)) (digit-bytes (l .number) ++ text-bytes 16 (l .text)) (omega (arith, bit-small (l .flags .pabx)))
+    (bytes-append (digit-bytes (l .number)) (text-bytes 16 (l .text)) (digits-are-bytes (l .number) (p .number)) (text-are-bytes 16 (l .text) (p .text))))
 
 -- a group slot
 pub group-are-bytes : (g : GroupMember) → GroupOk g → Bytes (group-bytes g)

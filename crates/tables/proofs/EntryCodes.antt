@@ -21,7 +21,7 @@ use Rattle.writing.specs.Ranges.{InChannel, text-limits}
 use Rattle.writing.specs.Settings.{Text}
 use Rattle.writing.specs.Writing.{bit}
 use Rattle.tables.specs.Allowed.{TextOk, QuickOk, StatusOk, LineOk, GroupOk, IndividualOk}
-use Rattle.tables.specs.Layout.{text-bytes, digit-bytes, quick-bytes, status-bytes, line-bytes, group-bytes, individual-bytes, line-flags, group-flags, individual-flags, quick-width, status-width, member-width, channel-width, line-width}
+use Rattle.tables.specs.Layout.{text-bytes, digit-bytes, quick-bytes, status-bytes, line-bytes, digits-at, group-bytes, individual-bytes, line-flags, group-flags, individual-flags, quick-width, status-width, member-width, channel-width, line-width}
 use Rattle.tables.specs.declared.members.Members.{Members}
 use Rattle.tables.specs.declared.members.Members.the-variants.{OfGroups, OfIndividuals}
 use Rattle.tables.specs.Members.{MemberIn, member-ok, member-bytes}
@@ -72,33 +72,30 @@ channel-shown n p = u16-shown n (λ e. omega (arith, p .0))
 
 -- ---- line contacts
 
--- the byte of flags tells them
-line-flags-one : (f g : LineFlags) → f .priority < 4 → g .priority < 4 → line-flags f ≡ line-flags g → f ≡ g
-line-flags-one f g p q e =
+-- the bytes of flags and IDtype tell them
+line-flags-one : (f g : LineFlags) → f .priority < 4 → g .priority < 4 → line-flags f ≡ line-flags g → bit (f .pabx) ≡ bit (g .pabx) → f ≡ g
+line-flags-one f g p q e x =
     let a = bit-small (f .encryption) in
     let b = bit-small (g .encryption) in
     let c = bit-small (f .emergency) in
     let d = bit-small (g .emergency) in
-    let h = bit-small (f .pabx) in
-    let k = bit-small (g .pabx) in
     let u : bit (f .encryption) ≡ bit (g .encryption) = omega arith in
     let v : bit (f .emergency) ≡ bit (g .emergency) = omega arith in
     let w : f .priority ≡ g .priority = omega arith in
-    let x : bit (f .pabx) ≡ bit (g .pabx) = omega arith in
     let u' = bit-one (f .encryption) (g .encryption) u in
     let v' = bit-one (f .emergency) (g .emergency) v in
     let x' = bit-one (f .pabx) (g .pabx) x in
     (λ i. record { encryption = u' i; emergency = v' i; priority = w i; pabx = x' i })
 
--- 51 bytes
+-- 52 bytes
 line-long : (l : Line) → length (line-bytes l) ≡ line-width
 line-long l = omega (arith, length-append (digit-bytes (l .number)) (text-bytes 16 (l .text)), digits-length (l .number), text-length 16 (l .text))
 
 -- the bytes tell the line
 line-one : (a b : Line) → LineOk a → LineOk b → line-bytes a ≡ line-bytes b → a ≡ b
 line-one a b p q e =
-    let f = line-flags-one (a .flags) (b .flags) (p .priority) (q .priority) (head-eq-of-cons-eq e) in
-    let r = cut (digit-bytes (a .number)) (digit-bytes (b .number)) (digits-length (a .number) ∙ sym (digits-length (b .number))) (tail-eq-of-cons-eq e) in
+    let f = line-flags-one (a .flags) (b .flags) (p .priority) (q .priority) (head-eq-of-cons-eq e) (head-eq-of-cons-eq (tail-eq-of-cons-eq e)) in
+    let r = cut (digit-bytes (a .number)) (digit-bytes (b .number)) (digits-length (a .number) ∙ sym (digits-length (b .number))) (tail-eq-of-cons-eq (tail-eq-of-cons-eq e)) in
     let n = digits-one (a .number) (b .number) (p .number .1) (q .number .1) (r .0) in
     let t = text-one 16 (a .text) (b .text) (p .text) (q .text) (r .1) in
     (λ i. record { flags = f i; number = n i; text = t i })
@@ -107,8 +104,8 @@ line-one a b p q e =
 pub line-code : Code LineOk line-width line-bytes
 line-code = record { long = line-long; one = line-one }
 
--- its number stands behind the flags, in 18 bytes
-pub line-keyed : Keyed LineOk line-width line-bytes 1 18 (λ l. digit-bytes (l .number))
+-- its number stands behind flags and IDtype, in 18 bytes
+pub line-keyed : Keyed LineOk line-width line-bytes digits-at 18 (λ l. digit-bytes (l .number))
 line-keyed =
     record {
       wide = omega arith;
@@ -121,7 +118,7 @@ line-keyed =
 
 -- they are not all zeros
 pub line-shown : (l : Line) → LineOk l → zeros? (line-bytes l) ≡ false
-line-shown = keyed-shown LineOk line-width line-bytes 1 18 (λ l. digit-bytes (l .number)) line-keyed
+line-shown = keyed-shown LineOk line-width line-bytes digits-at 18 (λ l. digit-bytes (l .number)) line-keyed
 
 -- ---- slots, whatever the kind of their flags and address
 

@@ -33,14 +33,15 @@ abbrev pub status-bytes : Text → List ℕ
 status-bytes us = 1 ∷ text-bytes (text-limits .short) us
 
 abbrev pub line-flags : LineFlags → ℕ
-line-flags f = bit (f .encryption) * 16 + bit (f .emergency) * 8 + f .priority * 2 + bit (f .pabx)
+line-flags f = bit (f .encryption) * 8 + bit (f .emergency) * 4 + f .priority
 
 -- a digit is kept as one more than itself, so that none is 0
 abbrev pub digit-bytes : List ℕ → List ℕ
 digit-bytes ds = pad 0 18 (map suc ds)
 
+-- flags, then IDtype and digits, which stand together, then the text
 abbrev pub line-bytes : Line → List ℕ
-line-bytes l = line-flags (l .flags) ∷ digit-bytes (l .number) ++ text-bytes (text-limits .short) (l .text)
+line-bytes l = line-flags (l .flags) ∷ bit (l .flags .pabx) ∷ digit-bytes (l .number) ++ text-bytes (text-limits .short) (l .text)
 
 abbrev pub group-flags : GroupFlags → ℕ
 group-flags f =
@@ -92,7 +93,11 @@ abbrev pub channel-width : ℕ
 channel-width = 2
 
 abbrev pub line-width : ℕ
-line-width = 51
+line-width = 52
+
+-- where a line's digits stand in its slot
+abbrev pub digits-at : ℕ
+digits-at = 2
 
 -- ---- the store
 

@@ -120,7 +120,7 @@ fn assert_same(part: Row, shown: &Shown, table: u32, row: u32) {
 fn text_offset(table: u32, row: u32) -> usize {
     let row = row as usize;
     match table {
-        1 => 7_414 + 51 * row + 19,
+        1 => 7_414 + 52 * row + 20,
         2 => 22 + 46 * row,
         3 => 2_966 + 33 * (row - 32) + 1,
         4 => 6_134 + 36 * row + 4,

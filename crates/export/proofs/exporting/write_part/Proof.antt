@@ -6,6 +6,7 @@ use native.Mathlib.Omega.{arith}
 use lib.ListN.{length}
 use Rattle.export.proofs.exporting.write_part.Statement.{statement}
 use Rattle.export.proofs.exporting.write_part.Tie as tie
+use Rattle.tables.specs.Layout.{groups-at, individuals-at, line-width, lists-at, status-at}
 
 mul-lines : tie.Need-mul-lines
 mul-lines c = search needs
@@ -133,10 +134,10 @@ returns c =
     let p = c .before .before .before .before .before .before .before .before .before .before .before .pre in
     let w = c .before .before .export-lines in
     let m = a .limits in
-    let b : ℕ = 7286 + m .channels * 2 in
-    let k : ℕ = b + m .lines * 51 - b in
-    let l = mid-len b (b + m .lines * 51) (a .store .now) (omega (arith, p .0, p .1)) in
-    rw (c .before .before .before .before .before .enum-told .given .1) (lines-part m (a .store .now) (a .buffer .now) (w .last .0) (w .result) (p .2) k (5 + length (midOf b k (a .store .now)) / 51 * 49) (omega arith) (omega (arith, l)) (w .ensures (omega (arith, l, p .2 .counted), omega (arith, l, p .2 .lines, p .3))))
+    let b : ℕ = lists-at + m .channels * 2 in
+    let k : ℕ = b + m .lines * line-width - b in
+    let l = mid-len b (b + m .lines * line-width) (a .store .now) (omega (arith, p .0, p .1)) in
+    rw (c .before .before .before .before .before .enum-told .given .1) (lines-part m (a .store .now) (a .buffer .now) (w .last .0) (w .result) (p .2) k (5 + length (midOf b k (a .store .now)) / line-width * 49) (omega arith) (omega (arith, l)) (w .ensures (omega (arith, l, p .2 .counted), omega (arith, l, p .2 .lines, p .3))))
 
 same-length-2 : tie.Need-same-length-2
 same-length-2 c = search needs
@@ -157,7 +158,7 @@ returns-3 c =
     let a = c .before .before .before .before .before .before .before .before .before .before .before .args in
     let p = c .before .before .before .before .before .before .before .before .before .before .before .pre in
     let w = c .before .before .export-quick in
-    let l = mid-len 22 2966 (a .store .now) (omega (arith, p .0, p .1)) in
+    let l = mid-len 22 status-at (a .store .now) (omega (arith, p .0, p .1)) in
     rw (c .before .before .before .before .before .enum-told3 .given .1) (quick-part (a .limits) (a .store .now) (a .buffer .now) (w .last .0) (w .result) (p .2) (w .ensures (omega (arith, l), omega (arith, p .2 .status, p .3))))
 
 same-length-4 : tie.Need-same-length-4
@@ -169,9 +170,9 @@ returns-4 c =
     let p = c .before .before .before .before .before .before .before .before .before .before .before .pre in
     let w = c .before .before .export-channels in
     let m = a .limits in
-    let k : ℕ = 7286 + m .channels * 2 - 7286 in
-    let l = mid-len 7286 (7286 + m .channels * 2) (a .store .now) (omega (arith, p .0, p .1)) in
-    rw (c .before .before .before .before .before .enum-told4 .given .1) (channels-part m (a .store .now) (a .buffer .now) (w .last .0) (w .result) (p .2) k (5 + (length (midOf 7286 k (a .store .now)) / 2 * 3 + 1) / 2) (omega arith) (omega (arith, l, p .2 .channels)) (w .ensures (omega (arith, l, p .2 .channels), omega (arith, l, p .2 .channels, p .2 .status, p .3))))
+    let k : ℕ = lists-at + m .channels * 2 - lists-at in
+    let l = mid-len lists-at (lists-at + m .channels * 2) (a .store .now) (omega (arith, p .0, p .1)) in
+    rw (c .before .before .before .before .before .enum-told4 .given .1) (channels-part m (a .store .now) (a .buffer .now) (w .last .0) (w .result) (p .2) k (5 + (length (midOf lists-at k (a .store .now)) / 2 * 3 + 1) / 2) (omega arith) (omega (arith, l, p .2 .channels)) (w .ensures (omega (arith, l, p .2 .channels), omega (arith, l, p .2 .channels, p .2 .status, p .3))))
 
 same-length-5 : tie.Need-same-length-5
 same-length-5 c = search needs
@@ -181,7 +182,7 @@ returns-5 c =
     let a = c .before .before .before .before .before .before .before .before .before .before .before .args in
     let p = c .before .before .before .before .before .before .before .before .before .before .before .pre in
     let w = c .before .before .export-status in
-    let l = mid-len 2966 6134 (a .store .now) (omega (arith, p .0, p .1)) in
+    let l = mid-len status-at groups-at (a .store .now) (omega (arith, p .0, p .1)) in
     rw (c .before .before .before .before .before .enum-told5 .given .1) (status-part (a .limits) (a .store .now) (a .buffer .now) (w .last .0) (w .result) (p .2) (w .ensures (omega (arith, l), omega (arith, p .2 .status, p .3))))
 
 same-length-6 : tie.Need-same-length-6
@@ -192,7 +193,7 @@ returns-6 c =
     let a = c .before .before .before .before .before .before .before .before .before .before .before .args in
     let p = c .before .before .before .before .before .before .before .before .before .before .before .pre in
     let w = c .before .before .export-members in
-    let l = mid-len 6134 6710 (a .store .now) (omega (arith, p .0, p .1)) in
+    let l = mid-len groups-at individuals-at (a .store .now) (omega (arith, p .0, p .1)) in
     rw (c .before .before .before .before .before .enum-told6 .given .1) (groups-part (a .limits) (a .store .now) (a .buffer .now) (w .last .0) (w .result) (p .2) (w .ensures (omega (arith, l), omega (arith, p .2 .status, p .3))))
 
 same-length-7 : tie.Need-same-length-7
@@ -203,7 +204,7 @@ returns-7 c =
     let a = c .before .before .before .before .before .before .before .before .before .before .before .args in
     let p = c .before .before .before .before .before .before .before .before .before .before .before .pre in
     let w = c .before .before .export-members2 in
-    let l = mid-len 6710 7286 (a .store .now) (omega (arith, p .0, p .1)) in
+    let l = mid-len individuals-at lists-at (a .store .now) (omega (arith, p .0, p .1)) in
     rw (c .before .before .before .before .before .enum-told7 .given .1) (individuals-part (a .limits) (a .store .now) (a .buffer .now) (w .last .0) (w .result) (p .2) (w .ensures (omega (arith, l), omega (arith, p .2 .status, p .3))))
 
 pub write-part-spec : {M : Type 1} → statement M

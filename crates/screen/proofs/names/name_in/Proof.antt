@@ -98,6 +98,14 @@ add-head c =
     let f = found-fits (s .args .limits) (s .args .store .now) (s .args .row) (k .result) (g .0 .0) (s .pre) (k .ensures) (g .1) in
     omega (arith, f .text-in, f .ends, f .inside)
 
+add-digits : tie.Need-add-digits
+add-digits c =
+    let s = c .before .before .before .before .before .before .before .before .before .before .before in
+    let k = c .before .before .before .before .before .before .before .before .before .slot-of in
+    let g = c .before .before .before .before .before .before .before .slot .given in
+    let f = found-fits (s .args .limits) (s .args .store .now) (s .args .row) (k .result) (g .0 .0) (s .pre) (k .ensures) (g .1) in
+    omega (arith, f .text-in, f .ends, f .inside)
+
 enum-told-2 : tie.Need-enum-told-2
 enum-told-2 c = search needs
 
@@ -220,6 +228,7 @@ name-in-spec =
     used-requires
     returns-3
     add-head
+    add-digits
     enum-told-2
     enum-told-3
     sub-address-of
