@@ -16,7 +16,7 @@ use Rattle.tables.specs.Layout.{layout, line-bytes, groups-at, individuals-at, 
 use Rattle.tables.specs.Store.{Holds}
 use Rattle.tables.specs.Tables.{Tables}
 use Rattle.tables.proofs.Frames.{key-get, home-get, system-get, quick-placed, status-placed, groups-placed, individuals-placed, channels-listed, lines-listed}
-use Rattle.export_write.specs.declared.members.Members.the-variants.{OfGroups, OfIndividuals}
+use Rattle.tables.specs.declared.members.Members.the-variants.{OfGroups, OfIndividuals}
 use Rattle.export_write.specs.declared.writers.Settings.{Settings}
 use Rattle.export_write.specs.ChannelWriters.{ChannelsIn, channel-settings}
 use Rattle.export_write.specs.EntryWriters.{QuicksIn, quick-settings, StatusesIn, status-settings}

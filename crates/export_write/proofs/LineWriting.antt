@@ -27,7 +27,7 @@ use Rattle.tables.specs.Tables.{Line}
 use Rattle.tables.proofs.EntryCodes.{bit-small, line-code, line-keyed, line-shown}
 use Rattle.tables.proofs.TextCodes.{text-length, digits-length}
 use Rattle.export_write.specs.LineSettings.{no-line-flags, line-add}
-use Rattle.export_write.specs.LineWriters.{LinesIn, line-settings}
+use Rattle.export_write.specs.LineWriters.{LinesIn, line-settings, line-byte}
 use Rattle.export_write.specs.Writers.{Wrote, Kept, WritesText, WritesNumber, WritesSetting}
 use Rattle.export_write.proofs.NumberWriting.{number-fits}
 use Rattle.export_write.proofs.PlainLaws.{plain-byte}
@@ -80,21 +80,21 @@ module _ (l : Line) (ok : LineOk l) where
       ∙ ap (λ (x : List ℕ). v ∷ 1 ∷ x) (plain-append N T n m d e (text-fits (l .text) (ok .text .units)))
 
 -- it is written as its setting
-pub line-wrote : (p : List ℕ) (at m n end : ℕ) (s t u v : List ℕ) → Wrote ((64 + getD p 0 0 % 16 * 4 + getD p 1 0 % 2 * 2) ∷ 1 ∷ []) (at + 3) s t m
+pub line-wrote : (p : List ℕ) (at m n end b : ℕ) (s t u v : List ℕ) → b ≡ line-byte p → Wrote (b ∷ 1 ∷ []) (at + 3) s t m
     → WritesNumber (midOf digits-at 18 p) m t u n → WritesText (midOf 20 32 p) n u v end
     → (l : Line) → Kept LineOk line-bytes p l
     → (type-byte (kind (line-add l)) ≡ 0xCA) × All FitsField (body unicode16 (line-add l)) × Wrote (plain (body unicode16 (line-add l))) (at + 3) s v end
-line-wrote p at m n end s t u v a b c l (ok, e) =
+line-wrote p at m n end h s t u v z a b c l (ok, e) =
     let f : getD p 0 0 ≡ line-flags (l .flags) = ap (λ (x : List ℕ). getD x 0 0) e in
     let k : getD p 1 0 ≡ bit (l .flags .pabx) = ap (λ (x : List ℕ). getD x 1 0) e in
     let N : List ℕ = plain (number (l .number)) in
     let T : List ℕ = plain (text unicode16 (l .text)) in
-    let head : List ℕ = (64 + getD p 0 0 % 16 * 4 + getD p 1 0 % 2 * 2) ∷ 1 ∷ [] in
+    let head : List ℕ = h ∷ 1 ∷ [] in
     let dg : midOf digits-at 18 p ≡ digit-bytes (l .number) = ap (midOf digits-at 18) e ∙ line-keyed .stands l in
     let tx : midOf 20 32 p ≡ text-bytes 16 (l .text)
     = ap (midOf 20 32) e ∙ ap (take 32) (drop-at (digit-bytes (l .number)) (text-bytes 16 (l .text)) 18 (digits-length (l .number)))
     ∙ take-all 32 (text-bytes 16 (l .text)) (omega (arith, text-length 16 (l .text))) in
-    let x : head ++ (N ++ T) ≡ plain (body unicode16 (line-add l)) = ap₂ (λ (i j : ℕ). (64 + i % 16 * 4 + j % 2 * 2) ∷ 1 ∷ N ++ T) f k ∙ sym (line-plain l ok) in (
+    let x : head ++ (N ++ T) ≡ plain (body unicode16 (line-add l)) = ap (λ (i : ℕ). i ∷ 1 ∷ N ++ T) (z ∙ (λ i. 64 + f i % 16 * 4 + k i % 2 * 2)) ∙ sym (line-plain l ok) in (
       refl,
       line-fits l ok,
       wrote-as (head ++ (N ++ T)) (plain (body unicode16 (line-add l))) (at + 3) end s v x

@@ -1,7 +1,7 @@
 -- Line contacts as the writers see them, and what writing them promises.
-use Prim.Native.Nat.{ℕ, _+_, _*_, _/_, _≤_}
+use Prim.Native.Nat.{ℕ, _+_, _*_, _/_, _%_, _≤_}
 use mathlib.Core.List.{List, [], _∷_, map}
-use lib.ListN.{length}
+use lib.ListN.{length, getD}
 use Rattle.writing.specs.declared.Operation.the-variants.{Replace}
 use Rattle.writing.specs.Settings.{Setting, lines}
 use Rattle.tables.specs.Allowed.{LineOk}
@@ -22,3 +22,7 @@ line-settings ls = lines Replace no-line-flags [] ∷ map line-add ls
 -- a table of at most 254 lines was written
 abbrev pub WritesLines : (part before after : List ℕ) → Settings → Type 0
 WritesLines part before after r = WritesTable (length part ≤ 254 * line-width) (LinesIn part) line-settings (5 + length part / line-width * 49) before after r
+
+-- an inner step: the first byte of an add, of the bytes that keep the line
+abbrev pub line-byte : List ℕ → ℕ
+line-byte p = 64 + getD p 0 0 % 16 * 4 + getD p 1 0 % 2 * 2

@@ -1,33 +1,20 @@
 -- Group and individual slots as the writers see them, by one table of cases, and what writing them promises.
-use Prim.Native.Nat.{ℕ, _*_}
+use Prim.Native.Nat.{ℕ, _+_, _*_}
 use mathlib.Core.Path.{_≡_}
+use mathlib.Core.Bool.{cond}
 use mathlib.Core.List.{List, []}
 use mathlib.Core.Option.{Option, none, some}
-use lib.ListN.{length}
-use Rattle.slots.specs.Slots.{slot, Present, Placed}
+use lib.ListN.{length, getD}
+use Rattle.slots.specs.Slots.{slot, zeros?, Present, Placed}
 use Rattle.writing.specs.declared.Operation.the-variants.{Add, Delete}
 use Rattle.writing.specs.Settings.{Setting, group, individual}
-use Rattle.tables.specs.Allowed.{GroupOk, IndividualOk}
-use Rattle.tables.specs.Layout.{group-bytes, individual-bytes, member-width, member-size}
-use Rattle.tables.specs.Tables.{GroupMember, IndividualMember}
-use Rattle.export_write.specs.declared.members.Members.{Members}
-use Rattle.export_write.specs.declared.members.Members.the-variants.{OfGroups, OfIndividuals}
+use Rattle.tables.specs.declared.members.Members.{Members}
+use Rattle.tables.specs.declared.members.Members.the-variants.{OfGroups, OfIndividuals}
+use Rattle.tables.specs.Layout.{member-width, member-size}
+use Rattle.tables.specs.Members.{MemberIn, member-ok, member-bytes}
 use Rattle.export_write.specs.declared.writers.Settings.{Settings}
 use Rattle.export_write.specs.EntrySettings.{slots, no-group-flags, no-individual-flags}
 use Rattle.export_write.specs.Writers.{WritesTable}
-
--- what a slot holds, what it may hold, and its bytes
-abbrev pub MemberIn : Members → Type 0
-MemberIn OfGroups = GroupMember
-MemberIn OfIndividuals = IndividualMember
-
-abbrev pub member-ok : (w : Members) → MemberIn w → Type 0
-member-ok OfGroups = GroupOk
-member-ok OfIndividuals = IndividualOk
-
-abbrev pub member-bytes : (w : Members) → MemberIn w → List ℕ
-member-bytes OfGroups = group-bytes
-member-bytes OfIndividuals = individual-bytes
 
 -- the lent bytes are the slot of an entry, or an empty one
 abbrev pub SlotIn : (w : Members) → List ℕ → Option (MemberIn w) → Type 0
@@ -42,6 +29,10 @@ member-type OfIndividuals = 0xD2
 abbrev pub flags-at : Members → ℕ → ℕ
 flags-at OfGroups f = f * 64
 flags-at OfIndividuals f = f * 1024
+
+-- an inner step: the first 16 bits of the setting of a slot with these bytes
+abbrev pub member-head : Members → ℕ → List ℕ → ℕ
+member-head w i p = cond (zeros? p) 2 1 * 16384 + flags-at w (getD p 0 0) + i
 
 -- the setting of a slot, and those of a table from an index on
 abbrev pub member-setting : (w : Members) → ℕ → Option (MemberIn w) → Setting

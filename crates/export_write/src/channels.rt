@@ -2,12 +2,33 @@
 use super::writers::FIRST;
 use super::writers::NOTHING;
 use super::writers::Settings;
+use super::writers::pair;
 use super::writers::start_setting;
+use super::writers::three;
 use super::writers::write_bytes;
 use slots::slots::used;
-ghost use Prim.Native.Nat.{_+_, _*_, _/_, _≤_};
+ghost use mathlib.Core.Path.{_≡_};
+ghost use Prim.Native.Nat.{_+_, _*_, _/_, _≤_, _<_};
 ghost use lib.ListN.{length};
-ghost use Rattle.export_write.specs.ChannelWriters.{WritesPacked, WritesChannels};
+ghost use Rattle.export_write.specs.ChannelWriters.{two-bits, last-bits, WritesPacked, WritesChannels};
+
+// Channels 2 i and 2 i + 1 of the part, as 24 bits.
+fn two_channels(part: &[u8], i: usize) -> u32
+    requires { ⌜ 4 * i + 3 < length (now part) ⌝ }
+    ensures { λ r. ⌜ r ≡ two-bits (now (part .entry)) i ⌝ }
+{
+    let a = 4 * i;
+    pair(part[a], part[a + 1]) % 4096 * 4096 + pair(part[a + 2], part[a + 3]) % 4096
+}
+
+// Channel 2 i of the part, and 1111 behind it.
+fn last_channel(part: &[u8], i: usize) -> u32
+    requires { ⌜ 4 * i + 1 < length (now part) ⌝ }
+    ensures { λ r. ⌜ (r ≡ last-bits (now (part .entry)) i) × (r < 65536) ⌝ }
+{
+    let a = 4 * i;
+    pair(part[a], part[a + 1]) % 4096 * 16 + 15
+}
 
 // The first channels of the part, two in three bytes; 1111 fills the last byte where they are odd in number.
 fn write_packed(buffer: &mut [u8], at: usize, part: &[u8], count: usize) -> usize
@@ -18,23 +39,15 @@ fn write_packed(buffer: &mut [u8], at: usize, part: &[u8], count: usize) -> usiz
     let mut to = at;
     let mut i = 0;
     while i < pairs {
-        let a = 4 * i;
-        let bytes = [
-            part[a] % 16 * 16 + part[a + 1] / 16,
-            part[a + 1] % 16 * 16 + part[a + 2] % 16,
-            part[a + 3],
-        ];
+        let bytes = three(two_channels(part, i));
         to = write_bytes(buffer, to, &bytes);
         i += 1;
     }
     if count % 2 == 0 {
         return to;
     }
-    let a = 4 * pairs;
-    let bytes = [
-        part[a] % 16 * 16 + part[a + 1] / 16,
-        part[a + 1] % 16 * 16 + 15,
-    ];
+    let last = last_channel(part, pairs);
+    let bytes = [(last / 256) as u8, (last % 256) as u8];
     write_bytes(buffer, to, &bytes)
 }
 

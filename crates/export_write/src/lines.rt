@@ -17,18 +17,26 @@ ghost use lib.ListN.{length};
 ghost use Rattle.tables.specs.Allowed.{LineOk};
 ghost use Rattle.tables.specs.Layout.{line-bytes, line-width};
 ghost use Rattle.export_write.specs.LineSettings.{line-add};
-ghost use Rattle.export_write.specs.LineWriters.{WritesLines};
+ghost use Rattle.export_write.specs.LineWriters.{line-byte, WritesLines};
 ghost use Rattle.export_write.specs.Writers.{Kept, WritesSetting};
 
 // The bytes of 254 lines, for which a request has settings.
 const MOST: usize = 254 * LINE_SLOT;
 
-// An add of the contact in a slot: its flags are sent two bits higher than they are kept, and its IDtype one.
+// The first byte of an add: the flags are sent two bits higher than they are kept, and the IDtype one.
+fn line_byte(slot: &[u8]) -> u8
+    requires { ⌜ length (now slot) ≡ line-width ⌝ }
+    ensures { λ r. ⌜ r ≡ line-byte (now (slot .entry)) ⌝ }
+{
+    64 + slot[0] % 16 * 4 + slot[LINE_IDTYPE] % 2 * 2
+}
+
+// An add of the contact in a slot.
 fn write_line(buffer: &mut [u8], at: usize, slot: &[u8]) -> usize
     requires { ⌜ (length (now slot) ≡ line-width) × (at + 49 ≤ length (now buffer)) ⌝ }
     ensures { λ r. ⌜ WritesSetting (Kept LineOk line-bytes (now (slot .entry))) line-add at 49 (now (buffer .entry)) (now (buffer .exit)) r ⌝ }
 {
-    let head = [64 + slot[0] % 16 * 4 + slot[LINE_IDTYPE] % 2 * 2, 1];
+    let head = [line_byte(slot), 1];
     let number = write_bytes(buffer, at + 3, &head);
     let text = write_number(buffer, number, &slot[LINE_DIGITS..LINE_TEXT]);
     let end = write_text(buffer, text, &slot[LINE_TEXT..LINE_SLOT]);
