@@ -1,5 +1,5 @@
 -- Laws of the table of line contacts: a line's slot, and what a turn of the table's loops does. Assumes nothing.
-use mathlib.Core.Path.{_≡_, refl, sym, ap, ap₂, _∙_, subst}
+use mathlib.Core.Path.{_≡_, refl, sym, ap, ap₂, _∙_, subst, subst⁻¹}
 use mathlib.Core.Bool.{Bool, true, false, cond}
 use mathlib.Core.List.{List, [], _∷_, _++_, map, append-nil}
 use mathlib.Core.Option.{none, some}
@@ -17,7 +17,7 @@ use Rattle.slots.proofs.Parts.{put-part, get-part}
 use Rattle.slots.proofs.Tables.{slot-copied}
 use Rattle.writing.specs.declared.LineFlags.{LineFlags}
 use Rattle.writing.specs.declared.Operation.{Operation}
-use Rattle.writing.specs.declared.Operation.the-variants.{Add, Replace}
+use Rattle.writing.specs.declared.Operation.the-variants.{Add, Delete, Replace}
 use Rattle.writing.specs.Fields.{each}
 use Rattle.writing.specs.Ranges.{text-limits, InContact}
 use Rattle.writing.specs.Settings.{Contact}
@@ -31,7 +31,7 @@ use Rattle.settings.specs.declared.settings.Entries.{Entries}
 use Rattle.read_fields.specs.Entries.{ContactIs, ContactAt}
 use Rattle.settings.specs.Settings.{EntriesAre}
 use Rattle.tables.specs.Allowed.{LineOk}
-use Rattle.tables.specs.Apply.{in-turn, has-number, line-of, line-step}
+use Rattle.tables.specs.Apply.{in-turn, start-from, has-number, line-of, line-step}
 use Rattle.tables.specs.Changing.{TextPut, Tried}
 use Rattle.tables.specs.Layout.{line-flags, digit-bytes, text-bytes, line-bytes, digits-at, line-width}
 use Rattle.store_lists.specs.Lists.{DigitsPut, LineSlot, LineTable, LinePut, LineDropped, LinesApplied}
@@ -173,6 +173,12 @@ module _ (o : Operation) (m : List ℕ) (f : LineFlags) (p : Entries) (s : List 
 
 -- ---- replacing
 
--- adding to a wiped part replaces
-pub lines-replaced : (m : List ℕ) (f : LineFlags) (p : Entries) (s t u : List ℕ) (r : Bool) → t ≡ replicate (length s) 0 → LinesApplied Add m f p t u r → LinesApplied Replace m f p s u r
-lines-replaced m f p s t u r w a low n ls es l e q = a low n [] es (wiped LineOk line-width line-bytes (line-keyed .long) n ls s t l w) e q
+-- a part that was emptied where it is to be replaced
+lines-emptied : (o : Operation) (n : ℕ) (ls : List Line) (s t : List ℕ) → t ≡ start-from o (replicate (length s) 0) s → LineTable n ls s → LineTable n (start-from o [] ls) t
+lines-emptied Add n ls s t e l = subst⁻¹ (LineTable n ls) e l
+lines-emptied Delete n ls s t e l = subst⁻¹ (LineTable n ls) e l
+lines-emptied Replace n ls s t e l = wiped LineOk line-width line-bytes (line-keyed .long) n ls s t l e
+
+-- what was done to it was done to the part
+pub lines-applied : (o : Operation) (m : List ℕ) (f : LineFlags) (p : Entries) (s t u : List ℕ) (r : Bool) → t ≡ start-from o (replicate (length s) 0) s → LinesDone o m f p t u r → LinesApplied o m f p s u r
+lines-applied o m f p s t u r e d low n ls es l = d low n (start-from o [] ls) es (lines-emptied o n ls s t e l)

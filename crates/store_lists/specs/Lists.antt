@@ -20,7 +20,7 @@ use Rattle.read_fields.specs.Entries.{channel-list, ContactIs}
 use Rattle.read_fields.specs.Parts.{NumberIs}
 use Rattle.settings.specs.Settings.{EntriesAre}
 use Rattle.tables.specs.Allowed.{LineOk}
-use Rattle.tables.specs.Apply.{channel-step, channels-after, line-of, put-line, drop-line, lines-after}
+use Rattle.tables.specs.Apply.{channel-step, channels-after, line-of, line-step, put-line, drop-line, lines-after}
 use Rattle.tables.specs.Layout.{channel-width, line-bytes, line-width}
 use Rattle.tables.specs.Tables.{Line}
 use Rattle.tables.specs.Changing.{Tried}
@@ -77,3 +77,9 @@ LinePut x s t r = (n : ℕ) (ls : List Line) (l : Line) → LineTable n ls s →
 -- what taking the line with the number of these bytes out leaves
 abbrev pub LineDropped : List ℕ → List ℕ → List ℕ → Type 0
 LineDropped x s t = (n : ℕ) (ls : List Line) (l : Line) → LineTable n ls s → LineOk l → x ≡ line-bytes l → LineTable n (drop-line (l .number) ls) t
+
+-- what applying an operation to the line of these bytes answers
+abbrev pub LineStepped : Operation → List ℕ → List ℕ → List ℕ → Bool → Type 0
+LineStepped o x s t r =
+    (n : ℕ) (ls : List Line) (l : Line) → LineTable n ls s → LineOk l → x ≡ line-bytes l
+    → Tried (LineTable n) (line-step n o (l .flags) (record { number = l .number; text = l .text }) ls) t r

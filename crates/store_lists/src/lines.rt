@@ -4,21 +4,19 @@ use read_fields::entries::ContactRead;
 use read_fields::entries::read_contact;
 use settings::settings::Entries;
 use slots::bytes::copy;
-use slots::bytes::wipe;
 use slots::slots::place_of;
 use slots::slots::remove_all;
 use tables::places::DIGITS;
 use tables::places::LINE_DIGITS;
 use tables::places::LINE_SLOT;
 use tables::places::LINE_TEXT;
+use tables::replacing::empty_to_replace;
 use writing::LineFlags;
 use writing::Operation;
 ghost use mathlib.Core.Path.{_≡_};
-ghost use mathlib.Core.Bool.{true};
 ghost use lib.ListN.{length};
-ghost use Rattle.writing.specs.declared.Operation.the-variants.{Add, Delete};
 ghost use Rattle.tables.specs.Layout.{line-width};
-ghost use Rattle.store_lists.specs.Lists.{LinePut, LineDropped, LinesApplied};
+ghost use Rattle.store_lists.specs.Lists.{LinePut, LineDropped, LineStepped, LinesApplied};
 
 // Puts a line in place of the one with its number, or at the end, where there is room.
 fn put_line(part: &mut [u8], slot: &[u8]) -> bool
@@ -48,48 +46,22 @@ fn drop_line(part: &mut [u8], slot: &[u8])
     remove_all(part, LINE_SLOT, LINE_DIGITS, &slot[LINE_DIGITS..LINE_TEXT]);
 }
 
-// Puts the lines of a setting in order, until there is no room.
-fn put_lines(part: &mut [u8], m: &[u8], flags: LineFlags, entries: Entries) -> bool
-    ensures { λ r. ⌜ LinesApplied Add (now (m .entry)) flags entries (now (part .entry)) (now (part .exit)) r ⌝ }
+// Applies an operation to the line of a slot: was there room?
+fn step_line(part: &mut [u8], operation: Operation, slot: &[u8]) -> bool
+    requires { ⌜ length (now slot) ≡ line-width ⌝ }
+    ensures { λ r. ⌜ LineStepped operation (now (slot .entry)) (now (part .entry)) (now (part .exit)) r ⌝ }
 {
-    let coding = entries.coding;
-    let mut p = entries.start;
-    let mut i = 0;
-    while i < entries.count {
-        let here = read_contact(m, p, coding);
-        let ContactRead::Contact(place, next) = here else {
-            return false;
-        };
-        let slot = line_slot(m, flags, place);
-        if !put_line(part, &slot) {
-            return false;
+    match operation {
+        Operation::Add => put_line(part, slot),
+        Operation::Delete => {
+            drop_line(part, slot);
+            true
         }
-        p = next;
-        i += 1;
-    }
-    true
-}
-
-// Takes the lines with the numbers of a setting out.
-fn drop_lines(part: &mut [u8], m: &[u8], flags: LineFlags, entries: Entries)
-    ensures { λ _. ⌜ LinesApplied Delete (now (m .entry)) flags entries (now (part .entry)) (now (part .exit)) true ⌝ }
-{
-    let coding = entries.coding;
-    let mut p = entries.start;
-    let mut i = 0;
-    while i < entries.count {
-        let here = read_contact(m, p, coding);
-        let ContactRead::Contact(place, next) = here else {
-            return;
-        };
-        let slot = line_slot(m, flags, place);
-        drop_line(part, &slot);
-        p = next;
-        i += 1;
+        Operation::Replace => put_line(part, slot),
     }
 }
 
-// Applies the line contacts of a setting in order: was there room?
+// Applies the line contacts of a setting in order, until there is no room: was there?
 pub fn apply_lines(
     part: &mut [u8],
     m: &[u8],
@@ -99,15 +71,21 @@ pub fn apply_lines(
 ) -> bool
     ensures { λ r. ⌜ LinesApplied operation (now (m .entry)) flags entries (now (part .entry)) (now (part .exit)) r ⌝ }
 {
-    match operation {
-        Operation::Add => put_lines(part, m, flags, entries),
-        Operation::Delete => {
-            drop_lines(part, m, flags, entries);
-            true
+    empty_to_replace(part, operation);
+    let coding = entries.coding;
+    let mut p = entries.start;
+    let mut i = 0;
+    while i < entries.count {
+        let here = read_contact(m, p, coding);
+        let ContactRead::Contact(place, next) = here else {
+            return false;
+        };
+        let slot = line_slot(m, flags, place);
+        if !step_line(part, operation, &slot) {
+            return false;
         }
-        Operation::Replace => {
-            wipe(part);
-            put_lines(part, m, flags, entries)
-        }
+        p = next;
+        i += 1;
     }
+    true
 }

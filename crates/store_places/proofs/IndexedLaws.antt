@@ -1,11 +1,11 @@
 -- Indexed tables: a place changed as its slot is, and a table emptied to be replaced. Assumes nothing.
 use Prim.Native.Nat.{ℕ, _+_, _-_, _*_, _≤_, _<_}
 use mathlib.Core.Path.{_≡_, ap, sym, _∙_, subst, subst⁻¹}
-use mathlib.Core.List.{List, []}
+use mathlib.Core.List.{List, [], _++_}
 use mathlib.Core.Option.{Option, none}
 use native.Mathlib.Omega.{arith}
 use borrow.Rule.Slice.PartMut.{putMid, midOf}
-use lib.ListN.{length, set, getD, replicate, length-replicate}
+use lib.ListN.{length, set, getD, take, drop, replicate, length-replicate}
 use Rattle.lists.specs.Every.{All}
 use Rattle.lists.proofs.Every.{all-get}
 use Rattle.slots.specs.Slots.{slot, Present, Placed}
@@ -25,12 +25,15 @@ use Rattle.tables.proofs.EntryWalk.{Starting, Applying, applying-end, entry-mis
 
 module _ {A : Type 0} (P : A → Type 0) (w : ℕ) (f : A → List ℕ) (long : (a : A) → length (f a) ≡ w) (n : ℕ) (os : List (Option A)) (s : List ℕ) (t : Placed P w f n os s) where
   -- place k, changed as its slot is
-  pub place-changed : (k : ℕ) → k < n → (change : Option A → Option A) (y : List ℕ)
-      → ((o : Option A) → Present P o → midOf (k * w) (k * w + w - k * w) s ≡ slot w f o → Present P (change o) × (y ≡ slot w f (change o)))
-      → Placed P w f n (set os k (change (getD os k none))) (putMid (k * w) (k * w + w - k * w) s y)
-  place-changed k h change y c =
-      let (p, e) = c (getD os k none) (all-get (Present P) os k none (t .each) (omega (arith, t .many))) (place-read P w f long n os s t k h) in
-      place-written P w f long n os s t k h (change (getD os k none)) y p e
+  pub place-changed : (k : ℕ) → k < n → (change : Option A → Option A) (y u : List ℕ) → u ≡ take (k * w) s ++ (y ++ drop w (drop (k * w) s))
+      → ((o : Option A) → Present P o → take w (drop (k * w) s) ≡ slot w f o → Present P (change o) × (y ≡ slot w f (change o)))
+      → Placed P w f n (set os k (change (getD os k none))) u
+  place-changed k h change y u others c =
+      let e : k * w + w - k * w ≡ w = omega arith in
+      let here : take w (drop (k * w) s) ≡ slot w f (getD os k none) = subst (λ (i : ℕ). midOf (k * w) i s ≡ slot w f (getD os k none)) e (place-read P w f long n os s t k h) in
+      let (p, d) = c (getD os k none) (all-get (Present P) os k none (t .each) (omega (arith, t .many))) here in
+      subst⁻¹ (Placed P w f n (set os k (change (getD os k none)))) others
+      (subst (λ (i : ℕ). Placed P w f n (set os k (change (getD os k none))) (putMid (k * w) i s y)) e (place-written P w f long n os s t k h (change (getD os k none)) y p d))
 
   -- as many zeros as the table has bytes are the empty table
   pub place-emptied : Placed P w f n (replicate n none) (replicate (length s) 0)

@@ -1,6 +1,7 @@
 -- Group and individual slots: what the function that sets one has to show. Assumes nothing.
 use Prim.Native.Nat.{ℕ, _+_, _*_, _≤_, _<_}
 use mathlib.Core.Path.{_≡_, refl, ap, _∙_}
+use mathlib.Core.Bool.{false}
 use mathlib.Core.List.{List, _∷_, _++_}
 use native.Mathlib.Omega.{arith}
 use lib.ListN.{length}
@@ -28,7 +29,7 @@ parts-of OfIndividuals x ok = (ok .address .1, ok .text, refl)
 
 -- a place was set, with a head of four bytes: the flags and the address
 pub member-set : (m : List ℕ) (o : Operation) (i flags address : ℕ) (p : TextPlace) (s t head : List ℕ) → length head ≡ 4 → (address < 16777216 → head ≡ flags ∷ u24 address)
-    → (i * member-width + member-width ≤ length s → PlaceSet m o p head member-width i s t) → MemberSet m o i flags address p s t
+    → (i * member-width + member-width ≤ length s → PlaceSet false m o p head member-width i s t) → MemberSet m o i flags address p s t
 member-set m o i flags address p s t head four hd changed w f a fl ad os us next is low ok h =
     place-overwritten (member-ok w) member-width (member-bytes w) (member-code w .long) slot-places os s h i low o (member w f a us) head (text-limits .short) us next is (omega arith)
     (after-turn (member-ok w) (Made (member-ok w) (member-bytes w) head (text-limits .short) us) (member w f a us) (λ g.

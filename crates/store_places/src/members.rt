@@ -27,7 +27,7 @@ fn set_member(
     ensures { λ _. ⌜ MemberSet (now (m .entry)) operation index flags address text (now (part .entry)) (now (part .exit)) ⌝ }
 {
     let head = head_of(flags, address);
-    set_place(part, WIDTH, index, &head, m, operation, text);
+    set_place(part, WIDTH, index, &head, m, operation, text, false);
 }
 
 pub fn apply_group(

@@ -2,17 +2,14 @@
 use Prim.Native.Nat.{ℕ, suc, _+_, _-_, _*_, _≤_, _<_}
 use mathlib.Core.Path.{_≡_, refl, sym, ap, ap₂, _∙_}
 use mathlib.Core.Logic.{_≢_}
-use mathlib.Core.Bool.{Bool, false, _&&_}
 use mathlib.Core.List.{List, [], _∷_, _++_, map}
 use native.Mathlib.Omega.{arith}
 use lib.ListN.{length, drop, take, getD}
 use lib.Seq.{drop-cons}
 use Rattle.lists.specs.Bytes.{Bytes}
 use Rattle.lists.specs.Every.{All}
-use Rattle.slots.specs.Slots.{flat, pad, u16, zeros?}
-use Rattle.slots.proofs.Numbers.{u16-of, u16-shown}
-use Rattle.slots.proofs.Pads.{pad-length}
-use Rattle.slots.proofs.Runs.{zeros-append}
+use Rattle.slots.specs.Slots.{flat, pad, u16}
+use Rattle.slots.proofs.Numbers.{u16-of}
 use Rattle.slots.proofs.Tables.{flat-pad}
 use Rattle.writing.specs.Fields.{item, val}
 use Rattle.writing.specs.declared.Coding.{Coding}
@@ -78,14 +75,3 @@ module _ (m : List ℕ) (h : Bytes m) (p : TextPlace) (s t : List ℕ) where
       let i : p .start + 2 * p .units - p .start ≡ 2 * length us = omega (arith, is .units) in
       e ∙ ap₂ (λ (a : ℕ) (b : List ℕ). pad 0 a b) k (ap (λ (j : ℕ). take j (drop (p .start) m)) i ∙ text-out (p .coding) m (p .start) next us h (is .stands) .bytes)
       ∙ text-padded n us
-
--- ---- a text's bytes in the store
-
--- two bytes a unit
-pub text-long : (n : ℕ) (us : Text) → length (text-bytes n us) ≡ 2 * n
-text-long n us = ap length (sym (text-padded n us)) ∙ pad-length 0 (2 * n) (flat (map u16 us))
-
--- a text that has a unit is not zeros
-pub text-shown : (n : ℕ) (us : Text) → 1 ≤ length us → All Unit16 us → zeros? (text-bytes (suc n) us) ≡ false
-text-shown n [] l h = absurd (omega arith)
-text-shown n (u ∷ us) l h = zeros-append (u16 u) (flat (map u16 (pad 0 n us))) ∙ ap (λ (b : Bool). b && zeros? (flat (map u16 (pad 0 n us)))) (u16-shown u (h .0 .0))

@@ -3,6 +3,7 @@ pub mod heads;
 pub mod limits;
 pub mod members;
 pub mod places;
+pub mod replacing;
 pub mod start;
 pub mod texts;
 pub mod working;

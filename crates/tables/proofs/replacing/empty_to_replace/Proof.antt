@@ -1,9 +1,9 @@
 use borrow.Author.Needs.{needs}
 use mathlib.Core.Path.{sym, ap, _∙_}
 use lib.ListN.{length, replicate}
 use Rattle.tables.specs.Apply.{start-from}
-use Rattle.store_places.proofs.replacing.empty_to_replace.Statement.{statement}
-use Rattle.store_places.proofs.replacing.empty_to_replace.Tie as tie
+use Rattle.tables.proofs.replacing.empty_to_replace.Statement.{statement}
+use Rattle.tables.proofs.replacing.empty_to_replace.Tie as tie
 
 enum-told : tie.Need-enum-told
 enum-told c = search needs
