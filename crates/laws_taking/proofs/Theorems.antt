@@ -14,7 +14,8 @@ use Rattle.writing.specs.Ranges.{text-limits, InRange}
 use Rattle.writing.specs.Settings.{Setting, Hash, unicode16}
 use Rattle.writing.specs.Writing.{WrittenAs, request-head}
 use Rattle.read_carrier.proofs.CarrierLaws.{carries-one}
-use Rattle.read_carrier.proofs.KindLaws.{counted-rest, request-bytes, opens-no-query}
+use Rattle.read_carrier.proofs.MessageOne.{counted-one}
+use Rattle.read_carrier.proofs.KindLaws.{request-bytes, opens-no-query}
 use Rattle.tables.specs.declared.limits.Limits.{Limits}
 use Rattle.tables.specs.Apply.{apply}
 use Rattle.tables.specs.Allowed.{Allowed}
@@ -152,7 +153,7 @@ module _ (m : Limits) (message store reply : List ℕ) (b : Bytes message) (t : 
         by : Comes x → x ≡ settled m message store reply (kept l u)
         by (not-counted never e) = absurd (never _ _ (written-counted w))
         by (judged {count} {settings} c bytes o j e) =
-            let (n, r) = counted-rest (written-counted w) c in
+            let (n, r) = counted-one (written-counted w) c in
             let q : Runs m (length l) (forget t) (w .settings) l u []
             = written-runs m (length l) (forget t) u (w .settings) (w .settings) [] l (subst Bytes (sym r) bytes) (sym (append-nil (w .settings))) (w .written) z in
             let i : Judged m count (forget t) settings (kept l u)

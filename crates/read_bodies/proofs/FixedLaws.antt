@@ -57,11 +57,11 @@ last-head c = record {
 -- ---- addresses
 
 -- the 24 bits of an address are three bytes
-pub address-out : (a : ℕ) (m : List ℕ) (q next : ℕ) → Bytes m → PartAt (val 24 a ∷ []) m q next → (q + 3 ≤ length m) × (a ≡ be 0 (take 3 (drop q m)))
-address-out a m q next h x =
+address-out : (a : ℕ) (m : List ℕ) (q next : ℕ) → Bytes m → InAddress a → PartAt (val 24 a ∷ []) m q next
+    → (q + 3 ≤ length m) × InAddress (be 0 (take 3 (drop q m)) % 16777216)
+address-out a m q next h i x =
     let (r, k, y) = head-out (val 24 a ∷ []) [] m q 3 refl (omega arith) h next x in
-    let s : be 0 (take 3 (drop q m)) < 16777216 = be-small m q 3 h r in
-    (r, omega (arith, s, k .0))
+    (r, subst InAddress (omega (arith, be-small m q 3 h r, k .0)) i)
 
 pub address-in : (a : ℕ) (m : List ℕ) (q : ℕ) → Bytes m → q + 3 ≤ length m → a ≡ be 0 (take 3 (drop q m)) % 16777216 → PartAt (val 24 a ∷ []) m q (q + 3)
 address-in a m q h r e = head-in (val 24 a ∷ []) [] m q 3 refl (omega arith) h (q + 3) r (omega arith, tt) (nothing m (q + 3))
@@ -70,14 +70,8 @@ address-in a m q h r e = head-in (val 24 a ∷ []) [] m q 3 refl (omega arith) h
 pub key-address-out : (t : KeyTarget) (m : List ℕ) (q next : ℕ) → Bytes m → (bit (current t) ≡ 1 → ⊥) → InTarget t → PartAt (key-address t) m q next
     → (q + 3 ≤ length m) × InAddress (be 0 (take 3 (drop q m)) % 16777216)
 key-address-out (Current g) m q next h n i x = absurd (n refl)
-key-address-out (ToGroup a) m q next h n i x =
-    let (r, e) = address-out (a .0) m q next h x in
-    let s : be 0 (take 3 (drop q m)) < 16777216 = be-small m q 3 h r in
-    (r, subst InAddress (omega (arith, s)) i)
-key-address-out (ToIndividual a) m q next h n i x =
-    let (r, e) = address-out (a .0) m q next h x in
-    let s : be 0 (take 3 (drop q m)) < 16777216 = be-small m q 3 h r in
-    (r, subst InAddress (omega (arith, s)) i)
+key-address-out (ToGroup a) m q next h n i x = address-out (a .0) m q next h i x
+key-address-out (ToIndividual a) m q next h n i x = address-out (a .0) m q next h i x
 
 -- the last item is out of range before the last place
 pub not-last : (c : Coding) (left : ℕ) (m : List ℕ) (p : ℕ) → 0 < left → BodyAt c Last left m p NoBody

@@ -15,7 +15,8 @@ use Rattle.writing.specs.Ranges.{text-limits, InQuick}
 use Rattle.writing.specs.Settings.{Entry}
 use Rattle.writing.specs.Writing.{flag, op, op-code, contact, quick-text, status-text}
 use Rattle.read_fields.specs.Entries.{channel-list, QuickFrom}
-use Rattle.settings.proofs.BodyLaws.{Headed, one-op}
+use Rattle.writing.proofs.Unique.{one-op}
+use Rattle.settings.proofs.BodyLaws.{Headed}
 use Rattle.read_bodies.specs.Units.{LeastIs}
 
 abbrev pub lines-head : (c : Coding) → Headed c Lines

@@ -3,10 +3,9 @@ use read_fields::bytes::flag;
 use read_fields::bytes::number;
 use read_fields::bytes::remaining;
 use read_fields::channels::walk_channels;
+use read_fields::entries::Listed;
 use read_fields::entries::Walk;
-use read_fields::entries::walk_contacts;
-use read_fields::entries::walk_quick;
-use read_fields::entries::walk_status;
+use read_fields::entries::walk_entries;
 use settings::rows::OperationRead;
 use settings::rows::operation_of;
 use settings::settings::BodyRead;
@@ -40,7 +39,7 @@ pub fn read_lines(m: &[u8], p: usize, operations: u8, coding: Coding) -> BodyRea
     };
     let start = p + 2;
     let count = (n % 256) as usize;
-    let walked = walk_contacts(m, start, count, coding);
+    let walked = walk_entries(m, start, count, Listed::Contacts, coding);
     let Walk::To(next) = walked else {
         return BodyRead::NoBody;
     };
@@ -83,7 +82,13 @@ pub fn read_quick_texts(m: &[u8], p: usize, operations: u8, coding: Coding) -> B
     };
     let start = p + 1;
     let count = (n % 64) as usize;
-    let walked = walk_quick(m, start, count, least_units(operation), coding);
+    let walked = walk_entries(
+        m,
+        start,
+        count,
+        Listed::QuickTexts(least_units(operation)),
+        coding,
+    );
     let Walk::To(next) = walked else {
         return BodyRead::NoBody;
     };
@@ -145,7 +150,7 @@ pub fn read_status_texts(m: &[u8], p: usize, operations: u8, coding: Coding) -> 
     };
     let start = p + 2;
     let count = (n % 256) as usize;
-    let walked = walk_status(m, start, count, coding);
+    let walked = walk_entries(m, start, count, Listed::StatusTexts, coding);
     let Walk::To(next) = walked else {
         return BodyRead::NoBody;
     };

@@ -20,11 +20,12 @@ use writing::Operation;
 ghost use mathlib.Core.Path.{_≡_};
 ghost use Prim.Native.Nat.{ℕ};
 ghost use Rattle.settings.specs.Settings.{BodyAt};
-ghost use Rattle.read_bodies.specs.Refused.{GroupRefused, IndividualRefused};
+ghost use Rattle.read_bodies.specs.Refused.{SlotRefused};
 ghost use Rattle.writing.specs.declared.Kind.{Kind};
 
-fn group_refused(operation: Operation, attribute: u8, address: u32) -> bool
-    ensures { λ r. ⌜ GroupRefused operation attribute address r ⌝ }
+// Whether a slot is out of range. An individual has no attribute: 1 stands for it.
+fn slot_refused(operation: Operation, attribute: u8, address: u32) -> bool
+    ensures { λ r. ⌜ SlotRefused operation attribute address r ⌝ }
 {
     match operation {
         Operation::Add => {
@@ -34,17 +35,7 @@ fn group_refused(operation: Operation, attribute: u8, address: u32) -> bool
             address_refused(address)
         }
         Operation::Delete => false,
-        Operation::Replace => true, // 11 in D1
-    }
-}
-
-fn individual_refused(operation: Operation, address: u32) -> bool
-    ensures { λ r. ⌜ IndividualRefused operation address r ⌝ }
-{
-    match operation {
-        Operation::Add => address_refused(address),
-        Operation::Delete => false,
-        Operation::Replace => true, // 11 in D2
+        Operation::Replace => true, // 11 in D1 and D2
     }
 }
 
@@ -61,7 +52,7 @@ pub fn read_group(m: &[u8], p: usize, operations: u8, coding: Coding) -> BodyRea
     };
     let attribute = (n / 0x10_0000_0000 % 4) as u8;
     let address = (n % 0x100_0000) as u32;
-    if group_refused(operation, attribute, address) {
+    if slot_refused(operation, attribute, address) {
         return BodyRead::NoBody;
     }
     let units = read_text(m, p + 5, 16, coding);
@@ -97,7 +88,7 @@ pub fn read_individual(m: &[u8], p: usize, operations: u8, coding: Coding) -> Bo
         return BodyRead::NoBody;
     };
     let address = (n % 0x100_0000) as u32;
-    if individual_refused(operation, address) {
+    if slot_refused(operation, 1, address) {
         return BodyRead::NoBody;
     }
     let units = read_text(m, p + 5, 16, coding);

@@ -11,26 +11,17 @@ use lib.Seq.{drop-append-seam}
 use borrow.Author.Tests.{ltb-true, ltb-false}
 use Rattle.lists.specs.Bytes.{Bytes}
 use Rattle.lists.proofs.Bytes.{bytes-drop}
-use Rattle.lists.proofs.Seqs.{cut}
 use Rattle.writing.specs.Settings.{Hash, unicode16}
-use Rattle.writing.specs.Writing.{request-head}
 use Rattle.writing.specs.Carrier.{start, Carries, coding-type, Opens, Counted, RequestOf, Query, InSize, OtherKind, OtherType, OtherVersion, NoRequest, NoQuery}
-use Rattle.read_carrier.proofs.CarrierLaws.{wide-bytes, carries-one}
+use Rattle.read_carrier.proofs.CarrierLaws.{carries-one}
 use Rattle.read_carrier.proofs.MessageOne.{opens-one, counted-one, counted-opens, query-opens}
 
 -- ---- requests
 
--- one count, and one rest after it
-pub counted-rest : {n k : ℕ} {s r d : List ℕ} → Counted n s d → Counted k r d → (n ≡ k) × (s ≡ r)
-counted-rest {n} {k} a b =
-    let la : length (a .head) ≡ 2 = wide-bytes (request-head n) 2 (a .head) refl (a .says) in
-    let lb : length (b .head) ≡ 2 = wide-bytes (request-head k) 2 (b .head) refl (b .says) in
-    (counted-one a b, cut (a .head) (b .head) (la ∙ sym lb) (sym (a .parts) ∙ b .parts) .1)
-
 -- REQUEST ONE: a request has one count, and one rest after it
 pub request-one : {n k : ℕ} {s r m : List ℕ} → RequestOf n s m → RequestOf k r m → (n ≡ k) × (s ≡ r)
 request-one {n} {k} {s} {r} a b =
-    counted-rest (subst (Counted n s) (carries-one (a .carried) (b .carried) .1) (a .counted)) (b .counted)
+    counted-one (subst (Counted n s) (carries-one (a .carried) (b .carried) .1) (a .counted)) (b .counted)
 
 -- it opens with version 1 and type 0
 pub request-opens : {n : ℕ} {s m : List ℕ} (q : RequestOf n s m) → Opens 1 0 (coding-type unicode16) (q .data-bytes) m

@@ -1,21 +1,22 @@
 -- Entries at a place: a number and a text, or a byte and a text. Assumes nothing.
 use Prim.Native.Nat.{ℕ, zero, suc, _+_, _*_, _/_, _%_, _^_, _≤_, _<_}
-use mathlib.Core.Path.{_≡_, refl, sym, ap, _∙_, subst}
+use mathlib.Core.Path.{_≡_, refl, sym, ap, _∙_, subst, subst⁻¹}
 use mathlib.Core.List.{List, [], _∷_, _++_}
 use native.Mathlib.Nat.{mod-eq-of-lt}
 use native.Mathlib.Omega.{arith}
 use lib.ListN.{length, drop, take}
 use Rattle.lists.specs.Bytes.{Bytes}
 use Rattle.writing.specs.Fields.{Field, val, res, widths}
-use Rattle.writing.specs.Ranges.{TextLimits, InContact, InNumber}
+use Rattle.writing.specs.Ranges.{TextLimits, text-limits, InContact, InNumber}
 use Rattle.writing.specs.declared.Coding.{Coding}
 use Rattle.writing.specs.Settings.{Contact, Entry}
 use Rattle.writing.specs.Writing.{text, number, contact, quick-text, status-text}
-use Rattle.writing.proofs.Unique.{number-ends, text-ends}
-use Rattle.writing.proofs.Whole.{number-whole, entry-whole}
+use Rattle.writing.proofs.Ends.{Ends}
+use Rattle.writing.proofs.Unique.{number-ends, text-ends, contact-ends, quick-ends, status-ends}
+use Rattle.writing.proofs.Whole.{number-whole, entry-whole, contact-whole}
 use Rattle.read_fields.specs.Places.{PartAt, be}
 use Rattle.read_fields.specs.Parts.{TextIs, TextAt, NumberIs, NumberAt}
-use Rattle.read_fields.specs.Entries.{ContactIs, EntryIs, ContactAt, EntryAt}
+use Rattle.read_fields.specs.Entries.{ContactIs, EntryIs, ContactAt, EntryAt, EntryOf, form-of, range-of, PassAt}
 use Rattle.read_fields.specs.declared.numbers.NumberPlace.{NumberPlace}
 use Rattle.read_fields.specs.declared.numbers.NumberRead.{NumberRead}
 use Rattle.read_fields.specs.declared.numbers.NumberRead.the-variants.{Number as ANumber, NoNumber}
@@ -23,6 +24,9 @@ use Rattle.read_fields.specs.declared.texts.TextPlace.{TextPlace}
 use Rattle.read_fields.specs.declared.texts.TextRead.{TextRead}
 use Rattle.read_fields.specs.declared.texts.TextRead.the-variants.{Text as AText, NoText}
 use Rattle.read_fields.specs.declared.entries.ContactRead.the-variants.{Contact as AContact, NoContact}
+use Rattle.read_fields.specs.declared.entries.Walk.{Walk}
+use Rattle.read_fields.specs.declared.entries.Listed.{Listed}
+use Rattle.read_fields.specs.declared.entries.Listed.the-variants.{Contacts, QuickTexts, StatusTexts}
 use Rattle.read_fields.specs.declared.entries.EntryPlace.{EntryPlace}
 use Rattle.read_fields.specs.declared.entries.EntryRead.the-variants.{Entry as AnEntry, NoEntry}
 use Rattle.read_fields.proofs.Heads.{Cut, head-in, head-out}
@@ -91,6 +95,22 @@ quick-whole c e = entry-whole c (res 2 ∷ val 6 (e .index) ∷ []) refl (e .tex
 
 pub status-whole : (c : Coding) (e : Entry) → (n : ℕ) × (widths (status-text c e) ≡ 8 * n)
 status-whole c e = entry-whole c (val 8 (e .index) ∷ []) refl (e .text)
+
+-- entries of every list say where they end, and are whole bytes
+pub list-ends : (l : Listed) (c : Coding) → Ends (form-of l c)
+list-ends Contacts c = contact-ends c
+list-ends (QuickTexts least) c = quick-ends c
+list-ends StatusTexts c = status-ends c
+
+pub list-whole : (l : Listed) (c : Coding) (e : EntryOf l) → (n : ℕ) × (widths (form-of l c e) ≡ 8 * n)
+list-whole Contacts c e = contact-whole c e
+list-whole (QuickTexts least) c e = quick-whole c e
+list-whole StatusTexts c e = status-whole c e
+
+-- what is passed of a list is passed of the same list
+pub by-list : {l list : Listed} (c : Coding) (m : List ℕ) (at : ℕ) (w : Walk) → l ≡ list
+    → PassAt (form-of list c) (range-of list text-limits) m at w → PassAt (form-of l c) (range-of l text-limits) m at w
+by-list c m at w e z = subst⁻¹ (λ (x : Listed). PassAt (form-of x c) (range-of x text-limits) m at w) e z
 
 module _ (head : ℕ → List Field) (index : ℕ → ℕ) (one : OneByte head index) (c : Coding) (In : Entry → Type 0) (m : List ℕ) (at : ℕ) (h : Bytes m) where
   abbrev form : Entry → List Field

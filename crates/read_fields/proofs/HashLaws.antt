@@ -15,6 +15,7 @@ use Rattle.read_fields.specs.Places.{PartAt}
 use Rattle.read_fields.specs.Hashes.{HashAt, SizeOf}
 use Rattle.read_fields.specs.declared.hashes.HashRead.the-variants.{Hash as AHash, NoHash}
 use Rattle.read_fields.proofs.Parts.{bytes-left, bytes-at}
+pub use Rattle.writing.proofs.Lengths.{small-size}
 
 -- ---- the size by the code
 
@@ -29,12 +30,6 @@ pub small-code : {code a : ℕ} → HashSize code a → code ≤ 2
 small-code no-hash = omega arith
 small-code hash-4 = omega arith
 small-code hash-10 = omega arith
-
--- the size is at most 10
-pub small-size : {code a : ℕ} → HashSize code a → a ≤ 10
-small-size no-hash = omega arith
-small-size hash-4 = omega arith
-small-size hash-10 = omega arith
 
 -- code 1 has 4 bytes
 pub size-4 : {code : ℕ} → code ≡ 1 → SizeOf code 4

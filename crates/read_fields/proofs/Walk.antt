@@ -77,8 +77,8 @@ module _ {A : Type 0} (f : A → List Field) (In : A → Type 0) (ends : Ends f)
   none-passed = record { done = []; counted = omega arith; in-range = tt; walked = not-yet (each f) Counted m at }
 
   -- an entry that stands next is passed
-  pub one-passed : (p q left : ℕ) (a : A) → Passed p (suc left) → In a → PartAt (f a) m p q → Passed q left
-  one-passed p q left a w i x = record {
+  pub walk-on : (p q left : ℕ) (a : A) → 0 < left → Passed p left → In a → PartAt (f a) m p q → Passed q (left - 1)
+  walk-on p q left a l w i x = record {
     done = w .done ++ (a ∷ []);
     counted = omega (arith, w .counted, length-append (w .done) (a ∷ []));
     in-range = all-append In (w .done) (a ∷ []) (w .in-range) (i, tt);
@@ -86,46 +86,31 @@ module _ {A : Type 0} (f : A → List Field) (In : A → Type 0) (ends : Ends f)
   }
     where
       on : (xs : List A) (next : ℕ) → Counted (w .done ++ xs) → PartAt (each f xs) m p next → (rest : List A) × (xs ≡ a ∷ rest) × PartAt (each f rest) m q next
-      on [] next l y = absurd (omega (arith, w .counted, l, length-append (w .done) []))
-      on (b ∷ rest) next l y =
+      on [] next k y = absurd (omega (arith, w .counted, k, length-append (w .done) []))
+      on (b ∷ rest) next k y =
           let (n, e) = whole b in
           let (first, more) = part-split (f b) (each f rest) m p n next e y in
           let (same, z) = one-part f ends a b m p q (p + n) x first in
           (rest, ap (λ (c : A). c ∷ rest) (sym same), subst (λ (k : ℕ). PartAt (each f rest) m k next) (sym z) more)
 
   -- where none that is in range stands next, no whole list does
-  pub stopped : (p left : ℕ) → Passed p (suc left) → ((a : A) (q : ℕ) → In a → PartAt (f a) m p q → ⊥)
-      → (xs : List A) (next : ℕ) → length xs ≡ count → All In xs → PartAt (each f xs) m at next → ⊥
-  stopped p left w never xs next l i x =
-      let (rest, e, y) = w .walked .on xs next l x in
-      by rest e y
+  pub walk-stops : (p left : ℕ) → 0 < left → Passed p left → ((a : A) (q : ℕ) → In a → PartAt (f a) m p q → ⊥) → WalkAt (each f) In m at count Stopped
+  walk-stops p left l w never xs next s = let (rest, e, y) = w .walked .on xs next (s .counted) (s .stands) in by rest e y
     where
       by : (rest : List A) → xs ≡ w .done ++ rest → PartAt (each f rest) m p next → ⊥
-      by [] e y = absurd (omega (arith, w .counted, l, ap length e, length-append (w .done) []))
+      by [] e y = absurd (omega (arith, w .counted, s .counted, ap length e, length-append (w .done) []))
       by (b ∷ rest) e y =
           let (n, k) = whole b in
           let (first, more) = part-split (f b) (each f rest) m p n next k y in
-          never b (p + n) (all-right In (w .done) (b ∷ rest) (subst (All In) e i) .0) first
+          never b (p + n) (all-right In (w .done) (b ∷ rest) (subst (All In) e (s .in-range)) .0) first
 
   -- all have been passed
-  pub all-passed : (p : ℕ) → Passed p 0 → (xs : List A) × (length xs ≡ count) × All In xs × PartAt (each f xs) m at p
-  all-passed p w = (
-    w .done,
-    omega (arith, w .counted),
-    w .in-range,
-    subst (λ (l : List A). PartAt (each f l) m at p) (append-nil (w .done)) (w .walked .back [] p (nothing m p)),
-  )
-
-  -- ---- the same, as the code counts down
-
-  pub walk-on : (p q left : ℕ) (a : A) → 0 < left → Passed p left → In a → PartAt (f a) m p q → Passed q (left - 1)
-  walk-on p q left a l w i x = one-passed p q (left - 1) a (subst (Passed p) (let e : left ≡ suc (left - 1) = omega arith in e) w) i x
-
-  pub walk-stops : (p left : ℕ) → 0 < left → Passed p left → ((a : A) (q : ℕ) → In a → PartAt (f a) m p q → ⊥) → WalkAt (each f) In m at count Stopped
-  walk-stops p left l w never xs next s =
-      stopped p (left - 1) (subst (Passed p) (let e : left ≡ suc (left - 1) = omega arith in e) w) never xs next (s .counted) (s .in-range) (s .stands)
-
   pub walk-ends : (p left : ℕ) → left ≤ 0 → Passed p left → WalkAt (each f) In m at count (To p)
-  walk-ends p left l w =
-      let (xs, n, i, x) = all-passed p (subst (Passed p) (let e : left ≡ 0 = omega arith in e) w) in
-      (xs, record { counted = n; in-range = i; stands = x })
+  walk-ends p left l w = (
+    w .done,
+    record {
+      counted = omega (arith, w .counted);
+      in-range = w .in-range;
+      stands = subst (λ (l : List A). PartAt (each f l) m at p) (append-nil (w .done)) (w .walked .back [] p (nothing m p));
+    },
+  )

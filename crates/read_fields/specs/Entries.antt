@@ -18,6 +18,8 @@ use Rattle.read_fields.specs.declared.entries.ContactRead.the-variants.{
 use Rattle.read_fields.specs.declared.entries.EntryPlace.{EntryPlace}
 use Rattle.read_fields.specs.declared.entries.EntryRead.{EntryRead}
 use Rattle.read_fields.specs.declared.entries.EntryRead.the-variants.{Entry as AnEntry, NoEntry}
+use Rattle.read_fields.specs.declared.entries.Listed.{Listed}
+use Rattle.read_fields.specs.declared.entries.Listed.the-variants.{Contacts, QuickTexts, StatusTexts}
 use Rattle.read_fields.specs.declared.entries.Walk.{Walk}
 use Rattle.read_fields.specs.declared.entries.Walk.the-variants.{To, Stopped}
 
@@ -69,14 +71,29 @@ abbrev pub WalkAt : {A : Type 0} → (List A → List Field) → (A → Type 0) 
 WalkAt {A} form In m at count (To next) = (es : List A) × Stand form In m at count next es
 WalkAt {A} form In m at count Stopped = (es : List A) (next : ℕ) → Stand form In m at count next es → ⊥
 
-abbrev pub ContactsAt : Coding → TextLimits → List ℕ → ℕ → ℕ → Walk → Type 0
-ContactsAt c k = WalkAt (each (contact c)) (InContact k)
+-- the entries of a list, how they are written, and their range
+abbrev pub EntryOf : Listed → Type 0
+EntryOf Contacts = Contact
+EntryOf (QuickTexts least) = Entry
+EntryOf StatusTexts = Entry
 
-abbrev pub QuicksAt : Coding → TextLimits → ℕ → List ℕ → ℕ → ℕ → Walk → Type 0
-QuicksAt c k least = WalkAt (each (quick-text c)) (QuickFrom k least)
+abbrev pub form-of : (l : Listed) → Coding → EntryOf l → List Field
+form-of Contacts c = contact c
+form-of (QuickTexts least) c = quick-text c
+form-of StatusTexts c = status-text c
 
-abbrev pub StatusesAt : Coding → TextLimits → List ℕ → ℕ → ℕ → Walk → Type 0
-StatusesAt c k = WalkAt (each (status-text c)) (InStatus k)
+abbrev pub range-of : (l : Listed) → TextLimits → EntryOf l → Type 0
+range-of Contacts k = InContact k
+range-of (QuickTexts least) k = QuickFrom k least
+range-of StatusTexts k = InStatus k
+
+abbrev pub EntriesAt : Listed → Coding → TextLimits → List ℕ → ℕ → ℕ → Walk → Type 0
+EntriesAt l c k = WalkAt (each (form-of l c)) (range-of l k)
+
+-- one in range stands at `at`, up to a place, or none does
+abbrev pub PassAt : {A : Type 0} → (A → List Field) → (A → Type 0) → List ℕ → ℕ → Walk → Type 0
+PassAt {A} form In m at (To next) = (a : A) × In a × PartAt (form a) m at next
+PassAt {A} form In m at Stopped = (a : A) (next : ℕ) → In a → PartAt (form a) m at next → ⊥
 
 -- "each 12 bits; 4 bits 1111 if Count is odd"
 abbrev pub channel-list : List ℕ → List Field

@@ -8,7 +8,7 @@ use super::texts::TextPlace;
 use super::texts::TextRead;
 use super::texts::read_text;
 use writing::Coding;
-ghost use Rattle.read_fields.specs.Entries.{ContactAt, QuickAt, StatusAt, ContactsAt, QuicksAt, StatusesAt};
+ghost use Rattle.read_fields.specs.Entries.{ContactAt, QuickAt, StatusAt, form-of, range-of, PassAt, EntriesAt};
 ghost use Rattle.writing.specs.Ranges.{text-limits};
 
 pub struct ContactPlace {
@@ -30,6 +30,13 @@ pub enum ContactRead {
 pub enum EntryRead {
     Entry(EntryPlace, usize),
     NoEntry,
+}
+
+// Which entries a list has: line contacts, quick texts of at least so many units, or status texts.
+pub enum Listed {
+    Contacts,
+    QuickTexts(usize),
+    StatusTexts,
 }
 
 // As many entries as were counted, and the place after them.
@@ -95,46 +102,43 @@ pub fn read_status(m: &[u8], at: usize, coding: Coding) -> EntryRead
     EntryRead::Entry(EntryPlace { index: code, text }, next)
 }
 
-pub fn walk_contacts(m: &[u8], at: usize, count: usize, coding: Coding) -> Walk
-    ensures { λ r. ⌜ ContactsAt coding text-limits (now (m .entry)) at count r ⌝ }
+// The place after the entry that stands at a place.
+fn pass_entry(m: &[u8], at: usize, list: Listed, coding: Coding) -> Walk
+    ensures { λ r. ⌜ PassAt (form-of list coding) (range-of list text-limits) (now (m .entry)) at r ⌝ }
 {
-    let mut p = at;
-    let mut left = count;
-    while 0 < left {
-        let here = read_contact(m, p, coding);
-        let ContactRead::Contact(_, next) = here else {
-            return Walk::Stopped;
-        };
-        p = next;
-        left -= 1;
+    match list {
+        Listed::Contacts => {
+            let here = read_contact(m, at, coding);
+            let ContactRead::Contact(_, next) = here else {
+                return Walk::Stopped;
+            };
+            Walk::To(next)
+        }
+        Listed::QuickTexts(least) => {
+            let here = read_quick(m, at, least, coding);
+            let EntryRead::Entry(_, next) = here else {
+                return Walk::Stopped;
+            };
+            Walk::To(next)
+        }
+        Listed::StatusTexts => {
+            let here = read_status(m, at, coding);
+            let EntryRead::Entry(_, next) = here else {
+                return Walk::Stopped;
+            };
+            Walk::To(next)
+        }
     }
-    Walk::To(p)
 }
 
-pub fn walk_quick(m: &[u8], at: usize, count: usize, least: usize, coding: Coding) -> Walk
-    ensures { λ r. ⌜ QuicksAt coding text-limits least (now (m .entry)) at count r ⌝ }
+pub fn walk_entries(m: &[u8], at: usize, count: usize, list: Listed, coding: Coding) -> Walk
+    ensures { λ r. ⌜ EntriesAt list coding text-limits (now (m .entry)) at count r ⌝ }
 {
     let mut p = at;
     let mut left = count;
     while 0 < left {
-        let here = read_quick(m, p, least, coding);
-        let EntryRead::Entry(_, next) = here else {
-            return Walk::Stopped;
-        };
-        p = next;
-        left -= 1;
-    }
-    Walk::To(p)
-}
-
-pub fn walk_status(m: &[u8], at: usize, count: usize, coding: Coding) -> Walk
-    ensures { λ r. ⌜ StatusesAt coding text-limits (now (m .entry)) at count r ⌝ }
-{
-    let mut p = at;
-    let mut left = count;
-    while 0 < left {
-        let here = read_status(m, p, coding);
-        let EntryRead::Entry(_, next) = here else {
+        let passed = pass_entry(m, p, list, coding);
+        let Walk::To(next) = passed else {
             return Walk::Stopped;
         };
         p = next;

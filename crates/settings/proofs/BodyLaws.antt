@@ -78,15 +78,3 @@ pub op-small : (o : Operation) → op-code o ≤ 3
 op-small Add = omega arith
 op-small Delete = omega arith
 op-small Replace = omega arith
-
--- an operation is said by its code
-pub one-op : (o p : Operation) → op-code o ≡ op-code p → o ≡ p
-one-op Add Add e = refl
-one-op Add Delete e = absurd (omega arith)
-one-op Add Replace e = absurd (omega arith)
-one-op Delete Add e = absurd (omega arith)
-one-op Delete Delete e = refl
-one-op Delete Replace e = absurd (omega arith)
-one-op Replace Add e = absurd (omega arith)
-one-op Replace Delete e = absurd (omega arith)
-one-op Replace Replace e = refl

@@ -40,10 +40,10 @@ key-within (ToGroup a) = omega arith
 key-within (ToIndividual a) = omega arith
 
 -- a hash value has at most ten bytes
-hash-within : {code n : ℕ} → HashSize code n → n ≤ 10
-hash-within no-hash = omega arith
-hash-within hash-4 = omega arith
-hash-within hash-10 = omega arith
+pub small-size : {code n : ℕ} → HashSize code n → n ≤ 10
+small-size no-hash = omega arith
+small-size hash-4 = omega arith
+small-size hash-10 = omega arith
 
 -- WITHIN ROW: every setting that is in range has a DataLength within its row
 pub within-row : (c : Coding) (k : TextLimits) (left : ℕ) (s : Setting) → InRange k left s → Within (row c k (kind s)) (data-length c s)
@@ -56,7 +56,7 @@ within-row c k left (system s) h = omega arith
 within-row c k left (status-texts o es) h = omega arith
 within-row c k left (group o f s) h = omega (arith, text-within c k (s .text) (h .1))
 within-row c k left (individual o f s) h = omega (arith, text-within c k (s .text) (h .1))
-within-row c k left (last f x) h = omega (arith, hash-within (h .0), widths-map (val 8) 8 (λ v. refl) (x .value))
+within-row c k left (last f x) h = omega (arith, small-size (h .0), widths-map (val 8) 8 (λ v. refl) (x .value))
 
 -- in a D1 or D2, only add and delete are in range
 slot-allows : (o : Operation) (P : Type 0) → InSlot o P → Allows AddOrDelete o

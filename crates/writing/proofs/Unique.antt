@@ -45,6 +45,10 @@ op-at-code Add = refl
 op-at-code Delete = refl
 op-at-code Replace = refl
 
+-- an operation is said by its code
+pub one-op : (o p : Operation) → op-code o ≡ op-code p → o ≡ p
+one-op o p e = cc (op-at-code o, op-at-code p, ap op-at e)
+
 bit-at : ℕ → Bool
 bit-at zero = false
 bit-at (suc n) = true
@@ -56,7 +60,7 @@ bit-at-bit true = refl
 
 module _ {fs gs : List Field} {r q : List ℕ} where
   op-ends : (o p : Operation) → Agree (op o ∷ fs) (op p ∷ gs) r q → (o ≡ p) × Agree fs gs r q
-  op-ends o p a = let (e, z) = val-ends a in (cc (op-at-code o, op-at-code p, ap op-at e), z)
+  op-ends o p a = let (e, z) = val-ends a in (one-op o p e, z)
 
   flag-ends : (b c : Bool) → Agree (flag b ∷ fs) (flag c ∷ gs) r q → (b ≡ c) × Agree fs gs r q
   flag-ends b c a = let (e, z) = val-ends a in (cc (bit-at-bit b, bit-at-bit c, ap bit-at e), z)

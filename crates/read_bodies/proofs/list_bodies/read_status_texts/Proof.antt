@@ -5,7 +5,8 @@ use mathlib.Core.Path.{refl, sym, subst}
 use mathlib.Core.List.{List, [], _∷_}
 use Rattle.writing.specs.declared.Kind.the-variants.{StatusTexts as KStatusTexts}
 use Rattle.writing.specs.Ranges.{text-limits}
-use Rattle.read_fields.specs.Entries.{StatusesAt}
+use Rattle.read_fields.specs.Entries.{EntriesAt}
+use Rattle.read_fields.specs.declared.entries.Listed.the-variants.{StatusTexts as LStatusTexts}
 use Rattle.settings.specs.Rows.{OperationIs}
 use Rattle.settings.specs.declared.settings.Setting.the-variants.{StatusTexts}
 use Rattle.settings.proofs.BodyLaws.{no-room, no-body, the-body, flag-bit, op-small}
@@ -40,8 +41,8 @@ returns-2 c =
 add-start : tie.Need-add-start
 add-start c = search needs
 
-walk-status-requires : tie.Need-walk-status-requires
-walk-status-requires c κs = search needs
+walk-entries-requires : tie.Need-walk-entries-requires
+walk-entries-requires c κs = search needs
 
 enum-known-walked : tie.Need-enum-known-walked
 enum-known-walked c = search needs
@@ -52,13 +53,13 @@ enum-told-2 c = search needs
 returns-3 : tie.Need-returns-3
 returns-3 c =
     λ ops left.
-    let stop = subst (StatusesAt (c .before .before .before .before .before .before .before .before .before .before .before .args .coding) text-limits (c .before .before .before .before .before .before .before .before .before .before .before .args .m .now) (c .before .before .before .before .before .before .before .before .before .before .before .args .p + 2) (c .before .before .before .before .before .before .before .number .result % 256)) (c .enum-told2 .given .1) (c .before .before .walk-status .ensures) in
+    let stop = subst (EntriesAt LStatusTexts (c .before .before .before .before .before .before .before .before .before .before .before .args .coding) text-limits (c .before .before .before .before .before .before .before .before .before .before .before .args .m .now) (c .before .before .before .before .before .before .before .before .before .before .before .args .p + 2) (c .before .before .before .before .before .before .before .number .result % 256)) (c .enum-told2 .given .1) (c .before .before .walk-entries .ensures) in
     no-body KStatusTexts (status-head (c .before .before .before .before .before .before .before .before .before .before .before .args .coding)) left (c .before .before .before .before .before .before .before .before .before .before .before .args .m .now) (c .before .before .before .before .before .before .before .before .before .before .before .args .p) (λ i. (c .before .before .before .before .before .before .before .before .before .before .shared-slice-known .given i) .fits) (c .before .before .before .before .before .before .before .number .ensures (omega arith, omega arith)) (λ x next k i t. stop (x .1) next (record { counted = omega (arith, k .1 .1 .0); in-range = i; stands = t }))
 
 returns-4 : tie.Need-returns-4
 returns-4 c =
     λ ops left.
-    let z = subst (StatusesAt (c .before .before .before .before .before .before .before .before .before .before .before .before .args .coding) text-limits (c .before .before .before .before .before .before .before .before .before .before .before .before .args .m .now) (c .before .before .before .before .before .before .before .before .before .before .before .before .args .p + 2) (c .before .before .before .before .before .before .before .before .number .result % 256)) (c .before .walked .given .1) (c .before .before .before .walk-status .ensures) in
+    let z = subst (EntriesAt LStatusTexts (c .before .before .before .before .before .before .before .before .before .before .before .before .args .coding) text-limits (c .before .before .before .before .before .before .before .before .before .before .before .before .args .m .now) (c .before .before .before .before .before .before .before .before .before .before .before .before .args .p + 2) (c .before .before .before .before .before .before .before .before .number .result % 256)) (c .before .walked .given .1) (c .before .before .before .walk-entries .ensures) in
     let told = subst (OperationIs (c .before .before .before .before .before .before .before .before .number .result / 16384 % 4) (c .before .before .before .before .before .before .before .before .before .before .before .before .args .operations)) (c .before .before .before .before .before .o .given .1) (c .before .before .before .before .before .before .before .operation-of .ensures) in
     the-body KStatusTexts (status-head (c .before .before .before .before .before .before .before .before .before .before .before .before .args .coding)) left (c .before .before .before .before .before .before .before .before .before .before .before .before .args .m .now) (c .before .before .before .before .before .before .before .before .before .before .before .before .args .p) (λ i. (c .before .before .before .before .before .before .before .before .before .before .before .shared-slice-known .given i) .fits) (c .before .before .before .before .before .before .before .before .number .ensures (omega arith, omega arith)) ((c .before .before .before .before .before .o .given .0 .0), z .0) (StatusTexts (c .before .before .before .before .before .o .given .0 .0) (record { start = c .before .before .before .before .before .before .before .before .before .before .before .before .args .p + 2; count = c .before .before .before .before .before .before .before .before .number .result % 256; next = c .before .walked .given .0 .0; coding = c .before .before .before .before .before .before .before .before .before .before .before .before .args .coding })) (c .before .walked .given .0 .0) (omega arith)
     (sym (told .0), (tt, (omega (arith, z .1 .counted), tt))) (z .1 .in-range) (z .1 .stands) (z .0, refl, record { counted = z .1 .counted; stands = z .1 .stands })
@@ -75,7 +76,7 @@ read-status-texts-spec =
     enum-told
     returns-2
     add-start
-    walk-status-requires
+    walk-entries-requires
     enum-known-walked
     enum-told-2
     returns-3

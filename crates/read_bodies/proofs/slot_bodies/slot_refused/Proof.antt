@@ -1,8 +1,8 @@
 use borrow.Author.Needs.{needs}
 use native.Mathlib.Omega.{arith}
-use Rattle.read_bodies.proofs.SlotLaws.{group-add}
-use Rattle.read_bodies.proofs.slot_bodies.group_refused.Statement.{statement}
-use Rattle.read_bodies.proofs.slot_bodies.group_refused.Tie as tie
+use Rattle.read_bodies.proofs.SlotLaws.{slot-add}
+use Rattle.read_bodies.proofs.slot_bodies.slot_refused.Statement.{statement}
+use Rattle.read_bodies.proofs.slot_bodies.slot_refused.Tie as tie
 
 enum-told : tie.Need-enum-told
 enum-told c = search needs
@@ -20,7 +20,7 @@ enum-told-3 : tie.Need-enum-told-3
 enum-told-3 c = search needs
 
 returns-2 : tie.Need-returns-2
-returns-2 c = rw (c .before .before .enum-told .given .1) (group-add _ _ (c .address-refused .result) (omega arith) (c .address-refused .ensures))
+returns-2 c = rw (c .before .before .enum-told .given .1) (slot-add _ _ (c .address-refused .result) (omega arith) (c .address-refused .ensures))
 
 returns-3 : tie.Need-returns-3
 returns-3 c = rw (c .enum-told2 .given .1) tt
@@ -28,8 +28,8 @@ returns-3 c = rw (c .enum-told2 .given .1) tt
 returns-4 : tie.Need-returns-4
 returns-4 c = rw (c .enum-told3 .given .1) (search needs)
 
-pub group-refused-spec : {M : Type 1} → statement M
-group-refused-spec =
+pub slot-refused-spec : {M : Type 1} → statement M
+slot-refused-spec =
     tie.close
     (tie.spec
     enum-told
