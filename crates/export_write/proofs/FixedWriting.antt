@@ -29,7 +29,7 @@ use Rattle.export_write.proofs.WroteLaws.{wrote-both, wrote-as}
 -- ---- home numbers
 
 -- their values fit
-home-fits : (h : HomeNumbers) → HomeOk h → All FitsField (body unicode16 (home h))
+pub home-fits : (h : HomeNumbers) → HomeOk h → All FitsField (body unicode16 (home h))
 home-fits h ok = (omega (arith, ok .nzi), (omega (arith, ok .np), (tt, tt)))
 
 -- their three bytes
@@ -59,7 +59,7 @@ home-wrote p at end s t w h k = (refl, home-fits h (k .0), wrote-as _ (plain (bo
 -- ---- the system code
 
 -- its values fit
-system-fits : (s : SystemCode) → SystemOk s → All FitsField (body unicode16 (system s))
+pub system-fits : (s : SystemCode) → SystemOk s → All FitsField (body unicode16 (system s))
 system-fits s ok = (omega (arith, ok .lai), (omega (arith, ok .la), (omega (arith, ok .roaming), (omega (arith, bit-small (s .par)), (tt, tt)))))
 
 -- its three bytes
@@ -96,7 +96,7 @@ address-fits (ToGroup a) h = (h .1, tt)
 address-fits (ToIndividual a) h = (h .1, tt)
 
 -- its values fit
-key-fits : (k : Key) → KeyOk k → All FitsField (body unicode16 (key (k .target) (k .flags)))
+pub key-fits : (k : Key) → KeyOk k → All FitsField (body unicode16 (key (k .target) (k .flags)))
 key-fits k ok = (
   omega (arith, bit-small (current (k .target))),
   (

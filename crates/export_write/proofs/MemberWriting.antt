@@ -133,7 +133,7 @@ module _ (i : ℕ) (low : i < 16) where
       }
 
   -- a slot, whatever it holds
-  slot-written : (w : Members) (o : Option (MemberIn w)) → Present (member-ok w) o → Written w i (member-setting w i o) (slot member-width (member-bytes w) o)
+  pub slot-written : (w : Members) (o : Option (MemberIn w)) → Present (member-ok w) o → Written w i (member-setting w i o) (slot member-width (member-bytes w) o)
   slot-written w none ok = empty-written w
   slot-written OfGroups (some g) ok = group-written g ok
   slot-written OfIndividuals (some g) ok = individual-written g ok
