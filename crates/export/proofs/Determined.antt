@@ -2,6 +2,7 @@
 use Prim.Native.Nat.{ℕ, _-_}
 use mathlib.Core.Path.{_≡_, refl, sym, ap, ap₂, _∙_}
 use mathlib.Core.List.{List, [], _∷_}
+use mathlib.Core.Option.{some}
 use lib.ListN.{getD}
 use Rattle.lists.specs.Ladder.{Answers}
 use Rattle.lists.proofs.Ladder.{one-answer}
@@ -10,28 +11,17 @@ use Rattle.tables.specs.declared.limits.Limits.{Limits}
 use Rattle.tables.specs.Tables.{Tables}
 use Rattle.tables.proofs.LayoutLaws.{layout-one}
 use Rattle.export.specs.declared.parts.Part.{Part}
-use Rattle.export.specs.declared.parts.Part.the-variants.{Lines, Fixed, QuickTexts, Channels, StatusTexts, Groups, Individuals}
 use Rattle.export.specs.declared.parts.NoExport.the-variants.{Buffer, NotAStore, NoPart}
 use Rattle.export.specs.declared.parts.Export.{Export}
 use Rattle.export.specs.declared.parts.Export.the-variants.{Written, Untouched}
 use Rattle.export.specs.Exported.{part-number, exported, request-bytes}
+use Rattle.export.specs.PartWriters.{part-at}
 use Rattle.export.specs.Exporting.{Told, told, After, exporting, writes, Exports}
+use Rattle.export.proofs.PartWriting.{at-number}
 
 -- the number of a part says which it is
-abbrev part-at : ℕ → Part
-part-at n = getD (Lines ∷ Lines ∷ Fixed ∷ QuickTexts ∷ Channels ∷ StatusTexts ∷ Groups ∷ Individuals ∷ []) n Lines
-
-at-number : (p : Part) → part-at (part-number p) ≡ p
-at-number Lines = refl
-at-number Fixed = refl
-at-number QuickTexts = refl
-at-number Channels = refl
-at-number StatusTexts = refl
-at-number Groups = refl
-at-number Individuals = refl
-
 pub one-part : (p q : Part) → part-number p ≡ part-number q → p ≡ q
-one-part = decoded part-number part-at at-number
+one-part p q e = let d : some p ≡ some q = sym (at-number p) ∙ ap part-at e ∙ at-number q in cc
 
 -- the number of an answer says which case it is: 0, or a refusal's, counted here from 11
 abbrev answer-of : Told → Export

@@ -13,6 +13,10 @@ use Rattle.export_write.specs.EntrySettings.{entries, quick-add, no-group-flags
 use Rattle.export.specs.declared.parts.Part.{Part}
 use Rattle.export.specs.declared.parts.Part.the-variants.{Lines, Fixed, QuickTexts, Channels, StatusTexts, Groups, Individuals}
 
+-- the parts in the order of their numbers
+abbrev pub seven : List Part
+seven = Lines ∷ Fixed ∷ QuickTexts ∷ Channels ∷ StatusTexts ∷ Groups ∷ Individuals ∷ []
+
 -- "parts 1 to 7"
 abbrev pub part-number : Part → ℕ
 part-number Lines = 1

@@ -33,7 +33,7 @@ packed-whole cs =
     let (n, e) = fill-whole (length cs) in
     (length cs + n, simp widths-append (omega (arith, widths-map (val 12) 12 (λ v. refl) cs)))
 
-packed-fits : (cs : List ℕ) → All InChannel cs → All FitsField (packed cs)
+pub packed-fits : (cs : List ℕ) → All InChannel cs → All FitsField (packed cs)
 packed-fits cs h =
     all-append FitsField (map (val 12) cs) (fill (length cs)) (all-map InChannel FitsField (val 12) (λ c k. omega (arith, k .1)) cs h) (fill-fits (length cs))
 

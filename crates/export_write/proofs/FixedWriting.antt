@@ -40,16 +40,24 @@ bits-wrote type bits at end r a s t u l e w st = (
       st .setting x s (k .type-is) (k .fits) (wrote-as a (plain B) (at + 3) end s t (e (k .small) ∙ sym p) w),
 )
 
--- home numbers are one
+-- home numbers: their values fit
+pub home-fits : (h : HomeNumbers) → HomeOk h → All FitsField (body unicode16 (home h))
+home-fits h ok = (omega (arith, ok .nzi), (omega (arith, ok .np), (tt, tt)))
+
+-- and they are one
 pub home-three : (p : List ℕ) (bits : ℕ) → bits ≡ home-bits p → (h : HomeNumbers) → Kept HomeOk home-bytes p h → Three 0xCD bits (home h)
 home-three p bits b h (ok, e) =
     let k : h .nzi < 512 = ok .nzi in
     let l : h .np ≤ 806 = ok .np in
     let x : (getD p 0 0 * 256 + getD p 1 0) % 512 ≡ h .nzi = ap (λ (q : List ℕ). (getD q 0 0 * 256 + getD q 1 0) % 512) e ∙ omega arith in
     let y : (getD p 2 0 * 256 + getD p 3 0) % 1024 ≡ h .np = ap (λ (q : List ℕ). (getD q 2 0 * 256 + getD q 3 0) % 1024) e ∙ omega arith in
-    record { type-is = refl; wide = refl; are = omega arith; small = omega arith; fits = (omega arith, (omega arith, (tt, tt))) }
+    record { type-is = refl; wide = refl; are = omega arith; small = omega arith; fits = home-fits h ok }
 
--- and so is a system code
+-- a system code: its values fit
+pub system-fits : (s : SystemCode) → SystemOk s → All FitsField (body unicode16 (system s))
+system-fits s ok = (omega (arith, ok .lai), (omega (arith, ok .la), (omega (arith, ok .roaming), (omega (arith, bit-small (s .par)), (tt, tt)))))
+
+-- and it is one
 pub system-three : (p : List ℕ) (bits : ℕ) → bits ≡ system-bits p → (s : SystemCode) → Kept SystemOk system-bytes p s → Three 0xCF bits (system s)
 system-three p bits b s (ok, e) =
     let k : s .lai < 4096 = ok .lai in
@@ -58,7 +66,7 @@ system-three p bits b s (ok, e) =
     let n : bit (s .par) ≤ 1 = bit-small (s .par) in
     let x : (getD p 0 0 * 256 + getD p 1 0) % 4096 ≡ s .lai = ap (λ (q : List ℕ). (getD q 0 0 * 256 + getD q 1 0) % 4096) e ∙ omega arith in
     let y : getD p 2 0 % 128 ≡ s .la * 8 + s .roaming * 2 + bit (s .par) = ap (λ (q : List ℕ). getD q 2 0 % 128) e ∙ omega arith in
-    record { type-is = refl; wide = refl; are = omega arith; small = omega arith; fits = (omega arith, (omega arith, (omega arith, (omega arith, (tt, tt))))) }
+    record { type-is = refl; wide = refl; are = omega arith; small = omega arith; fits = system-fits s ok }
 
 -- ---- the emergency key
 
@@ -69,7 +77,7 @@ address-fits (ToGroup a) h = (h .1, tt)
 address-fits (ToIndividual a) h = (h .1, tt)
 
 -- its values fit
-key-fits : (k : Key) → KeyOk k → All FitsField (body unicode16 (key (k .target) (k .flags)))
+pub key-fits : (k : Key) → KeyOk k → All FitsField (body unicode16 (key (k .target) (k .flags)))
 key-fits k ok = (
   omega (arith, bit-small (current (k .target))),
   (

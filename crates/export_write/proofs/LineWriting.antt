@@ -41,7 +41,7 @@ module _ (l : Line) (ok : LineOk l) where
   contact-fits = all-append FitsField (number (l .number)) (text unicode16 (l .text)) (number-fits (l .number) (ok .number .2)) (text-fits (l .text) (ok .text .units))
 
   -- its values fit
-  line-fits : All FitsField (body unicode16 (line-add l))
+  pub line-fits : All FitsField (body unicode16 (line-add l))
   line-fits = (
     omega arith,
     (

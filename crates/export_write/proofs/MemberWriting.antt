@@ -101,7 +101,7 @@ module _ (i : ℕ) (low : i < 16) where
       )
 
   -- a slot, whatever it holds
-  slot-written : (w : Members) (o : Option (MemberIn w)) → Present (member-ok w) o → Written w i (member-setting w i o) (slot member-width (member-bytes w) o)
+  pub slot-written : (w : Members) (o : Option (MemberIn w)) → Present (member-ok w) o → Written w i (member-setting w i o) (slot member-width (member-bytes w) o)
   slot-written OfGroups none ok =
       let (fits, small, bytes) = group-body Delete no-group-flags (record { 0 = 0 }) [] (omega arith) (omega arith) (omega arith) (omega arith) tt in
       record { type = refl; fits = fits; small = small; units = []; bytes = bytes; kept = no-text }

@@ -19,7 +19,7 @@ use Rattle.export_write.proofs.PlainLaws.{plain-byte, plain-two}
 use Rattle.export_write.proofs.WroteLaws.{wrote-before, wrote-as}
 
 -- type bytes are bytes
-type-small : (k : Kind) → type-byte k < 256
+pub type-small : (k : Kind) → type-byte k < 256
 type-small Lines = omega arith
 type-small Key = omega arith
 type-small QuickTexts = omega arith

@@ -93,16 +93,16 @@ module _ (next : Entry → List (Option Text) → Option (List (Option Text))) (
       ∙ texts-turn (before ++ (some us ∷ [])) l (suc i) (omega (arith, length-append before (some us ∷ [])))
       ∙ ap some (append-snoc before (some us) l)
 
+  -- all of them, into an empty table
+  texts-full : (l : List (Option Text)) (n : ℕ) → length l ≡ n → in-turn next (entries base l) (replicate n none) ≡ some l
+  texts-full l n h = ap (λ k. in-turn next (entries base l) (replicate k none)) (sym h) ∙ texts-turn [] l base (omega arith)
+
 -- quick texts: an empty table has the empty place
 quick-puts : (e : Entry) (before after : List (Option Text)) → e .index ≡ 0 + length before
     → quick-step Add e (before ++ none ∷ after) ≡ some (before ++ some (e .text) ∷ after)
 quick-puts e before after h =
     let n : length before ≡ e .index = omega arith in
     quick-add-free e (before ++ none ∷ after) (getD-at before none after none (e .index) n) ∙ ap some (set-at before none after (some (e .text)) (e .index) n)
-
--- all entries at once
-quick-full : (q : List (Option Text)) → length q ≡ 64 → in-turn (quick-step Add) (entries 0 q) (replicate 64 none) ≡ some q
-quick-full q h = ap (λ n. in-turn (quick-step Add) (entries 0 q) (replicate n none)) (sym h) ∙ texts-turn (quick-step Add) 0 quick-puts [] q 0 (omega arith)
 
 -- settings of one add each do as one setting of them all
 quick-adds : (m : Limits) (u : Tables) (es : List Entry) (q : List (Option Text))
@@ -119,9 +119,6 @@ quick-cut m u es (some q) = quick-adds m u es q
 status-puts : (e : Entry) (before after : List (Option Text)) → e .index ≡ 32 + length before
     → status-step Add e (before ++ none ∷ after) ≡ some (before ++ some (e .text) ∷ after)
 status-puts e before after h = ap some (set-at before none after (some (e .text)) (e .index - 32) (omega arith))
-
-status-full : (l : List (Option Text)) → length l ≡ 96 → in-turn (status-step Add) (entries 32 l) (replicate 96 none) ≡ some l
-status-full l h = ap (λ n. in-turn (status-step Add) (entries 32 l) (replicate n none)) (sym h) ∙ texts-turn (status-step Add) 32 status-puts [] l 32 (omega arith)
 
 -- ---- channels
 
@@ -174,9 +171,9 @@ module _ (m : Limits) (t u : Tables) (ok : Allowed m t) (old : Allowed m u) wher
       quick-cut m u (drop 63 es) (in-turn (quick-step Add) (take 63 es) (replicate 64 none))
       ∙ ap (with-room (put-own K.QuickTexts u))
       (sym (turn-append (quick-step Add) (take 63 es) (drop 63 es) (replicate 64 none))
-      ∙ ap (λ l. in-turn (quick-step Add) l (replicate 64 none)) (take-append-drop 63 es) ∙ quick-full (t .quick) (ok .quick .0))
+      ∙ ap (λ l. in-turn (quick-step Add) l (replicate 64 none)) (take-append-drop 63 es) ∙ texts-full (quick-step Add) 0 quick-puts (t .quick) 64 (ok .quick .0))
   part-turn Channels = ap (λ o. and-then (with-room (put-own K.Channels u) o) some) (channels-turn (m .channels) [] (t .channels) (omega (arith, ok .channels .0)))
-  part-turn StatusTexts = ap (λ o. and-then (with-room (put-own K.StatusTexts u) o) some) (status-full (t .status) (ok .status .0))
+  part-turn StatusTexts = ap (λ o. and-then (with-room (put-own K.StatusTexts u) o) some) (texts-full (status-step Add) 32 status-puts (t .status) 96 (ok .status .0))
   part-turn Groups =
       slots-turn m group no-group-flags (record { 0 = 0 }) (put-own K.Group u) (λ o g s q. refl) [] (u .groups) (t .groups) 0 refl (old .groups .0 ∙ sym (ok .groups .0))
   part-turn Individuals =

@@ -25,9 +25,9 @@ use Rattle.laws_taking.proofs.Determined.{outcome-determined}
 use Rattle.station.proofs.TakeLaws.{request-answers}
 use Rattle.export.specs.declared.parts.Part.{Part}
 use Rattle.export.specs.declared.parts.Part.the-variants.{Lines, Fixed, QuickTexts, Channels, StatusTexts, Groups, Individuals}
-use Rattle.export.specs.Exported.{exported, request-bytes}
+use Rattle.export.specs.Exported.{seven, exported, request-bytes}
 use Rattle.export.specs.Exportable.{Exportable}
-use Rattle.restore.specs.Restored.{with-part, SameTables, seven, requests, TakenInTurn}
+use Rattle.restore.specs.Restored.{with-part, SameTables, requests, TakenInTurn}
 use Rattle.restore.proofs.Fitting.{exported-readable}
 use Rattle.restore.proofs.PartRuns.{part-runs}
 use Rattle.restore.proofs.Requests.{exported-is, exported-in-size}

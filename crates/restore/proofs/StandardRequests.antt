@@ -1,6 +1,6 @@
 -- An exported part's bytes are the standard's request of exactly the settings that `exported` names. Assumes nothing.
 use Prim.Native.Nat.{ℕ, _+_, _≤_}
-use mathlib.Core.Path.{_≡_, ap, _∙_, subst, subst⁻¹}
+use mathlib.Core.Path.{_≡_, ap, _∙_, subst⁻¹}
 use mathlib.Core.Logic.{inl, inr}
 use mathlib.Core.List.{List}
 use native.Mathlib.Omega.{arith}
@@ -11,7 +11,6 @@ use Rattle.writing.specs.Carrier.{Counted, Request}
 use Rattle.writing.specs.Settings.{Setting, unicode16}
 use Rattle.writing.specs.Writing.{WrittenAll, WrittenAs}
 use Rattle.writing.proofs.CanonicalLaws.{canonical-all-written}
-use Rattle.read_carrier.proofs.CarrierLaws.{carries-one}
 use Rattle.read_carrier.proofs.OneMeaning.{settings-one}
 use Rattle.read_carrier.proofs.TrueLength.{plain-carries}
 use Rattle.tables.specs.declared.limits.Limits.{Limits}
@@ -24,8 +23,8 @@ use Rattle.export.specs.Exported.{part-number, exported, data-bytes, request-by
 use Rattle.export.specs.Exporting.{After, exporting}
 use Rattle.restore.specs.Restored.{longest}
 use Rattle.restore.specs.StandardRequest.{StandardRequest}
-use Rattle.restore.proofs.Fitting.{exported-readable}
-use Rattle.restore.proofs.Requests.{longest-fits, exported-length, exported-is}
+use Rattle.restore.proofs.Fitting.{exported-readable, exported-count}
+use Rattle.restore.proofs.Requests.{request-counted, longest-fits, exported-length}
 
 -- settings that are counted, and written behind ParamSum
 counted-written : (ss : List Setting) {settings d : List ℕ} → Counted (length ss) settings d → WrittenAll unicode16 ss settings
@@ -38,12 +37,12 @@ module _ (m : Limits) (x : Exportable m) (t : Tables) (ok : Allowed m t) (p : Pa
   pub exported-request : (r : Request unicode16 (exported p t) (request-bytes (exported p t))) × (r .carried .stated ≡ 2 + length (r .data-bytes))
   exported-request =
       let ss : List Setting = exported p t in
-      let q = exported-is m x t ok p in
+      let (some, few) = exported-count m x t ok p in
       let b : length (request-bytes ss) ≤ longest m p = exported-length m x t ok p in
       let k = plain-carries 7 (data-bytes ss) (omega arith) (omega (arith, longest-fits m x p .1)) in
-      let w : WrittenAs unicode16 ss (q .data-bytes)
-      = counted-written ss (q .counted) (canonical-all-written unicode16 ss (exported-readable m x t ok p .fits)) in
-      (record { data-bytes = data-bytes ss; carried = k .0; written = subst (WrittenAs unicode16 ss) (carries-one (q .carried) (k .0) .1) w }, k .1)
+      let w : WrittenAs unicode16 ss (data-bytes ss)
+      = counted-written ss (request-counted ss some few) (canonical-all-written unicode16 ss (exported-readable m x t ok p .fits)) in
+      (record { data-bytes = data-bytes ss; carried = k .0; written = w }, k .1)
 
   -- EXPORTED ONLY: and of no other list of settings
   pub exported-only : (ss : List Setting) → Request unicode16 ss (request-bytes (exported p t)) → ss ≡ exported p t

@@ -36,10 +36,6 @@ SameTables t u = forget t ≡ forget u
 
 -- ---- the seven requests, taken in turn
 
--- parts 1 to 7
-abbrev pub seven : List Part
-seven = Lines ∷ Fixed ∷ QuickTexts ∷ Channels ∷ StatusTexts ∷ Groups ∷ Individuals ∷ []
-
 -- the requests of these parts, as exporting the tables writes them
 abbrev pub requests : Tables → List Part → List (List ℕ)
 requests t ps = map (λ p. request-bytes (exported p t)) ps

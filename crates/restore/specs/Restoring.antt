@@ -5,18 +5,18 @@ use mathlib.Core.List.{List, [], _∷_}
 use lib.ListN.{length}
 use Rattle.lists.specs.Ladder.{Ladder, rung, foot}
 use Rattle.tables.specs.declared.limits.Limits.{Limits}
-use Rattle.tables.specs.Layout.{layout}
-use Rattle.tables.specs.Limits.{handheld}
+use Rattle.tables.specs.Layout.{layout, Roomy}
 use Rattle.tables.specs.Store.{StoreOf, Holds}
 use Rattle.tables.specs.Tables.{Tables, no-hash}
 use Rattle.slots.specs.Slots.{written-over}
 use Rattle.station.specs.Replies.{reply-bytes}
 use Rattle.requests.specs.Requests.{forget}
 use Rattle.export.specs.declared.parts.Part.{Part}
-use Rattle.export.specs.Exported.{part-number, exported, request-bytes}
+use Rattle.export.specs.Exportable.{Exportable}
+use Rattle.export.specs.Exported.{seven, part-number, exported, request-bytes}
 use Rattle.restore.specs.declared.restore.Restored.{Restored}
 use Rattle.restore.specs.declared.restore.Restored.the-variants.{Same, ReplyBuffer, NotAStore, Buffer}
-use Rattle.restore.specs.Restored.{with-part, seven, requests}
+use Rattle.restore.specs.Restored.{with-part, requests}
 
 -- each case's number
 abbrev pub number : Restored → ℕ
@@ -62,19 +62,25 @@ module _ (m : Limits) (from to buffer reply : List ℕ) where
 
 -- ---- inner steps: no promise cites these
 
+-- a message fits the lent buffer and a reply its own, and a store fits what is lent to work in
+pub record Lent (m : Limits) (buffer reply work : List ℕ) : Type 0 where
+  pub message : m .message ≤ length buffer
+  pub answer : 20 ≤ length reply
+  pub copy : length work ≡ m .size
+
 -- a part was exported and taken
-pub record PartMoved (p : Part) (t u : Tables) (to-after buffer buffer-after reply reply-after : List ℕ) : Type 0 where
-  pub to-is : to-after ≡ layout handheld (with-part p t (forget u))
+pub record PartMoved (m : Limits) (p : Part) (t u : Tables) (to-after buffer buffer-after reply reply-after : List ℕ) : Type 0 where
+  pub to-is : to-after ≡ layout m (with-part p t (forget u))
   pub buffer-is : buffer-after ≡ written-over (request-bytes (exported p t)) buffer
   pub reply-is : reply-after ≡ written-over (reply-bytes 0 0 no-hash) reply
 
-abbrev pub Moved : ℕ → (from to to-after buffer buffer-after reply reply-after : List ℕ) → Type 0
-Moved n from to to-after buffer buffer-after reply reply-after =
-    (p : Part) (t u : Tables) → part-number p ≡ n → Holds handheld t from → Holds handheld u to → 20 ≤ length reply → 4096 ≤ length buffer
-    → PartMoved p t u to-after buffer buffer-after reply reply-after
+abbrev pub Moved : Limits → ℕ → (from to to-after buffer buffer-after reply reply-after work : List ℕ) → Type 0
+Moved m n from to to-after buffer buffer-after reply reply-after work =
+    (p : Part) (t u : Tables) → part-number p ≡ n → Exportable m → Roomy m → Holds m t from → Holds m u to → Lent m buffer reply work
+    → PartMoved m p t u to-after buffer buffer-after reply reply-after
 
--- all seven were
-abbrev pub AllMoved : (from to to-after buffer buffer-after reply reply-after : List ℕ) → Type 0
-AllMoved from to to-after buffer buffer-after reply reply-after =
-    (t u : Tables) → Holds handheld t from → Holds handheld u to → 20 ≤ length reply → 4096 ≤ length buffer
-    → record { answer = 0; to = to-after; buffer = buffer-after; reply = reply-after } ≡ restores handheld from to buffer reply t
+-- all of them were
+abbrev pub AllMoved : Limits → (from to to-after buffer buffer-after reply reply-after work : List ℕ) → Type 0
+AllMoved m from to to-after buffer buffer-after reply reply-after work =
+    (t u : Tables) → Exportable m → Roomy m → Holds m t from → Holds m u to → Lent m buffer reply work
+    → record { answer = 0; to = to-after; buffer = buffer-after; reply = reply-after } ≡ restores m from to buffer reply t

@@ -123,3 +123,19 @@ pub(crate) fn take_in(
         Message::Request(count, at) => take_request(m, count, at, store, reply, limits, work),
     }
 }
+
+// The same for any other crate: nothing is done where what is lent to work in has another size than a store.
+pub fn take_for(
+    m: &[u8],
+    store: &mut [u8],
+    reply: &mut [u8],
+    limits: Limits,
+    work: &mut [u8],
+) -> Answer
+    ensures { λ r. ⌜ (length (now (work .entry)) ≡ limits .size → Answers (taken limits (now (m .entry)) (now (store .entry)) (now (reply .entry))) (leaves r (now (store .exit)) (now (reply .exit)))) ⌝ }
+{
+    if work.len() != limits.size {
+        return Answer::Untouched(Refusal::NotAStore);
+    }
+    take_in(m, store, reply, limits, work)
+}
