@@ -70,6 +70,7 @@ step "bounds can fail" sees_outside
 step "two banks, cut at every byte" build_and_run_banks && show
 step "banks can fail" banks_can_fail && show
 step "stack" build_and_run stack -O1 && show
+[ -z "$emulator" ] || exit $failed
 if [ ! -f target/archive/wasm32/otap_handheld.wasm ]; then
     echo "left out  wasm32: ./archive wasm32 was not run"
 elif ! command -v node > /dev/null; then

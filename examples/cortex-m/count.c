@@ -1,6 +1,6 @@
 /*
- * Instructions of each call on a full store, as the emulator counts them: under `-icount shift=0` each takes a nanosecond, and SysTick counts 25 MHz, so
- * a tick is 40 instructions. Repeated calls make it exact enough; the few around each call are in it.
+ * Instructions of each call on a full store, as the emulator counts them: under `-icount shift=0` each takes a nanosecond, and SysTick counts 25 MHz,
+ * so a tick is 40 instructions. Repeated calls make it exact enough; the few around each call are in it.
  */
 #include "otap.h"
 #include "messages.h"

@@ -1,7 +1,7 @@
 #!/bin/sh
 # shellcheck disable=SC2086,SC2317,SC2329 # flags are several words, and steps are called by their names
-# examples/cortex-m/run.sh [count]: the Cortex-M archives on QEMU's boards under semihosting: what firmware.c prints, the tests of C, and how deep each
-# call goes into a painted stack. With `count`: the instructions of each call on a Cortex-M4 instead. Debian: gcc-arm-none-eabi
+# examples/cortex-m/run.sh [count]: the Cortex-M archives on QEMU's boards under semihosting: what firmware.c prints, the tests of C, and how deep
+# each call goes into a painted stack. With `count`: the instructions of each call on a Cortex-M4 instead. Debian: gcc-arm-none-eabi
 # libnewlib-arm-none-eabi qemu-system-arm; where one is missing it says so and leaves this out.
 set -u
 cd "$(dirname "$0")/../.." || exit 1
