@@ -1,15 +1,15 @@
 -- Kept channels are written two in three bytes. Assumes nothing.
-use Prim.Native.Nat.{ℕ, suc, _+_, _*_, _/_, _%_, _≤_, _<_}
-use mathlib.Core.Path.{_≡_, refl, sym, ap, ap₂, _∙_}
+use Prim.Native.Nat.{ℕ, suc, _+_, _-_, _*_, _/_, _%_, _≤_, _<_}
+use mathlib.Core.Path.{_≡_, refl, sym, ap, _∙_}
 use mathlib.Core.List.{List, [], _∷_, _++_, map}
 use native.Mathlib.Omega.{arith}
+use borrow.Rule.Slice.PartMut.{midOf}
 use lib.ListN.{length, drop, getD, drop-of-length-le}
-use lib.Seq.{drop-cons}
+use lib.Seq.{drop-cons, getD-drop, getD-take}
 use Rattle.lists.specs.Every.{All}
 use Rattle.lists.proofs.Every.{all-append, all-get, all-map}
-use Rattle.slots.specs.Slots.{flat, pad, u16, u24, zeros?, Listed, Found}
+use Rattle.slots.specs.Slots.{u16, u24, zeros?, Listed, Found}
 use Rattle.slots.proofs.Keys.{used-at}
-use Rattle.slots.proofs.Tables.{front-bytes}
 use Rattle.writing.specs.declared.Operation.the-variants.{Replace}
 use Rattle.writing.specs.Canonical.{plain, FitsField}
 use Rattle.writing.specs.Fields.{val, res}
@@ -21,8 +21,9 @@ use Rattle.writing.proofs.Whole.{Whole, fill-whole}
 use Rattle.tables.proofs.EntryCodes.{channel-shown}
 use Rattle.export_write.specs.ChannelWriters.{ChannelsIn, Counted, packed, two-bits, last-bits, WritesPacked}
 use Rattle.export_write.specs.Writers.{Wrote}
+use Rattle.export_write.proofs.LineWriting.{entry-read}
 use Rattle.export_write.proofs.NumberWriting.{fill-fits}
-use Rattle.export_write.proofs.PairLaws.{all-drop, drop-two, getD-pad, high-byte, low-byte}
+use Rattle.export_write.proofs.PairLaws.{all-drop, drop-two}
 use Rattle.export_write.proofs.PlainLaws.{plain-two, plain-three}
 use Rattle.export_write.proofs.WroteLaws.{Writing, writing-more, writing-end, wrote-both, wrote-as}
 
@@ -40,18 +41,17 @@ packed-fits cs h =
 -- ---- channels as they are kept
 
 module _ (s cs : List ℕ) (n : ℕ) (t : Listed InChannel 2 u16 n cs s) where
-  kept-bytes : s ≡ pad 0 (n * 2) (flat (map u16 cs))
-  kept-bytes = t .bytes ∙ front-bytes 2 u16 (λ u. refl) n cs
-
   -- the two bytes of channel k
   kept-number : (i j k : ℕ) → i ≡ 2 * k → j ≡ 2 * k + 1 → k < length cs → getD s i 0 * 256 + getD s j 0 ≡ getD cs k 0
   kept-number i j k e f h =
-      let few : length cs ≤ n = t .few in
-      let x : getD s i 0 ≡ getD cs k 0 / 256
-      = ap₂ (λ (l : List ℕ) (m : ℕ). getD l m 0) kept-bytes e ∙ getD-pad (n * 2) (flat (map u16 cs)) (2 * k) (omega arith) ∙ high-byte cs k in
-      let y : getD s j 0 ≡ getD cs k 0 % 256
-      = ap₂ (λ (l : List ℕ) (m : ℕ). getD l m 0) kept-bytes f ∙ getD-pad (n * 2) (flat (map u16 cs)) (2 * k + 1) (omega arith) ∙ low-byte cs k in
+      let z = entry-read InChannel 2 u16 (λ u. refl) n cs s 0 t k h .1 in
+      let x : getD s i 0 ≡ getD cs k 0 / 256 = byte-at i 0 k (omega arith) (omega arith) ∙ ap (λ (l : List ℕ). getD l 0 0) z in
+      let y : getD s j 0 ≡ getD cs k 0 % 256 = byte-at j 1 k (omega arith) (omega arith) ∙ ap (λ (l : List ℕ). getD l 1 0) z in
       omega arith
+    where
+      byte-at : (i b k : ℕ) → i ≡ k * 2 + b → b < 2 → getD s i 0 ≡ getD (midOf (k * 2) (k * 2 + 2 - k * 2) s) b 0
+      byte-at i b k e l =
+          ap (λ (q : ℕ). getD s q 0) e ∙ sym (getD-drop (k * 2) s b 0) ∙ sym (getD-take (k * 2 + 2 - k * 2) (drop (k * 2) s) b 0 (omega arith))
 
 -- as many as stand before the first empty slot
 pub channels-used : (s cs : List ℕ) (r : ℕ) → ChannelsIn s cs → Found (0 < 2) zeros? 2 s r → length cs ≡ r / 2

@@ -1,6 +1,6 @@
 -- The texts of a table are written as entries, each with its index or code. Assumes nothing.
 use Prim.Native.Nat.{ℕ, suc, _+_, _-_, _*_, _≤_, _<_}
-use mathlib.Core.Path.{_≡_, refl, sym, ap, _∙_, subst}
+use mathlib.Core.Path.{_≡_, refl, sym, ap, _∙_, subst, subst⁻¹}
 use mathlib.Core.Bool.{true, false}
 use mathlib.Core.List.{List, [], _∷_, _++_, map, map-append, append-assoc, append-nil}
 use mathlib.Core.Option.{Option, none, some}
@@ -108,34 +108,32 @@ module _ (t : TextTable) (part buffer₀ buffer : List ℕ) (at end count next :
       (lead : List ℕ) (n : ℕ) (os : List (Option Text)) → length lead ≡ t .skip → t .width ≡ t .skip + 2 * n
       → Placed (Shown lead n) (t .width) (led lead n) (t .places) os part → Entered t os at buffer₀ buffer at-end
 
+  -- what was written are the entries that one setting takes
+  entered : (os : List (Option Text)) (d : List Entry) → Wrote (flat (map entry-bytes d)) at buffer₀ buffer end → length d ≡ count → take (t .most) (entries (t .first) os) ≡ d
+      → drop (t .most) (entries (t .first) os) ≡ entries (t .first + next) (drop next os) → Entered t os at buffer₀ buffer at-end
+  entered os d w m k r = record {
+    wrote = subst⁻¹ (λ (x : List Entry). Wrote (flat (map entry-bytes x)) at buffer₀ buffer end) k w;
+    counted = sym m ∙ ap length (sym k);
+    rest = r;
+  }
+
   -- the most were written
   pub entered-most : count ≡ t .most → AllEntered
   entered-most c lead n os l w p =
       let q = g lead n os l w p in
-      let d : List Entry = q .done in
       let r : List Entry = entries (t .first + next) (drop next os) in
-      let m : length d ≡ t .most = q .many ∙ c in
-      let k : take (t .most) (entries (t .first) os) ≡ d = ap (take (t .most)) (q .whole) ∙ take-at d r (t .most) m in
-      record {
-        wrote = wrote-as (flat (map entry-bytes d)) (flat (map entry-bytes (take (t .most) (entries (t .first) os)))) at end buffer₀ buffer (ap (λ (x : List Entry). flat (map entry-bytes x)) (sym k)) (q .wrote);
-        counted = sym (q .many) ∙ ap length (sym k);
-        rest = ap (drop (t .most)) (q .whole) ∙ drop-at d r (t .most) m;
-      }
+      let m : length (q .done) ≡ t .most = q .many ∙ c in
+      entered os (q .done) (q .wrote) (q .many) (ap (take (t .most)) (q .whole) ∙ take-at (q .done) r (t .most) m) (ap (drop (t .most)) (q .whole) ∙ drop-at (q .done) r (t .most) m)
 
   -- all were written
   pub entered-all : t .places ≤ next → count ≤ t .most → AllEntered
   entered-all h c lead n os l w p =
       let q = g lead n os l w p in
-      let d : List Entry = q .done in
       let z : drop next os ≡ [] = drop-of-length-le os {i = next} (omega (arith, p .many)) in
-      let e : entries (t .first) os ≡ d = q .whole ∙ ap (λ (x : List (Option Text)). d ++ entries (t .first + next) x) z ∙ append-nil d in
+      let e : entries (t .first) os ≡ q .done = q .whole ∙ ap (λ (x : List (Option Text)). q .done ++ entries (t .first + next) x) z ∙ append-nil (q .done) in
       let m : length (entries (t .first) os) ≡ count = ap length e ∙ q .many in
-      let k : take (t .most) (entries (t .first) os) ≡ d = take-all (t .most) (entries (t .first) os) (omega arith) ∙ e in
-      record {
-        wrote = wrote-as (flat (map entry-bytes d)) (flat (map entry-bytes (take (t .most) (entries (t .first) os)))) at end buffer₀ buffer (ap (λ (x : List Entry). flat (map entry-bytes x)) (sym k)) (q .wrote);
-        counted = sym (q .many) ∙ ap length (sym k);
-        rest = drop-of-length-le (entries (t .first) os) {i = t .most} (omega arith) ∙ ap (entries (t .first + next)) (sym z);
-      }
+      entered os (q .done) (q .wrote) (q .many) (take-all (t .most) (entries (t .first) os) (omega arith) ∙ e)
+      (drop-of-length-le (entries (t .first) os) {i = t .most} (omega arith) ∙ ap (entries (t .first + next)) (sym z))
 
 -- ---- the loop
 

@@ -78,16 +78,13 @@ address-fits (ToIndividual a) h = (h .1, tt)
 
 -- its values fit
 pub key-fits : (k : Key) → KeyOk k → All FitsField (body unicode16 (key (k .target) (k .flags)))
-key-fits k ok = (
-  omega (arith, bit-small (current (k .target))),
-  (
-    omega (arith, bit-small (to-group (k .target))),
-    (
-      omega (arith, bit-small (k .flags .voice)),
-      (omega (arith, bit-small (k .flags .status)), (omega (arith, bit-small (k .flags .siren)), (tt, address-fits (k .target) ok))),
-    ),
-  ),
-)
+key-fits k ok =
+    let a = bit-small (current (k .target)) in
+    let b = bit-small (to-group (k .target)) in
+    let c = bit-small (k .flags .voice) in
+    let d = bit-small (k .flags .status) in
+    let e = bit-small (k .flags .siren) in
+    (omega arith, (omega arith, (omega arith, (omega arith, (omega arith, (tt, address-fits (k .target) ok))))))
 
 -- it is absent or has three bytes
 address-whole : (t : KeyTarget) → Whole (key-address t)

@@ -42,22 +42,13 @@ module _ (l : Line) (ok : LineOk l) where
 
   -- its values fit
   pub line-fits : All FitsField (body unicode16 (line-add l))
-  line-fits = (
-    omega arith,
-    (
-      omega (arith, bit-small (l .flags .encryption)),
-      (
-        omega (arith, bit-small (l .flags .emergency)),
-        (
-          omega (arith, ok .priority),
-          (
-            omega (arith, bit-small (l .flags .pabx)),
-            (tt, (omega arith, subst (All FitsField) (sym (append-nil (number (l .number) ++ text unicode16 (l .text)))) contact-fits)),
-          ),
-        ),
-      ),
-    ),
-  )
+  line-fits =
+      let b1 = bit-small (l .flags .encryption) in
+      let b2 = bit-small (l .flags .emergency) in
+      let b3 = bit-small (l .flags .pabx) in
+      let pr : l .flags .priority < 4 = ok .priority in
+      let rest = subst (All FitsField) (sym (append-nil (number (l .number) ++ text unicode16 (l .text)))) contact-fits in
+      (omega arith, (omega arith, (omega arith, (pr, (omega arith, (tt, (omega arith, rest)))))))
 
   -- the bytes of its fields after DataLength
   line-plain : plain (body unicode16 (line-add l)) ≡ (64 + line-flags (l .flags) % 16 * 4 + bit (l .flags .pabx) % 2 * 2) ∷ 1 ∷ plain (number (l .number)) ++ plain (text unicode16 (l .text))

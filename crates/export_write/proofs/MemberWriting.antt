@@ -165,13 +165,13 @@ settings-from : (w : Members) (i : ℕ) (os : List (Option (MemberIn w))) → i 
 settings-from w i os h =
     rw add-one (ap (member-settings w i) (drop-cons os i none h) ∙ next-setting w i (getD os i none) (drop (suc i) os))
 
+none-left : (w : Members) (i : ℕ) → member-settings w i [] ≡ []
+none-left OfGroups i = refl
+none-left OfIndividuals i = refl
+
 -- a setting for each slot
 pub settings-length : (w : Members) (i : ℕ) (os : List (Option (MemberIn w))) → length (member-settings w i os) ≡ length os
-settings-length w i [] = none-left w
-  where
-    none-left : (w : Members) → length (member-settings w i []) ≡ 0
-    none-left OfGroups = refl
-    none-left OfIndividuals = refl
+settings-length w i [] = ap length (none-left w i)
 settings-length w i (o ∷ os) = ap length (next-setting w i o os) ∙ ap suc (settings-length w (suc i) os)
 
 -- the settings up to an index are written
@@ -197,8 +197,4 @@ pub membered-end : (w : Members) (part buffer₀ buffer : List ℕ) (at to i : �
     → (os : List (Option (MemberIn w))) → MembersIn w part os → Wrote (canonical-all unicode16 (member-settings w 0 os)) at buffer₀ buffer to
 membered-end w part buffer₀ buffer at to i high g os t =
     writing-end (canonical-all unicode16 (member-settings w 0 os)) at to buffer₀ buffer (canonical-all unicode16 (member-settings w i (drop i os))) (g os t)
-    (ap (λ (l : List (Option (MemberIn w))). canonical-all unicode16 (member-settings w i l)) (drop-of-length-le os {i = i} (omega (arith, t .many))) ∙ none-left w i)
-  where
-    none-left : (w : Members) (i : ℕ) → canonical-all unicode16 (member-settings w i []) ≡ []
-    none-left OfGroups i = refl
-    none-left OfIndividuals i = refl
+    (ap (λ (l : List (Option (MemberIn w))). canonical-all unicode16 (member-settings w i l)) (drop-of-length-le os {i = i} (omega (arith, t .many))) ∙ ap (canonical-all unicode16) (none-left w i))
