@@ -1,9 +1,10 @@
 -- The heads of settings that hold a list, and the range of quick texts. Assumes nothing.
-use Prim.Native.Nat.{ℕ}
+use Prim.Native.Nat.{ℕ, _+_, _/_, _%_, _≤_}
 use mathlib.Core.Path.{_≡_, refl, sym, subst}
 use mathlib.Core.List.{List, [], _∷_}
 use native.Mathlib.Omega.{arith}
-use lib.ListN.{length}
+use lib.ListN.{length, drop, take}
+use Rattle.lists.specs.Bytes.{Bytes}
 use Rattle.lists.specs.Every.{All}
 use Rattle.lists.proofs.Every.{all-turn}
 use Rattle.writing.specs.declared.Coding.{Coding}
@@ -14,6 +15,8 @@ use Rattle.writing.specs.Fields.{val, res, each}
 use Rattle.writing.specs.Ranges.{text-limits, InQuick}
 use Rattle.writing.specs.Settings.{Entry}
 use Rattle.writing.specs.Writing.{flag, op, op-code, contact, quick-text, status-text}
+use Rattle.read_fields.specs.Places.{be}
+use Rattle.read_fields.proofs.Heads.{be-turn}
 use Rattle.read_fields.specs.Entries.{channel-list, QuickFrom}
 use Rattle.writing.proofs.Unique.{one-op}
 use Rattle.settings.proofs.BodyLaws.{Headed}
@@ -58,6 +61,10 @@ status-head c = record {
   wide = λ x. refl;
   some-byte = omega arith;
 }
+
+-- the operation of a head of two bytes is in the first
+pub top-bits : (m : List ℕ) (p : ℕ) → Bytes m → p + 2 ≤ length m → be 0 (take 2 (drop p m)) / 16384 % 4 ≡ be 0 (take 1 (drop p m)) / 64 % 4
+top-bits m p h r = omega (arith, be-turn m p 1 (omega arith), h (p + 1))
 
 -- the range of quick texts in an operation is that from its least number of units
 quick-one : (o : Operation) (n : ℕ) (e : Entry) → LeastIs o n → InQuick text-limits o e → QuickFrom text-limits n e

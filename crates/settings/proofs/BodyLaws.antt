@@ -39,11 +39,17 @@ module _ {c : Coding} (K : Kind) (f : Headed c K) (left : ℕ) (m : List ℕ) (p
   parts x next y =
       head-out (f .head x) (f .tail x) m p (f .size) (f .wide x) (f .some-byte) h next (subst (λ (l : List Field). PartAt l m p next) (f .split x) y)
 
+  -- none where no contents have a head that stands there
+  pub no-head : ((x : Contents K) → p + f .size ≤ length m → Cut (f .head x) (be 0 (take (f .size) (drop p m))) → InRange text-limits left (make K x) → ⊥)
+      → BodyAt c K left m p NoBody
+  no-head never s next e i y =
+      let (x, d) = of-kind K s e in
+      let (r, k, z) = parts x next (subst (λ (t : Setting). PartAt (body c t) m p next) d y) in
+      never x r k (subst (InRange text-limits left) d i)
+
   -- none where the head has no room
   pub no-room : (p + f .size ≤ length m → ⊥) → BodyAt c K left m p NoBody
-  no-room never s next e i y =
-      let (x, d) = of-kind K s e in
-      never (parts x next (subst (λ (t : Setting). PartAt (body c t) m p next) d y) .0)
+  no-room never = no-head (λ x r k i. never r)
 
   module _ {N : ℕ} (number : N ≡ be 0 (take (f .size) (drop p m))) where
     -- none where no contents have this head and what follows
