@@ -16,21 +16,21 @@ use Rattle.lists.proofs.Every.{all-any, all-made, all-map, all-turn}
 use Rattle.lists.proofs.Seqs.{map-one}
 use Rattle.slots.specs.Slots.{pad, u16, zeros?, same?}
 use Rattle.slots.proofs.Codes.{array-one}
-use Rattle.slots.proofs.Numbers.{u16-bytes, u16-code}
+use Rattle.slots.proofs.Numbers.{u16-bytes, u16-code, u16-shown}
 use Rattle.slots.proofs.Pads.{pad-all, pad-length, pad-one}
-use Rattle.slots.proofs.Parts.{flat-bytes}
-use Rattle.slots.proofs.Runs.{same-are, same-refl}
+use Rattle.slots.proofs.Parts.{flat-bytes, slots-length}
+use Rattle.slots.proofs.Runs.{same-are, same-refl, zeros-append}
 use Rattle.writing.specs.Ranges.{InNumber}
 use Rattle.writing.specs.Settings.{Text, Number}
 use Rattle.tables.specs.Allowed.{TextOk}
 use Rattle.tables.specs.Layout.{text-bytes, digit-bytes}
-use Rattle.tables.proofs.TextLaws.{text-long, text-shown as unit-shown}
 
 -- ---- texts
 
 -- two bytes a unit
 pub text-length : (n : ℕ) (us : Text) → length (text-bytes n us) ≡ 2 * n
-text-length = text-long
+text-length n us =
+    omega (arith, slots-length 2 (map u16 (pad 0 n us)) (all-made (λ x. length x ≡ 2) u16 (λ u. refl) (pad 0 n us)), length-map (pad 0 n us) u16, pad-length 0 n us)
 
 -- no unit is 0
 no-zero : (n : ℕ) (us : Text) → TextOk n us → All (λ u. u ≢ 0) us
@@ -47,7 +47,10 @@ text-one n us vs p q e =
 pub text-shown : (n : ℕ) (us : Text) → TextOk n us → 1 ≤ length us → zeros? (text-bytes n us) ≡ false
 text-shown n [] p h = absurd (omega arith)
 text-shown zero (u ∷ us) p h = absurd (omega (arith, p .short))
-text-shown (suc n) (u ∷ us) p h = unit-shown n (u ∷ us) h (p .units)
+text-shown (suc n) (u ∷ us) p h =
+    is-false (zeros? (text-bytes (suc n) (u ∷ us))) (λ z.
+    let a = and-parts (zeros? (u16 u)) (zeros? (text-bytes n us)) (sym (zeros-append (u16 u) (text-bytes n us)) ∙ z) in
+    true≢false (sym (a .0) ∙ u16-shown u (p .units .0 .0)))
 
 -- they are bytes
 pub text-are-bytes : (n : ℕ) (us : Text) → TextOk n us → Bytes (text-bytes n us)
