@@ -1,25 +1,24 @@
 -- The entries of the five tables as heads with texts, and what each row shows of them. Assumes nothing.
-use Prim.Native.Nat.{ℕ, suc, _+_, _*_, _-_, _≤_, _<_}
+use Prim.Native.Nat.{ℕ, _+_, _*_, _-_, _≤_, _<_}
 use mathlib.Core.Path.{_≡_, refl, sym, ap, ap₂, _∙_, subst}
 use mathlib.Core.Bool.{Bool, true, false}
-use mathlib.Core.List.{List, [], _∷_, _++_, map}
+use mathlib.Core.List.{List, map}
 use mathlib.Core.Option.{Option, none, some, Option·none-ne-some}
 use native.Mathlib.Omega.{arith}
 use borrow.Author.Tests.{le-ltb, ltb-false}
 use borrow.Rule.Slice.PartMut.{midOf}
 use lib.Dec.{ltb}
-use lib.ListN.{length, take, drop, getD, length-append, length-map, List·getD-eq-default}
+use lib.ListN.{length, take, drop, getD, length-map, List·getD-eq-default}
 use Rattle.plan.specs.declared.numbers.GroupAddress.{GroupAddress}
 use Rattle.plan.specs.declared.numbers.IndividualAddress.{IndividualAddress}
 use Rattle.slots.specs.Slots.{slot as slot-of, front, u24, zeros?, Placed, Found}
 use Rattle.slots.proofs.Tables.{front-length, all-front, place-none, place-some, place-read}
 use Rattle.writing.specs.Ranges.{text-limits, InNumber}
 use Rattle.writing.specs.Settings.{Text, Number}
-use Rattle.writing.specs.Writing.{bit}
-use lib.Seq.{take-take}
+use lib.Seq.{take-take, take-all, take-at, drop-at}
 use Rattle.tables.specs.declared.limits.Limits.{Limits}
 use Rattle.tables.specs.Allowed.{Allowed, TextOk, QuickOk, StatusOk, GroupOk, IndividualOk, LineOk}
-use Rattle.tables.specs.Layout.{layout, text-bytes, quick-bytes, status-bytes, group-bytes, individual-bytes, line-bytes, group-flags, individual-flags, line-flags, digit-bytes, digits-at, quick-width, status-width, member-width, line-width, part-start, groups-at, individuals-at, lists-at, status-at}
+use Rattle.tables.specs.Layout.{layout, text-bytes, quick-bytes, status-bytes, group-bytes, individual-bytes, line-bytes, digit-bytes, digits-at, quick-width, status-width, member-width, line-width, part-start, groups-at, individuals-at, lists-at, status-at}
 use Rattle.tables.specs.Limits.{quick-places, status-places, slot-places}
 use Rattle.tables.specs.Store.{Holds}
 use Rattle.tables.specs.Tables.{Tables, Line as LineEntry}
@@ -32,7 +31,7 @@ use Rattle.screen.specs.declared.rows.Row.{Row}
 use Rattle.screen.specs.declared.rows.Row.the-variants.{Line, QuickText, StatusText, Group, Individual, NoTable}
 use Rattle.screen.specs.Naming.{Slotted, SlotIs}
 use Rattle.screen.specs.Rows.{Caption, text, line, group, individual, caption, text-of, of, unit-bytes}
-use Rattle.screen.proofs.SeenLaws.{part-part, behind, before, text-ends, text-front, front-get}
+use Rattle.screen.proofs.SeenLaws.{part-part, part-known, text-ends, text-front, front-get}
 use Rattle.screen.proofs.SlotLaws.{slot-within}
 
 -- ---- what a row's slot shows
@@ -66,16 +65,14 @@ pub record Seen (s : List ℕ) (slot : Slot) (row : Row) (o : Option Caption) : 
   pub gone : zeros? (midOf (slot .start) (slot .end - slot .start) s) ≡ true → o ≡ none
   pub held : zeros? (midOf (slot .start) (slot .end - slot .start) s) ≡ false → Captioned s slot row o
 
--- how the entries of a table are captions: a head of h bytes, and a text behind it
+-- how the entries of a table are captions: their text stands behind h bytes
 record Texts {A : Type 0} (P : A → Type 0) (w h : ℕ) (f : A → List ℕ) : Type 0 where
   long : (a : A) → length (f a) ≡ w
   shown : (a : A) → P a → zeros? (f a) ≡ false
   units : ℕ
   cap : A → Caption
-  head : A → List ℕ
   wide : w ≡ h + 2 * units
-  head-long : (a : A) → length (head a) ≡ h
-  bytes : (a : A) → f a ≡ head a ++ text-bytes units (text-of (cap a))
+  behind : (a : A) → drop h (f a) ≡ text-bytes units (text-of (cap a))
   ok : (a : A) → P a → TextOk units (text-of (cap a))
   head-in : (s : List ℕ) (start : ℕ) (a : A) → P a → midOf start w s ≡ f a → HeadIn s start (cap a)
 
@@ -107,7 +104,7 @@ module _ {A : Type 0} {P : A → Type 0} {w h : ℕ} {f : A → List ℕ} (x : T
       let j : slot .text ≡ slot .start + h = omega (arith, at .1, at .2) in
       let d : slot .end - slot .text ≡ 2 * x .units = omega (arith, slot-width, x .wide, at .1, at .2, at .3) in
       let t : midOf (slot .text) (slot .end - slot .text) s ≡ text-bytes (x .units) us
-      = ap₂ (λ i j. midOf i j s) j d ∙ behind s (x .head a) (text-bytes (x .units) us) (slot .start) w h (2 * x .units) (b ∙ x .bytes a) (x .head-long a) (x .wide) (text-length (x .units) us) in
+      = ap₂ (λ i j. midOf i j s) j d ∙ part-known s (f a) (slot .start) w h (2 * x .units) b (omega (arith, x .wide)) ∙ ap (take (2 * x .units)) (x .behind a) ∙ take-all (2 * x .units) (text-bytes (x .units) us) (omega (arith, text-length (x .units) us)) in
       record {
         row-is = x .cap a;
         there = ap (of (x .cap)) e;
@@ -129,17 +126,11 @@ module _ {A : Type 0} {P : A → Type 0} {w h : ℕ} {f : A → List ℕ} (x : T
 
 -- quick texts are their text alone
 abbrev quick : Texts QuickOk quick-width 0 quick-bytes
-quick = record { long = quick-code .long; shown = quick-shown; units = text-limits .quick; cap = text; head = λ us. []; wide = refl; head-long = λ us. refl; bytes = λ us. refl; ok = λ us p. p .text; head-in = λ s start us p e. tt }
+quick = record { long = quick-code .long; shown = quick-shown; units = text-limits .quick; cap = text; wide = refl; behind = λ us. refl; ok = λ us p. p .text; head-in = λ s start us p e. tt }
 
 -- a status text has the byte 1 before it
 abbrev status : Texts StatusOk status-width 1 status-bytes
-status = record { long = status-code .long; shown = status-shown; units = text-limits .short; cap = text; head = λ us. 1 ∷ []; wide = refl; head-long = λ us. refl; bytes = λ us. refl; ok = λ us p. p; head-in = λ s start us p e. tt }
-
--- three bytes of an address
-address-head : (s : List ℕ) (start flags a : ℕ) (us : Text) → midOf start member-width s ≡ flags ∷ u24 a ++ text-bytes (text-limits .short) us → midOf (start + 1) 3 s ≡ u24 a
-address-head s start flags a us e =
-    before s (u24 a) (text-bytes (text-limits .short) us) (start + 1) 35 3
-    (behind s (flags ∷ []) (u24 a ++ text-bytes (text-limits .short) us) start member-width 1 35 e refl refl (ap (λ j. suc (suc (suc j))) (text-length (text-limits .short) us))) refl (omega arith)
+status = record { long = status-code .long; shown = status-shown; units = text-limits .short; cap = text; wide = refl; behind = λ us. refl; ok = λ us p. p; head-in = λ s start us p e. tt }
 
 -- a group has flags and an address before its text
 abbrev groups : Texts GroupOk member-width 4 group-bytes
@@ -148,12 +139,10 @@ groups = record {
   shown = group-shown;
   units = text-limits .short;
   cap = λ g. group (g .text) (g .address);
-  head = λ g. group-flags (g .flags) ∷ u24 (g .address .0);
   wide = refl;
-  head-long = λ g. refl;
-  bytes = λ g. refl;
+  behind = λ g. refl;
   ok = λ g p. p .text;
-  head-in = λ s start g p e. address-head s start (group-flags (g .flags)) (g .address .0) (g .text) e;
+  head-in = λ s start g p e. part-known s (group-bytes g) start member-width 1 3 e (omega arith);
 }
 
 -- and so has an individual
@@ -163,12 +152,10 @@ individuals = record {
   shown = individual-shown;
   units = text-limits .short;
   cap = λ g. individual (g .text) (g .address);
-  head = λ g. individual-flags (g .flags) ∷ u24 (g .address .0);
   wide = refl;
-  head-long = λ g. refl;
-  bytes = λ g. refl;
+  behind = λ g. refl;
   ok = λ g p. p .text;
-  head-in = λ s start g p e. address-head s start (individual-flags (g .flags)) (g .address .0) (g .text) e;
+  head-in = λ s start g p e. part-known s (individual-bytes g) start member-width 1 3 e (omega arith);
 }
 
 -- a line has flags, IDtype and digits before its text
@@ -178,16 +165,12 @@ contacts = record {
   shown = line-shown;
   units = text-limits .short;
   cap = λ l. line (l .text) (l .number);
-  head = λ l. line-flags (l .flags) ∷ bit (l .flags .pabx) ∷ digit-bytes (l .number);
   wide = refl;
-  head-long = λ l. ap (λ n. suc (suc n)) (digits-length (l .number));
-  bytes = λ l. refl;
+  behind = λ l. drop-at (digit-bytes (l .number)) (text-bytes (text-limits .short) (l .text)) 18 (digits-length (l .number));
   ok = λ l p. p .text;
   head-in = λ s start l p e. (
     p .number,
-    before s (digit-bytes (l .number)) (text-bytes (text-limits .short) (l .text)) (start + digits-at) 50 18
-        (behind s (line-flags (l .flags) ∷ bit (l .flags .pabx) ∷ []) (digit-bytes (l .number) ++ text-bytes (text-limits .short) (l .text)) start line-width digits-at 50 e refl refl (length-append (digit-bytes (l .number)) (text-bytes (text-limits .short) (l .text)) ∙ ap₂ (λ i j. i + j) (digits-length (l .number)) (text-length (text-limits .short) (l .text))))
-        (digits-length (l .number)) (omega arith),
+    part-known s (line-bytes l) start line-width digits-at 18 e (omega arith) ∙ take-at (digit-bytes (l .number)) (text-bytes (text-limits .short) (l .text)) 18 (digits-length (l .number)),
   );
 }
 

@@ -3,11 +3,11 @@ use Prim.Native.Nat.{ℕ, zero, suc, _+_, _*_, _≤_, _<_}
 use mathlib.Core.Path.{_≡_, refl, sym, ap, _∙_}
 use mathlib.Core.List.{List, [], _∷_, _++_, map}
 use mathlib.Core.Option.{none, some}
-use native.Mathlib.Nat.{not-suc-le-zero, le-of-suc-le-suc, add-zero}
+use native.Mathlib.Nat.{not-suc-le-zero, le-of-suc-le-suc}
 use native.Mathlib.Omega.{arith}
 use borrow.Rule.Slice.PartMut.{midOf}
 use lib.ListN.{length, take, drop, getD}
-use lib.Seq.{take-take, take-nil, drop-drop, take-at, drop-at, take-all}
+use lib.Seq.{take-take, take-nil, drop-drop}
 use Rattle.lists.proofs.Every.{all-made}
 use Rattle.slots.specs.Slots.{pad, front, u16, zeros?, bytesBefore, Found}
 use Rattle.slots.proofs.Numbers.{u16-shown}
@@ -29,14 +29,9 @@ take-part (x ∷ l) (suc n) (suc i) j h = take-part l n i j (omega arith)
 pub part-part : (s : List ℕ) (b n i j : ℕ) → i + j ≤ n → midOf i j (midOf b n s) ≡ midOf (b + i) j s
 part-part s b n i j h = take-part (drop b s) n i j h ∙ ap (take j) (drop-drop i b s)
 
--- what stands behind the head
-pub behind : (s x y : List ℕ) (b n h k : ℕ) → midOf b n s ≡ x ++ y → length x ≡ h → n ≡ h + k → length y ≡ k → midOf (b + h) k s ≡ y
-behind s x y b n h k e l w m =
-    sym (part-part s b n h k (omega arith)) ∙ ap (midOf h k) e ∙ ap (take k) (drop-at x y h l) ∙ take-all k y (omega arith)
-
--- and in front of it
-pub before : (s x y : List ℕ) (b n h : ℕ) → midOf b n s ≡ x ++ y → length x ≡ h → h ≤ n → midOf b h s ≡ x
-before s x y b n h e l w = ap (λ j. midOf j h s) (sym (add-zero b)) ∙ sym (part-part s b n 0 h (omega arith)) ∙ ap (midOf 0 h) e ∙ take-at x y h l
+-- and a part of what is known
+pub part-known : (s x : List ℕ) (b n i j : ℕ) → midOf b n s ≡ x → i + j ≤ n → midOf (b + i) j s ≡ midOf i j x
+part-known s x b n i j e h = sym (part-part s b n i j h) ∙ ap (midOf i j) e
 
 -- ---- a text's end
 
