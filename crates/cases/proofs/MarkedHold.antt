@@ -1,8 +1,5 @@
 -- Every case that document 01 marks P holds. Assumes nothing.
-use mathlib.Core.List.{[], _∷_}
-use mathlib.Core.Path.{refl}
-use native.Mathlib.Omega.{arith}
-use lib.Dec.{lit≤}
+use Rattle.lists.proofs.Kit.{[], _∷_, refl, arith, lit≤}
 use Rattle.lists.specs.Every.{All}
 use Rattle.plan.specs.Frequencies.{Transmits, simplex, paired}
 use Rattle.plan.specs.Numbers.{Individual, IndividualShort, of-700, of-350, GroupShort, of-100}
@@ -16,7 +13,7 @@ use Rattle.tables.specs.Tables.{fresh}
 use Rattle.tables.specs.Owns.{put-own}
 use Rattle.tables.proofs.AllowedLaws.{channels-allowed}
 use Rattle.tables.proofs.FreshLaws.{fresh-allowed}
-use Rattle.cases.specs.Marked.{Holds, two-channels, one-contact, marked}
+use Rattle.cases.specs.Marked.{CaseHolds, two-channels, one-contact, marked}
 use Rattle.cases.proofs.PlanRows.{member, channel, refusal-only, no-channel-0, no-channel-641, no-fleet-19, no-member-550}
 use Rattle.cases.proofs.TakenRows.{taken-row}
 use Rattle.cases.proofs.WritingRows.{digits, setting, out-of-range}
@@ -38,7 +35,7 @@ channel-300 : Allowed handheld (put-own Channels fresh (300 ∷ []))
 channel-300 = channels-allowed handheld fresh (fresh-allowed handheld) (300 ∷ []) (lit≤ tt, ((lit≤ tt, lit≤ tt), tt))
 
 -- THE MARKED CASES
-pub marked-hold : All Holds marked
+pub marked-hold : All CaseHolds marked
 marked-hold =
     member IndividualShort individuals 328 20 200 1 tt (of-700 (lit≤ tt) (lit≤ tt) (lit≤ tt) (lit≤ tt) refl)
     then member IndividualShort individuals 328 41 899 15400 tt (of-700 (lit≤ tt) (lit≤ tt) (lit≤ tt) (lit≤ tt) refl)

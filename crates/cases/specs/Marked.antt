@@ -24,7 +24,7 @@ use Rattle.writing.specs.declared.Kind.the-variants.{Lines, Channels}
 use Rattle.tables.specs.Owns.{put-own}
 use Rattle.requests.specs.Requests.{Fault}
 use Rattle.slots.specs.Slots.{written-over}
-use Rattle.station.specs.Taking.{After, taken}
+use Rattle.station.specs.Taking.{AfterTaking, taken}
 
 pub data Case : Type 0 where
   individual : (dialled : ℕ) → Answer → Case  -- the only answer: 0 and an address, or a refusal's number
@@ -45,7 +45,7 @@ abbrev pub NumberIn : List ℕ → List ℕ → Type 0
 NumberIn digits bytes = All (_< 256) bytes × Shows (number digits) (bitsOf bytes)
 
 -- what taking a request without FF leaves: number 0, failed ID 0, nothing to send, no restart; the bytes of these tables, and this reply over the buffer
-abbrev pub took : (reply : List ℕ) → Tables → (buffer : List ℕ) → After
+abbrev pub took : (reply : List ℕ) → Tables → (buffer : List ℕ) → AfterTaking
 took reply after buffer = record {
   answer = record { number = 0; failed = 0; send = false; reboot = false; reply-length = length reply };
   store = layout handheld after;
@@ -53,14 +53,14 @@ took reply after buffer = record {
 }
 
 -- what a case claims
-abbrev pub Holds : Case → Type 0
-Holds (individual dialled a) = Only (Answered Individual 20 dialled) a
-Holds (group dialled a) = Only (Answered Group 20 dialled) a
-Holds (transmit channel a) = Only (Answered Transmits 22 channel) a
-Holds (digits-are digits bytes) = Only (NumberIn digits) bytes
-Holds (setting-is s bytes) = Only (λ t. Written unicode16 t bytes) s × (canonical unicode16 s ≡ bytes) × InRange text-limits 0 s
-Holds (refused-setting bytes number) = (m : Limits) (left : ℕ) (t : Tables) (rest : List ℕ) → Only (Fault m left t (bytes ++ rest)) number
-Holds (taken-is before message reply after) =
+abbrev pub CaseHolds : Case → Type 0
+CaseHolds (individual dialled a) = Only (Answered Individual 20 dialled) a
+CaseHolds (group dialled a) = Only (Answered Group 20 dialled) a
+CaseHolds (transmit channel a) = Only (Answered Transmits 22 channel) a
+CaseHolds (digits-are digits bytes) = Only (NumberIn digits) bytes
+CaseHolds (setting-is s bytes) = Only (λ t. Written unicode16 t bytes) s × (canonical unicode16 s ≡ bytes) × InRange text-limits 0 s
+CaseHolds (refused-setting bytes number) = (lim : Limits) (left : ℕ) (t : Tables) (rest : List ℕ) → Only (Fault lim left t (bytes ++ rest)) number
+CaseHolds (taken-is before message reply after) =
     (store buffer : List ℕ) → store ≡ layout handheld before → 20 ≤ length buffer → Only (Answers (taken handheld message store buffer)) (took reply after buffer)
 
 -- the flags of 11: PABX, and nothing else

@@ -1,15 +1,6 @@
 -- A part of the store was written as the settings that export it. Assumes nothing.
-use Prim.Native.Nat.{ℕ, zero, suc, _+_, _-_, _*_, _≤_, _<_}
-use mathlib.Core.Path.{_≡_, refl, sym, ap, _∙_, subst, subst⁻¹}
-use mathlib.Core.List.{List, [], _∷_, _++_, map}
-use mathlib.Core.Option.{none, some}
-use native.Mathlib.Omega.{arith}
-use borrow.Rule.Slice.PartMut.{midOf, mid-len}
-use lib.Dec.{eqb, eqb→eq}
-use lib.ListN.{length, getD, take, drop, List·getD-eq-default}
-use lib.Seq.{take-add, drop-drop}
+use Rattle.lists.proofs.Kit.{ℕ, zero, suc, _+_, _-_, _*_, _≤_, _<_, _≡_, refl, sym, ap, _∙_, subst, subst⁻¹, List, [], _∷_, _++_, map, none, some, arith, midOf, mid-len, eqb, eqb→eq, length, getD, take, drop, List·getD-eq-default, take-add, drop-drop}
 use Rattle.lists.proofs.Seqs.{getD-map}
-use Rattle.lists.proofs.Table.{every-at}
 use Rattle.slots.specs.Slots.{u16, Listed}
 use Rattle.writing.specs.Canonical.{canonical-all}
 use Rattle.writing.specs.Ranges.{InChannel}
@@ -38,8 +29,14 @@ use Rattle.export.specs.PartWriters.{part-at, part-from, part-to, Writes
 
 -- the part at each place has the number after it
 pub seven-at : (k : ℕ) → k < length seven → part-number (getD seven k Lines) ≡ k + 1
-seven-at k h =
-    sym (getD-map part-number seven k Lines 0 h) ∙ eqb→eq _ _ (every-at (λ i n. eqb n (i + 1)) (map part-number seven) tt k h)
+seven-at zero h = refl
+seven-at (suc zero) h = refl
+seven-at (suc (suc zero)) h = refl
+seven-at (suc (suc (suc zero))) h = refl
+seven-at (suc (suc (suc (suc zero)))) h = refl
+seven-at (suc (suc (suc (suc (suc zero))))) h = refl
+seven-at (suc (suc (suc (suc (suc (suc zero)))))) h = refl
+seven-at (suc (suc (suc (suc (suc (suc (suc k))))))) h = let l : length seven ≡ 7 = refl in absurd (omega arith)
 
 -- a part is found by its number
 pub at-number : (p : Part) → part-at (part-number p) ≡ some p
@@ -75,53 +72,53 @@ part-within n k e h = ap part-at e ∙ getD-map some seven k Lines none h
 
 -- ---- what stands in a part of the store
 
-module _ (m : Limits) (t : Tables) (s : List ℕ) (h : Holds m t s) where
+module _ (lim : Limits) (t : Tables) (s : List ℕ) (h : Holds lim t s) where
   -- a part of the store is that part of the layout
-  at-part : (P : List ℕ → Type 0) (a n k : ℕ) → k ≡ n → P (midOf a n (layout m t)) → P (midOf a k s)
+  at-part : (P : List ℕ → Type 0) (a n k : ℕ) → k ≡ n → P (midOf a n (layout lim t)) → P (midOf a k s)
   at-part P a n k e p = subst⁻¹ (λ (i : ℕ). P (midOf a i s)) e (subst⁻¹ (λ (x : List ℕ). P (midOf a n x)) (h .1) p)
 
-  pub lines-in : (k : ℕ) → k ≡ m .lines * line-width → LinesIn (midOf (lists-at + m .channels * 2) k s) (t .lines)
-  lines-in k e = (m .lines, at-part (λ x. Listed LineOk line-width line-bytes (m .lines) (t .lines) x) (lists-at + m .channels * 2) (m .lines * line-width) k e (lines-listed m t (h .0)))
+  pub lines-in : (k : ℕ) → k ≡ lim .lines * line-width → LinesIn (midOf (lists-at + lim .channels * 2) k s) (t .lines)
+  lines-in k e = (lim .lines, at-part (λ x. Listed LineOk line-width line-bytes (lim .lines) (t .lines) x) (lists-at + lim .channels * 2) (lim .lines * line-width) k e (lines-listed lim t (h .0)))
 
-  pub channels-in : (k : ℕ) → k ≡ m .channels * 2 → ChannelsIn (midOf lists-at k s) (t .channels)
-  channels-in k e = (m .channels, at-part (λ x. Listed InChannel 2 u16 (m .channels) (t .channels) x) lists-at (m .channels * 2) k e (channels-listed m t (h .0)))
+  pub channels-in : (k : ℕ) → k ≡ lim .channels * 2 → ChannelsIn (midOf lists-at k s) (t .channels)
+  channels-in k e = (lim .channels, at-part (λ x. Listed InChannel 2 u16 (lim .channels) (t .channels) x) lists-at (lim .channels * 2) k e (channels-listed lim t (h .0)))
 
   pub quick-in : QuicksIn (midOf quick-at quick-size s) (t .quick)
-  quick-in = at-part (λ x. QuicksIn x (t .quick)) 22 quick-size quick-size refl (quick-placed m t (h .0))
+  quick-in = at-part (λ x. QuicksIn x (t .quick)) 22 quick-size quick-size refl (quick-placed lim t (h .0))
 
   pub status-in : StatusesIn (midOf status-at status-size s) (t .status)
-  status-in = at-part (λ x. StatusesIn x (t .status)) status-at status-size status-size refl (status-placed m t (h .0))
+  status-in = at-part (λ x. StatusesIn x (t .status)) status-at status-size status-size refl (status-placed lim t (h .0))
 
   pub groups-in : MembersIn OfGroups (midOf groups-at member-size s) (t .groups)
-  groups-in = at-part (λ x. MembersIn OfGroups x (t .groups)) groups-at member-size member-size refl (groups-placed m t (h .0))
+  groups-in = at-part (λ x. MembersIn OfGroups x (t .groups)) groups-at member-size member-size refl (groups-placed lim t (h .0))
 
   pub individuals-in : MembersIn OfIndividuals (midOf individuals-at member-size s) (t .individuals)
-  individuals-in = at-part (λ x. MembersIn OfIndividuals x (t .individuals)) individuals-at member-size member-size refl (individuals-placed m t (h .0))
+  individuals-in = at-part (λ x. MembersIn OfIndividuals x (t .individuals)) individuals-at member-size member-size refl (individuals-placed lim t (h .0))
 
   pub fixed-in : FixedIn (midOf 11 11 s) (t .key, (t .home, t .system))
   fixed-in =
-      let l : List ℕ = layout m t in
+      let l : List ℕ = layout lim t in
       let a : midOf 11 11 l ≡ midOf 11 4 l ++ (midOf 15 4 l ++ midOf 19 3 l)
       = take-add 4 7 (drop 11 l) ∙ ap (λ (x : List ℕ). midOf 11 4 l ++ take 7 x) (drop-drop 4 11 l)
       ∙ ap (λ (x : List ℕ). midOf 11 4 l ++ x) (take-add 4 3 (drop 15 l) ∙ ap (λ (x : List ℕ). midOf 15 4 l ++ take 3 x) (drop-drop 4 15 l)) in (
         (h .0 .key, (h .0 .home, h .0 .system)),
         ap (midOf 11 11) (h .1) ∙ a
-            ∙ (λ i. key-get m t (h .0) i ++ (home-get m t (h .0) i ++ system-get m t (h .0) i)),
+            ∙ (λ i. key-get lim t (h .0) i ++ (home-get lim t (h .0) i ++ system-get lim t (h .0) i)),
       )
 
 -- ---- part by part
 
 -- where a part starts and ends
 abbrev starts : Limits → Part → ℕ
-starts m = part-from (lines-at m) (lines-at m + m .lines * line-width)
+starts lim = part-from (lines-at lim) (lines-at lim + lim .lines * line-width)
 
 abbrev ends : Limits → Part → ℕ
-ends m = part-to (lines-at m) (lines-at m + m .lines * line-width)
+ends lim = part-to (lines-at lim) (lines-at lim + lim .lines * line-width)
 
-module _ (m : Limits) (store s u : List ℕ) (r : Settings) (x : Exportable m) (big : m .message ≤ length s) where
+module _ (lim : Limits) (store s u : List ℕ) (r : Settings) (x : Exportable lim) (big : lim .message ≤ length s) where
   -- what was written of what a part holds are the part's settings, where they fit
-  part-of : (p : Part) {A : Type 0} {Long : Type 0} {Held : A → Type 0} {g : A → List Setting} {room : ℕ} (f : Tables → A) → ((t : Tables) → Holds m t store → Held (f t))
-      → ((t : Tables) → g (f t) ≡ exported p t) → Long → room ≤ m .message - 8 → room ≤ 60000 → WritesTable Long Held g room s u r → PartWritten m p store s u r
+  part-of : (p : Part) {A : Type 0} {Long : Type 0} {Held : A → Type 0} {g : A → List Setting} {room : ℕ} (f : Tables → A) → ((t : Tables) → Holds lim t store → Held (f t))
+      → ((t : Tables) → g (f t) ≡ exported p t) → Long → room ≤ lim .message - 8 → room ≤ 60000 → WritesTable Long Held g room s u r → PartWritten lim p store s u r
   part-of p f is e long l k table =
       let w = table (long, omega (arith, x .status)) in
       record {
@@ -137,19 +134,19 @@ module _ (m : Limits) (store s u : List ℕ) (r : Settings) (x : Exportable m) (
       }
 
   -- the settings of the bytes of each part were written
-  part-held : (p : Part) → length (midOf (starts m p) (ends m p - starts m p) store) ≡ ends m p - starts m p → WritesPart p (midOf (starts m p) (ends m p - starts m p) store) s u r → PartWritten m p store s u r
+  part-held : (p : Part) → length (midOf (starts lim p) (ends lim p - starts lim p) store) ≡ ends lim p - starts lim p → WritesPart p (midOf (starts lim p) (ends lim p - starts lim p) store) s u r → PartWritten lim p store s u r
   part-held Lines l =
-      part-of Lines (λ t. t .lines) (λ t h. lines-in m t store h (ends m Lines - starts m Lines) (omega arith)) (λ t. refl) (omega (arith, x .counted)) (omega (arith, x .lines)) (omega (arith, x .counted))
-  part-held Fixed l = part-of Fixed (λ t. (t .key, (t .home, t .system))) (λ t h. fixed-in m t store h) (λ t. refl) l (omega (arith, x .status)) (omega arith)
-  part-held QuickTexts l = part-of QuickTexts (λ t. t .quick) (λ t h. quick-in m t store h) (λ t. refl) l (omega (arith, x .status)) (omega arith)
+      part-of Lines (λ t. t .lines) (λ t h. lines-in lim t store h (ends lim Lines - starts lim Lines) (omega arith)) (λ t. refl) (omega (arith, x .counted)) (omega (arith, x .lines)) (omega (arith, x .counted))
+  part-held Fixed l = part-of Fixed (λ t. (t .key, (t .home, t .system))) (λ t h. fixed-in lim t store h) (λ t. refl) l (omega (arith, x .status)) (omega arith)
+  part-held QuickTexts l = part-of QuickTexts (λ t. t .quick) (λ t h. quick-in lim t store h) (λ t. refl) l (omega (arith, x .status)) (omega arith)
   part-held Channels l =
-      part-of Channels (λ t. t .channels) (λ t h. channels-in m t store h (ends m Channels - starts m Channels) (omega arith)) (λ t. refl) (omega (arith, x .channels)) (omega (arith, x .status, x .channels)) (omega (arith, x .channels))
-  part-held StatusTexts l = part-of StatusTexts (λ t. t .status) (λ t h. status-in m t store h) (λ t. refl) l (omega (arith, x .status)) (omega arith)
-  part-held Groups l = part-of Groups (λ t. t .groups) (λ t h. groups-in m t store h) (λ t. refl) l (omega (arith, x .status)) (omega arith)
-  part-held Individuals l = part-of Individuals (λ t. t .individuals) (λ t h. individuals-in m t store h) (λ t. refl) l (omega (arith, x .status)) (omega arith)
+      part-of Channels (λ t. t .channels) (λ t h. channels-in lim t store h (ends lim Channels - starts lim Channels) (omega arith)) (λ t. refl) (omega (arith, x .channels)) (omega (arith, x .status, x .channels)) (omega (arith, x .channels))
+  part-held StatusTexts l = part-of StatusTexts (λ t. t .status) (λ t h. status-in lim t store h) (λ t. refl) l (omega (arith, x .status)) (omega arith)
+  part-held Groups l = part-of Groups (λ t. t .groups) (λ t h. groups-in lim t store h) (λ t. refl) l (omega (arith, x .status)) (omega arith)
+  part-held Individuals l = part-of Individuals (λ t. t .individuals) (λ t h. individuals-in lim t store h) (λ t. refl) l (omega (arith, x .status)) (omega arith)
 
   -- the settings of the bytes from the part's start to its end were written
-  pub part-written : (p : Part) (a b : ℕ) → a ≡ starts m p → b ≡ ends m p → b ≤ length store → WritesPart p (midOf a (b - a) store) s u r → PartWritten m p store s u r
+  pub part-written : (p : Part) (a b : ℕ) → a ≡ starts lim p → b ≡ ends lim p → b ≤ length store → WritesPart p (midOf a (b - a) store) s u r → PartWritten lim p store s u r
   part-written p a b e d inside w =
-      part-held p (mid-len (starts m p) (ends m p) store (omega arith))
-      (subst (λ (i : ℕ). WritesPart p (midOf (starts m p) (i - starts m p) store) s u r) d (subst (λ (i : ℕ). WritesPart p (midOf i (b - i) store) s u r) e w))
+      part-held p (mid-len (starts lim p) (ends lim p) store (omega arith))
+      (subst (λ (i : ℕ). WritesPart p (midOf (starts lim p) (i - starts lim p) store) s u r) d (subst (λ (i : ℕ). WritesPart p (midOf i (b - i) store) s u r) e w))

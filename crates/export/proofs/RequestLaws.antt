@@ -1,12 +1,8 @@
 -- A request's head, written before the settings that follow it. Assumes nothing.
-use Prim.Native.Nat.{ℕ, _+_, _-_, _/_, _%_, _≤_, _<_}
-use mathlib.Core.Path.{_≡_, refl, sym, ap, _∙_, subst}
-use mathlib.Core.List.{List, [], _∷_, _++_}
-use native.Mathlib.Omega.{arith}
-use lib.ListN.{length}
+use Rattle.lists.proofs.Kit.{ℕ, _+_, _-_, _/_, _%_, _≤_, _<_, _≡_, refl, sym, ap, _∙_, subst, List, [], _∷_, _++_, arith, length}
 use Rattle.slots.specs.Slots.{u16}
 use Rattle.writing.specs.Canonical.{plain, canonical-all}
-use Rattle.writing.specs.Carrier.{start, carrier}
+use Rattle.writing.specs.Carrier.{start-bytes, carrier}
 use Rattle.writing.specs.Fields.{val, res}
 use Rattle.writing.specs.Settings.{Setting, unicode16}
 use Rattle.writing.specs.Writing.{request-head}
@@ -29,11 +25,11 @@ carrier-is n l = plain-two n (val 16 n ∷ []) (val 8 0x08 ∷ res 4 ∷ val 4 7
 
 -- a request's head before any bytes
 headed-is : (n : ℕ) (all : List ℕ) → n < 256 → 4 + length all < 65536
-    → start ++ plain (carrier (2 + length (plain (request-head n) ++ all)) 7) ++ (plain (request-head n) ++ all) ≡ (2 ∷ 2 ∷ u16 (4 + length all) ++ (8 ∷ 7 ∷ 8 ∷ n ∷ [])) ++ all
+    → start-bytes ++ plain (carrier (2 + length (plain (request-head n) ++ all)) 7) ++ (plain (request-head n) ++ all) ≡ (2 ∷ 2 ∷ u16 (4 + length all) ++ (8 ∷ 7 ∷ 8 ∷ n ∷ [])) ++ all
 headed-is n all c l =
     let k : 2 + length (8 ∷ n ∷ all) ≡ 4 + length all = omega arith in
-    ap (λ (x : List ℕ). start ++ plain (carrier (2 + length (x ++ all)) 7) ++ (x ++ all)) (head-is n c)
-    ∙ ap (λ (i : ℕ). start ++ plain (carrier i 7) ++ (8 ∷ n ∷ all)) k ∙ ap (λ (x : List ℕ). start ++ x ++ (8 ∷ n ∷ all)) (carrier-is (4 + length all) l)
+    ap (λ (x : List ℕ). start-bytes ++ plain (carrier (2 + length (x ++ all)) 7) ++ (x ++ all)) (head-is n c)
+    ∙ ap (λ (i : ℕ). start-bytes ++ plain (carrier i 7) ++ (8 ∷ n ∷ all)) k ∙ ap (λ (x : List ℕ). start-bytes ++ x ++ (8 ∷ n ∷ all)) (carrier-is (4 + length all) l)
 
 -- the bytes of a request: its head, and the settings
 pub request-is : (ss : List Setting) → length ss < 256 → 4 + length (canonical-all unicode16 ss) < 65536

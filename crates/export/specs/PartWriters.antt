@@ -13,7 +13,7 @@ use Rattle.export.specs.declared.exporting.FoundPart.{FoundPart}
 use Rattle.export.specs.declared.exporting.FoundPart.the-variants.{Is, NoneSuch}
 use Rattle.export.specs.declared.parts.Part.{Part}
 use Rattle.export.specs.declared.parts.Part.the-variants.{Lines, Fixed, QuickTexts, Channels, StatusTexts, Groups, Individuals}
-use Rattle.export_write.specs.declared.members.Members.the-variants.{OfGroups, OfIndividuals}
+use Rattle.tables.specs.declared.members.Members.the-variants.{OfGroups, OfIndividuals}
 use Rattle.export_write.specs.declared.writers.Settings.{Settings}
 use Rattle.export_write.specs.ChannelWriters.{WritesChannels}
 use Rattle.export_write.specs.EntryWriters.{WritesQuicks, WritesStatuses}
@@ -63,9 +63,9 @@ WritesPart Groups = WritesMembers OfGroups
 WritesPart Individuals = WritesMembers OfIndividuals
 
 -- the settings of a part of a store were written behind a request's head, and the request fits its length field and the buffer
-pub record PartWritten (m : Limits) (part : Part) (store before after : List ℕ) (r : Settings) : Type 0 where
+pub record PartWritten (lim : Limits) (part : Part) (store before after : List ℕ) (r : Settings) : Type 0 where
   pub small : r .end < 65540
-  pub writes : WritesAll (λ t. Holds m t store) (exported part) 8 (m .message - 8) before after r
+  pub writes : WritesAll (λ t. Holds lim t store) (exported part) 8 (lim .message - 8) before after r
 
 -- the settings that were written up to `end` were given a request's head
 pub record Headed (count end : ℕ) (before after : List ℕ) (r : ℕ) : Type 0 where

@@ -1,11 +1,5 @@
 -- Kept channels are written two in three bytes. Assumes nothing.
-use Prim.Native.Nat.{ℕ, suc, _+_, _-_, _*_, _/_, _%_, _≤_, _<_}
-use mathlib.Core.Path.{_≡_, refl, sym, ap, _∙_}
-use mathlib.Core.List.{List, [], _∷_, _++_, map}
-use native.Mathlib.Omega.{arith}
-use borrow.Rule.Slice.PartMut.{midOf}
-use lib.ListN.{length, drop, getD, drop-of-length-le}
-use lib.Seq.{drop-cons, getD-drop, getD-take}
+use Rattle.lists.proofs.Kit.{ℕ, suc, _+_, _-_, _*_, _/_, _%_, _≤_, _<_, _≡_, refl, sym, ap, _∙_, List, [], _∷_, _++_, map, arith, midOf, length, drop, getD, drop-of-length-le, drop-cons, getD-drop, getD-take}
 use Rattle.lists.specs.Every.{All}
 use Rattle.lists.proofs.Every.{all-append, all-get, all-map}
 use Rattle.slots.specs.Slots.{u16, u24, zeros?, Listed, Found}
@@ -60,13 +54,13 @@ channels-used s cs r (n, t) f = let e : r ≡ length cs * 2 = used-at InChannel 
 -- ---- the walk
 
 -- so many pairs are written
-abbrev pub Packed : (part buffer₀ buffer : List ℕ) → (count at to i : ℕ) → Type 0
-Packed part buffer₀ buffer count at to i = (cs : List ℕ) → Counted part count cs → Writing (plain (packed cs)) at buffer₀ buffer to (plain (packed (drop (2 * i) cs)))
+abbrev pub Packed : (region buffer₀ buffer : List ℕ) → (count at to i : ℕ) → Type 0
+Packed region buffer₀ buffer count at to i = (cs : List ℕ) → Counted region count cs → Writing (plain (packed cs)) at buffer₀ buffer to (plain (packed (drop (2 * i) cs)))
 
-module _ (part buffer₀ buffer : List ℕ) (count at to i : ℕ) (g : Packed part buffer₀ buffer count at to i) where
+module _ (region buffer₀ buffer : List ℕ) (count at to i : ℕ) (g : Packed region buffer₀ buffer count at to i) where
   -- three bytes more
-  pub packed-more : (after x : List ℕ) (r bits : ℕ) → i < count / 2 → bits ≡ two-bits part i → (bits < 16777216 → x ≡ u24 bits) → Wrote x to buffer after r
-      → Packed part buffer₀ after count at r (i + 1)
+  pub packed-more : (after x : List ℕ) (r bits : ℕ) → i < count / 2 → bits ≡ two-bits region i → (bits < 16777216 → x ≡ u24 bits) → Wrote x to buffer after r
+      → Packed region buffer₀ after count at r (i + 1)
   packed-more after x r bits l e f w cs ((n, t), m) =
       let k : 2 * i + 1 < length cs = omega arith in
       let a : ℕ = getD cs (2 * i) 0 in
@@ -74,8 +68,8 @@ module _ (part buffer₀ buffer : List ℕ) (count at to i : ℕ) (g : Packed pa
       let rest : List ℕ = drop (2 * (i + 1)) cs in
       let a1 : a ≤ 640 = all-get InChannel cs (2 * i) 0 (t .each) (omega arith) .1 in
       let b1 : b ≤ 640 = all-get InChannel cs (2 * i + 1) 0 (t .each) k .1 in
-      let ka : getD part (4 * i) 0 * 256 + getD part (4 * i + 1) 0 ≡ a = kept-number part cs n t (4 * i) (4 * i + 1) (2 * i) (omega arith) (omega arith) (omega arith) in
-      let kb : getD part (4 * i + 2) 0 * 256 + getD part (4 * i + 3) 0 ≡ b = kept-number part cs n t (4 * i + 2) (4 * i + 3) (2 * i + 1) (omega arith) (omega arith) k in
+      let ka : getD region (4 * i) 0 * 256 + getD region (4 * i + 1) 0 ≡ a = kept-number region cs n t (4 * i) (4 * i + 1) (2 * i) (omega arith) (omega arith) (omega arith) in
+      let kb : getD region (4 * i + 2) 0 * 256 + getD region (4 * i + 3) 0 ≡ b = kept-number region cs n t (4 * i + 2) (4 * i + 3) (2 * i + 1) (omega arith) (omega arith) k in
       let v : bits ≡ a * 4096 + b = omega arith in
       writing-more (plain (packed cs)) at to r buffer₀ buffer after (plain (packed (drop (2 * i) cs))) x (plain (packed rest)) (g cs ((n, t), m))
       (ap (λ (z : List ℕ). plain (packed z)) (drop-two 0 cs i k)
@@ -83,19 +77,19 @@ module _ (part buffer₀ buffer : List ℕ) (count at to i : ℕ) (g : Packed pa
       ∙ ap (λ (z : List ℕ). z ++ plain (packed rest)) (sym (f (omega arith)))) w
 
   -- none is left
-  pub packed-even : i ≡ count / 2 → count % 2 ≡ 0 → (cs : List ℕ) → Counted part count cs → Wrote (plain (packed cs)) at buffer₀ buffer to
+  pub packed-even : i ≡ count / 2 → count % 2 ≡ 0 → (cs : List ℕ) → Counted region count cs → Wrote (plain (packed cs)) at buffer₀ buffer to
   packed-even l e cs (t, m) =
       writing-end (plain (packed cs)) at to buffer₀ buffer (plain (packed (drop (2 * i) cs))) (g cs (t, m))
       (ap (λ (x : List ℕ). plain (packed x)) (drop-of-length-le cs {i = 2 * i} (omega arith)))
 
   -- one is left
-  pub packed-odd : (after : List ℕ) (r bits : ℕ) → i ≡ count / 2 → count % 2 ≡ 1 → bits ≡ last-bits part i → Wrote (u16 bits) to buffer after r
-      → (cs : List ℕ) → Counted part count cs → Wrote (plain (packed cs)) at buffer₀ after r
+  pub packed-odd : (after : List ℕ) (r bits : ℕ) → i ≡ count / 2 → count % 2 ≡ 1 → bits ≡ last-bits region i → Wrote (u16 bits) to buffer after r
+      → (cs : List ℕ) → Counted region count cs → Wrote (plain (packed cs)) at buffer₀ after r
   packed-odd after r bits l o e w cs ((n, t), m) =
       let k : 2 * i < length cs = omega arith in
       let a : ℕ = getD cs (2 * i) 0 in
       let a1 : a ≤ 640 = all-get InChannel cs (2 * i) 0 (t .each) k .1 in
-      let ka : getD part (4 * i) 0 * 256 + getD part (4 * i + 1) 0 ≡ a = kept-number part cs n t (4 * i) (4 * i + 1) (2 * i) (omega arith) (omega arith) k in
+      let ka : getD region (4 * i) 0 * 256 + getD region (4 * i + 1) 0 ≡ a = kept-number region cs n t (4 * i) (4 * i + 1) (2 * i) (omega arith) (omega arith) k in
       let v : bits ≡ a * 16 + 15 = omega arith in
       let d : drop (2 * i) cs ≡ a ∷ []
       = drop-cons cs (2 * i) 0 k ∙ ap (λ (u : List ℕ). a ∷ u) (drop-of-length-le cs {i = suc (2 * i)} (omega arith)) in
@@ -115,12 +109,12 @@ channels-plain cs h l =
     plain-two v (op Replace ∷ res 4 ∷ val 10 n ∷ []) (packed cs) refl (omega arith) (omega arith) (packed-whole cs) (packed-fits cs h) ∙ (λ i. x i ∷ y i ∷ plain (packed cs))
 
 -- it is written as a replace
-pub channels-wrote : (part : List ℕ) (at used m end : ℕ) (s t u : List ℕ) → used ≤ 2046 → Found (0 < 2) zeros? 2 part used
-    → Wrote ((192 + used / 2 / 256) ∷ (used / 2 % 256) ∷ []) (at + 3) s t m → WritesPacked part (used / 2) m t u end
-    → (cs : List ℕ) → ChannelsIn part cs
+pub channels-wrote : (region : List ℕ) (at used m end : ℕ) (s t u : List ℕ) → used ≤ 2046 → Found (0 < 2) zeros? 2 region used
+    → Wrote ((192 + used / 2 / 256) ∷ (used / 2 % 256) ∷ []) (at + 3) s t m → WritesPacked region (used / 2) m t u end
+    → (cs : List ℕ) → ChannelsIn region cs
     → (type-byte (kind (channels Replace cs)) ≡ 0xCE) × All FitsField (body unicode16 (channels Replace cs)) × Wrote (plain (body unicode16 (channels Replace cs))) (at + 3) s u end
-channels-wrote part at used m end s t u few f v w cs k =
-    let n : length cs ≡ used / 2 = channels-used part cs used k f in
+channels-wrote region at used m end s t u few f v w cs k =
+    let n : length cs ≡ used / 2 = channels-used region cs used k f in
     let h : All InChannel cs = k .1 .each in
     let head : List ℕ = (192 + used / 2 / 256) ∷ (used / 2 % 256) ∷ [] in
     let e : head ++ plain (packed cs) ≡ plain (body unicode16 (channels Replace cs))

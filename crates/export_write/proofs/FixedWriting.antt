@@ -1,11 +1,5 @@
 -- The emergency key, home numbers and system code are written as their settings. Assumes nothing.
-use Prim.Native.Nat.{ℕ, _+_, _-_, _*_, _/_, _%_, _≤_, _<_}
-use mathlib.Core.Path.{_≡_, refl, sym, ap, ap₂, _∙_}
-use mathlib.Core.Bool.{true, false}
-use mathlib.Core.List.{List, [], _∷_, _++_, append-nil}
-use native.Mathlib.Omega.{arith}
-use borrow.Rule.Slice.PartMut.{midOf}
-use lib.ListN.{length, getD, take}
+use Rattle.lists.proofs.Kit.{ℕ, _+_, _-_, _*_, _/_, _%_, _≤_, _<_, _≡_, refl, sym, ap, ap₂, _∙_, true, false, List, [], _∷_, _++_, append-nil, arith, midOf, length, getD, take}
 use Rattle.lists.specs.Every.{All}
 use Rattle.slots.specs.Slots.{u24}
 use Rattle.writing.specs.declared.KeyTarget.{KeyTarget}

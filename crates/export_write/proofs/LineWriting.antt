@@ -1,14 +1,5 @@
 -- Line contacts are written as a replace and an add for each. Assumes nothing.
-use Prim.Native.Nat.{ℕ, zero, suc, _+_, _-_, _*_, _/_, _%_, _≤_, _<_}
-use mathlib.Core.Path.{_≡_, refl, sym, ap, _∙_, subst, ap₂}
-use mathlib.Core.List.{List, [], _∷_, _++_, map, append-nil}
-use mathlib.Core.Option.{none, some}
-use native.Mathlib.Nat.{not-suc-le-zero, le-of-suc-le-suc}
-use native.Mathlib.Numerals.{add-one}
-use native.Mathlib.Omega.{arith}
-use borrow.Rule.Slice.PartMut.{midOf}
-use lib.ListN.{length, getD, take, drop, drop-of-length-le}
-use lib.Seq.{take-all, drop-at, drop-cons}
+use Rattle.lists.proofs.Kit.{ℕ, zero, suc, _+_, _-_, _*_, _/_, _%_, _≤_, _<_, _≡_, refl, sym, ap, _∙_, subst, ap₂, List, [], _∷_, _++_, map, append-nil, none, some, not-suc-le-zero, le-of-suc-le-suc, add-one, arith, midOf, length, getD, take, drop, drop-of-length-le, take-all, drop-at, drop-cons}
 use Rattle.lists.specs.Every.{All}
 use Rattle.lists.proofs.Every.{all-get, all-append}
 use Rattle.slots.specs.Slots.{front, slot, zeros?, Listed, Placed, Found}
@@ -120,30 +111,30 @@ pub lines-used : (s : List ℕ) (ls : List Line) (r : ℕ) → LinesIn s ls → 
 lines-used s ls r (n, t) f = let e : r ≡ length ls * line-width = used-at LineOk line-width line-bytes (line-code .long) line-shown (omega arith) n ls s t r f in omega arith
 
 -- the adds up to a contact are written
-abbrev pub Lined : (part buffer₀ buffer : List ℕ) → (at to i : ℕ) → Type 0
-Lined part buffer₀ buffer at to i =
-    (ls : List Line) → LinesIn part ls
+abbrev pub Lined : (region buffer₀ buffer : List ℕ) → (at to i : ℕ) → Type 0
+Lined region buffer₀ buffer at to i =
+    (ls : List Line) → LinesIn region ls
     → Writing (canonical-all unicode16 (map line-add ls)) at buffer₀ buffer to (canonical-all unicode16 (map line-add (drop i ls)))
 
 -- and the next
-pub lined-more : (part buffer₀ buffer after : List ℕ) (at to i used r : ℕ) → i < used / line-width → Found (0 < line-width) zeros? line-width part used → Lined part buffer₀ buffer at to i
-    → WritesSetting (Kept LineOk line-bytes (midOf (i * line-width) (i * line-width + line-width - i * line-width) part)) line-add to 49 buffer after r
-    → Lined part buffer₀ after at r (i + 1)
-lined-more part buffer₀ buffer after at to i used r low f g h ls (n, t) =
-    let c : length ls ≡ used / line-width = lines-used part ls used (n, t) f in
+pub lined-more : (region buffer₀ buffer after : List ℕ) (at to i used r : ℕ) → i < used / line-width → Found (0 < line-width) zeros? line-width region used → Lined region buffer₀ buffer at to i
+    → WritesSetting (Kept LineOk line-bytes (midOf (i * line-width) (i * line-width + line-width - i * line-width) region)) line-add to 49 buffer after r
+    → Lined region buffer₀ after at r (i + 1)
+lined-more region buffer₀ buffer after at to i used r low f g h ls (n, t) =
+    let c : length ls ≡ used / line-width = lines-used region ls used (n, t) f in
     let k : i < length ls = omega arith in
     let l : Line = getD ls i no-line in
     writing-more (canonical-all unicode16 (map line-add ls)) at to r buffer₀ buffer after (canonical-all unicode16 (map line-add (drop i ls)))
     (canonical unicode16 (line-add l)) (canonical-all unicode16 (map line-add (drop (i + 1) ls))) (g ls (n, t))
     (rw add-one (ap (λ (x : List Line). canonical-all unicode16 (map line-add x)) (drop-cons ls i no-line k)))
-    (h .wrote l (entry-read LineOk line-width line-bytes (line-code .long) n ls part no-line t i k))
+    (h .wrote l (entry-read LineOk line-width line-bytes (line-code .long) n ls region no-line t i k))
 
 -- none is left
-pub lined-end : (part before buffer₀ buffer : List ℕ) (at m to i used : ℕ) → used / line-width ≤ i → Found (0 < line-width) zeros? line-width part used
-    → Wrote (0xCA ∷ 0 ∷ 4 ∷ 0xC0 ∷ 0 ∷ []) at before buffer₀ m → Lined part buffer₀ buffer m to i
-    → (ls : List Line) → LinesIn part ls → Wrote (canonical-all unicode16 (line-settings ls)) at before buffer to
-lined-end part before buffer₀ buffer at m to i used high f w g ls k =
-    let c : length ls ≡ used / line-width = lines-used part ls used k f in
+pub lined-end : (region before buffer₀ buffer : List ℕ) (at m to i used : ℕ) → used / line-width ≤ i → Found (0 < line-width) zeros? line-width region used
+    → Wrote (0xCA ∷ 0 ∷ 4 ∷ 0xC0 ∷ 0 ∷ []) at before buffer₀ m → Lined region buffer₀ buffer m to i
+    → (ls : List Line) → LinesIn region ls → Wrote (canonical-all unicode16 (line-settings ls)) at before buffer to
+lined-end region before buffer₀ buffer at m to i used high f w g ls k =
+    let c : length ls ≡ used / line-width = lines-used region ls used k f in
     wrote-both (canonical unicode16 (lines Replace no-line-flags [])) (canonical-all unicode16 (map line-add ls)) at m to before buffer₀ buffer w
     (writing-end (canonical-all unicode16 (map line-add ls)) m to buffer₀ buffer (canonical-all unicode16 (map line-add (drop i ls))) (g ls k)
     (ap (λ (x : List Line). canonical-all unicode16 (map line-add x)) (drop-of-length-le ls {i = i} (omega arith))))

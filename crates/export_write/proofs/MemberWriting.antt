@@ -1,14 +1,5 @@
 -- Group and individual slots are written as adds and deletes. Assumes nothing.
-use Prim.Native.Nat.{ℕ, suc, _+_, _-_, _*_, _/_, _%_, _≤_, _<_}
-use mathlib.Core.Path.{_≡_, refl, sym, ap, ap₂, _∙_, subst}
-use mathlib.Core.Bool.{Bool, cond}
-use mathlib.Core.List.{List, [], _∷_, _++_}
-use mathlib.Core.Option.{Option, none, some}
-use native.Mathlib.Numerals.{add-one}
-use native.Mathlib.Omega.{arith}
-use borrow.Rule.Slice.PartMut.{midOf}
-use lib.ListN.{length, getD, take, drop, replicate, drop-of-length-le}
-use lib.Seq.{take-all, drop-cons}
+use Rattle.lists.proofs.Kit.{ℕ, suc, _+_, _-_, _*_, _/_, _%_, _≤_, _<_, _≡_, refl, sym, ap, ap₂, _∙_, subst, Bool, cond, List, [], _∷_, _++_, Option, none, some, add-one, arith, midOf, length, getD, take, drop, replicate, drop-of-length-le, take-all, drop-cons}
 use Rattle.lists.specs.Every.{All}
 use Rattle.lists.proofs.Every.{all-get}
 use Rattle.slots.specs.Slots.{u16, u24, slot, zeros?, Present}
@@ -175,26 +166,26 @@ settings-length w i [] = ap length (none-left w i)
 settings-length w i (o ∷ os) = ap length (next-setting w i o os) ∙ ap suc (settings-length w (suc i) os)
 
 -- the settings up to an index are written
-abbrev pub Membered : (w : Members) → (part buffer₀ buffer : List ℕ) → (at to i : ℕ) → Type 0
-Membered w part buffer₀ buffer at to i =
-    (os : List (Option (MemberIn w))) → MembersIn w part os
+abbrev pub Membered : (w : Members) → (region buffer₀ buffer : List ℕ) → (at to i : ℕ) → Type 0
+Membered w region buffer₀ buffer at to i =
+    (os : List (Option (MemberIn w))) → MembersIn w region os
     → Writing (canonical-all unicode16 (member-settings w 0 os)) at buffer₀ buffer to (canonical-all unicode16 (member-settings w i (drop i os)))
 
 -- and the next
-pub membered-more : (w : Members) (part buffer₀ buffer after : List ℕ) (at to i r : ℕ) → i < 16 → Membered w part buffer₀ buffer at to i
-    → WritesSetting (SlotIn w (midOf (i * 36) (i * 36 + 36 - i * 36) part)) (member-setting w i) to 42 buffer after r
-    → Membered w part buffer₀ after at r (i + 1)
-membered-more w part buffer₀ buffer after at to i r low g h os t =
+pub membered-more : (w : Members) (region buffer₀ buffer after : List ℕ) (at to i r : ℕ) → i < 16 → Membered w region buffer₀ buffer at to i
+    → WritesSetting (SlotIn w (midOf (i * 36) (i * 36 + 36 - i * 36) region)) (member-setting w i) to 42 buffer after r
+    → Membered w region buffer₀ after at r (i + 1)
+membered-more w region buffer₀ buffer after at to i r low g h os t =
     let k : i < length os = omega (arith, t .many) in
     let o : Option (MemberIn w) = getD os i none in
     writing-more (canonical-all unicode16 (member-settings w 0 os)) at to r buffer₀ buffer after (canonical-all unicode16 (member-settings w i (drop i os)))
     (canonical unicode16 (member-setting w i o)) (canonical-all unicode16 (member-settings w (i + 1) (drop (i + 1) os))) (g os t)
     (ap (canonical-all unicode16) (settings-from w i os k))
-    (h .wrote o (all-get (Present (member-ok w)) os i none (t .each) k, place-read (member-ok w) 36 (member-bytes w) (member-code w .long) 16 os part t i low))
+    (h .wrote o (all-get (Present (member-ok w)) os i none (t .each) k, place-read (member-ok w) 36 (member-bytes w) (member-code w .long) 16 os region t i low))
 
 -- none is left
-pub membered-end : (w : Members) (part buffer₀ buffer : List ℕ) (at to i : ℕ) → 16 ≤ i → Membered w part buffer₀ buffer at to i
-    → (os : List (Option (MemberIn w))) → MembersIn w part os → Wrote (canonical-all unicode16 (member-settings w 0 os)) at buffer₀ buffer to
-membered-end w part buffer₀ buffer at to i high g os t =
+pub membered-end : (w : Members) (region buffer₀ buffer : List ℕ) (at to i : ℕ) → 16 ≤ i → Membered w region buffer₀ buffer at to i
+    → (os : List (Option (MemberIn w))) → MembersIn w region os → Wrote (canonical-all unicode16 (member-settings w 0 os)) at buffer₀ buffer to
+membered-end w region buffer₀ buffer at to i high g os t =
     writing-end (canonical-all unicode16 (member-settings w 0 os)) at to buffer₀ buffer (canonical-all unicode16 (member-settings w i (drop i os))) (g os t)
     (ap (λ (l : List (Option (MemberIn w))). canonical-all unicode16 (member-settings w i l)) (drop-of-length-le os {i = i} (omega (arith, t .many))) ∙ ap (canonical-all unicode16) (none-left w i))

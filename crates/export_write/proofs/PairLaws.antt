@@ -1,10 +1,5 @@
 -- Lists two elements at a time. Assumes nothing.
-use Prim.Native.Nat.{ℕ, zero, suc, _+_, _*_, _<_}
-use mathlib.Core.Path.{_≡_, ap, _∙_}
-use mathlib.Core.List.{List, [], _∷_}
-use native.Mathlib.Omega.{arith}
-use lib.ListN.{length, drop, getD}
-use lib.Seq.{drop-cons}
+use Rattle.lists.proofs.Kit.{ℕ, zero, suc, _+_, _*_, _<_, _≡_, ap, _∙_, List, [], _∷_, arith, length, drop, getD, drop-cons}
 use Rattle.lists.specs.Every.{All}
 
 -- every element behind a place

@@ -34,8 +34,8 @@ abbrev pub fixed-settings : Fixed → List Setting
 fixed-settings x = key-setting (x .0) ∷ home (x .1 .0) ∷ system (x .1 .1) ∷ []
 
 -- they were written
-abbrev pub WritesFixed : (part before after : List ℕ) → Settings → Type 0
-WritesFixed part before after r = WritesTable (length part ≡ 11) (FixedIn part) fixed-settings 19 before after r
+abbrev pub WritesFixed : (region before after : List ℕ) → Settings → Type 0
+WritesFixed region before after r = WritesTable (length region ≡ 11) (FixedIn region) fixed-settings 19 before after r
 
 -- ---- inner steps: settings of three bytes
 

@@ -20,8 +20,8 @@ abbrev pub line-settings : List Line → List Setting
 line-settings ls = lines Replace no-line-flags [] ∷ map line-add ls
 
 -- a table of at most 254 lines was written
-abbrev pub WritesLines : (part before after : List ℕ) → Settings → Type 0
-WritesLines part before after r = WritesTable (length part ≤ 254 * line-width) (LinesIn part) line-settings (5 + length part / line-width * 49) before after r
+abbrev pub WritesLines : (region before after : List ℕ) → Settings → Type 0
+WritesLines region before after r = WritesTable (length region ≤ 254 * line-width) (LinesIn region) line-settings (5 + length region / line-width * 49) before after r
 
 -- an inner step: the first byte of an add, of the bytes that keep the line
 abbrev pub line-byte : List ℕ → ℕ

@@ -47,8 +47,8 @@ member-settings OfIndividuals = slots individual no-individual-flags (record { 0
 
 -- the lent bytes are a table of sixteen slots
 abbrev pub MembersIn : (w : Members) → List ℕ → List (Option (MemberIn w)) → Type 0
-MembersIn w part os = Placed (member-ok w) 36 (member-bytes w) 16 os part
+MembersIn w region os = Placed (member-ok w) 36 (member-bytes w) 16 os region
 
 -- it was written
-abbrev pub WritesMembers : Members → (part before after : List ℕ) → Settings → Type 0
-WritesMembers w part before after r = WritesTable (length part ≡ member-size) (MembersIn w part) (member-settings w 0) 672 before after r
+abbrev pub WritesMembers : Members → (region before after : List ℕ) → Settings → Type 0
+WritesMembers w region before after r = WritesTable (length region ≡ member-size) (MembersIn w region) (member-settings w 0) 672 before after r

@@ -21,31 +21,31 @@ fn address_end(flags: u8) -> usize
     if flags < 16 { 4 } else { 1 }
 }
 
-fn write_key(buffer: &mut [u8], at: usize, part: &[u8]) -> usize
-    requires { ⌜ (length (now part) ≡ 4) × (at + 7 ≤ length (now buffer)) ⌝ }
-    ensures { λ r. ⌜ WritesSetting (Kept KeyOk key-bytes (now (part .entry))) key-setting at 7 (now (buffer .entry)) (now (buffer .exit)) r ⌝ }
+fn write_key(buffer: &mut [u8], at: usize, region: &[u8]) -> usize
+    requires { ⌜ (length (now region) ≡ 4) × (at + 7 ≤ length (now buffer)) ⌝ }
+    ensures { λ r. ⌜ WritesSetting (Kept KeyOk key-bytes (now (region .entry))) key-setting at 7 (now (buffer .entry)) (now (buffer .exit)) r ⌝ }
 {
-    let flags = [part[0] % 32 * 8];
+    let flags = [region[0] % 32 * 8];
     let address = write_bytes(buffer, at + 3, &flags);
-    let last = address_end(part[0]);
-    let end = write_bytes(buffer, address, &part[1..last]);
+    let last = address_end(region[0]);
+    let end = write_bytes(buffer, address, &region[1..last]);
     start_setting(buffer, at, 0xCB, end)
 }
 
 // Home numbers as 24 bits: 9 of NZI, 10 of NP, and 5 that are 0.
-fn home_bits(part: &[u8]) -> u32
-    requires { ⌜ length (now part) ≡ 4 ⌝ }
-    ensures { λ r. ⌜ r ≡ home-bits (now (part .entry)) ⌝ }
+fn home_bits(region: &[u8]) -> u32
+    requires { ⌜ length (now region) ≡ 4 ⌝ }
+    ensures { λ r. ⌜ r ≡ home-bits (now (region .entry)) ⌝ }
 {
-    pair(part[0], part[1]) % 512 * 32768 + pair(part[2], part[3]) % 1024 * 32
+    pair(region[0], region[1]) % 512 * 32768 + pair(region[2], region[3]) % 1024 * 32
 }
 
 // The system code as 24 bits: 12 of LAI, 7 of LA, roaming and PAR as they are kept, and 5 that are 0.
-fn system_bits(part: &[u8]) -> u32
-    requires { ⌜ length (now part) ≡ 3 ⌝ }
-    ensures { λ r. ⌜ r ≡ system-bits (now (part .entry)) ⌝ }
+fn system_bits(region: &[u8]) -> u32
+    requires { ⌜ length (now region) ≡ 3 ⌝ }
+    ensures { λ r. ⌜ r ≡ system-bits (now (region .entry)) ⌝ }
 {
-    pair(part[0], part[1]) % 4096 * 4096 + (part[2] % 128) as u32 * 32
+    pair(region[0], region[1]) % 4096 * 4096 + (region[2] % 128) as u32 * 32
 }
 
 // A setting whose fields after DataLength have 24 bits.
@@ -59,19 +59,19 @@ fn write_three(buffer: &mut [u8], at: usize, kind: u8, bits: u32) -> usize
 }
 
 // The three, which stand one after the other in the store.
-pub fn export_fixed(buffer: &mut [u8], part: &[u8]) -> Settings
-    ensures { λ r. ⌜ WritesFixed (now (part .entry)) (now (buffer .entry)) (now (buffer .exit)) r ⌝ }
+pub fn export_fixed(buffer: &mut [u8], region: &[u8]) -> Settings
+    ensures { λ r. ⌜ WritesFixed (now (region .entry)) (now (buffer .entry)) (now (buffer .exit)) r ⌝ }
 {
-    if part.len() != 11 {
+    if region.len() != 11 {
         return NOTHING;
     }
     if buffer.len() < FIRST + 19 {
         return NOTHING;
     }
-    let home = write_key(buffer, FIRST, &part[0..4]);
-    let numbers = home_bits(&part[4..8]);
+    let home = write_key(buffer, FIRST, &region[0..4]);
+    let numbers = home_bits(&region[4..8]);
     let system = write_three(buffer, home, 0xCD, numbers);
-    let code = system_bits(&part[8..11]);
+    let code = system_bits(&region[8..11]);
     let end = write_three(buffer, system, 0xCF, code);
     Settings { end, count: 3 }
 }

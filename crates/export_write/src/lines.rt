@@ -43,24 +43,24 @@ fn write_line(buffer: &mut [u8], at: usize, slot: &[u8]) -> usize
     start_setting(buffer, at, 0xCA, end)
 }
 
-// A replace with flags and Count 0, then an add for each contact of a part of the store.
-pub fn export_lines(buffer: &mut [u8], part: &[u8]) -> Settings
-    ensures { λ r. ⌜ WritesLines (now (part .entry)) (now (buffer .entry)) (now (buffer .exit)) r ⌝ }
+// A replace with flags and Count 0, then an add for each contact of a region of the store.
+pub fn export_lines(buffer: &mut [u8], region: &[u8]) -> Settings
+    ensures { λ r. ⌜ WritesLines (now (region .entry)) (now (buffer .entry)) (now (buffer .exit)) r ⌝ }
 {
-    if MOST < part.len() {
+    if MOST < region.len() {
         return NOTHING;
     }
-    if buffer.len() < FIRST + 5 + part.len() / LINE_SLOT * 49 {
+    if buffer.len() < FIRST + 5 + region.len() / LINE_SLOT * 49 {
         return NOTHING;
     }
     let replace = [0xCA, 0, 4, 0xC0, 0];
     let mut end = write_bytes(buffer, FIRST, &replace);
-    let count = used(part, LINE_SLOT) / LINE_SLOT;
+    let count = used(region, LINE_SLOT) / LINE_SLOT;
     let mut i = 0;
     while i < count {
         let a = i * LINE_SLOT;
         let e = a + LINE_SLOT;
-        end = write_line(buffer, end, &part[a..e]);
+        end = write_line(buffer, end, &region[a..e]);
         i += 1;
     }
     Settings {

@@ -69,10 +69,10 @@ fn write_member(buffer: &mut [u8], at: usize, which: Members, index: u8, slot: &
 }
 
 // The sixteen settings of a table of slots.
-pub fn export_members(buffer: &mut [u8], which: Members, part: &[u8]) -> Settings
-    ensures { λ r. ⌜ WritesMembers which (now (part .entry)) (now (buffer .entry)) (now (buffer .exit)) r ⌝ }
+pub fn export_members(buffer: &mut [u8], which: Members, region: &[u8]) -> Settings
+    ensures { λ r. ⌜ WritesMembers which (now (region .entry)) (now (buffer .entry)) (now (buffer .exit)) r ⌝ }
 {
-    if part.len() != MEMBER_SIZE {
+    if region.len() != MEMBER_SIZE {
         return NOTHING;
     }
     if buffer.len() < FIRST + 672 {
@@ -83,7 +83,7 @@ pub fn export_members(buffer: &mut [u8], which: Members, part: &[u8]) -> Setting
     while index < 16 {
         let a = index as usize * 36;
         let e = a + 36;
-        end = write_member(buffer, end, which, index, &part[a..e]);
+        end = write_member(buffer, end, which, index, &region[a..e]);
         index += 1;
     }
     Settings { end, count: 16 }

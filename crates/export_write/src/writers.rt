@@ -1,5 +1,5 @@
 // Writes bytes into a lent buffer. A writer takes the place to write at and gives the place after what it wrote. Those that other crates use write
-// from FIRST on, and nothing where the part of the store or the room is not as long as it should be.
+// from FIRST on, and nothing where the region of the store or the room is not as long as it should be.
 use slots::bytes::copy;
 ghost use mathlib.Core.Path.{_≡_};
 ghost use Prim.Native.Nat.{_+_, _*_, _-_, _≤_, _<_};

@@ -1,6 +1,5 @@
 -- Laws on tests that the kit lacks. Assumes nothing.
-use mathlib.Core.Path.{_≡_, refl}
-use mathlib.Core.Bool.{Bool, true, false, _&&_, _||_, false≢true}
+use Rattle.lists.proofs.Kit.{_≡_, refl, Bool, true, false, _&&_, _||_, false≢true}
 
 -- what is not true is false
 pub is-false : (b : Bool) → (b ≡ true → ⊥) → b ≡ false

@@ -1,9 +1,5 @@
 -- The heads of the key, home numbers, system code and last item, and the key's address. Assumes nothing.
-use Prim.Native.Nat.{ℕ, _+_, _%_, _≤_, _<_}
-use mathlib.Core.Path.{_≡_, refl, subst}
-use mathlib.Core.List.{List, [], _∷_, map}
-use native.Mathlib.Omega.{arith}
-use lib.ListN.{length, drop, take}
+use Rattle.lists.proofs.Kit.{ℕ, _+_, _%_, _≤_, _<_, _≡_, refl, subst, List, [], _∷_, map, arith, length, drop, take}
 use Rattle.lists.specs.Bytes.{Bytes}
 use Rattle.writing.specs.declared.Coding.{Coding}
 use Rattle.writing.specs.declared.Kind.the-variants.{Key, Home, System, Last}
@@ -13,10 +9,10 @@ use Rattle.writing.specs.Fields.{val, res}
 use Rattle.writing.specs.Ranges.{text-limits, InRange, InAddress, InTarget}
 use Rattle.writing.specs.Writing.{bit, flag, current, to-group, key-address}
 use Rattle.writing.proofs.ByKind.{of-kind}
-use Rattle.read_fields.specs.Places.{PartAt, be}
+use Rattle.read_fields.specs.Places.{FieldsAt, be}
 use Rattle.read_fields.proofs.Heads.{head-in, head-out, be-small}
 use Rattle.read_fields.proofs.Parts.{nothing}
-use Rattle.settings.specs.Settings.{BodyAt}
+use Rattle.settings.specs.Meant.{BodyAt}
 use Rattle.settings.specs.declared.settings.BodyRead.the-variants.{NoBody}
 use Rattle.settings.proofs.BodyLaws.{Headed}
 
@@ -57,17 +53,17 @@ last-head c = record {
 -- ---- addresses
 
 -- the 24 bits of an address are three bytes
-address-out : (a : ℕ) (m : List ℕ) (q next : ℕ) → Bytes m → InAddress a → PartAt (val 24 a ∷ []) m q next
+address-out : (a : ℕ) (m : List ℕ) (q next : ℕ) → Bytes m → InAddress a → FieldsAt (val 24 a ∷ []) m q next
     → (q + 3 ≤ length m) × InAddress (be 0 (take 3 (drop q m)) % 16777216)
 address-out a m q next h i x =
     let (r, k, y) = head-out (val 24 a ∷ []) [] m q 3 refl (omega arith) h next x in
     (r, subst InAddress (omega (arith, be-small m q 3 h r, k .0)) i)
 
-pub address-in : (a : ℕ) (m : List ℕ) (q : ℕ) → Bytes m → q + 3 ≤ length m → a ≡ be 0 (take 3 (drop q m)) % 16777216 → PartAt (val 24 a ∷ []) m q (q + 3)
+pub address-in : (a : ℕ) (m : List ℕ) (q : ℕ) → Bytes m → q + 3 ≤ length m → a ≡ be 0 (take 3 (drop q m)) % 16777216 → FieldsAt (val 24 a ∷ []) m q (q + 3)
 address-in a m q h r e = head-in (val 24 a ∷ []) [] m q 3 refl (omega arith) h (q + 3) r (omega arith, tt) (nothing m (q + 3))
 
 -- an address that the key calls stands after its head, in range
-pub key-address-out : (t : KeyTarget) (m : List ℕ) (q next : ℕ) → Bytes m → (bit (current t) ≡ 1 → ⊥) → InTarget t → PartAt (key-address t) m q next
+pub key-address-out : (t : KeyTarget) (m : List ℕ) (q next : ℕ) → Bytes m → (bit (current t) ≡ 1 → ⊥) → InTarget t → FieldsAt (key-address t) m q next
     → (q + 3 ≤ length m) × InAddress (be 0 (take 3 (drop q m)) % 16777216)
 key-address-out (Current g) m q next h n i x = absurd (n refl)
 key-address-out (ToGroup a) m q next h n i x = address-out (a .0) m q next h i x

@@ -1,9 +1,5 @@
 -- The heads of settings that hold a list, and the range of quick texts. Assumes nothing.
-use Prim.Native.Nat.{ℕ, _+_, _/_, _%_, _≤_}
-use mathlib.Core.Path.{_≡_, refl, sym, subst}
-use mathlib.Core.List.{List, [], _∷_}
-use native.Mathlib.Omega.{arith}
-use lib.ListN.{length, drop, take}
+use Rattle.lists.proofs.Kit.{ℕ, _+_, _/_, _%_, _≤_, _≡_, refl, sym, subst, List, [], _∷_, arith, length, drop, take}
 use Rattle.lists.specs.Bytes.{Bytes}
 use Rattle.lists.specs.Every.{All}
 use Rattle.lists.proofs.Every.{all-turn}

@@ -1,10 +1,5 @@
 -- The heads of slots, and which slots are in range. Assumes nothing.
-use Prim.Native.Nat.{ℕ, _≤_}
-use mathlib.Core.Path.{_≡_, refl, sym, subst}
-use mathlib.Core.Bool.{Bool, true, false}
-use mathlib.Core.Logic.{_≢_}
-use mathlib.Core.List.{[], _∷_}
-use native.Mathlib.Omega.{arith}
+use Rattle.lists.proofs.Kit.{ℕ, _≤_, _≡_, refl, sym, subst, Bool, true, false, _≢_, [], _∷_, arith}
 use Rattle.writing.specs.declared.Coding.{Coding}
 use Rattle.writing.specs.declared.Kind.the-variants.{Group, Individual}
 use Rattle.writing.specs.declared.Operation.{Operation}
@@ -12,7 +7,7 @@ use Rattle.writing.specs.declared.Operation.the-variants.{Add, Delete, Replace}
 use Rattle.writing.specs.Fields.{val, res}
 use Rattle.writing.specs.Ranges.{InAddress, InSlot}
 use Rattle.writing.specs.Writing.{flag, op, op-code, text}
-use Rattle.read_fields.specs.Parts.{AddressRefused}
+use Rattle.read_fields.specs.TextsAndNumbers.{AddressRefused}
 use Rattle.writing.proofs.Unique.{one-op}
 use Rattle.settings.proofs.BodyLaws.{Headed}
 use Rattle.read_bodies.specs.Refused.{SlotRefused}

@@ -16,7 +16,7 @@ use writing::LastFlags;
 use writing::SystemCode;
 ghost use Prim.Native.Nat.{ℕ};
 ghost use Rattle.read_bodies.specs.Targets.{TargetIs};
-ghost use Rattle.settings.specs.Settings.{BodyAt};
+ghost use Rattle.settings.specs.Meant.{BodyAt};
 ghost use Rattle.writing.specs.declared.Coding.{Coding};
 ghost use Rattle.writing.specs.declared.Kind.{Kind};
 

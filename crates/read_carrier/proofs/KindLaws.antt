@@ -1,18 +1,9 @@
 -- A message is one of the kinds that `writing/specs/Carrier.antt` tells apart, and of no two of them. Assumes nothing.
-use Prim.Native.Nat.{ℕ, _≤_}
-use mathlib.Core.Path.{_≡_, refl, sym, ap, _∙_, subst, subst⁻¹}
-use mathlib.Core.Logic.{_≢_, _⊎_, ⊎-elim}
-use mathlib.Core.Bool.{Bool, true, false}
-use mathlib.Core.List.{List, _++_}
-use native.Mathlib.Omega.{arith}
-use lib.Dec.{ltb}
-use lib.ListN.{length, drop}
-use lib.Seq.{drop-append-seam}
-use borrow.Author.Tests.{ltb-true, ltb-false}
+use Rattle.lists.proofs.Kit.{ℕ, _≤_, _≡_, refl, sym, ap, _∙_, subst, subst⁻¹, _≢_, _⊎_, ⊎-elim, Bool, true, false, List, _++_, arith, ltb, length, drop, drop-append-seam, ltb-true, ltb-false}
 use Rattle.lists.specs.Bytes.{Bytes}
 use Rattle.lists.proofs.Bytes.{bytes-drop}
 use Rattle.writing.specs.Settings.{Hash, unicode16}
-use Rattle.writing.specs.Carrier.{start, Carries, coding-type, Opens, Counted, RequestOf, Query, InSize, OtherKind, OtherType, OtherVersion, NoRequest, NoQuery}
+use Rattle.writing.specs.Carrier.{start-bytes, Carries, coding-type, Opens, Counted, RequestOf, Query, InSize, OtherKind, OtherType, OtherVersion, NoRequest, NoQuery}
 use Rattle.read_carrier.proofs.CarrierLaws.{carries-one}
 use Rattle.read_carrier.proofs.MessageOne.{opens-one, counted-one, counted-opens, query-opens}
 
@@ -34,7 +25,7 @@ bytes-right a b h = subst Bytes (drop-append-seam a b) (bytes-drop (length a) (a
 -- a request's settings are bytes where the message is
 pub request-bytes : {n : ℕ} {s m : List ℕ} → RequestOf n s m → Bytes m → Bytes s
 request-bytes {n} {s} {m} q h =
-    let d : Bytes (q .data-bytes) = bytes-right (start ++ q .carried .header) (q .data-bytes) (subst Bytes (q .carried .whole) h) in
+    let d : Bytes (q .data-bytes) = bytes-right (start-bytes ++ q .carried .header) (q .data-bytes) (subst Bytes (q .carried .whole) h) in
     bytes-right (q .counted .head) s (subst Bytes (q .counted .parts) d)
 
 -- NOT BOTH: no request is a result query

@@ -1,14 +1,5 @@
 -- A message is one thing: two answers that its contract allows are equal. Assumes nothing.
-use Prim.Native.Nat.{ℕ, zero, suc, _+_, _*_}
-use mathlib.Core.Path.{_≡_, refl, sym, ap, ap₂, _∙_, subst, subst⁻¹}
-use mathlib.Core.Logic.{_≢_, _⊎_, ⊎-elim}
-use mathlib.Core.List.{List, [], _∷_, _++_, map, append-nil}
-use mathlib.Core.Bool.{cond}
-use native.Mathlib.Nat.{mul-comm}
-use native.Mathlib.Omega.{arith}
-use lib.Dec.{eqb}
-use lib.ListN.{length, drop, length-append}
-use borrow.Author.Tests.{ne-eqb}
+use Rattle.lists.proofs.Kit.{ℕ, zero, suc, _+_, _*_, _≡_, refl, sym, ap, ap₂, _∙_, subst, subst⁻¹, _≢_, _⊎_, ⊎-elim, List, [], _∷_, _++_, map, append-nil, cond, mul-comm, arith, eqb, length, drop, length-append, ne-eqb}
 use Rattle.lists.proofs.Seqs.{cut}
 use Rattle.writing.specs.Fields.{bits, bitsOf, Field, val, res, Shows, widths}
 use Rattle.writing.specs.Settings.{Hash, unicode16}
@@ -17,7 +8,7 @@ use Rattle.writing.specs.Ranges.{HashSize}
 use Rattle.writing.specs.Carrier.{Carries, coding-type, first-byte, Opens, Counted, query, Query, InSize}
 use Rattle.writing.proofs.Bits.{shows-length, shows-split, widths-map}
 use Rattle.writing.proofs.Ends.{Agree, val-ends, res-ends, vals-end}
-use Rattle.read_fields.specs.Places.{PartAt}
+use Rattle.read_fields.specs.Places.{FieldsAt}
 use Rattle.read_carrier.specs.Message.{OpenedIs, MessageIs}
 use Rattle.read_fields.specs.declared.hashes.HashPlace.{HashPlace}
 use Rattle.read_carrier.specs.declared.carrier.Message.{Message}
@@ -121,7 +112,7 @@ data RequestOr (c : ℕ) (x m : List ℕ) : Message → Type 0 where
 -- a query, or none
 data QueryOr (m : List ℕ) : Message → Type 0 where
   no-query : ((h : Hash) → Query h m → ⊥) → QueryOr m NoQuery
-  a-query : {p : HashPlace} (h : Hash) → Query h m → h .code ≡ p .code → PartAt (map (val 8) (h .value)) m (p .start) (length m) → QueryOr m (AQuery p)
+  a-query : {p : HashPlace} (h : Hash) → Query h m → h .code ≡ p .code → FieldsAt (map (val 8) (h .value)) m (p .start) (length m) → QueryOr m (AQuery p)
 
 -- a request is one
 request-one : {c : ℕ} {x m : List ℕ} {a b : Message} → RequestOr c x m a → RequestOr c x m b → a ≡ b
@@ -131,7 +122,7 @@ request-one (a-request e k z) (no-request n) = absurd (n _ _ e k)
 request-one (a-request e k z) (a-request d l y) = ap₂ Request (counted-one k l .0) (z ∙ sym y)
 
 -- a hash value starts as far before the message's end as it is long
-value-start : (v m : List ℕ) (from : ℕ) → PartAt (map (val 8) v) m from (length m) → length m ≡ from + length v
+value-start : (v m : List ℕ) (from : ℕ) → FieldsAt (map (val 8) v) m from (length m) → length m ≡ from + length v
 value-start v m from p =
     let w : widths (map (val 8) v) ≡ 8 * length v = widths-map (val 8) 8 (λ u. refl) v ∙ mul-comm (length v) 8 in
     p .ends ∙ ap (λ (i : ℕ). from + i) (wide-bytes (map (val 8) v) (length v) (p .bytes) w (p .written))

@@ -1,10 +1,5 @@
 -- Entries at a place: a number and a text, or a byte and a text. Assumes nothing.
-use Prim.Native.Nat.{ℕ, zero, suc, _+_, _*_, _/_, _%_, _^_, _≤_, _<_}
-use mathlib.Core.Path.{_≡_, refl, sym, ap, _∙_, subst, subst⁻¹}
-use mathlib.Core.List.{List, [], _∷_, _++_}
-use native.Mathlib.Nat.{mod-eq-of-lt}
-use native.Mathlib.Omega.{arith}
-use lib.ListN.{length, drop, take}
+use Rattle.lists.proofs.Kit.{ℕ, zero, suc, _+_, _*_, _/_, _%_, _^_, _≤_, _<_, _≡_, refl, sym, ap, _∙_, subst, subst⁻¹, List, [], _∷_, _++_, mod-eq-of-lt, arith, length, drop, take}
 use Rattle.lists.specs.Bytes.{Bytes}
 use Rattle.writing.specs.Fields.{Field, val, res, widths}
 use Rattle.writing.specs.Ranges.{TextLimits, text-limits, InContact, InNumber}
@@ -14,8 +9,8 @@ use Rattle.writing.specs.Writing.{text, number, contact, quick-text, status-tex
 use Rattle.writing.proofs.Ends.{Ends}
 use Rattle.writing.proofs.Unique.{number-ends, text-ends, contact-ends, quick-ends, status-ends}
 use Rattle.writing.proofs.Whole.{number-whole, entry-whole, contact-whole}
-use Rattle.read_fields.specs.Places.{PartAt, be}
-use Rattle.read_fields.specs.Parts.{TextIs, TextAt, NumberIs, NumberAt}
+use Rattle.read_fields.specs.Places.{FieldsAt, be}
+use Rattle.read_fields.specs.TextsAndNumbers.{TextIs, TextAt, NumberIs, NumberAt}
 use Rattle.read_fields.specs.Entries.{ContactIs, EntryIs, ContactAt, EntryAt, EntryOf, form-of, range-of, PassAt}
 use Rattle.read_fields.specs.declared.numbers.NumberPlace.{NumberPlace}
 use Rattle.read_fields.specs.declared.numbers.NumberRead.{NumberRead}
@@ -38,8 +33,8 @@ use Rattle.read_fields.proofs.Walk.{one-part}
 
 module _ (c : Coding) (k : TextLimits) (m : List ℕ) (at : ℕ) where
   -- a contact is a number and then a text
-  contact-parts : (e : Contact) (next : ℕ) → PartAt (contact c e) m at next
-      → (q : ℕ) × PartAt (number (e .number)) m at q × PartAt (text c (e .text)) m q next
+  contact-parts : (e : Contact) (next : ℕ) → FieldsAt (contact c e) m at next
+      → (q : ℕ) × FieldsAt (number (e .number)) m at q × FieldsAt (text c (e .text)) m q next
   contact-parts e next x =
       let (n, w) = number-whole (e .number) in
       let (a, b) = part-split (number (e .number)) (text c (e .text)) m at n next w x in
@@ -57,9 +52,9 @@ module _ (c : Coding) (k : TextLimits) (m : List ℕ) (at : ℕ) where
     no-contact-text t d x next i y =
         let (ds, s, j, is) = subst (NumberAt m at) e n in
         let (q′, a, b) = contact-parts x next y in
-        let z : PartAt (number ds) m at q = subst (λ (z : ℕ). PartAt (number ds) m z q) s (is .stands) in
+        let z : FieldsAt (number ds) m at q = subst (λ (z : ℕ). FieldsAt (number ds) m z q) s (is .stands) in
         let same : q ≡ q′ = one-part number number-ends ds (x .number) m at q q′ z a .1 in
-        subst (TextAt c m q (k .short)) d t (x .text) next (i .1) (subst (λ (z : ℕ). PartAt (text c (x .text)) m z next) (sym same) b)
+        subst (TextAt c m q (k .short)) d t (x .text) next (i .1) (subst (λ (z : ℕ). FieldsAt (text c (x .text)) m z next) (sym same) b)
 
     -- the contact where both do
     pub the-contact : {t : TextRead} (u : TextPlace) (next : ℕ) → TextAt c m q (k .short) t → t ≡ AText u next
@@ -70,7 +65,7 @@ module _ (c : Coding) (k : TextLimits) (m : List ℕ) (at : ℕ) where
           record { number = ds; text = us },
           (j, l),
           record { middle = q; end = next; number = is; text = tis },
-          part-join (number ds) (text c us) m at q next (subst (λ (z : ℕ). PartAt (number ds) m z q) s (is .stands)) there,
+          part-join (number ds) (text c us) m at q next (subst (λ (z : ℕ). FieldsAt (number ds) m z q) s (is .stands)) there,
         )
 
 -- ---- an index or a code in one byte, and a text
@@ -117,8 +112,8 @@ module _ (head : ℕ → List Field) (index : ℕ → ℕ) (one : OneByte head i
   form e = head (e .index) ++ text c (e .text)
 
   -- an entry is a byte and then a text
-  entry-parts : (e : Entry) (next : ℕ) → PartAt (form e) m at next
-      → (at + 1 ≤ length m) × (e .index ≡ index (be 0 (take 1 (drop at m)))) × PartAt (text c (e .text)) m (at + 1) next
+  entry-parts : (e : Entry) (next : ℕ) → FieldsAt (form e) m at next
+      → (at + 1 ≤ length m) × (e .index ≡ index (be 0 (take 1 (drop at m)))) × FieldsAt (text c (e .text)) m (at + 1) next
   entry-parts e next x =
       let (r, k, y) = head-out (head (e .index)) (text c (e .text)) m at 1 (one .wide (e .index)) (omega arith) h next x in
       (r, one .says (e .index) _ k, y)

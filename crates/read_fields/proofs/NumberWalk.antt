@@ -1,10 +1,5 @@
 -- Reading a line number byte by byte, two digits each. Assumes nothing.
-use Prim.Native.Nat.{ℕ, zero, suc, _+_, _*_, _/_, _%_, _^_, _≤_, _<_}
-use mathlib.Core.Path.{_≡_, refl, sym, ap, ap₂, _∙_, subst, subst⁻¹}
-use mathlib.Core.Logic.{_≢_}
-use mathlib.Core.List.{List, [], _∷_, _++_, append-nil}
-use native.Mathlib.Omega.{arith}
-use lib.ListN.{length, drop, take, length-append}
+use Rattle.lists.proofs.Kit.{ℕ, zero, suc, _+_, _*_, _/_, _%_, _^_, _≤_, _<_, _≡_, refl, sym, ap, ap₂, _∙_, subst, subst⁻¹, _≢_, List, [], _∷_, _++_, append-nil, arith, length, drop, take, length-append}
 use Rattle.lists.specs.Bytes.{Bytes}
 use Rattle.lists.specs.Every.{All}
 use Rattle.lists.proofs.Every.{all-append, all-right}
@@ -12,8 +7,8 @@ use Rattle.writing.specs.Fields.{Field, val, item}
 use Rattle.writing.specs.Ranges.{InNumber}
 use Rattle.writing.specs.Writing.{number}
 use Rattle.writing.proofs.Unique.{number-ends}
-use Rattle.read_fields.specs.Places.{PartAt, be}
-use Rattle.read_fields.specs.Parts.{NumberAt, DigitsAre, EndedAt}
+use Rattle.read_fields.specs.Places.{FieldsAt, be}
+use Rattle.read_fields.specs.TextsAndNumbers.{NumberAt, DigitsAre, EndedAt}
 use Rattle.read_fields.specs.declared.numbers.NumberRead.{NumberRead}
 use Rattle.read_fields.specs.declared.numbers.NumberRead.the-variants.{Number as ANumber, NoNumber}
 use Rattle.read_fields.specs.declared.numbers.Digits.{Digits}
@@ -36,13 +31,13 @@ pub no-digit-yet : (m : List ℕ) (at : ℕ) → NumberPassed m at at 0
 no-digit-yet m at = record { done = []; counted = refl; in-range = tt; walked = not-yet number Any m at }
 
 -- a number that has ended is answered where it is in range, and no other stands there
-pub ended : (m : List ℕ) (at next count : ℕ) (r : NumberRead) (ds : List ℕ) → length ds ≡ count → All (_≤ 9) ds → PartAt (number ds) m at next
+pub ended : (m : List ℕ) (at next count : ℕ) (r : NumberRead) (ds : List ℕ) → length ds ≡ count → All (_≤ 9) ds → FieldsAt (number ds) m at next
     → EndedAt at count next r → NumberAt m at r
 ended m at next count (ANumber p after) ds l i x (a, b, s, d, e) = (
   ds,
   s,
   (omega arith, omega arith, i),
-  record { digits = l ∙ sym d; stands = subst (λ (k : ℕ). PartAt (number ds) m k after) (sym s) (subst (λ (k : ℕ). PartAt (number ds) m at k) (sym e) x) },
+  record { digits = l ∙ sym d; stands = subst (λ (k : ℕ). FieldsAt (number ds) m k after) (sym s) (subst (λ (k : ℕ). FieldsAt (number ds) m at k) (sym e) x) },
 )
 ended m at next count NoNumber ds l i x never = λ es after j y.
     let e : length ds ≡ length es = ap length (one-part number number-ends ds es m at next after x y .0) in
@@ -54,9 +49,9 @@ module _ (m : List ℕ) (at p count : ℕ) (h : Bytes m) (w : NumberPassed m at 
   abbrev Byte : List ℕ → ℕ → ℕ → Type 0
   Byte [] N next = N ≡ 255
   Byte (a ∷ []) N next = (a ≡ N / 16) × (N % 16 ≡ 15)
-  Byte (a ∷ b ∷ rest) N next = (a ≡ N / 16) × (b ≡ N % 16) × PartAt (number rest) m (p + 1) next
+  Byte (a ∷ b ∷ rest) N next = (a ≡ N / 16) × (b ≡ N % 16) × FieldsAt (number rest) m (p + 1) next
 
-  byte-out : (rest : List ℕ) (next : ℕ) → PartAt (number rest) m p next → (p + 1 ≤ length m) × Byte rest (be 0 (take 1 (drop p m))) next
+  byte-out : (rest : List ℕ) (next : ℕ) → FieldsAt (number rest) m p next → (p + 1 ≤ length m) × Byte rest (be 0 (take 1 (drop p m))) next
   byte-out [] next y =
       let (r, k, z) = head-out (val 4 15 ∷ val 4 15 ∷ []) [] m p 1 refl (omega arith) h next y in
       (r, omega (arith, be-small m p 1 h r, k .0, k .1 .0))
@@ -81,7 +76,7 @@ module _ (m : List ℕ) (at p count : ℕ) (h : Bytes m) (w : NumberPassed m at 
     small : N < 256
     small = rw byte (be-small m p 1 h room)
 
-    cases : (rest : List ℕ) (next : ℕ) → PartAt (number rest) m p next → Byte rest N next
+    cases : (rest : List ℕ) (next : ℕ) → FieldsAt (number rest) m p next → Byte rest N next
     cases rest next y = subst⁻¹ (λ (n : ℕ). Byte rest n next) byte (byte-out rest next y .1)
 
     -- two digits
@@ -96,7 +91,7 @@ module _ (m : List ℕ) (at p count : ℕ) (h : Bytes m) (w : NumberPassed m at 
           (λ ds next a x. on ds next x);
     }
       where
-        on : (ds : List ℕ) (next : ℕ) → PartAt (number ds) m p next → (rest : List ℕ) × (ds ≡ N / 16 ∷ N % 16 ∷ rest) × PartAt (number rest) m (p + 1) next
+        on : (ds : List ℕ) (next : ℕ) → FieldsAt (number ds) m p next → (rest : List ℕ) × (ds ≡ N / 16 ∷ N % 16 ∷ rest) × FieldsAt (number rest) m (p + 1) next
         on [] next x = absurd (omega (arith, cases [] next x))
         on (a ∷ []) next x = absurd (omega (arith, cases (a ∷ []) next x .1))
         on (a ∷ b ∷ ds) next x = let (e, d, y) = cases (a ∷ b ∷ ds) next x in (ds, ap₂ (λ (u v : ℕ). u ∷ v ∷ ds) e d, y)
@@ -121,7 +116,7 @@ module _ (m : List ℕ) (at p count : ℕ) (h : Bytes m) (w : NumberPassed m at 
     pub bad-digits : DigitsAre N Bad → NumberAt m at NoNumber
     bad-digits bad ds next (_, _, i) x = let (rest, e, y) = w .walked .on ds next tt x in by rest (all-right (_≤ 9) (w .done) rest (subst (All (_≤ 9)) e i)) y
       where
-        by : (rest : List ℕ) → All (_≤ 9) rest → PartAt (number rest) m p next → ⊥
+        by : (rest : List ℕ) → All (_≤ 9) rest → FieldsAt (number rest) m p next → ⊥
         by [] j y = bad .0 (cases [] next y)
         by (a ∷ []) j y = let (e, f) = cases (a ∷ []) next y in bad .1 (omega (arith, e, j .0)) .1 f
         by (a ∷ b ∷ rest) j y = let (e, f, z) = cases (a ∷ b ∷ rest) next y in bad .1 (omega (arith, e, j .0)) .0 (omega (arith, f, j .1 .0))

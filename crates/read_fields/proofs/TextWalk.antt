@@ -1,19 +1,13 @@
 -- Reading a text unit by unit. Assumes nothing.
-use Prim.Native.Nat.{ℕ, zero, suc, _+_, _*_, _/_, _%_, _^_, _≤_, _<_}
-use mathlib.Core.Path.{_≡_, refl, sym, ap, _∙_, subst, subst₂}
-use mathlib.Core.Logic.{_≢_}
-use native.Mathlib.Nat.{mod-eq-of-lt}
-use mathlib.Core.List.{List, [], _∷_, _++_, append-nil}
-use native.Mathlib.Omega.{arith}
-use lib.ListN.{length, drop, take, length-append}
+use Rattle.lists.proofs.Kit.{ℕ, zero, suc, _+_, _*_, _/_, _%_, _^_, _≤_, _<_, _≡_, refl, sym, ap, _∙_, subst, subst₂, _≢_, mod-eq-of-lt, List, [], _∷_, _++_, append-nil, arith, length, drop, take, length-append}
 use Rattle.lists.specs.Bytes.{Bytes}
 use Rattle.writing.specs.Fields.{Field, val, item}
 use Rattle.writing.specs.declared.Coding.{Coding}
 use Rattle.writing.specs.declared.Coding.the-variants.{Unicode16}
 use Rattle.writing.specs.Settings.{Text}
 use Rattle.writing.specs.Writing.{unit-width, text}
-use Rattle.read_fields.specs.Places.{PartAt, be}
-use Rattle.read_fields.specs.Parts.{TextIs, TextAt}
+use Rattle.read_fields.specs.Places.{FieldsAt, be}
+use Rattle.read_fields.specs.TextsAndNumbers.{TextIs, TextAt}
 use Rattle.read_fields.specs.declared.texts.TextPlace.{TextPlace}
 use Rattle.read_fields.specs.declared.texts.TextRead.{TextRead}
 use Rattle.read_fields.specs.declared.texts.TextRead.the-variants.{Text as AText, NoText}
@@ -55,10 +49,10 @@ module _ (c : Coding) (k : ℕ) (size : unit-width c ≡ 8 * k) (some : 0 < k) (
   wide = omega (arith, size)
 
   -- where no unit is left no text stands
-  pub no-unit : (p + k ≤ length m → ⊥) → (us : List ℕ) (next : ℕ) → PartAt (text c us) m at next → ⊥
+  pub no-unit : (p + k ≤ length m → ⊥) → (us : List ℕ) (next : ℕ) → FieldsAt (text c us) m at next → ⊥
   no-unit never us next x = let (rest, e, y) = w .walked .on us next tt x in by rest y
     where
-      by : (rest : List ℕ) → PartAt (text c rest) m p next → ⊥
+      by : (rest : List ℕ) → FieldsAt (text c rest) m p next → ⊥
       by [] y = never (head-out last [] m p k wide some h next y .0)
       by (u ∷ rest) y = never (head-out (unit-of u) (text c rest) m p k wide some h next y .0)
 
@@ -83,7 +77,7 @@ module _ (c : Coding) (k : ℕ) (size : unit-width c ≡ 8 * k) (some : 0 < k) (
           (λ us next a x. on us next x);
     }
       where
-        on : (us : List ℕ) (next : ℕ) → PartAt (text c us) m p next → (rest : List ℕ) × (us ≡ u ∷ rest) × PartAt (text c rest) m (p + k) next
+        on : (us : List ℕ) (next : ℕ) → FieldsAt (text c us) m p next → (rest : List ℕ) × (us ≡ u ∷ rest) × FieldsAt (text c rest) m (p + k) next
         on [] next x =
             let (r, k, y) = head-out last [] m p k wide some h next x in
             absurd (n (sym cut-is ∙ subst (Cut last) (sym unit) k .0))
@@ -100,7 +94,7 @@ module _ (c : Coding) (k : ℕ) (size : unit-width c ≡ 8 * k) (some : 0 < k) (
       omega (arith, w .counted),
       record {
         units = w .counted;
-        stands = subst (λ (us : List ℕ). PartAt (text c us) m at (p + k)) (append-nil (w .done))
+        stands = subst (λ (us : List ℕ). FieldsAt (text c us) m at (p + k)) (append-nil (w .done))
             (w .walked .back [] (p + k) (head-in last [] m p k wide some h (p + k) room
             (subst (Cut last) unit (cut-is ∙ z, tt)) (nothing m (p + k))));
       },
@@ -110,7 +104,7 @@ module _ (c : Coding) (k : ℕ) (size : unit-width c ≡ 8 * k) (some : 0 < k) (
 
 -- it stands where it was read, under the coding that was asked for
 pub text-read : (c : Coding) (m : List ℕ) (at limit : ℕ) {r : TextRead} (p : TextPlace) (next : ℕ) → TextAt c m at limit r → r ≡ AText p next
-    → (us : Text) × (length us ≤ limit) × TextIs m p us next × PartAt (text c us) m at next
+    → (us : Text) × (length us ≤ limit) × TextIs m p us next × FieldsAt (text c us) m at next
 text-read c m at limit p next t e =
     let (us, s, d, l, is) = subst (TextAt c m at limit) e t in
-    (us, l, is, subst₂ (λ (x : Coding) (z : ℕ). PartAt (text x us) m z next) d s (is .stands))
+    (us, l, is, subst₂ (λ (x : Coding) (z : ℕ). FieldsAt (text x us) m z next) d s (is .stands))

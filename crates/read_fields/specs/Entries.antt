@@ -10,8 +10,8 @@ use Rattle.writing.specs.declared.Coding.{Coding}
 use Rattle.writing.specs.Settings.{Contact, Entry}
 use Rattle.writing.specs.Writing.{contact, quick-text, status-text, fill}
 use Rattle.writing.specs.Ranges.{TextLimits, InContact, InStatus, InChannel}
-use Rattle.read_fields.specs.Places.{PartAt}
-use Rattle.read_fields.specs.Parts.{TextIs, NumberIs}
+use Rattle.read_fields.specs.Places.{FieldsAt}
+use Rattle.read_fields.specs.TextsAndNumbers.{TextIs, NumberIs}
 use Rattle.read_fields.specs.declared.entries.ContactPlace.{ContactPlace}
 use Rattle.read_fields.specs.declared.entries.ContactRead.{ContactRead}
 use Rattle.read_fields.specs.declared.entries.ContactRead.the-variants.{Contact as AContact, NoContact}
@@ -40,13 +40,13 @@ pub record EntryIs (m : List ℕ) (p : EntryPlace) (e : Entry) : Type 0 where
 
 -- a contact in range stands at `at`, or none does
 abbrev pub ContactAt : Coding → TextLimits → List ℕ → ℕ → ContactRead → Type 0
-ContactAt c k m at (AContact p next) = (e : Contact) × InContact k e × ContactIs m p e × PartAt (contact c e) m at next
-ContactAt c k m at NoContact = (e : Contact) (next : ℕ) → InContact k e → PartAt (contact c e) m at next → ⊥
+ContactAt c k m at (AContact p next) = (e : Contact) × InContact k e × ContactIs m p e × FieldsAt (contact c e) m at next
+ContactAt c k m at NoContact = (e : Contact) (next : ℕ) → InContact k e → FieldsAt (contact c e) m at next → ⊥
 
 -- an entry of this form and range stands at `at`, or none does
 abbrev pub EntryAt : (Entry → List Field) → (Entry → Type 0) → List ℕ → ℕ → EntryRead → Type 0
-EntryAt form In m at (AnEntry p next) = (e : Entry) × In e × EntryIs m p e × PartAt (form e) m at next
-EntryAt form In m at NoEntry = (e : Entry) (next : ℕ) → In e → PartAt (form e) m at next → ⊥
+EntryAt form In m at (AnEntry p next) = (e : Entry) × In e × EntryIs m p e × FieldsAt (form e) m at next
+EntryAt form In m at NoEntry = (e : Entry) (next : ℕ) → In e → FieldsAt (form e) m at next → ⊥
 
 -- a quick text of at least so many units: 1, or 0 in a delete
 abbrev pub QuickFrom : TextLimits → ℕ → Entry → Type 0
@@ -64,7 +64,7 @@ StatusAt c k = EntryAt (status-text c) (InStatus k)
 pub record Stand {A : Type 0} (form : List A → List Field) (In : A → Type 0) (m : List ℕ) (at count next : ℕ) (es : List A) : Type 0 where
   pub counted : length es ≡ count
   pub in-range : All In es
-  pub stands : PartAt (form es) m at next
+  pub stands : FieldsAt (form es) m at next
 
 -- they stand there, or none do
 abbrev pub WalkAt : {A : Type 0} → (List A → List Field) → (A → Type 0) → List ℕ → ℕ → ℕ → Walk → Type 0
@@ -92,8 +92,8 @@ EntriesAt l c k = WalkAt (each (form-of l c)) (range-of l k)
 
 -- one in range stands at `at`, up to a place, or none does
 abbrev pub PassAt : {A : Type 0} → (A → List Field) → (A → Type 0) → List ℕ → ℕ → Walk → Type 0
-PassAt {A} form In m at (To next) = (a : A) × In a × PartAt (form a) m at next
-PassAt {A} form In m at Stopped = (a : A) (next : ℕ) → In a → PartAt (form a) m at next → ⊥
+PassAt {A} form In m at (To next) = (a : A) × In a × FieldsAt (form a) m at next
+PassAt {A} form In m at Stopped = (a : A) (next : ℕ) → In a → FieldsAt (form a) m at next → ⊥
 
 -- "each 12 bits; 4 bits 1111 if Count is odd"
 abbrev pub channel-list : List ℕ → List Field

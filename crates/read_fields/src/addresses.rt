@@ -1,5 +1,5 @@
 // Which addresses are in range.
-ghost use Rattle.read_fields.specs.Parts.{AddressRefused};
+ghost use Rattle.read_fields.specs.TextsAndNumbers.{AddressRefused};
 
 // Whether an address is below 100000 hex, or its low 15 bits are 0.
 pub fn address_refused(address: u32) -> bool

@@ -2,7 +2,7 @@
 use super::bytes::number;
 use super::bytes::remaining;
 use writing::Coding;
-ghost use Rattle.read_fields.specs.Parts.{TextAt};
+ghost use Rattle.read_fields.specs.TextsAndNumbers.{TextAt};
 
 // The units before the end unit, and the coding that they were read under.
 pub struct TextPlace {

@@ -1,10 +1,5 @@
 -- A setting at a place: its type byte, DataLength and fields. Assumes nothing.
-use Prim.Native.Nat.{ℕ, _+_, _-_, _/_, _%_, _≤_, _<_}
-use mathlib.Core.Path.{_≡_, refl, sym, ap, _∙_, subst, subst⁻¹}
-use mathlib.Core.List.{List, [], _∷_}
-use mathlib.Core.Option.{Option, none, some}
-use native.Mathlib.Omega.{arith}
-use lib.ListN.{length, getD, drop, take}
+use Rattle.lists.proofs.Kit.{ℕ, _+_, _-_, _/_, _%_, _≤_, _<_, _≡_, refl, sym, ap, _∙_, subst, subst⁻¹, List, [], _∷_, Option, none, some, arith, length, getD, drop, take}
 use Rattle.lists.specs.Bytes.{Bytes}
 use Rattle.writing.specs.declared.Coding.{Coding}
 use Rattle.writing.specs.declared.Coding.the-variants.{Unicode16}
@@ -12,7 +7,7 @@ use Rattle.writing.specs.declared.Kind.{Kind}
 use Rattle.writing.specs.declared.Kind.the-variants.{Lines, Key, QuickTexts, Home, Channels, System, StatusTexts, Group, Individual, Last}
 use Rattle.writing.specs.Fields.{val}
 use Rattle.writing.specs.Ranges.{text-limits, HashSize, InRange}
-use Rattle.writing.specs.Rows.{row, AtMost, Within}
+use Rattle.writing.specs.Bounds.{bounds, AtMost, Within}
 use Rattle.writing.specs.Settings.{Setting, kind, unicode16}
 use Rattle.writing.specs.Writing.{type-byte, body, data-length}
 use Rattle.writing.proofs.Bits.{length-bitsOf, shows-length}
@@ -21,13 +16,13 @@ use Rattle.writing.proofs.Ends.{all-read}
 use Rattle.writing.proofs.Lengths.{within-row}
 use Rattle.writing.proofs.Unique.{one-kind, Sized, body-ends}
 use Rattle.writing.proofs.Whole.{body-whole}
-use Rattle.read_fields.specs.Places.{PartAt, StandsAt, be}
-use Rattle.settings.specs.Rows.{RowIs, RowAt, most-of}
-use Rattle.settings.specs.Settings.{BodyAt}
-use Rattle.read_setting.specs.Settings.{SettingAt}
-use Rattle.settings.specs.declared.rows.Row.{Row}
-use Rattle.settings.specs.declared.rows.RowRead.{RowRead}
-use Rattle.settings.specs.declared.rows.RowRead.the-variants.{Found, Unknown as NoRow}
+use Rattle.read_fields.specs.Places.{FieldsAt, StandsAt, be}
+use Rattle.settings.specs.TypeTable.{BoundsAre, BoundsAt, most-of}
+use Rattle.settings.specs.Meant.{BodyAt}
+use Rattle.read_setting.specs.SettingAt.{SettingAt}
+use Rattle.settings.specs.declared.type_table.Bounds.{Bounds}
+use Rattle.settings.specs.declared.type_table.BoundsRead.{BoundsRead}
+use Rattle.settings.specs.declared.type_table.BoundsRead.the-variants.{Found, Unknown as NoRow}
 use Rattle.settings.specs.declared.settings.Setting.{Setting as Read}
 use Rattle.settings.specs.declared.settings.BodyRead.{BodyRead}
 use Rattle.settings.specs.declared.settings.BodyRead.the-variants.{Body, NoBody}
@@ -40,18 +35,18 @@ use Rattle.read_fields.proofs.Walk.{agree-at, ends-at}
 -- ---- fields by their row
 
 -- the fields of the row's kind are the fields of the kind that its type byte says
-pub by-row : (c : Coding) (K k : Kind) (r : Row) (left : ℕ) (m : List ℕ) (p : ℕ) (b : BodyRead) → RowIs k r → r .«type_byte» ≡ type-byte K → (RowIs K r → BodyAt c K left m p b)
+pub by-row : (c : Coding) (K k : Kind) (r : Bounds) (left : ℕ) (m : List ℕ) (p : ℕ) (b : BodyRead) → BoundsAre k r → r .«type_byte» ≡ type-byte K → (BoundsAre K r → BodyAt c K left m p b)
     → BodyAt c k left m p b
 by-row c K k r left m p b is e f =
     let same : k ≡ K = one-kind k K (sym (is .type) ∙ e) in
-    subst⁻¹ (λ (l : Kind). BodyAt c l left m p b) same (f (subst (λ (l : Kind). RowIs l r) same is))
+    subst⁻¹ (λ (l : Kind). BodyAt c l left m p b) same (f (subst (λ (l : Kind). BoundsAre l r) same is))
 
 -- ---- two settings of one kind
 
 module _ (c : Coding) (left : ℕ) (m : List ℕ) (p next after : ℕ) (h : Bytes m) where
   -- hash values in range at one place are of one length, since the same code stands before them
   sized-in : (k : Kind) (x y : Contents k) → InRange text-limits left (make k x) → InRange text-limits left (make k y)
-      → PartAt (body c (make k x)) m p next → PartAt (body c (make k y)) m p after → Sized k x y
+      → FieldsAt (body c (make k x)) m p next → FieldsAt (body c (make k y)) m p after → Sized k x y
   sized-in Lines x y i j a b = tt
   sized-in Key x y i j a b = tt
   sized-in QuickTexts x y i j a b = tt
@@ -69,12 +64,12 @@ module _ (c : Coding) (left : ℕ) (m : List ℕ) (p next after : ℕ) (h : Byte
 
   -- two settings of one kind, both in range, whose fields stand at one place, are equal and end at one place
   pub body-one : (k : Kind) (s t : Setting) → kind s ≡ k → kind t ≡ k → InRange text-limits left s → InRange text-limits left t
-      → PartAt (body c s) m p next → PartAt (body c t) m p after → (s ≡ t) × (next ≡ after)
+      → FieldsAt (body c s) m p next → FieldsAt (body c t) m p after → (s ≡ t) × (next ≡ after)
   body-one k s t ks kt i j a b =
       let (x, d) = of-kind k s ks in
       let (y, e) = of-kind k t kt in
-      let a′ : PartAt (body c (make k x)) m p next = subst (λ (z : Setting). PartAt (body c z) m p next) d a in
-      let b′ : PartAt (body c (make k y)) m p after = subst (λ (z : Setting). PartAt (body c z) m p after) e b in
+      let a′ : FieldsAt (body c (make k x)) m p next = subst (λ (z : Setting). FieldsAt (body c z) m p next) d a in
+      let b′ : FieldsAt (body c (make k y)) m p after = subst (λ (z : Setting). FieldsAt (body c z) m p after) e b in
       let n : Sized k x y = sized-in k x y (subst (InRange text-limits left) d i) (subst (InRange text-limits left) e j) a′ b′ in
       let (same, z) = body-ends c k x y n (agree-at (body c (make k x)) (body c (make k y)) m p next after a′ b′) in
       (d ∙ ap (make k) same ∙ sym e, ends-at (body c (make k x)) (body c (make k y)) m p next after a′ b′ (all-read z))
@@ -93,7 +88,7 @@ module _ (c : Coding) (m : List ℕ) (at : ℕ) (h : Bytes m) where
   -- the parts of a setting that stands there
   pub setting-out : (s : Setting) (next : ℕ) → StandsAt c m at next s
       → (at + 3 ≤ length m) × (type-byte (kind s) ≡ getD m at 0) × (data-length c s ≡ be 0 (take 2 (drop (at + 1) m)))
-      × PartAt (body c s) m (at + 3) next
+      × FieldsAt (body c s) m (at + 3) next
   setting-out s next x =
       let (r, k, y) = head-out (val 8 (type-byte (kind s)) ∷ val 16 (data-length c s) ∷ []) (body c s) m at 3 refl (omega arith) h next x in
       let (a, b) = first-of-three r in
@@ -102,7 +97,7 @@ module _ (c : Coding) (m : List ℕ) (at : ℕ) (h : Bytes m) where
 
   -- the setting where its parts stand there
   pub setting-in : (s : Setting) (next : ℕ) → at + 3 ≤ length m → type-byte (kind s) ≡ getD m at 0
-      → data-length c s ≡ be 0 (take 2 (drop (at + 1) m)) → PartAt (body c s) m (at + 3) next → StandsAt c m at next s
+      → data-length c s ≡ be 0 (take 2 (drop (at + 1) m)) → FieldsAt (body c s) m (at + 3) next → StandsAt c m at next s
   setting-in s next r e d y =
       let (a, b) = first-of-three r in
       let t : getD m at 0 < 256 = h at in
@@ -110,7 +105,7 @@ module _ (c : Coding) (m : List ℕ) (at : ℕ) (h : Bytes m) where
       (omega (arith, a), (omega (arith, b), tt)) y
 
   -- DataLength is what the fields take, and itself
-  pub length-is : (s : Setting) (next : ℕ) → PartAt (body c s) m (at + 3) next → next ≡ at + 1 + data-length c s
+  pub length-is : (s : Setting) (next : ℕ) → FieldsAt (body c s) m (at + 3) next → next ≡ at + 1 + data-length c s
   length-is s next y =
       let (n, e) = body-whole c s in
       omega (arith, y .ends, length-bitsOf (y .bytes), shows-length (body c s) _ (y .written))
@@ -127,22 +122,22 @@ one-row Unicode16 = refl
 -- ---- the answers of read_setting
 
 -- the type byte is none of the ten
-pub no-type : (c : Coding) (left : ℕ) (m : List ℕ) (at : ℕ) {f : RowRead} → at < length m → RowAt (getD m at 0) f → f ≡ NoRow → SettingAt c left m at Unknown
-no-type c left m at l found e = (l, subst (RowAt (getD m at 0)) e found)
+pub no-type : (c : Coding) (left : ℕ) (m : List ℕ) (at : ℕ) {f : BoundsRead} → at < length m → BoundsAt (getD m at 0) f → f ≡ NoRow → SettingAt c left m at Unknown
+no-type c left m at l found e = (l, subst (BoundsAt (getD m at 0)) e found)
 
-module _ (c : Coding) (left : ℕ) (m : List ℕ) (at : ℕ) (h : Bytes m) {f : RowRead} (r : Row) (found : RowAt (getD m at 0) f) (e : f ≡ Found r) where
+module _ (c : Coding) (left : ℕ) (m : List ℕ) (at : ℕ) (h : Bytes m) {f : BoundsRead} (r : Bounds) (found : BoundsAt (getD m at 0) f) (e : f ≡ Found r) where
   -- the row's kind, which the type byte says
-  the-row : (k : Kind) × (type-byte k ≡ getD m at 0) × RowIs k r
-  the-row = subst (RowAt (getD m at 0)) e found
+  the-row : (k : Kind) × (type-byte k ≡ getD m at 0) × BoundsAre k r
+  the-row = subst (BoundsAt (getD m at 0)) e found
 
   -- the row of every coding is the code's
-  row-within : (s : Setting) → InRange text-limits left s → Within (row unicode16 text-limits (kind s)) (data-length c s)
-  row-within s i = subst (λ (d : Coding). Within (row d text-limits (kind s)) (data-length c s)) (one-row c) (within-row c text-limits left s i)
+  row-within : (s : Setting) → InRange text-limits left s → Within (bounds unicode16 text-limits (kind s)) (data-length c s)
+  row-within s i = subst (λ (d : Coding). Within (bounds d text-limits (kind s)) (data-length c s)) (one-row c) (within-row c text-limits left s i)
 
   -- none stands there where none of the row's kind has this DataLength and fields
   no-setting : at < length m
-      → ((s : Setting) (next : ℕ) → RowIs (kind s) r → InRange text-limits left s → at + 3 ≤ length m → data-length c s ≡ be 0 (take 2 (drop (at + 1) m))
-      → PartAt (body c s) m (at + 3) next → ⊥)
+      → ((s : Setting) (next : ℕ) → BoundsAre (kind s) r → InRange text-limits left s → at + 3 ≤ length m → data-length c s ≡ be 0 (take 2 (drop (at + 1) m))
+      → FieldsAt (body c s) m (at + 3) next → ⊥)
       → SettingAt c left m at BadField
   no-setting l never =
       let (k, t, is) = the-row in (
@@ -151,7 +146,7 @@ module _ (c : Coding) (left : ℕ) (m : List ℕ) (at : ℕ) (h : Bytes m) {f : 
         t,
         λ s next i x.
             let (room, u, d, y) = setting-out c m at h s next x in
-            never s next (subst (λ (z : Kind). RowIs z r) (one-kind k (kind s) (t ∙ sym u)) is) i room d y,
+            never s next (subst (λ (z : Kind). BoundsAre z r) (one-kind k (kind s) (t ∙ sym u)) is) i room d y,
       )
 
   -- none where fewer than three bytes are left
@@ -169,9 +164,9 @@ module _ (c : Coding) (left : ℕ) (m : List ℕ) (at : ℕ) (h : Bytes m) {f : 
     too-much l =
         let small : be 0 (take 2 (drop (at + 1) m)) < 65536 = be-small m (at + 1) 2 h (omega arith) in
         no-setting (omega arith) (λ s next is i room d y.
-        omega (arith, is .most, at-most (row unicode16 text-limits (kind s) .most) (data-length c s) (row-within s i .most) (omega (arith, small, d))))
+        omega (arith, is .most, at-most (bounds unicode16 text-limits (kind s) .most) (data-length c s) (row-within s i .most) (omega (arith, small, d))))
 
-    module _ {b : BodyRead} (fields : (k : Kind) → RowIs k r → BodyAt c k left m (at + 3) b) where
+    module _ {b : BodyRead} (fields : (k : Kind) → BoundsAre k r → BodyAt c k left m (at + 3) b) where
       -- none where no fields of the row's kind stand after DataLength
       pub no-fields : b ≡ NoBody → SettingAt c left m at BadField
       no-fields z =

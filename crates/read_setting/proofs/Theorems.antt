@@ -1,9 +1,5 @@
 -- What reading a setting answers, over any message of bytes, place and count: exactly the setting that stands there, and only one answer. Assumes nothing.
-use Prim.Native.Nat.{ℕ}
-use mathlib.Core.Path.{_≡_, refl, sym, ap, _∙_, subst}
-use mathlib.Core.List.{List, [], map}
-use native.Mathlib.Omega.{arith}
-use lib.ListN.{length}
+use Rattle.lists.proofs.Kit.{ℕ, _≡_, refl, sym, ap, _∙_, subst, List, [], map, arith, length}
 use Rattle.lists.specs.Bytes.{Bytes}
 use Rattle.writing.specs.declared.Coding.{Coding}
 use Rattle.writing.specs.Fields.{Field, val, each}
@@ -14,8 +10,8 @@ use Rattle.writing.proofs.Ends.{Ends, each-ends, vals-end, regroup}
 use Rattle.writing.proofs.Unique.{text-ends, contact-ends, quick-ends, status-ends, setting-ends}
 use Rattle.read_fields.specs.Entries.{channel-list}
 use Rattle.read_fields.specs.Places.{StandsAt}
-use Rattle.settings.specs.Settings.{EntriesAre, TextOf, Meant}
-use Rattle.read_setting.specs.Settings.{SettingAt}
+use Rattle.settings.specs.Meant.{EntriesAre, TextOf, Meant}
+use Rattle.read_setting.specs.SettingAt.{SettingAt}
 use Rattle.read_fields.specs.declared.texts.TextPlace.{TextPlace}
 use Rattle.settings.specs.declared.settings.Entries.{Entries}
 use Rattle.settings.specs.declared.settings.Setting.{Setting as Read}

@@ -11,15 +11,15 @@ use read_bodies::slot_bodies::read_group;
 use read_bodies::slot_bodies::read_individual;
 use read_fields::bytes::number;
 use read_fields::bytes::remaining;
-use settings::rows::Row;
-use settings::rows::RowRead;
-use settings::rows::row_of;
 use settings::settings::BodyRead;
 use settings::settings::Setting;
+use settings::type_table::Bounds;
+use settings::type_table::BoundsRead;
+use settings::type_table::bounds_of;
 use writing::Coding;
-ghost use Rattle.settings.specs.Rows.{RowIs};
-ghost use Rattle.settings.specs.Settings.{BodyAt};
-ghost use Rattle.read_setting.specs.Settings.{SettingAt};
+ghost use Rattle.settings.specs.TypeTable.{BoundsAre};
+ghost use Rattle.settings.specs.Meant.{BodyAt};
+ghost use Rattle.read_setting.specs.SettingAt.{SettingAt};
 ghost use Rattle.writing.specs.declared.Kind.{Kind};
 
 // The setting with the place after it; no type byte (4); a type not among the ten (3); a bad field or length (4).
@@ -31,8 +31,8 @@ pub enum SettingRead {
 }
 
 // The fields after DataLength, by the type of the row.
-fn read_body(m: &[u8], p: usize, left: usize, row: Row, coding: Coding) -> BodyRead
-    ensures { λ r. ⌜ ((k : Kind) → RowIs k row → BodyAt coding k left (now (m .entry)) p r) ⌝ }
+fn read_body(m: &[u8], p: usize, left: usize, row: Bounds, coding: Coding) -> BodyRead
+    ensures { λ r. ⌜ ((k : Kind) → BoundsAre k row → BodyAt coding k left (now (m .entry)) p r) ⌝ }
 {
     let type_byte = row.type_byte;
     let operations = row.operations;
@@ -58,8 +58,8 @@ pub fn read_setting(m: &[u8], at: usize, left: usize, coding: Coding) -> Setting
     if remaining(m, at) < 1 {
         return SettingRead::Missing;
     }
-    let found = row_of(m[at]);
-    let RowRead::Found(row) = found else {
+    let found = bounds_of(m[at]);
+    let BoundsRead::Found(row) = found else {
         return SettingRead::Unknown;
     };
     if remaining(m, at) < 3 {

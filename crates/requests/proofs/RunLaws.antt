@@ -1,17 +1,11 @@
 -- Settings taken in turn: one more at the end, and what is at fault where the next should stand. Assumes nothing.
-use Prim.Native.Nat.{ℕ, suc, _+_, _<_}
-use mathlib.Core.Path.{_≡_, refl, sym, ap, _∙_, subst}
-use mathlib.Core.List.{List, [], _∷_, _++_}
-use mathlib.Core.Option.{Option, none, some}
-use native.Mathlib.Omega.{arith}
-use lib.ListN.{length, drop, drop-of-length-le}
-use lib.Seq.{drop-cons, drop-drop, drop-at}
+use Rattle.lists.proofs.Kit.{ℕ, suc, _+_, _<_, _≡_, refl, sym, ap, _∙_, subst, List, [], _∷_, _++_, Option, none, some, arith, length, drop, drop-of-length-le, drop-cons, drop-drop, drop-at}
 use Rattle.lists.specs.Bytes.{Bytes}
 use Rattle.lists.proofs.Bytes.{bytes-drop}
 use Rattle.writing.specs.Ranges.{text-limits, InRange}
 use Rattle.writing.specs.Settings.{Setting, unicode16, lines, key, quick-texts, home, channels, system, status-texts, group, individual, last}
 use Rattle.read_fields.specs.Places.{StandsAt}
-use Rattle.read_setting.specs.Settings.{SettingAt}
+use Rattle.read_setting.specs.SettingAt.{SettingAt}
 use Rattle.read_setting.specs.declared.reader.SettingRead.the-variants.{Missing, Unknown, Field as BadField}
 use Rattle.read_fields.proofs.Parts.{bytes-left}
 use Rattle.tables.specs.declared.limits.Limits.{Limits}

@@ -1,14 +1,7 @@
 -- One setting of a request after another, as the code takes them on its working copy. Assumes nothing.
-use Prim.Native.Nat.{ℕ, suc, _+_, _-_, _≤_, _<_}
-use mathlib.Core.Path.{_≡_, refl, sym, ap, _∙_, subst}
-use mathlib.Core.List.{List, [], _∷_, _++_}
-use mathlib.Core.Bool.{Bool, true, false}
-use mathlib.Core.Option.{Option, none}
-use native.Mathlib.Omega.{arith}
+use Rattle.lists.proofs.Kit.{ℕ, suc, _+_, _-_, _≤_, _<_, _≡_, refl, sym, ap, _∙_, subst, List, [], _∷_, _++_, Bool, true, false, Option, none, arith, length, drop, length-append, length-drop, drop-of-length-le, drop-cons}
 use denote.Enum.Declared.{tagOf}
 use types.Run.{OneOf, miss}
-use lib.ListN.{length, drop, length-append, length-drop, drop-of-length-le}
-use lib.Seq.{drop-cons}
 use Rattle.lists.specs.Bytes.{Bytes}
 use Rattle.writing.specs.declared.LastFlags.{LastFlags}
 use Rattle.writing.specs.declared.Result.the-variants.{NoRoom}
@@ -22,7 +15,7 @@ use Rattle.settings.specs.declared.settings.Setting.{Setting as Read}
 use Rattle.settings.proofs.settings.Setting.{the-type}
 use Rattle.settings.specs.declared.settings.Setting.the-variants.{Lines, Key, QuickTexts, Home, Channels, System, StatusTexts, Group, Individual, Last}
 use Rattle.read_fields.specs.Places.{StandsAt}
-use Rattle.read_setting.specs.Settings.{SettingAt}
+use Rattle.read_setting.specs.SettingAt.{SettingAt}
 use Rattle.tables.specs.declared.limits.Limits.{Limits}
 use Rattle.tables.specs.Store.{Works, Applied}
 use Rattle.tables.specs.Tables.{Tables}

@@ -30,15 +30,15 @@ Known b = (k : Kind) × (type-byte k ≡ b)
 
 -- these settings stand at the start of the bytes, in range and with room in turn
 abbrev pub Runs : Limits → ℕ → Tables → List ℕ → List Setting → Tables → List ℕ → Type 0
-Runs m = Judge.Runs Setting Tables WrittenIn (InRange text-limits) (apply m) Known
+Runs lim = Judge.Runs Setting Tables WrittenIn (InRange text-limits) (apply lim) Known
 
 -- what is at fault where the next setting should stand
 abbrev pub Fault : Limits → ℕ → Tables → List ℕ → ℕ → Type 0
-Fault m = Judge.Fault Setting Tables WrittenIn (InRange text-limits) (apply m) Known
+Fault lim = Judge.Fault Setting Tables WrittenIn (InRange text-limits) (apply lim) Known
 
 -- what a request of so many settings in these bytes comes to, from these tables
 abbrev pub Judged : Limits → ℕ → Tables → List ℕ → Outcome Setting Tables → Type 0
-Judged m = Judge.Judged Setting Tables WrittenIn (InRange text-limits) (apply m) Known
+Judged lim = Judge.Judged Setting Tables WrittenIn (InRange text-limits) (apply lim) Known
 
 -- "After each taken request the hash kept is that request's own; with code 0 or no FF, none"
 abbrev pub forget : Tables → Tables

@@ -10,7 +10,7 @@ use Rattle.writing.specs.Ranges.{text-limits, InRange}
 use Rattle.writing.specs.Settings.{Setting, unicode16}
 use Rattle.settings.specs.declared.settings.Setting.{Setting as Read}
 use Rattle.read_fields.specs.Places.{StandsAt}
-use Rattle.settings.specs.Settings.{Meant}
+use Rattle.settings.specs.Meant.{Meant}
 use Rattle.tables.specs.declared.limits.Limits.{Limits}
 use Rattle.tables.specs.Apply.{apply}
 use Rattle.tables.specs.Layout.{Roomy}

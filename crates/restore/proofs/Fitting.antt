@@ -1,10 +1,5 @@
 -- FITTING: every exported setting has a writing and is in range; how many there are, and how many bytes they take. Assumes nothing.
-use Prim.Native.Nat.{ℕ, zero, suc, _+_, _*_, _≤_, _<_}
-use mathlib.Core.Path.{_≡_, refl, ap, subst⁻¹}
-use mathlib.Core.List.{List, [], _∷_, map}
-use mathlib.Core.Option.{Option, none, some}
-use native.Mathlib.Omega.{arith}
-use lib.ListN.{length, take, drop, length-append, length-take, length-drop, length-map, take-append-drop}
+use Rattle.lists.proofs.Kit.{ℕ, zero, suc, _+_, _*_, _≤_, _<_, _≡_, refl, ap, subst⁻¹, List, [], _∷_, map, Option, none, some, arith, length, take, drop, length-append, length-take, length-drop, length-map, take-append-drop}
 use Rattle.lists.specs.Every.{All}
 use Rattle.lists.proofs.Every.{all-map, all-right, all-take}
 use Rattle.slots.specs.Slots.{Present}
@@ -21,7 +16,7 @@ use Rattle.export.specs.declared.parts.Part.{Part}
 use Rattle.export.specs.declared.parts.Part.the-variants.{Lines, Fixed, QuickTexts, Channels, StatusTexts, Groups, Individuals}
 use Rattle.export_write.specs.LineSettings.{line-add}
 use Rattle.export_write.specs.EntrySettings.{entries, quick-add, no-group-flags, no-individual-flags, slots}
-use Rattle.export_write.specs.declared.members.Members.the-variants.{OfGroups, OfIndividuals}
+use Rattle.tables.specs.declared.members.Members.the-variants.{OfGroups, OfIndividuals}
 use Rattle.export_write.proofs.TextLists.{entries-few}
 use Rattle.export.specs.Exported.{exported}
 use Rattle.export.specs.Exportable.{Exportable}
@@ -86,7 +81,7 @@ module _ {F A : Type 0} (setting : Operation → F → Slot A → Setting) (f : 
 
 -- ---- the parts
 
-module _ (m : Limits) (x : Exportable m) (t : Tables) (ok : Allowed m t) where
+module _ (lim : Limits) (x : Exportable lim) (t : Tables) (ok : Allowed lim t) where
   quick-entries : All QuickEntry (entries 0 (t .quick))
   quick-entries = entries-each QuickOk 0 64 0 (t .quick) (omega arith) (omega (arith, ok .quick .0)) (ok .quick .1)
 
@@ -94,7 +89,7 @@ module _ (m : Limits) (x : Exportable m) (t : Tables) (ok : Allowed m t) where
   status-entries = entries-each StatusOk 32 128 32 (t .status) (omega arith) (omega (arith, ok .status .0)) (ok .status .1)
 
   -- READABLE: every exported setting has a writing and is in range, none is an FF, and their bytes have a limit
-  pub exported-readable : (p : Part) → AllReadable (longest-settings m p) (exported p t)
+  pub exported-readable : (p : Part) → AllReadable (longest-settings lim p) (exported p t)
   exported-readable Lines =
       before _ _ lines-readable (of-each 49 (map line-add (t .lines)) (all-map LineOk (Readable 49) line-add line-readable (t .lines) (ok .lines .1)))
       (omega (arith, ok .lines .0, length-map (t .lines) line-add))

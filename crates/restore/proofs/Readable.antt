@@ -1,10 +1,5 @@
 -- Settings that any set can read: one lemma for each kind that is exported. Assumes nothing.
-use Prim.Native.Nat.{ℕ, zero, suc, _+_, _*_, _/_, _≤_, _<_}
-use mathlib.Core.Path.{_≡_, refl}
-use mathlib.Core.List.{List, [], _∷_, _++_, map}
-use mathlib.Core.Option.{Option, none, some}
-use native.Mathlib.Omega.{arith}
-use lib.ListN.{length}
+use Rattle.lists.proofs.Kit.{ℕ, zero, suc, _+_, _*_, _/_, _≤_, _<_, _≡_, refl, List, [], _∷_, _++_, map, Option, none, some, arith, length}
 use Rattle.lists.specs.Every.{All}
 use Rattle.lists.proofs.Every.{all-turn}
 use Rattle.slots.specs.Slots.{Present}
@@ -28,9 +23,10 @@ use Rattle.tables.specs.Tables.{Line}
 use Rattle.requests.specs.Requests.{item-of}
 use Rattle.export_write.specs.LineSettings.{no-line-flags, line-add}
 use Rattle.export_write.specs.EntrySettings.{quick-add}
-use Rattle.export_write.specs.declared.members.Members.{Members}
-use Rattle.export_write.specs.declared.members.Members.the-variants.{OfGroups, OfIndividuals}
-use Rattle.export_write.specs.MemberWriters.{MemberIn, member-ok, member-setting}
+use Rattle.tables.specs.declared.members.Members.{Members}
+use Rattle.tables.specs.declared.members.Members.the-variants.{OfGroups, OfIndividuals}
+use Rattle.export_write.specs.MemberWriters.{member-setting}
+use Rattle.tables.specs.Members.{MemberIn, member-ok}
 use Rattle.export_write.proofs.ChannelWriting.{packed-fits}
 use Rattle.export_write.proofs.FixedWriting.{key-fits, home-fits, system-fits}
 use Rattle.export_write.proofs.LineWriting.{line-fits}

@@ -1,11 +1,5 @@
 -- Moving parts from one set to another, one after the other. Assumes nothing.
-use Prim.Native.Nat.{ℕ, zero, suc, _+_, _-_, _<_}
-use mathlib.Core.Path.{_≡_, refl, sym, ap, ap₂, _∙_, subst}
-use mathlib.Core.List.{List, [], _∷_, _++_}
-use native.Mathlib.Omega.{arith}
-use borrow.Rule.Slice.PartMut.{midOf}
-use lib.ListN.{length, getD, take, drop}
-use lib.Seq.{take-suc, take-append-seam, drop-append-seam}
+use Rattle.lists.proofs.Kit.{ℕ, zero, suc, _+_, _-_, _<_, _≡_, refl, sym, ap, ap₂, _∙_, subst, List, [], _∷_, _++_, arith, midOf, length, getD, take, drop, take-suc, take-append-seam, drop-append-seam}
 use Rattle.lists.specs.Ladder.{Answers}
 use Rattle.tables.specs.declared.limits.Limits.{Limits}
 use Rattle.tables.specs.Layout.{Roomy}
@@ -15,7 +9,7 @@ use Rattle.station.specs.declared.answers.Answer.{Answer}
 use Rattle.slots.specs.Slots.{written-over}
 use Rattle.station.specs.Replies.{reply-bytes}
 use Rattle.requests.specs.Requests.{forget}
-use Rattle.station.specs.Taking.{leaves, taken, After as TakeAfter}
+use Rattle.station.specs.Taking.{leaves, taken, AfterTaking as TakeAfter}
 use Rattle.export.specs.declared.parts.Part.{Part}
 use Rattle.export.specs.declared.parts.Part.the-variants.{Lines}
 use Rattle.export.specs.declared.parts.Export.the-variants.{Written, Untouched}
@@ -23,7 +17,7 @@ use Rattle.export.specs.declared.parts.NoExport.{NoExport}
 use Rattle.export.specs.declared.parts.NoExport.the-variants.{Buffer, NotAStore, NoPart}
 use Rattle.export.specs.Exportable.{Exportable}
 use Rattle.export.specs.Exported.{seven, exported, request-bytes}
-use Rattle.export.specs.Exporting.{After, told, no-export, exporting}
+use Rattle.export.specs.Exporting.{AfterExport, told, no-export, exporting}
 use Rattle.export.proofs.PartWriting.{seven-at}
 use Rattle.restore.specs.Restored.{with-part, requests}
 use Rattle.restore.specs.Restoring.{written-in-turn, restores, Lent, PartMoved, Moved}
@@ -33,11 +27,11 @@ use Rattle.restore.proofs.Restored.{with-parts, after-part, part-taken,
 -- ---- one part
 
 -- nothing is said of a part that was not written
-pub not-moved : (m : Limits) (part : ℕ) (from to buffer buffer-after reply to-after reply-after work : List ℕ) (k : NoExport)
-    → (Exportable m → Answers (exporting m part from buffer) (record { answer = told (Untouched k); buffer = buffer-after }))
-    → Moved m part from to to-after buffer buffer-after reply reply-after work
-not-moved m part from to buffer buffer-after reply to-after reply-after work k answers p t u n x roomy a b lent =
-    absurd (never k (ap (λ (y : After). y .answer .number) (written-one m part from buffer t p roomy a n (lent .message) _ (answers x))))
+pub not-moved : (lim : Limits) (part : ℕ) (from to buffer buffer-after reply to-after reply-after work : List ℕ) (k : NoExport)
+    → (Exportable lim → Answers (exporting lim part from buffer) (record { answer = told (Untouched k); buffer = buffer-after }))
+    → Moved lim part from to to-after buffer buffer-after reply reply-after work
+not-moved lim part from to buffer buffer-after reply to-after reply-after work k answers p t u n x roomy a b lent =
+    absurd (never k (ap (λ (y : AfterExport). y .answer .number) (written-one lim part from buffer t p roomy a n (lent .message) _ (answers x))))
   where
     never : (k : NoExport) → no-export k ≡ 0 → ⊥
     never Buffer e = omega arith
@@ -45,19 +39,19 @@ not-moved m part from to buffer buffer-after reply to-after reply-after work k a
     never NoPart e = omega arith
 
 -- a part that was written and taken
-pub moved : (m : Limits) (part : ℕ) (from to buffer buffer-after reply to-after reply-after work message : List ℕ) (n : ℕ) (a : Answer)
-    → (Exportable m → Answers (exporting m part from buffer) (record { answer = told (Written n); buffer = buffer-after }))
-    → message ≡ midOf 0 (n - 0) buffer-after → (length work ≡ m .size → Answers (taken m message to reply) (leaves a to-after reply-after))
-    → Moved m part from to to-after buffer buffer-after reply reply-after work
-moved m part from to buffer buffer-after reply to-after reply-after work message n a answers e takes p t u number x roomy holds there lent =
+pub moved : (lim : Limits) (part : ℕ) (from to buffer buffer-after reply to-after reply-after work message : List ℕ) (n : ℕ) (a : Answer)
+    → (Exportable lim → Answers (exporting lim part from buffer) (record { answer = told (Written n); buffer = buffer-after }))
+    → message ≡ midOf 0 (n - 0) buffer-after → (length work ≡ lim .size → Answers (taken lim message to reply) (leaves a to-after reply-after))
+    → Moved lim part from to to-after buffer buffer-after reply reply-after work
+moved lim part from to buffer buffer-after reply to-after reply-after work message n a answers e takes p t u number x roomy holds there lent =
     let bytes : List ℕ = request-bytes (exported p t) in
-    let w : _ = written-one m part from buffer t p roomy holds number (lent .message) _ (answers x) in
-    let b : buffer-after ≡ written-over bytes buffer = ap (λ (z : After). z .buffer) w in
-    let l : n ≡ length bytes = ap (λ (z : After). z .answer .request-length) w in
+    let w : _ = written-one lim part from buffer t p roomy holds number (lent .message) _ (answers x) in
+    let b : buffer-after ≡ written-over bytes buffer = ap (λ (z : AfterExport). z .buffer) w in
+    let l : n ≡ length bytes = ap (λ (z : AfterExport). z .answer .request-length) w in
     let i : n - 0 ≡ n = omega arith in
     let is : message ≡ bytes = e ∙ ap (λ (k : ℕ). take k buffer-after) i ∙ ap₂ take l b ∙ take-append-seam bytes (drop (length bytes) buffer) in
-    let z : leaves a to-after reply-after ≡ after-part m x roomy t (holds .0) u to there reply (lent .answer) p
-    = part-taken m x roomy t (holds .0) u to there reply (lent .answer) p _ (subst (λ (k : List ℕ). Answers (taken m k to reply) (leaves a to-after reply-after)) is (takes (lent .copy))) in
+    let z : leaves a to-after reply-after ≡ after-part lim x roomy t (holds .0) u to there reply (lent .answer) p
+    = part-taken lim x roomy t (holds .0) u to there reply (lent .answer) p _ (subst (λ (k : List ℕ). Answers (taken lim k to reply) (leaves a to-after reply-after)) is (takes (lent .copy))) in
     record { to-is = ap (λ (k : TakeAfter). k .store) z; buffer-is = b; reply-is = ap (λ (k : TakeAfter). k .reply) z }
 
 -- ---- all of them
@@ -76,35 +70,35 @@ requests-more t (q ∷ ps) p buffer = requests-more t ps p (written-over (reques
 again : (bytes buffer : List ℕ) → written-over bytes (written-over bytes buffer) ≡ written-over bytes buffer
 again bytes buffer = ap (λ r. bytes ++ r) (drop-append-seam bytes (drop (length bytes) buffer))
 
-module _ (m : Limits) (from to buffer reply : List ℕ) (t u : Tables) where
+module _ (lim : Limits) (from to buffer reply : List ℕ) (t u : Tables) where
   abbrev answer : List ℕ
   answer = reply-bytes 0 0 no-hash
 
   -- so many parts were moved
   pub record SoFar (k : ℕ) (to-now buffer-now reply-now : List ℕ) : Type 0 where
-    pub holds : Holds m (with-parts t (take k seven) u) to-now
+    pub holds : Holds lim (with-parts t (take k seven) u) to-now
     pub buffer-is : buffer-now ≡ written-in-turn (requests t (take k seven)) buffer
     pub reply-first : k ≡ 0 → reply-now ≡ reply
     pub reply-is : 0 < k → reply-now ≡ written-over answer reply
 
-  pub so-far-start : Holds m u to → SoFar 0 to buffer reply
+  pub so-far-start : Holds lim u to → SoFar 0 to buffer reply
   so-far-start h = record { holds = h; buffer-is = refl; reply-first = λ e. refl; reply-is = λ e. absurd (omega arith) }
 
   -- one part more
-  pub so-far-on : (k : ℕ) (to-now buffer-now reply-now work to-then buffer-then reply-then : List ℕ) → k < length seven → Exportable m → Roomy m → Holds m t from
-      → Lent m buffer-now reply-now work → SoFar k to-now buffer-now reply-now → Moved m (k + 1) from to-now to-then buffer-now buffer-then reply-now reply-then work
+  pub so-far-on : (k : ℕ) (to-now buffer-now reply-now work to-then buffer-then reply-then : List ℕ) → k < length seven → Exportable lim → Roomy lim → Holds lim t from
+      → Lent lim buffer-now reply-now work → SoFar k to-now buffer-now reply-now → Moved lim (k + 1) from to-now to-then buffer-now buffer-then reply-now reply-then work
       → SoFar (k + 1) to-then buffer-then reply-then
   so-far-on k to-now buffer-now reply-now work to-then buffer-then reply-then l able roomy h lent z v =
       let p : Part = getD seven k Lines in
-      let x : PartMoved m p t (with-parts t (take k seven) u) to-then buffer-now buffer-then reply-now reply-then
+      let x : PartMoved lim p t (with-parts t (take k seven) u) to-then buffer-now buffer-then reply-now reply-then
       = v p t (with-parts t (take k seven) u) (seven-at k l) able roomy h (z .holds) lent in
       let e : take k seven ++ (p ∷ []) ≡ take (k + 1) seven = sym (take-suc seven k Lines l) ∙ ap (λ (i : ℕ). take i seven) (let i : suc k ≡ k + 1 = omega arith in i) in
-      let a : Holds m (with-part p t (forget (with-parts t (take k seven) u))) to-then
-      = after-holds m able roomy t (h .0) (with-parts t (take k seven) u) to-now to-then (z .holds) p (x .to-is) in
+      let a : Holds lim (with-part p t (forget (with-parts t (take k seven) u))) to-then
+      = after-holds lim able roomy t (h .0) (with-parts t (take k seven) u) to-now to-then (z .holds) p (x .to-is) in
       let same : with-part p t (forget (with-parts t (take k seven) u)) ≡ with-parts t (take (k + 1) seven) u
       = sym (parts-more t (take k seven) p u) ∙ ap (λ (ps : List Part). with-parts t ps u) e in
       record {
-        holds = subst (λ (w : Tables). Holds m w to-then) same a;
+        holds = subst (λ (w : Tables). Holds lim w to-then) same a;
         buffer-is = x .buffer-is ∙ ap (written-over (request-bytes (exported p t))) (z .buffer-is) ∙ sym (requests-more t (take k seven) p buffer)
             ∙ ap (λ (ps : List Part). written-in-turn (requests t ps) buffer) e;
         reply-first = λ w. absurd (omega arith);
@@ -117,7 +111,7 @@ module _ (m : Limits) (from to buffer reply : List ℕ) (t u : Tables) where
 
   -- all of them
   pub so-far-end : (k : ℕ) (to-now buffer-now reply-now : List ℕ) → k ≡ length seven → SoFar k to-now buffer-now reply-now
-      → record { answer = 0; to = to-now; buffer = buffer-now; reply = reply-now } ≡ restores m from to buffer reply t
+      → record { answer = 0; to = to-now; buffer = buffer-now; reply = reply-now } ≡ restores lim from to buffer reply t
   so-far-end k to-now buffer-now reply-now e g =
       let z : SoFar (length seven) to-now buffer-now reply-now = subst (λ (i : ℕ). SoFar i to-now buffer-now reply-now) e g in
       let r : reply-now ≡ written-over answer reply = z .reply-is (omega arith) in

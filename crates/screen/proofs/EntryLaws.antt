@@ -1,24 +1,14 @@
 -- The entries of the five tables as heads with texts, and what each row shows of them. Assumes nothing.
-use Prim.Native.Nat.{ℕ, _+_, _*_, _-_, _≤_, _<_}
-use mathlib.Core.Path.{_≡_, refl, sym, ap, ap₂, _∙_, subst}
-use mathlib.Core.Bool.{Bool, true, false}
-use mathlib.Core.List.{List, map}
-use mathlib.Core.Option.{Option, none, some, Option·none-ne-some}
-use native.Mathlib.Omega.{arith}
-use borrow.Author.Tests.{le-ltb, ltb-false}
-use borrow.Rule.Slice.PartMut.{midOf}
-use lib.Dec.{ltb}
-use lib.ListN.{length, take, drop, getD, length-map, List·getD-eq-default}
+use Rattle.lists.proofs.Kit.{ℕ, _+_, _*_, _-_, _≤_, _<_, _≡_, refl, sym, ap, ap₂, _∙_, subst, Bool, true, false, List, map, Option, none, some, Option·none-ne-some, arith, le-ltb, ltb-false, midOf, ltb, length, take, drop, getD, length-map, List·getD-eq-default, take-take, take-all, take-at, drop-at}
 use Rattle.plan.specs.declared.numbers.GroupAddress.{GroupAddress}
 use Rattle.plan.specs.declared.numbers.IndividualAddress.{IndividualAddress}
 use Rattle.slots.specs.Slots.{slot as slot-of, front, u24, zeros?, Placed, Found}
 use Rattle.slots.proofs.Tables.{front-length, all-front, place-none, place-some, place-read}
 use Rattle.writing.specs.Ranges.{text-limits, InNumber}
 use Rattle.writing.specs.Settings.{Text, Number}
-use lib.Seq.{take-take, take-all, take-at, drop-at}
 use Rattle.tables.specs.declared.limits.Limits.{Limits}
 use Rattle.tables.specs.Allowed.{Allowed, TextOk, QuickOk, StatusOk, GroupOk, IndividualOk, LineOk}
-use Rattle.tables.specs.Layout.{layout, text-bytes, quick-bytes, status-bytes, group-bytes, individual-bytes, line-bytes, digit-bytes, digits-at, quick-width, status-width, member-width, line-width, part-start, groups-at, individuals-at, lists-at, status-at}
+use Rattle.tables.specs.Layout.{layout, text-bytes, quick-bytes, status-bytes, group-bytes, individual-bytes, line-bytes, digit-bytes, digits-at, quick-width, status-width, member-width, line-width, region-start, groups-at, individuals-at, lists-at, status-at}
 use Rattle.tables.specs.Limits.{quick-places, status-places, slot-places}
 use Rattle.tables.specs.Store.{Holds}
 use Rattle.tables.specs.Tables.{Tables, Line as LineEntry}
@@ -175,14 +165,14 @@ contacts = record {
 }
 
 -- the lines, as places
-lines-placed : (m : Limits) (t : Tables) → Allowed m t → Placed LineOk line-width line-bytes (m .lines) (front (m .lines) (t .lines)) (midOf (part-start m 9) (m .lines * line-width) (layout m t))
-lines-placed m t ok =
-    let x = lines-listed m t ok in
-    let e : lists-at + m .channels * 2 ≡ part-start m 9 = omega arith in
+lines-placed : (lim : Limits) (t : Tables) → Allowed lim t → Placed LineOk line-width line-bytes (lim .lines) (front (lim .lines) (t .lines)) (midOf (region-start lim 9) (lim .lines * line-width) (layout lim t))
+lines-placed lim t ok =
+    let x = lines-listed lim t ok in
+    let e : lists-at + lim .channels * 2 ≡ region-start lim 9 = omega arith in
     record {
-      many = front-length (m .lines) (t .lines);
-      each = all-front LineOk (m .lines) (t .lines) (x .each);
-      bytes = ap (λ b. midOf b (m .lines * line-width) (layout m t)) (sym e) ∙ x .bytes;
+      many = front-length (lim .lines) (t .lines);
+      each = all-front LineOk (lim .lines) (t .lines) (x .each);
+      bytes = ap (λ b. midOf b (lim .lines * line-width) (layout lim t)) (sym e) ∙ x .bytes;
     }
 
 -- a status text, for a code from 32 on
@@ -190,17 +180,17 @@ pub status-there : (t : Tables) (n : ℕ) → 32 ≤ n → caption t (StatusText
 status-there t n h = rw (le-ltb n 32 h)
 
 -- ROW SEEN: a row's slot shows what stands in the row
-pub row-seen : (m : Limits) (t : Tables) (s : List ℕ) (row : Row) (slot : Slot) → Holds m t s → SlotIs m row (At slot) → Seen s slot row (caption t row)
-row-seen m t s (Line n) slot (ok, e) x =
-    subst (λ (o : Option LineEntry). Seen s slot (Line n) (of (contacts .cap) o)) (front-get (m .lines) (t .lines) n (x .0))
-    (seen contacts (Line n) (λ l. a-line) (m .lines) (part-start m 9) (front (m .lines) (t .lines)) e (lines-placed m t ok) n slot x)
-row-seen m t s (QuickText n) slot (ok, e) x = seen quick (QuickText n) (λ us. a-quick-text) quick-places 22 (t .quick) e (quick-placed m t ok) n slot x
-row-seen m t s (StatusText n) slot (ok, e) (h, x) =
+pub row-seen : (lim : Limits) (t : Tables) (s : List ℕ) (row : Row) (slot : Slot) → Holds lim t s → SlotIs lim row (At slot) → Seen s slot row (caption t row)
+row-seen lim t s (Line n) slot (ok, e) x =
+    subst (λ (o : Option LineEntry). Seen s slot (Line n) (of (contacts .cap) o)) (front-get (lim .lines) (t .lines) n (x .0))
+    (seen contacts (Line n) (λ l. a-line) (lim .lines) (region-start lim 9) (front (lim .lines) (t .lines)) e (lines-placed lim t ok) n slot x)
+row-seen lim t s (QuickText n) slot (ok, e) x = seen quick (QuickText n) (λ us. a-quick-text) quick-places 22 (t .quick) e (quick-placed lim t ok) n slot x
+row-seen lim t s (StatusText n) slot (ok, e) (h, x) =
     subst (λ (o : Option Caption). Seen s slot (StatusText n) o) (sym (status-there t n h))
-    (seen status (StatusText n) (λ us. a-status-text) status-places status-at (t .status) e (status-placed m t ok) (n - 32) slot x)
-row-seen m t s (Group n) slot (ok, e) x = seen groups (Group n) (λ g. a-group) slot-places groups-at (t .groups) e (groups-placed m t ok) n slot x
-row-seen m t s (Individual n) slot (ok, e) x = seen individuals (Individual n) (λ g. an-individual) slot-places individuals-at (t .individuals) e (individuals-placed m t ok) n slot x
-row-seen m t s NoTable slot h x = absurd x
+    (seen status (StatusText n) (λ us. a-status-text) status-places status-at (t .status) e (status-placed lim t ok) (n - 32) slot x)
+row-seen lim t s (Group n) slot (ok, e) x = seen groups (Group n) (λ g. a-group) slot-places groups-at (t .groups) e (groups-placed lim t ok) n slot x
+row-seen lim t s (Individual n) slot (ok, e) x = seen individuals (Individual n) (λ g. an-individual) slot-places individuals-at (t .individuals) e (individuals-placed lim t ok) n slot x
+row-seen lim t s NoTable slot h x = absurd x
 
 -- what is there stands among the places
 pub within : {A : Type 0} (os : List (Option A)) (n places : ℕ) (g : A → Caption) {c : Caption} → length os ≤ places → of g (getD os n none) ≡ some c → n < places
@@ -214,19 +204,19 @@ there-at : (base places n w h : ℕ) → n < places → (slot : Slot) × Slotted
 there-at base places n w h l = (record { start = base + n * w; text = base + n * w + h; end = base + n * w + w }, (l, refl, refl, refl))
 
 -- ROW THERE: a row that stands in the tables has a slot
-pub row-there : (m : Limits) (t : Tables) → Allowed m t → (row : Row) (c : Caption) → caption t row ≡ some c → (slot : Slot) × SlotIs m row (At slot)
-row-there m t ok (Line n) c e =
+pub row-there : (lim : Limits) (t : Tables) → Allowed lim t → (row : Row) (c : Caption) → caption t row ≡ some c → (slot : Slot) × SlotIs lim row (At slot)
+row-there lim t ok (Line n) c e =
     let l : length (map some (t .lines)) ≡ length (t .lines) = length-map (t .lines) some in
-    there-at (part-start m 9) (m .lines) n line-width 20 (within (map some (t .lines)) n (m .lines) (contacts .cap) (omega (arith, l, ok .lines .0)) e)
-row-there m t ok (QuickText n) c e = there-at 22 quick-places n quick-width 0 (within (t .quick) n quick-places text (omega (arith, ok .quick .0)) e)
-row-there m t ok (StatusText n) c e = go (ltb n 32) refl
+    there-at (region-start lim 9) (lim .lines) n line-width 20 (within (map some (t .lines)) n (lim .lines) (contacts .cap) (omega (arith, l, ok .lines .0)) e)
+row-there lim t ok (QuickText n) c e = there-at 22 quick-places n quick-width 0 (within (t .quick) n quick-places text (omega (arith, ok .quick .0)) e)
+row-there lim t ok (StatusText n) c e = go (ltb n 32) refl
   where
-    go : (b : Bool) → ltb n 32 ≡ b → (slot : Slot) × SlotIs m (StatusText n) (At slot)
+    go : (b : Bool) → ltb n 32 ≡ b → (slot : Slot) × SlotIs lim (StatusText n) (At slot)
     go true h = let z : none ≡ some c = (rw h at e) in absurd (Option·none-ne-some c z)
     go false h =
         let k : 32 ≤ n = ltb-false n 32 h in
         let (slot, x) = there-at status-at status-places (n - 32) status-width 1 (within (t .status) (n - 32) status-places text (omega (arith, ok .status .0)) (sym (status-there t n k) ∙ e)) in
         (slot, (k, x))
-row-there m t ok (Group n) c e = there-at groups-at slot-places n member-width 4 (within (t .groups) n slot-places (groups .cap) (omega (arith, ok .groups .0)) e)
-row-there m t ok (Individual n) c e = there-at individuals-at slot-places n member-width 4 (within (t .individuals) n slot-places (individuals .cap) (omega (arith, ok .individuals .0)) e)
-row-there m t ok NoTable c e = absurd (Option·none-ne-some c e)
+row-there lim t ok (Group n) c e = there-at groups-at slot-places n member-width 4 (within (t .groups) n slot-places (groups .cap) (omega (arith, ok .groups .0)) e)
+row-there lim t ok (Individual n) c e = there-at individuals-at slot-places n member-width 4 (within (t .individuals) n slot-places (individuals .cap) (omega (arith, ok .individuals .0)) e)
+row-there lim t ok NoTable c e = absurd (Option·none-ne-some c e)

@@ -1,16 +1,5 @@
 -- Digits written as units at the start of the scratch, from the last or from the first on. Assumes nothing.
-use Prim.Native.Nat.{ℕ, zero, suc, _+_, _*_, _-_, _/_, _%_, _≤_, _<_}
-use mathlib.Core.Path.{_≡_, refl, sym, ap, ap₂, _∙_, subst}
-use mathlib.Core.Logic.{_≢_}
-use mathlib.Core.Bool.{Bool, true, false}
-use mathlib.Core.List.{List, [], _∷_, _++_, map, map-append, append-assoc, append-nil}
-use native.Mathlib.Nat.{not-suc-le-zero, le-of-suc-le-suc}
-use native.Mathlib.Numerals.{add-one}
-use native.Mathlib.Omega.{arith}
-use borrow.Author.Tests.{lt-ltb, le-ltb, ltb-true}
-use lib.Dec.{ltb}
-use lib.ListN.{length, take, drop, getD, set, length-map, take-append-drop}
-use lib.Seq.{sets-eq, take-at, drop-at, take-suc, take-all, take-append-le, drop-drop, length-take-le, take-take}
+use Rattle.lists.proofs.Kit.{ℕ, zero, suc, _+_, _*_, _-_, _/_, _%_, _≤_, _<_, _≡_, refl, sym, ap, ap₂, _∙_, subst, _≢_, Bool, true, false, List, [], _∷_, _++_, map, map-append, append-assoc, append-nil, not-suc-le-zero, le-of-suc-le-suc, add-one, arith, lt-ltb, le-ltb, ltb-true, ltb, length, take, drop, getD, set, length-map, take-append-drop, sets-eq, take-at, drop-at, take-suc, take-all, take-append-le, drop-drop, length-take-le, take-take}
 use Rattle.lists.proofs.Every.{all-get, all-made}
 use Rattle.plan.specs.declared.numbers.DialledAnswer.{DialledAnswer}
 use Rattle.slots.specs.Slots.{flat, pad, u16}

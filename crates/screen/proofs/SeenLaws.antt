@@ -1,13 +1,5 @@
 -- Parts of the store, and where a text in one ends. Assumes nothing.
-use Prim.Native.Nat.{ℕ, zero, suc, _+_, _*_, _≤_, _<_}
-use mathlib.Core.Path.{_≡_, refl, sym, ap, _∙_}
-use mathlib.Core.List.{List, [], _∷_, _++_, map}
-use mathlib.Core.Option.{none, some}
-use native.Mathlib.Nat.{not-suc-le-zero, le-of-suc-le-suc}
-use native.Mathlib.Omega.{arith}
-use borrow.Rule.Slice.PartMut.{midOf}
-use lib.ListN.{length, take, drop, getD}
-use lib.Seq.{take-take, take-nil, drop-drop}
+use Rattle.lists.proofs.Kit.{ℕ, zero, suc, _+_, _*_, _≤_, _<_, _≡_, refl, sym, ap, _∙_, List, [], _∷_, _++_, map, none, some, not-suc-le-zero, le-of-suc-le-suc, arith, midOf, length, take, drop, getD, take-take, take-nil, drop-drop}
 use Rattle.lists.proofs.Every.{all-made}
 use Rattle.slots.specs.Slots.{pad, front, u16, zeros?, bytesBefore, Found}
 use Rattle.slots.proofs.Numbers.{u16-shown}

@@ -1,12 +1,8 @@
 -- The part of a place, and what the two calls give. Assumes nothing.
-use Prim.Native.Nat.{ℕ}
-use mathlib.Core.Path.{_≡_, refl, sym, ap, _∙_, subst}
-use mathlib.Core.Logic.{inl, inr}
-use mathlib.Core.List.{List, [], _∷_}
+use Rattle.lists.proofs.Kit.{ℕ, _≡_, refl, sym, ap, _∙_, subst, inl, inr, List, [], _∷_, length}
 use denote.Enum.Declared.{tagOf}
 use denote.Ref.{RefT}
 use types.Run.{OneOf, miss}
-use lib.ListN.{length}
 use Rattle.lists.specs.Ladder.{Answers}
 use Rattle.tables.specs.declared.limits.Limits.{Limits}
 use Rattle.screen.specs.declared.rows.Refusal.{Refusal}
@@ -41,21 +37,21 @@ kept : (x : Name) → OneOf (1 ∷ 2 ∷ 3 ∷ 4 ∷ []) (tagOf the-type x) → 
 kept x k e = miss (1 ∷ 2 ∷ 3 ∷ 4 ∷ []) 0 tt (subst (λ (y : Name). OneOf (1 ∷ 2 ∷ 3 ∷ 4 ∷ []) (tagOf the-type y)) (sym e) k)
 
 -- a row that is refused, and one that is not
-pub number-refused : (m : Limits) (s scratch : List ℕ) (row : Row) (x : Name) (why : Refusal) → x ≡ NoName why → Answers (naming m s (length scratch) row) x → Answers (numbering m s scratch row) (refusal why)
-number-refused m s scratch row x why e a = number-same m s scratch row _ (refused-as m s scratch row why (subst (Answers (naming m s (length scratch) row)) e a))
+pub number-refused : (lim : Limits) (s scratch : List ℕ) (row : Row) (x : Name) (why : Refusal) → x ≡ NoName why → Answers (naming lim s (length scratch) row) x → Answers (numbering lim s scratch row) (refusal why)
+number-refused lim s scratch row x why e a = number-same lim s scratch row _ (refused-as lim s scratch row why (subst (Answers (naming lim s (length scratch) row)) e a))
 
-pub number-shown : (m : Limits) (s scratch : List ℕ) (row : Row) (x : Name) → OneOf (1 ∷ 2 ∷ 3 ∷ 4 ∷ []) (tagOf the-type x) → Answers (naming m s (length scratch) row) x → Answers (numbering m s scratch row) 0
-number-shown m s scratch row x k (inl (h, e)) = absurd (kept x k (sym e))
-number-shown m s scratch row x k (inr (h, inl (i, e))) = absurd (kept x k (sym e))
-number-shown m s scratch row x k (inr (h, inr (i, inl (j, e)))) = absurd (kept x k (sym e))
-number-shown m s scratch row x k (inr (h, inr (i, inr (j, e)))) = inr (h, inr (i, inr (j, refl)))
+pub number-shown : (lim : Limits) (s scratch : List ℕ) (row : Row) (x : Name) → OneOf (1 ∷ 2 ∷ 3 ∷ 4 ∷ []) (tagOf the-type x) → Answers (naming lim s (length scratch) row) x → Answers (numbering lim s scratch row) 0
+number-shown lim s scratch row x k (inl (h, e)) = absurd (kept x k (sym e))
+number-shown lim s scratch row x k (inr (h, inl (i, e))) = absurd (kept x k (sym e))
+number-shown lim s scratch row x k (inr (h, inr (i, inl (j, e)))) = absurd (kept x k (sym e))
+number-shown lim s scratch row x k (inr (h, inr (i, inr (j, e)))) = inr (h, inr (i, inr (j, refl)))
 
-pub place-refused : (m : Limits) (s scratch : List ℕ) (row : Row) (x : Name) (why : Refusal) → x ≡ NoName why → Answers (naming m s (length scratch) row) x → Placed m s scratch scratch row (NoPlace why)
-place-refused m s scratch row x why e a = record { allowed = refused-as m s scratch row why (subst (Answers (naming m s (length scratch) row)) e a); fits = tt }
+pub place-refused : (lim : Limits) (s scratch : List ℕ) (row : Row) (x : Name) (why : Refusal) → x ≡ NoName why → Answers (naming lim s (length scratch) row) x → Placed lim s scratch scratch row (NoPlace why)
+place-refused lim s scratch row x why e a = record { allowed = refused-as lim s scratch row why (subst (Answers (naming lim s (length scratch) row)) e a); fits = tt }
 
 -- the part of a place is the part of the answer
-module _ (m : Limits) (store scratch after : RefT (List ℕ)) (row : Row) (r : RefT (List ℕ)) (e : after .ptr ≡ scratch .ptr) where
-  pub part-given : (place : Place) → Placed m (store .now) (scratch .now) (after .now) row place → Picked store after place r → PartGiven m store scratch row r
+module _ (lim : Limits) (store scratch after : RefT (List ℕ)) (row : Row) (r : RefT (List ℕ)) (e : after .ptr ≡ scratch .ptr) where
+  pub part-given : (place : Place) → Placed lim (store .now) (scratch .now) (after .now) row place → Picked store after place r → PartGiven lim store scratch row r
   part-given (Store at n) p q = record { after = leaves (Store at n) (after .now); allowed = p .allowed; block = q .block; offset = q .offset; bytes = q .bytes }
   part-given (Scratch n) p q = record {
     after = leaves (Scratch n) (after .now);

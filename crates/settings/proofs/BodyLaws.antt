@@ -1,12 +1,5 @@
 -- The fields after DataLength: a fixed head, read as one number, and what follows it. Assumes nothing.
-use Prim.Native.Nat.{ℕ, _+_, _*_, _%_, _≤_, _<_}
-use mathlib.Core.Path.{_≡_, refl, sym, subst, subst⁻¹}
-use mathlib.Core.List.{List, _++_}
-use mathlib.Core.Bool.{Bool, true, false}
-use native.Mathlib.Omega.{arith}
-use borrow.Author.Tests.{eqb-true, eqb-false}
-use lib.Dec.{eqb}
-use lib.ListN.{length, drop, take}
+use Rattle.lists.proofs.Kit.{ℕ, _+_, _*_, _%_, _≤_, _<_, _≡_, refl, sym, subst, subst⁻¹, List, _++_, Bool, true, false, arith, eqb-true, eqb-false, eqb, length, drop, take}
 use Rattle.lists.specs.Bytes.{Bytes}
 use Rattle.writing.specs.declared.Coding.{Coding}
 use Rattle.writing.specs.declared.Kind.{Kind}
@@ -17,8 +10,8 @@ use Rattle.writing.specs.Ranges.{text-limits, InRange}
 use Rattle.writing.specs.Settings.{Setting}
 use Rattle.writing.specs.Writing.{bit, op-code, body}
 use Rattle.writing.proofs.ByKind.{Contents, make, of-kind, kind-make}
-use Rattle.read_fields.specs.Places.{PartAt, be}
-use Rattle.settings.specs.Settings.{Meant, BodyAt}
+use Rattle.read_fields.specs.Places.{FieldsAt, be}
+use Rattle.settings.specs.Meant.{Meant, BodyAt}
 use Rattle.settings.specs.declared.settings.Setting.{Setting as Read}
 use Rattle.settings.specs.declared.settings.BodyRead.the-variants.{Body, NoBody}
 use Rattle.read_fields.proofs.Heads.{Cut, head-in, head-out}
@@ -34,17 +27,17 @@ pub record Headed (c : Coding) (K : Kind) : Type 0 where
 
 module _ {c : Coding} (K : Kind) (f : Headed c K) (left : ℕ) (m : List ℕ) (p : ℕ) (h : Bytes m) where
   -- the head's number, and what follows
-  parts : (x : Contents K) (next : ℕ) → PartAt (body c (make K x)) m p next
-      → (p + f .size ≤ length m) × Cut (f .head x) (be 0 (take (f .size) (drop p m))) × PartAt (f .tail x) m (p + f .size) next
+  parts : (x : Contents K) (next : ℕ) → FieldsAt (body c (make K x)) m p next
+      → (p + f .size ≤ length m) × Cut (f .head x) (be 0 (take (f .size) (drop p m))) × FieldsAt (f .tail x) m (p + f .size) next
   parts x next y =
-      head-out (f .head x) (f .tail x) m p (f .size) (f .wide x) (f .some-byte) h next (subst (λ (l : List Field). PartAt l m p next) (f .split x) y)
+      head-out (f .head x) (f .tail x) m p (f .size) (f .wide x) (f .some-byte) h next (subst (λ (l : List Field). FieldsAt l m p next) (f .split x) y)
 
   -- none where no contents have a head that stands there
   pub no-head : ((x : Contents K) → p + f .size ≤ length m → Cut (f .head x) (be 0 (take (f .size) (drop p m))) → InRange text-limits left (make K x) → ⊥)
       → BodyAt c K left m p NoBody
   no-head never s next e i y =
       let (x, d) = of-kind K s e in
-      let (r, k, z) = parts x next (subst (λ (t : Setting). PartAt (body c t) m p next) d y) in
+      let (r, k, z) = parts x next (subst (λ (t : Setting). FieldsAt (body c t) m p next) d y) in
       never x r k (subst (InRange text-limits left) d i)
 
   -- none where the head has no room
@@ -53,22 +46,22 @@ module _ {c : Coding} (K : Kind) (f : Headed c K) (left : ℕ) (m : List ℕ) (p
 
   module _ {N : ℕ} (number : N ≡ be 0 (take (f .size) (drop p m))) where
     -- none where no contents have this head and what follows
-    pub no-body : ((x : Contents K) (next : ℕ) → Cut (f .head x) N → InRange text-limits left (make K x) → PartAt (f .tail x) m (p + f .size) next → ⊥)
+    pub no-body : ((x : Contents K) (next : ℕ) → Cut (f .head x) N → InRange text-limits left (make K x) → FieldsAt (f .tail x) m (p + f .size) next → ⊥)
         → BodyAt c K left m p NoBody
     no-body never s next e i y =
         let (x, d) = of-kind K s e in
-        let (r, k, z) = parts x next (subst (λ (t : Setting). PartAt (body c t) m p next) d y) in
+        let (r, k, z) = parts x next (subst (λ (t : Setting). FieldsAt (body c t) m p next) d y) in
         never x next (subst (Cut (f .head x)) (sym number) k) (subst (InRange text-limits left) d i) z
 
     -- these contents, which have this head and what follows
     pub the-body : (x : Contents K) (r : Read) (next : ℕ) → p + f .size ≤ length m → Cut (f .head x) N → InRange text-limits left (make K x)
-        → PartAt (f .tail x) m (p + f .size) next → Meant m r (make K x) → BodyAt c K left m p (Body r next)
+        → FieldsAt (f .tail x) m (p + f .size) next → Meant m r (make K x) → BodyAt c K left m p (Body r next)
     the-body x r next room k i y means = (
       make K x,
       kind-make K x,
       means,
       i,
-      subst⁻¹ (λ (l : List Field). PartAt l m p next) (f .split x)
+      subst⁻¹ (λ (l : List Field). FieldsAt l m p next) (f .split x)
           (head-in (f .head x) (f .tail x) m p (f .size) (f .wide x) (f .some-byte) h next room (subst (Cut (f .head x)) number k) y),
     )
 

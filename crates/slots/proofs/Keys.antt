@@ -1,13 +1,5 @@
 -- Entries of a list table that a search finds: where they stand, and what putting them and taking them out leaves. Assumes nothing.
-use mathlib.Core.Path.{_≡_, refl, sym, ap, _∙_, subst}
-use mathlib.Core.Bool.{Bool, true, false, _||_, cond, true≢false, or-true}
-use mathlib.Core.Option.{none, some}
-use mathlib.Core.List.{List, [], _∷_, _++_, map, map-append}
-use Prim.Native.Nat.{ℕ, zero, suc, _+_, _*_, _-_, _≤_, _<_}
-use native.Mathlib.Nat.{not-suc-le-zero, le-of-suc-le-suc, suc-mul, zero-mul, lt-of-mul-lt-mul-right, mul-le-mul-right}
-use native.Mathlib.Omega.{arith}
-use borrow.Rule.Slice.PartMut.{putMid}
-use lib.ListN.{length, drop, take, replicate}
+use Rattle.lists.proofs.Kit.{_≡_, refl, sym, ap, _∙_, subst, Bool, true, false, _||_, cond, true≢false, or-true, none, some, List, [], _∷_, _++_, map, map-append, ℕ, zero, suc, _+_, _*_, _-_, _≤_, _<_, not-suc-le-zero, le-of-suc-le-suc, suc-mul, zero-mul, lt-of-mul-lt-mul-right, mul-le-mul-right, arith, putMid, length, drop, take, replicate}
 use Rattle.lists.specs.Every.{All}
 use Rattle.lists.proofs.Every.{all-turn}
 use Rattle.lists.proofs.Bools.{is-false, or-rest}

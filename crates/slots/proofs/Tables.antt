@@ -1,13 +1,5 @@
 -- Laws of tables of slots: their lengths, and what reading and changing a place does. Assumes nothing.
-use mathlib.Core.Path.{_≡_, refl, sym, ap, ap₂, _∙_}
-use mathlib.Core.Bool.{Bool, true, false, cond, true≢false}
-use mathlib.Core.Option.{Option, none, some}
-use mathlib.Core.List.{List, [], _∷_, _++_, map, map-map}
-use Prim.Native.Nat.{ℕ, zero, suc, _+_, _*_, _-_, _≤_, _<_}
-use native.Mathlib.Nat.{not-suc-le-zero, le-of-suc-le-suc, suc-mul, zero-mul, add-comm, mul-le-mul-right}
-use native.Mathlib.Omega.{arith}
-use borrow.Rule.Slice.PartMut.{putMid, midOf, mid-len}
-use lib.ListN.{length, set, take, drop, getD, replicate, length-set, length-map, length-replicate, replicate-append-replicate}
+use Rattle.lists.proofs.Kit.{_≡_, refl, sym, ap, ap₂, _∙_, Bool, true, false, cond, true≢false, Option, none, some, List, [], _∷_, _++_, map, map-map, ℕ, zero, suc, _+_, _*_, _-_, _≤_, _<_, not-suc-le-zero, le-of-suc-le-suc, suc-mul, zero-mul, add-comm, mul-le-mul-right, arith, putMid, midOf, mid-len, length, set, take, drop, getD, replicate, length-set, length-map, length-replicate, replicate-append-replicate}
 use Rattle.lists.specs.Bytes.{Bytes}
 use Rattle.lists.proofs.Bytes.{bytes-zeros}
 use Rattle.lists.specs.Every.{All}

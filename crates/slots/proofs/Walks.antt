@@ -1,15 +1,5 @@
 -- Whether bytes are a table: slot by slot, with a test that decides for a slot. Assumes nothing.
-use mathlib.Core.Path.{_≡_, refl, sym, ap, ap₂, _∙_, subst}
-use mathlib.Core.Bool.{true}
-use mathlib.Core.Logic.{_↔_}
-use mathlib.Core.Option.{Option}
-use mathlib.Core.List.{List, [], _∷_, _++_}
-use Prim.Native.Nat.{ℕ, zero, suc, _+_, _*_, _-_, _≤_, _<_}
-use native.Mathlib.Nat.{suc-mul, zero-mul}
-use native.Mathlib.Omega.{arith}
-use borrow.Rule.Slice.PartMut.{midOf}
-use lib.ListN.{length, drop, take, replicate, length-drop, take-append-drop}
-use lib.Seq.{take-at, drop-at, drop-drop}
+use Rattle.lists.proofs.Kit.{_≡_, refl, sym, ap, ap₂, _∙_, subst, true, _↔_, Option, List, [], _∷_, _++_, ℕ, zero, suc, _+_, _*_, _-_, _≤_, _<_, suc-mul, zero-mul, arith, midOf, length, drop, take, replicate, length-drop, take-append-drop, take-at, drop-at, drop-drop}
 use Rattle.lists.specs.Every.{All}
 use Rattle.slots.specs.Slots.{slot, places, zeros?, Present, EntryOf, SlotOf, PlacesOf, ListOf}
 use Rattle.slots.proofs.Runs.{zeros-are}

@@ -1,4 +1,4 @@
--- A setting applied to its part of the store is applied to the store. Assumes nothing.
+-- A setting applied to its region of the store is applied to the store. Assumes nothing.
 use Prim.Native.Nat.{ℕ, _+_, _*_, _-_, _≤_, _<_}
 use mathlib.Core.Path.{_≡_, refl, ap, ap₂, sym, _∙_, subst, subst⁻¹}
 use mathlib.Core.Bool.{Bool, true, false}
@@ -43,7 +43,7 @@ use Rattle.tables.proofs.Frames.{hash-put as hash-back, key-put as key-back, ho
 use Rattle.tables.proofs.LayoutLaws.{layout-length}
 use Rattle.tables.proofs.ListLaws.{tried-room}
 
--- ---- a part put back
+-- ---- a region put back
 
 -- x is the setting v that was meant
 module _ (l : Limits) (was : Tables) (s : List ℕ) (is : Works l was s) (left : ℕ) (x v : Setting) (q : x ≡ v) (r : InRange text-limits left x) (p : Fits unicode16 x) where
@@ -68,7 +68,7 @@ module _ (l : Limits) (was : Tables) (s : List ℕ) (is : Works l was s) (left :
       → (u : Own (kind v)) → own-after l v (own (kind v) was) ≡ some u → y ≡ bytes u → Tried (Works l) (apply l x was) (putMid a n s y) true
   fixed bytes a n y back = changed (λ u z. z ≡ bytes u) a n y (λ u e. ap (putMid a n (layout l was)) e ∙ back u)
 
--- a fixed part has its length
+-- a fixed region has its length
 wide : (l : Limits) (was : Tables) (s : List ℕ) → used-size l ≤ l .size → Works l was s → (a n : ℕ) → a + n ≤ lists-at → length (midOf a n s) ≡ n
 wide l was s room is a n h =
     let e : length s ≡ l .size = ap length (is .1) ∙ layout-length l was room (is .0) in
@@ -81,7 +81,7 @@ target-fits (Current g) h = omega arith
 target-fits (ToGroup a) h = h .1
 target-fits (ToIndividual a) h = h .1
 
--- ---- the fixed parts
+-- ---- the fixed regions
 
 module _ (l : Limits) (m s y : List ℕ) where
   pub store-key : (target : KeyTarget) (f : KeyFlags) → KeyPut target f (midOf key-at key-size s) y → Applied l m (Key target f) s (putMid key-at key-size s y) true

@@ -1,4 +1,4 @@
-// The whole store: a setting that was read is applied to its part.
+// The whole store: a setting that was read is applied to its region.
 use settings::settings::Setting;
 use store_lists::channels::apply_channels;
 use store_lists::lines::apply_lines;
@@ -28,7 +28,7 @@ ghost use lib.ListN.{length};
 ghost use Rattle.tables.specs.Layout.{Roomy};
 ghost use Rattle.tables.specs.Store.{Applied};
 
-// Changes the part of a setting, in bytes that have all parts; whether there was room.
+// Changes the region of a setting, in bytes that have all regions; whether there was room.
 fn apply_part(store: &mut [u8], limits: Limits, m: &[u8], setting: Setting) -> bool
     requires { ⌜ Roomy limits × (length (now store) ≡ limits .size) ⌝ }
     ensures { λ r. ⌜ Applied limits (now (m .entry)) setting (now (store .entry)) (now (store .exit)) r ⌝ }

@@ -1,13 +1,5 @@
 -- Lines of which no two have one number: each line's number is looked for behind it. Assumes nothing.
-use mathlib.Core.Path.{_≡_, refl, sym, ap, _∙_, subst}
-use mathlib.Core.Logic.{_↔_, _≢_}
-use mathlib.Core.List.{List, [], _∷_, _++_, map, append-assoc}
-use Prim.Native.Nat.{ℕ, _+_, _*_, _-_, _≤_, _<_}
-use native.Mathlib.Nat.{mul-le-mul-right}
-use native.Mathlib.Omega.{arith}
-use borrow.Rule.Slice.PartMut.{midOf}
-use lib.ListN.{length, take, drop, length-drop, length-map, take-append-drop}
-use lib.Seq.{drop-drop, length-take-le, take-add, take-all, take-at}
+use Rattle.lists.proofs.Kit.{_≡_, refl, sym, ap, _∙_, subst, _↔_, _≢_, List, [], _∷_, _++_, map, append-assoc, ℕ, _+_, _*_, _-_, _≤_, _<_, mul-le-mul-right, arith, midOf, length, take, drop, length-drop, length-map, take-append-drop, drop-drop, length-take-le, take-add, take-all, take-at}
 use Rattle.lists.specs.Every.{All}
 use Rattle.lists.proofs.Every.{all-made}
 use Rattle.lists.proofs.Seqs.{cut}

@@ -1,14 +1,5 @@
 -- The entries of the tables: which bytes are theirs, field by field. Assumes nothing.
-use mathlib.Core.Path.{_≡_, refl, sym, ap, _∙_, subst}
-use mathlib.Core.Bool.{true, false, not, true≢false}
-use mathlib.Core.Logic.{_↔_, Iff·rfl, Iff·trans, Iff·and}
-use mathlib.Core.List.{List, [], _∷_, _++_, map}
-use Prim.Native.Nat.{ℕ, suc, _+_, _*_, _%_, _≤_, _<_}
-use native.Mathlib.Omega.{arith}
-use borrow.Rule.Slice.PartMut.{midOf}
-use lib.Dec.{eqb, leb}
-use lib.ListN.{length, take, drop, getD, length-drop}
-use lib.Seq.{drop-drop, getD-drop}
+use Rattle.lists.proofs.Kit.{_≡_, refl, sym, ap, _∙_, subst, true, false, not, true≢false, _↔_, Iff·rfl, Iff·trans, Iff·and, List, [], _∷_, _++_, map, ℕ, suc, _+_, _*_, _%_, _≤_, _<_, arith, midOf, eqb, leb, length, take, drop, getD, length-drop, drop-drop, getD-drop}
 use Rattle.lists.specs.Bytes.{Bytes}
 use Rattle.slots.specs.Slots.{zeros?, u16, u24, EntryOf}
 use Rattle.slots.proofs.Numbers.{u16-shown}

@@ -1,14 +1,5 @@
--- The parts that are no tables: which bytes are a kept hash, an emergency key, home numbers and a system code. Assumes nothing.
-use mathlib.Core.Path.{_≡_, refl, sym, ap, ap₂, _∙_, subst}
-use mathlib.Core.Bool.{Bool, true, false, not}
-use mathlib.Core.Logic.{_↔_, _≢_, _⊎_, inl, inr, ⊎-elim, Iff·rfl, Iff·trans, Iff·and}
-use mathlib.Core.List.{List, [], _∷_, _++_, head-eq-of-cons-eq, tail-eq-of-cons-eq}
-use Prim.Native.Nat.{ℕ, suc, _+_, _*_, _-_, _/_, _%_, _≤_, _<_}
-use native.Mathlib.Omega.{arith}
-use borrow.Rule.Slice.PartMut.{midOf}
-use lib.Dec.{eqb, leb}
-use lib.ListN.{length, take, drop, getD, replicate, length-drop, take-append-drop}
-use lib.Seq.{take-all, drop-at, length-take-le}
+-- The regions that are no tables: which bytes are a kept hash, an emergency key, home numbers and a system code. Assumes nothing.
+use Rattle.lists.proofs.Kit.{_≡_, refl, sym, ap, ap₂, _∙_, subst, Bool, true, false, not, _↔_, _≢_, _⊎_, inl, inr, ⊎-elim, Iff·rfl, Iff·trans, Iff·and, List, [], _∷_, _++_, head-eq-of-cons-eq, tail-eq-of-cons-eq, ℕ, suc, _+_, _*_, _-_, _/_, _%_, _≤_, _<_, arith, midOf, eqb, leb, length, take, drop, getD, replicate, length-drop, take-append-drop, take-all, drop-at, length-take-le}
 use Rattle.lists.specs.Bytes.{Bytes}
 use Rattle.lists.proofs.Bytes.{bytes-all, bytes-take}
 use Rattle.slots.specs.Slots.{pad, zeros?, u16, u24, EntryOf}

@@ -1,15 +1,5 @@
 -- Numbers of two and three bytes, and flags of one: which bytes are theirs. Assumes nothing.
-use mathlib.Core.Path.{_≡_, refl, sym, ap, _∙_, subst}
-use mathlib.Core.Bool.{Bool}
-use mathlib.Core.Logic.{_↔_, _≢_}
-use mathlib.Core.List.{List, [], _∷_, head-eq-of-cons-eq}
-use Prim.Native.Nat.{ℕ, _+_, _*_, _/_, _%_, _≤_, _<_}
-use native.Mathlib.Nat.{add-zero, div-add-mod', div-div-eq-div-mul, mod-eq-of-lt}
-use native.Mathlib.Omega.{arith}
-use borrow.Rule.Slice.PartMut.{midOf}
-use lib.Dec.{eqb}
-use lib.ListN.{length, drop, getD, length-drop}
-use lib.Seq.{getD-drop, getD-take, length-take-le}
+use Rattle.lists.proofs.Kit.{_≡_, refl, sym, ap, _∙_, subst, Bool, _↔_, _≢_, List, [], _∷_, head-eq-of-cons-eq, ℕ, _+_, _*_, _/_, _%_, _≤_, _<_, add-zero, div-add-mod', div-div-eq-div-mul, mod-eq-of-lt, arith, midOf, eqb, length, drop, getD, length-drop, getD-drop, getD-take, length-take-le}
 use Rattle.lists.specs.Bytes.{Bytes}
 use Rattle.lists.proofs.Bytes.{bytes-drop, bytes-take}
 use Rattle.slots.specs.Slots.{u16, u24, EntryOf}

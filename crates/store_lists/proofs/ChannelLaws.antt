@@ -1,16 +1,5 @@
 -- Laws of the table of channels: what a turn of its loops does. Assumes nothing.
-use mathlib.Core.Path.{_≡_, refl, sym, ap, _∙_, subst}
-use mathlib.Core.Bool.{Bool, true, false, cond}
-use mathlib.Core.List.{List, [], _∷_, _++_, append-assoc, append-nil, head-eq-of-cons-eq, tail-eq-of-cons-eq}
-use mathlib.Core.Option.{none, some}
-use Prim.Native.Nat.{ℕ, _+_, _-_, _*_, _/_, _≤_, _<_}
-use native.Mathlib.Numerals.{add-one}
-use native.Mathlib.Omega.{arith}
-use borrow.Author.Tests.{lt-ltb, le-ltb, ltb-true}
-use borrow.Rule.Slice.PartMut.{putMid, midOf}
-use lib.Dec.{eqb, ltb}
-use lib.ListN.{length, take, drop, getD, replicate, length-append, length-replicate}
-use lib.Seq.{drop-cons, length-take-le, take-all, take-suc}
+use Rattle.lists.proofs.Kit.{_≡_, refl, sym, ap, _∙_, subst, Bool, true, false, cond, List, [], _∷_, _++_, append-assoc, append-nil, head-eq-of-cons-eq, tail-eq-of-cons-eq, none, some, ℕ, _+_, _-_, _*_, _/_, _≤_, _<_, add-one, arith, lt-ltb, le-ltb, ltb-true, putMid, midOf, eqb, ltb, length, take, drop, getD, replicate, length-append, length-replicate, drop-cons, length-take-le, take-all, take-suc}
 use Rattle.lists.specs.Every.{All}
 use Rattle.lists.proofs.Every.{all-get}
 use Rattle.slots.specs.Slots.{u16, zeros?, places, front, Found, Removed}
@@ -21,9 +10,9 @@ use Rattle.writing.specs.declared.Operation.{Operation}
 use Rattle.writing.specs.declared.Operation.the-variants.{Add, Delete, Replace}
 use Rattle.writing.specs.Ranges.{InChannel}
 use Rattle.settings.specs.declared.settings.Entries.{Entries}
-use Rattle.read_fields.specs.Places.{PartAt}
+use Rattle.read_fields.specs.Places.{FieldsAt}
 use Rattle.read_fields.specs.Entries.{channel-list}
-use Rattle.settings.specs.Settings.{EntriesAre}
+use Rattle.settings.specs.Meant.{EntriesAre}
 use Rattle.tables.specs.Apply.{and-then, in-turn, channel-step}
 use Rattle.tables.specs.Changing.{Tried}
 use Rattle.store_lists.specs.Lists.{ChannelTable, ChannelApplied, ChannelsApplied}
@@ -68,10 +57,10 @@ FromPlace ns rest i = rest ≡ drop i ns
 
 -- x is the channel in place i
 abbrev pub ChannelIs : List ℕ → Entries → ℕ → ℕ → Type 0
-ChannelIs m p i x = (es : List ℕ) (next : ℕ) → PartAt (channel-list es) m (p .start) next → i < length es → x ≡ getD es i 0
+ChannelIs m p i x = (es : List ℕ) (next : ℕ) → FieldsAt (channel-list es) m (p .start) next → i < length es → x ≡ getD es i 0
 
 module _ (o : Operation) (m : List ℕ) (p : Entries) (s : List ℕ) where
-  -- on a part that was s, whatever its places, the channels from place i on are left, and it is now t
+  -- on a region that was s, whatever its places, the channels from place i on are left, and it is now t
   abbrev pub ChannelsLeft : ℕ → List ℕ → Type 0
   ChannelsLeft i t = (n : ℕ) → Going (EntriesAre (λ c. channel-list) m p) FromPlace InChannel (channel-step n o) (ChannelTable n) s i (p .count - i) t
 
@@ -151,7 +140,7 @@ replace-full m p s h n cs ns l e q =
     tried-full (ChannelTable n) (none-added n ns [] (omega arith) (omega (arith, e .counted, channel-places n cs s l)))
 
 module _ (m : List ℕ) (p : Entries) (w : List ℕ) where
-  -- whatever channels stand at the place, and however many places the wiped part w has, it is now the table of the first i of them
+  -- whatever channels stand at the place, and however many places the wiped region w has, it is now the table of the first i of them
   abbrev pub ChannelsPut : ℕ → List ℕ → Type 0
   ChannelsPut i t = (n : ℕ) (ns : List ℕ) → ChannelTable n [] w → EntriesAre (λ c. channel-list) m p ns → All InChannel ns → ChannelTable n (take i ns) t
 

@@ -1,13 +1,5 @@
 -- Laws of the table of line contacts: a line's slot, and what a turn of the table's loops does. Assumes nothing.
-use mathlib.Core.Path.{_≡_, refl, sym, ap, ap₂, _∙_, subst, subst⁻¹}
-use mathlib.Core.Bool.{Bool, true, false, cond}
-use mathlib.Core.List.{List, [], _∷_, _++_, map, append-nil}
-use mathlib.Core.Option.{none, some}
-use Prim.Native.Nat.{ℕ, suc, _+_, _-_, _≤_, _<_}
-use native.Mathlib.Omega.{arith}
-use borrow.Author.Tests.{lt-ltb, le-ltb}
-use borrow.Rule.Slice.PartMut.{putMid, midOf}
-use lib.ListN.{length, take, drop, replicate, length-append}
+use Rattle.lists.proofs.Kit.{_≡_, refl, sym, ap, ap₂, _∙_, subst, subst⁻¹, Bool, true, false, cond, List, [], _∷_, _++_, map, append-nil, none, some, ℕ, suc, _+_, _-_, _≤_, _<_, arith, lt-ltb, le-ltb, putMid, midOf, length, take, drop, replicate, length-append}
 use Rattle.lists.specs.Bytes.{Bytes}
 use Rattle.lists.specs.Every.{All}
 use Rattle.slots.specs.Slots.{same?, fit, indexOf, putAt, KeyAt, Found, Removed}
@@ -29,7 +21,7 @@ use Rattle.read_fields.specs.declared.entries.ContactRead.{ContactRead}
 use Rattle.read_fields.specs.declared.entries.ContactRead.the-variants.{Contact as AContact, NoContact}
 use Rattle.settings.specs.declared.settings.Entries.{Entries}
 use Rattle.read_fields.specs.Entries.{ContactIs, ContactAt}
-use Rattle.settings.specs.Settings.{EntriesAre}
+use Rattle.settings.specs.Meant.{EntriesAre}
 use Rattle.tables.specs.Allowed.{LineOk}
 use Rattle.tables.specs.Apply.{in-turn, start-from, has-number, line-of, line-step}
 use Rattle.tables.specs.Changing.{TextPut, Tried}
@@ -123,7 +115,7 @@ line-ok m h f p e is range low = record {
 }
 
 module _ (o : Operation) (m : List ℕ) (f : LineFlags) (p : Entries) (s : List ℕ) where
-  -- on a part that was s, whatever its places, i contacts are done, the others are left at a place, and it is now t
+  -- on a region that was s, whatever its places, i contacts are done, the others are left at a place, and it is now t
   abbrev pub LinesLeft : ℕ → ℕ → List ℕ → Type 0
   LinesLeft at i t =
       f .priority < 4 → (n : ℕ) → Applying (contact (p .coding)) (contact-ends (p .coding)) (contact-whole (p .coding)) (InContact text-limits) (line-step n o f) (LineTable n) m s
@@ -173,12 +165,12 @@ module _ (o : Operation) (m : List ℕ) (f : LineFlags) (p : Entries) (s : List 
 
 -- ---- replacing
 
--- a part that was emptied where it is to be replaced
+-- a region that was emptied where it is to be replaced
 lines-emptied : (o : Operation) (n : ℕ) (ls : List Line) (s t : List ℕ) → t ≡ start-from o (replicate (length s) 0) s → LineTable n ls s → LineTable n (start-from o [] ls) t
 lines-emptied Add n ls s t e l = subst⁻¹ (LineTable n ls) e l
 lines-emptied Delete n ls s t e l = subst⁻¹ (LineTable n ls) e l
 lines-emptied Replace n ls s t e l = wiped LineOk line-width line-bytes (line-keyed .long) n ls s t l e
 
--- what was done to it was done to the part
+-- what was done to it was done to the region
 pub lines-applied : (o : Operation) (m : List ℕ) (f : LineFlags) (p : Entries) (s t u : List ℕ) (r : Bool) → t ≡ start-from o (replicate (length s) 0) s → LinesDone o m f p t u r → LinesApplied o m f p s u r
 lines-applied o m f p s t u r e d low n ls es l = d low n (start-from o [] ls) es (lines-emptied o n ls s t e l)

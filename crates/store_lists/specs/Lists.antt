@@ -17,8 +17,8 @@ use Rattle.read_fields.specs.declared.entries.ContactPlace.{ContactPlace}
 use Rattle.read_fields.specs.declared.numbers.NumberPlace.{NumberPlace}
 use Rattle.settings.specs.declared.settings.Entries.{Entries}
 use Rattle.read_fields.specs.Entries.{channel-list, ContactIs}
-use Rattle.read_fields.specs.Parts.{NumberIs}
-use Rattle.settings.specs.Settings.{EntriesAre}
+use Rattle.read_fields.specs.TextsAndNumbers.{NumberIs}
+use Rattle.settings.specs.Meant.{EntriesAre}
 use Rattle.tables.specs.Allowed.{LineOk}
 use Rattle.tables.specs.Apply.{channel-step, channels-after, line-of, line-step, put-line, drop-line, lines-after}
 use Rattle.tables.specs.Layout.{channel-width, line-bytes, line-width}
@@ -31,7 +31,7 @@ use Rattle.tables.specs.Changing.{Tried}
 abbrev pub ChannelTable : ℕ → List ℕ → List ℕ → Type 0
 ChannelTable n = Listed InChannel channel-width u16 n
 
--- what applying the channels that stand at a place answers, on a part that was s and becomes t
+-- what applying the channels that stand at a place answers, on a region that was s and becomes t
 abbrev pub ChannelsApplied : Operation → List ℕ → Entries → List ℕ → List ℕ → Bool → Type 0
 ChannelsApplied o m p s t r =
     (n : ℕ) (cs ns : List ℕ) → ChannelTable n cs s → EntriesAre (λ c. channel-list) m p ns → All InChannel ns → Tried (ChannelTable n) (channels-after n o ns cs) t r
@@ -42,7 +42,7 @@ ChannelsApplied o m p s t r =
 abbrev pub LineTable : ℕ → List Line → List ℕ → Type 0
 LineTable n = Listed LineOk line-width line-bytes n
 
--- what applying the contacts that stand at a place answers, on a part that was s and becomes t
+-- what applying the contacts that stand at a place answers, on a region that was s and becomes t
 abbrev pub LinesApplied : Operation → List ℕ → LineFlags → Entries → List ℕ → List ℕ → Bool → Type 0
 LinesApplied o m f p s t r =
     f .priority < 4 → (n : ℕ) (ls : List Line) (es : List Contact) → LineTable n ls s → EntriesAre (λ c. each (contact c)) m p es → All (InContact text-limits) es

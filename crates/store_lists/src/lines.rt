@@ -1,4 +1,4 @@
-// What a setting does to the table of line contacts, which is a part of a store.
+// What a setting does to the table of line contacts, which is a region of a store.
 use super::line_slots::line_slot;
 use read_fields::entries::ContactRead;
 use read_fields::entries::read_contact;
@@ -19,59 +19,59 @@ ghost use Rattle.tables.specs.Layout.{line-width};
 ghost use Rattle.store_lists.specs.Lists.{LinePut, LineDropped, LineStepped, LinesApplied};
 
 // Puts a line in place of the one with its number, or at the end, where there is room.
-fn put_line(part: &mut [u8], slot: &[u8]) -> bool
+fn put_line(list: &mut [u8], slot: &[u8]) -> bool
     requires { ⌜ length (now slot) ≡ line-width ⌝ }
-    ensures { λ r. ⌜ LinePut (now (slot .entry)) (now (part .entry)) (now (part .exit)) r ⌝ }
+    ensures { λ r. ⌜ LinePut (now (slot .entry)) (now (list .entry)) (now (list .exit)) r ⌝ }
 {
     let at = place_of(
-        part,
+        list,
         LINE_SLOT,
         LINE_DIGITS,
         DIGITS,
         &slot[LINE_DIGITS..LINE_TEXT],
     );
-    if part.len() - at < LINE_SLOT {
+    if list.len() - at < LINE_SLOT {
         return false;
     }
     let e = at + LINE_SLOT;
-    copy(&mut part[at..e], slot);
+    copy(&mut list[at..e], slot);
     true
 }
 
 // Takes the line with the slot's number out.
-fn drop_line(part: &mut [u8], slot: &[u8])
+fn drop_line(list: &mut [u8], slot: &[u8])
     requires { ⌜ length (now slot) ≡ line-width ⌝ }
-    ensures { λ _. ⌜ LineDropped (now (slot .entry)) (now (part .entry)) (now (part .exit)) ⌝ }
+    ensures { λ _. ⌜ LineDropped (now (slot .entry)) (now (list .entry)) (now (list .exit)) ⌝ }
 {
-    remove_all(part, LINE_SLOT, LINE_DIGITS, &slot[LINE_DIGITS..LINE_TEXT]);
+    remove_all(list, LINE_SLOT, LINE_DIGITS, &slot[LINE_DIGITS..LINE_TEXT]);
 }
 
 // Applies an operation to the line of a slot: was there room?
-fn step_line(part: &mut [u8], operation: Operation, slot: &[u8]) -> bool
+fn step_line(list: &mut [u8], operation: Operation, slot: &[u8]) -> bool
     requires { ⌜ length (now slot) ≡ line-width ⌝ }
-    ensures { λ r. ⌜ LineStepped operation (now (slot .entry)) (now (part .entry)) (now (part .exit)) r ⌝ }
+    ensures { λ r. ⌜ LineStepped operation (now (slot .entry)) (now (list .entry)) (now (list .exit)) r ⌝ }
 {
     match operation {
-        Operation::Add => put_line(part, slot),
+        Operation::Add => put_line(list, slot),
         Operation::Delete => {
-            drop_line(part, slot);
+            drop_line(list, slot);
             true
         }
-        Operation::Replace => put_line(part, slot),
+        Operation::Replace => put_line(list, slot),
     }
 }
 
 // Applies the line contacts of a setting in order, until there is no room: was there?
 pub fn apply_lines(
-    part: &mut [u8],
+    list: &mut [u8],
     m: &[u8],
     operation: Operation,
     flags: LineFlags,
     entries: Entries,
 ) -> bool
-    ensures { λ r. ⌜ LinesApplied operation (now (m .entry)) flags entries (now (part .entry)) (now (part .exit)) r ⌝ }
+    ensures { λ r. ⌜ LinesApplied operation (now (m .entry)) flags entries (now (list .entry)) (now (list .exit)) r ⌝ }
 {
-    empty_to_replace(part, operation);
+    empty_to_replace(list, operation);
     let coding = entries.coding;
     let mut p = entries.start;
     let mut i = 0;
@@ -81,7 +81,7 @@ pub fn apply_lines(
             return false;
         };
         let slot = line_slot(m, flags, place);
-        if !step_line(part, operation, &slot) {
+        if !step_line(list, operation, &slot) {
             return false;
         }
         p = next;

@@ -1,11 +1,5 @@
 -- Indexed tables: a place changed as its slot is, and a table emptied to be replaced. Assumes nothing.
-use Prim.Native.Nat.{ℕ, _+_, _-_, _*_, _≤_, _<_}
-use mathlib.Core.Path.{_≡_, ap, sym, _∙_, subst, subst⁻¹}
-use mathlib.Core.List.{List, [], _++_}
-use mathlib.Core.Option.{Option, none}
-use native.Mathlib.Omega.{arith}
-use borrow.Rule.Slice.PartMut.{putMid, midOf}
-use lib.ListN.{length, set, getD, take, drop, replicate, length-replicate}
+use Rattle.lists.proofs.Kit.{ℕ, _+_, _-_, _*_, _≤_, _<_, _≡_, ap, sym, _∙_, subst, subst⁻¹, List, [], _++_, Option, none, arith, putMid, midOf, length, set, getD, take, drop, replicate, length-replicate}
 use Rattle.lists.specs.Every.{All}
 use Rattle.lists.proofs.Every.{all-get}
 use Rattle.slots.specs.Slots.{slot, Present, Placed}

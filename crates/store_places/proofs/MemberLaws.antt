@@ -1,10 +1,5 @@
 -- Group and individual slots: what the function that sets one has to show. Assumes nothing.
-use Prim.Native.Nat.{ℕ, _+_, _*_, _≤_, _<_}
-use mathlib.Core.Path.{_≡_, refl, ap, _∙_}
-use mathlib.Core.Bool.{false}
-use mathlib.Core.List.{List, _∷_, _++_}
-use native.Mathlib.Omega.{arith}
-use lib.ListN.{length}
+use Rattle.lists.proofs.Kit.{ℕ, _+_, _*_, _≤_, _<_, _≡_, refl, ap, _∙_, false, List, _∷_, _++_, arith, length}
 use Rattle.slots.specs.Slots.{u24}
 use Rattle.writing.specs.declared.Operation.{Operation}
 use Rattle.writing.specs.Ranges.{text-limits}

@@ -1,21 +1,12 @@
 -- Slots of a head and a text, which are overwritten: in themselves, and in the place of a table. Assumes nothing.
-use Prim.Native.Nat.{ℕ, _+_, _-_, _*_, _≤_, _<_}
-use mathlib.Core.Path.{_≡_, refl, sym, ap, _∙_, subst, subst⁻¹}
-use mathlib.Core.Bool.{Bool, true, false, true≢false}
-use mathlib.Core.List.{List, [], _++_, append-nil}
-use mathlib.Core.Option.{Option}
-use native.Mathlib.Nat.{mul-le-mul-right}
-use native.Mathlib.Omega.{arith}
-use borrow.Rule.Slice.PartMut.{putMid, midOf}
-use lib.ListN.{length, set, take, drop, replicate, length-append, length-drop}
-use lib.Seq.{take-all}
+use Rattle.lists.proofs.Kit.{ℕ, _+_, _-_, _*_, _≤_, _<_, _≡_, refl, sym, ap, _∙_, subst, subst⁻¹, Bool, true, false, true≢false, List, [], _++_, append-nil, Option, mul-le-mul-right, arith, putMid, midOf, length, set, take, drop, replicate, length-append, length-drop, take-all}
 use Rattle.slots.specs.Slots.{slot, Present, Placed}
 use Rattle.slots.proofs.Parts.{put-part, get-part}
 use Rattle.slots.proofs.Tables.{slot-long, place-fits}
 use Rattle.writing.specs.declared.Operation.{Operation}
 use Rattle.writing.specs.declared.Operation.the-variants.{Add, Delete, Replace}
 use Rattle.writing.specs.Settings.{Text}
-use Rattle.read_fields.specs.Parts.{TextIs}
+use Rattle.read_fields.specs.TextsAndNumbers.{TextIs}
 use Rattle.read_fields.specs.declared.texts.TextPlace.{TextPlace}
 use Rattle.tables.specs.Apply.{slot-after}
 use Rattle.tables.specs.Changing.{TextPut}

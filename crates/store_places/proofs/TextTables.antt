@@ -1,11 +1,5 @@
 -- Quick texts and status texts: what the functions that change a place and the table have to show. Assumes nothing.
-use Prim.Native.Nat.{ℕ, _+_, _-_, _*_, _≤_, _<_}
-use mathlib.Core.Path.{_≡_, refl, sym, ap, _∙_, subst, subst⁻¹}
-use mathlib.Core.Bool.{true, false}
-use mathlib.Core.List.{List, [], _∷_}
-use mathlib.Core.Option.{Option, none, some}
-use native.Mathlib.Omega.{arith}
-use lib.ListN.{length, set, getD, take, drop, replicate}
+use Rattle.lists.proofs.Kit.{ℕ, _+_, _-_, _*_, _≤_, _<_, _≡_, refl, sym, ap, _∙_, subst, subst⁻¹, true, false, List, [], _∷_, Option, none, some, arith, length, set, getD, take, drop, replicate}
 use Rattle.lists.specs.Bytes.{Bytes}
 use Rattle.lists.specs.Every.{All}
 use Rattle.slots.specs.Slots.{zeros?, slot, Present}
@@ -20,8 +14,8 @@ use Rattle.writing.specs.Settings.{Text, Entry}
 use Rattle.writing.proofs.Ends.{Ends}
 use Rattle.writing.proofs.Unique.{quick-ends, status-ends}
 use Rattle.read_fields.specs.Entries.{EntryAt}
-use Rattle.read_fields.specs.Parts.{TextIs}
-use Rattle.read_fields.specs.Places.{PartAt}
+use Rattle.read_fields.specs.TextsAndNumbers.{TextIs}
+use Rattle.read_fields.specs.Places.{FieldsAt}
 use Rattle.read_fields.proofs.EntryLaws.{quick-whole, status-whole}
 use Rattle.read_fields.specs.declared.entries.EntryPlace.{EntryPlace}
 use Rattle.read_fields.specs.declared.entries.EntryRead.{EntryRead}
@@ -145,7 +139,7 @@ readable Quick o e i = (omega arith, quick-short o e i)
 readable Status o e i = i
 
 -- and has a place: an index has 6 bits
-has-place : (k : TextTable) (c : Coding) (o : Operation) (m : List ℕ) (p q : ℕ) (e : Entry) → PartAt (entry-form k c e) m p q → InTexts k o e → text-place k (e .index) < text-places k
+has-place : (k : TextTable) (c : Coding) (o : Operation) (m : List ℕ) (p q : ℕ) (e : Entry) → FieldsAt (entry-form k c e) m p q → InTexts k o e → text-place k (e .index) < text-places k
 has-place Quick c o m p q e x i =
     let (_, _, _, _, _, (_, _, h, l, _, _)) = x .written in
     subst (_< 64) h l

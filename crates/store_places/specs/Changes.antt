@@ -1,4 +1,4 @@
--- What the functions that change a part with a place for each entry promise: its bytes at exit, for every table that its bytes at entry are.
+-- What the functions that change a region with a place for each entry promise: its bytes at exit, for every table that its bytes at entry are.
 use Prim.Native.Nat.{ℕ, _+_, _-_, _*_, _≤_, _<_}
 use mathlib.Core.Path.{_≡_}
 use mathlib.Core.Bool.{Bool, true, false}
@@ -20,9 +20,9 @@ use Rattle.writing.specs.Ranges.{text-limits, InQuick, InStatus, HashSize}
 use Rattle.writing.specs.Settings.{Text, Entry}
 use Rattle.writing.specs.Writing.{quick-text, status-text}
 use Rattle.read_fields.specs.Entries.{EntryIs, QuickFrom}
-use Rattle.read_fields.specs.Parts.{TextIs}
-use Rattle.read_fields.specs.Places.{PartAt}
-use Rattle.settings.specs.Settings.{EntriesAre}
+use Rattle.read_fields.specs.TextsAndNumbers.{TextIs}
+use Rattle.read_fields.specs.Places.{FieldsAt}
+use Rattle.settings.specs.Meant.{EntriesAre}
 use Rattle.read_fields.specs.declared.entries.EntryPlace.{EntryPlace}
 use Rattle.read_fields.specs.declared.hashes.HashPlace.{HashPlace}
 use Rattle.settings.specs.declared.settings.Entries.{Entries}
@@ -181,5 +181,5 @@ SystemPut c s t = c .la < 16 → c .roaming < 4 → length s ≡ 3 → t ≡ sys
 -- eleven bytes become the hash's, whose value stands in the message
 abbrev pub HashPut : List ℕ → HashPlace → List ℕ → List ℕ → Type 0
 HashPut m p s t =
-    (v : List ℕ) → HashSize (p .code) (length v) → PartAt (map (val 8) v) m (p .start) (p .start + length v) → length s ≡ 11
+    (v : List ℕ) → HashSize (p .code) (length v) → FieldsAt (map (val 8) v) m (p .start) (p .start + length v) → length s ≡ 11
     → t ≡ hash-bytes (record { code = p .code; value = v })

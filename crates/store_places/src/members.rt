@@ -16,7 +16,7 @@ const WIDTH: u8 = 36;
 
 // Sets the slot of an index to a byte of flags, an address and a text, or wipes it in a delete.
 fn set_member(
-    part: &mut [u8],
+    region: &mut [u8],
     m: &[u8],
     operation: Operation,
     index: u8,
@@ -24,36 +24,36 @@ fn set_member(
     address: u32,
     text: TextPlace,
 )
-    ensures { λ _. ⌜ MemberSet (now (m .entry)) operation index flags address text (now (part .entry)) (now (part .exit)) ⌝ }
+    ensures { λ _. ⌜ MemberSet (now (m .entry)) operation index flags address text (now (region .entry)) (now (region .exit)) ⌝ }
 {
     let head = head_of(flags, address);
-    set_place(part, WIDTH, index, &head, m, operation, text, false);
+    set_place(region, WIDTH, index, &head, m, operation, text, false);
 }
 
 pub fn apply_group(
-    part: &mut [u8],
+    region: &mut [u8],
     m: &[u8],
     operation: Operation,
     flags: GroupFlags,
     place: GroupPlace,
 )
-    ensures { λ _. ⌜ GroupApplied (now (m .entry)) operation flags place (now (part .entry)) (now (part .exit)) ⌝ }
+    ensures { λ _. ⌜ GroupApplied (now (m .entry)) operation flags place (now (region .entry)) (now (region .exit)) ⌝ }
 {
     let byte = group_flag_byte(flags);
     let address = place.address.0;
-    set_member(part, m, operation, place.index, byte, address, place.text);
+    set_member(region, m, operation, place.index, byte, address, place.text);
 }
 
 pub fn apply_individual(
-    part: &mut [u8],
+    region: &mut [u8],
     m: &[u8],
     operation: Operation,
     flags: IndividualFlags,
     place: IndividualPlace,
 )
-    ensures { λ _. ⌜ IndividualApplied (now (m .entry)) operation flags place (now (part .entry)) (now (part .exit)) ⌝ }
+    ensures { λ _. ⌜ IndividualApplied (now (m .entry)) operation flags place (now (region .entry)) (now (region .exit)) ⌝ }
 {
     let byte = individual_flag_byte(flags);
     let address = place.address.0;
-    set_member(part, m, operation, place.index, byte, address, place.text);
+    set_member(region, m, operation, place.index, byte, address, place.text);
 }

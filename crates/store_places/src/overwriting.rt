@@ -55,7 +55,7 @@ fn set_slot(
 
 // Sets place k of slots of w bytes. Bytes that have no such place stay.
 pub(crate) fn set_place(
-    part: &mut [u8],
+    region: &mut [u8],
     w: u8,
     k: u8,
     head: &[u8],
@@ -64,12 +64,12 @@ pub(crate) fn set_place(
     text: TextPlace,
     keep: bool,
 )
-    ensures { λ _. ⌜ (k * w + w ≤ length (now (part .entry)) → PlaceSet keep (now (m .entry)) operation text (now (head .entry)) w k (now (part .entry)) (now (part .exit))) ⌝ }
+    ensures { λ _. ⌜ (k * w + w ≤ length (now (region .entry)) → PlaceSet keep (now (m .entry)) operation text (now (head .entry)) w k (now (region .entry)) (now (region .exit))) ⌝ }
 {
     let at = k as usize * w as usize;
     let e = at + w as usize;
-    if part.len() < e {
+    if region.len() < e {
         return;
     }
-    set_slot(&mut part[at..e], head, m, operation, text, keep);
+    set_slot(&mut region[at..e], head, m, operation, text, keep);
 }

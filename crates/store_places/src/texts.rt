@@ -34,13 +34,19 @@ fn read_entry(m: &[u8], at: usize, table: TextTable, coding: Coding) -> EntryRea
 }
 
 // Applies one entry: a quick text that is there is kept, and status code 32 has the first place.
-fn apply_entry(part: &mut [u8], m: &[u8], table: TextTable, operation: Operation, place: EntryPlace)
-    ensures { λ _. ⌜ TextStep table (now (m .entry)) operation place (now (part .entry)) (now (part .exit)) ⌝ }
+fn apply_entry(
+    region: &mut [u8],
+    m: &[u8],
+    table: TextTable,
+    operation: Operation,
+    place: EntryPlace,
+)
+    ensures { λ _. ⌜ TextStep table (now (m .entry)) operation place (now (region .entry)) (now (region .exit)) ⌝ }
 {
     let head: [u8; 1] = [1];
     match table {
         TextTable::Quick => set_place(
-            part,
+            region,
             QUICK_WIDTH,
             place.index,
             &head[0..0],
@@ -54,7 +60,7 @@ fn apply_entry(part: &mut [u8], m: &[u8], table: TextTable, operation: Operation
                 return;
             }
             set_place(
-                part,
+                region,
                 STATUS_WIDTH,
                 place.index - 32,
                 &head,
@@ -69,15 +75,15 @@ fn apply_entry(part: &mut [u8], m: &[u8], table: TextTable, operation: Operation
 
 // Applies the entries in order. Entries that do not stand in the message end it.
 pub fn apply_texts(
-    part: &mut [u8],
+    region: &mut [u8],
     m: &[u8],
     table: TextTable,
     operation: Operation,
     entries: Entries,
 )
-    ensures { λ _. ⌜ TextsApplied table (now (m .entry)) operation entries (now (part .entry)) (now (part .exit)) ⌝ }
+    ensures { λ _. ⌜ TextsApplied table (now (m .entry)) operation entries (now (region .entry)) (now (region .exit)) ⌝ }
 {
-    empty_to_replace(part, operation);
+    empty_to_replace(region, operation);
     let coding = entries.coding;
     let mut p = entries.start;
     let mut left = entries.count;
@@ -86,7 +92,7 @@ pub fn apply_texts(
         let EntryRead::Entry(place, next) = here else {
             return;
         };
-        apply_entry(part, m, table, operation, place);
+        apply_entry(region, m, table, operation, place);
         p = next;
         left -= 1;
     }

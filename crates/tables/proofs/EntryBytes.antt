@@ -1,7 +1,5 @@
--- The bytes of entries and of the fixed parts are bytes: below 256. Assumes nothing.
-use Prim.Native.Nat.{ℕ, _+_, _*_, _<_}
-use mathlib.Core.List.{[], _∷_, _++_}
-use native.Mathlib.Omega.{arith}
+-- The bytes of entries and of the fixed regions are bytes: below 256. Assumes nothing.
+use Rattle.lists.proofs.Kit.{ℕ, _+_, _*_, _<_, [], _∷_, _++_, arith}
 use Rattle.lists.specs.Bytes.{Bytes}
 use Rattle.lists.proofs.Bytes.{all-bytes, bytes-append, bytes-cons, bytes-zeros}
 use Rattle.slots.specs.Slots.{pad, u16, u24}

@@ -1,12 +1,5 @@
 -- The bytes of an entry of a table: as many as its slot is wide, not all zeros, and they tell the entry. Assumes nothing.
-use Prim.Native.Nat.{ℕ, suc, _+_, _*_, _≤_, _<_}
-use mathlib.Core.Path.{_≡_, refl, sym, ap, _∙_}
-use mathlib.Core.Bool.{Bool, true, false, true≢false}
-use mathlib.Core.List.{List, _∷_, _++_, head-eq-of-cons-eq, tail-eq-of-cons-eq}
-use native.Mathlib.Omega.{arith}
-use lib.Dec.{eqb}
-use lib.ListN.{length, length-append}
-use lib.Seq.{take-at}
+use Rattle.lists.proofs.Kit.{ℕ, suc, _+_, _*_, _≤_, _<_, _≡_, refl, sym, ap, _∙_, Bool, true, false, true≢false, List, _∷_, _++_, head-eq-of-cons-eq, tail-eq-of-cons-eq, arith, eqb, length, length-append, take-at}
 use Rattle.lists.proofs.Bools.{is-false, and-parts}
 use Rattle.lists.proofs.Seqs.{cut}
 use Rattle.slots.specs.Slots.{u16, u24, zeros?}

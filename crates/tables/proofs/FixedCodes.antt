@@ -1,9 +1,5 @@
--- The bytes of the parts that are no tables: hash, emergency key, home numbers and system code. Assumes nothing.
-use Prim.Native.Nat.{suc, _+_, _*_}
-use mathlib.Core.Path.{_≡_, refl, sym, ap}
-use mathlib.Core.Bool.{Bool, true≢false}
-use mathlib.Core.List.{head-eq-of-cons-eq, tail-eq-of-cons-eq}
-use native.Mathlib.Omega.{arith}
+-- The bytes of the regions that are no tables: hash, emergency key, home numbers and system code. Assumes nothing.
+use Rattle.lists.proofs.Kit.{suc, _+_, _*_, _≡_, refl, sym, ap, Bool, true≢false, head-eq-of-cons-eq, tail-eq-of-cons-eq, arith}
 use Rattle.lists.proofs.Seqs.{cut}
 use Rattle.slots.specs.Slots.{u16}
 use Rattle.slots.proofs.Codes.{Code}

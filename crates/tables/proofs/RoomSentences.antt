@@ -1,14 +1,5 @@
 -- The sentences of document 01 on room, on entries in order, and on what a setting leaves alone. Assumes nothing.
-use Prim.Native.Nat.{ℕ, _≤_, _<_}
-use mathlib.Core.Path.{_≡_, refl, ap, _∙_, subst}
-use mathlib.Core.Logic.{_≢_, _↔_, _⊎_, inl, inr}
-use mathlib.Core.Bool.{Bool, true, false, cond, true≢false}
-use mathlib.Core.List.{List, [], _∷_, _++_}
-use mathlib.Core.Option.{Option, none, some, Option·some-ne-none, Option·none-ne-some, Option·some-injective}
-use native.Mathlib.Omega.{arith}
-use borrow.Author.Tests.{eq-eqb, le-ltb, ltb-false}
-use lib.Dec.{eqb, ltb}
-use lib.ListN.{length, replicate}
+use Rattle.lists.proofs.Kit.{ℕ, _≤_, _<_, _≡_, refl, ap, _∙_, subst, _≢_, _↔_, _⊎_, inl, inr, Bool, true, false, cond, true≢false, List, [], _∷_, _++_, Option, none, some, Option·some-ne-none, Option·none-ne-some, Option·some-injective, arith, eq-eqb, le-ltb, ltb-false, eqb, ltb, length, replicate}
 use Rattle.slots.specs.Slots.{indexOf, putAt, Present}
 use Rattle.slots.proofs.Changes.{index-absent, index-end, unless-fewer}
 use Rattle.slots.proofs.Tables.{index-le}
@@ -145,19 +136,19 @@ room-none f none e = refl
 room-none f (some a) e = absurd (Option·some-ne-none (f a) e)
 
 -- a setting that has no room is one of lines or of channels
-pub no-room-kinds : (m : Limits) (s : Setting) (t : Tables) → apply m s t ≡ none → (kind s ≡ Lines) ⊎ (kind s ≡ Channels)
-no-room-kinds m (lines o f es) t e = inl refl
-no-room-kinds m (key target f) t e = absurd (Option·some-ne-none _ e)
-no-room-kinds m (quick-texts o es) t e =
+pub no-room-kinds : (lim : Limits) (s : Setting) (t : Tables) → apply lim s t ≡ none → (kind s ≡ Lines) ⊎ (kind s ≡ Channels)
+no-room-kinds lim (lines o f es) t e = inl refl
+no-room-kinds lim (key target f) t e = absurd (Option·some-ne-none _ e)
+no-room-kinds lim (quick-texts o es) t e =
     absurd (all-have-room (quick-step o) (quick-has-room o) es (start-from o (replicate quick-places none) (t .quick)) (room-none (put-own QuickTexts t) (quick-after o es (t .quick)) e))
-no-room-kinds m (home h) t e = absurd (Option·some-ne-none _ e)
-no-room-kinds m (channels o ns) t e = inr refl
-no-room-kinds m (system s) t e = absurd (Option·some-ne-none _ e)
-no-room-kinds m (status-texts o es) t e =
+no-room-kinds lim (home h) t e = absurd (Option·some-ne-none _ e)
+no-room-kinds lim (channels o ns) t e = inr refl
+no-room-kinds lim (system s) t e = absurd (Option·some-ne-none _ e)
+no-room-kinds lim (status-texts o es) t e =
     absurd (all-have-room (status-step o) (status-has-room o) es (start-from o (replicate status-places none) (t .status)) (room-none (put-own StatusTexts t) (status-after o es (t .status)) e))
-no-room-kinds m (group o f s) t e = absurd (Option·some-ne-none _ e)
-no-room-kinds m (individual o f s) t e = absurd (Option·some-ne-none _ e)
-no-room-kinds m (last f h) t e = absurd (Option·some-ne-none _ e)
+no-room-kinds lim (group o f s) t e = absurd (Option·some-ne-none _ e)
+no-room-kinds lim (individual o f s) t e = absurd (Option·some-ne-none _ e)
+no-room-kinds lim (last f h) t e = absurd (Option·some-ne-none _ e)
 
 -- ---- a setting changes its own table and no other
 
@@ -184,7 +175,7 @@ abbrev pub with-own : Kind → Tables → Tables → Tables
 with-own k t u = mix (only k) t u
 
 -- OWN-TABLE: what a setting leaves is the tables before, with its own table changed
-pub own-table : (m : Limits) (s : Setting) (t u : Tables) → apply m s t ≡ some u → u ≡ with-own (kind s) t u
-own-table m s t u e =
-    let (x, _, p) = came (put-own (kind s) t) (own-after m s (own (kind s) t)) u e in
+pub own-table : (lim : Limits) (s : Setting) (t u : Tables) → apply lim s t ≡ some u → u ≡ with-own (kind s) t u
+own-table lim s t u e =
+    let (x, _, p) = came (put-own (kind s) t) (own-after lim s (own (kind s) t)) u e in
     subst (λ v. v ≡ with-own (kind s) t v) p (put-mixes (kind s) t x)

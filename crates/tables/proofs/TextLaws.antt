@@ -1,11 +1,5 @@
 -- A text's bytes in a message, and in the store. Assumes nothing.
-use Prim.Native.Nat.{ℕ, suc, _+_, _-_, _*_, _≤_, _<_}
-use mathlib.Core.Path.{_≡_, refl, sym, ap, ap₂, _∙_}
-use mathlib.Core.Logic.{_≢_}
-use mathlib.Core.List.{List, [], _∷_, _++_, map}
-use native.Mathlib.Omega.{arith}
-use lib.ListN.{length, drop, take, getD}
-use lib.Seq.{drop-cons}
+use Rattle.lists.proofs.Kit.{ℕ, suc, _+_, _-_, _*_, _≤_, _<_, _≡_, refl, sym, ap, ap₂, _∙_, _≢_, List, [], _∷_, _++_, map, arith, length, drop, take, getD, drop-cons}
 use Rattle.lists.specs.Bytes.{Bytes}
 use Rattle.lists.specs.Every.{All}
 use Rattle.slots.specs.Slots.{flat, pad, u16}
@@ -16,7 +10,7 @@ use Rattle.writing.specs.declared.Coding.{Coding}
 use Rattle.writing.specs.declared.Coding.the-variants.{Unicode16}
 use Rattle.writing.specs.Settings.{Text}
 use Rattle.writing.specs.Writing.{text}
-use Rattle.read_fields.specs.Places.{PartAt, be}
+use Rattle.read_fields.specs.Places.{FieldsAt, be}
 use Rattle.read_fields.specs.declared.texts.TextPlace.{TextPlace}
 use Rattle.read_fields.proofs.Heads.{head-out}
 use Rattle.tables.specs.Changing.{TextPut}
@@ -37,7 +31,7 @@ pub record TextOut (m : List ℕ) (p : ℕ) (us : Text) : Type 0 where
   pub units : All Unit16 us
 
 -- a text's bytes are its units, high byte first
-pub text-out : (c : Coding) (m : List ℕ) (p next : ℕ) (us : Text) → Bytes m → PartAt (text c us) m p next → TextOut m p us
+pub text-out : (c : Coding) (m : List ℕ) (p next : ℕ) (us : Text) → Bytes m → FieldsAt (text c us) m p next → TextOut m p us
 text-out Unicode16 m p next [] h x =
     let (r, k, y) = head-out (val 16 0 ∷ []) [] m p 2 refl (omega arith) h next x in
     record { inside = omega (arith, r); bytes = refl; units = tt }

@@ -118,17 +118,17 @@ with-room f (some a) = some (f a)
 
 -- what a setting makes of its own table; "CB, CD and CF overwrite"; FF's hash is kept
 abbrev pub own-after : Limits → (s : Setting) → Own (kind s) → Option (Own (kind s))
-own-after m (lines o f es) x = lines-after (m .lines) o f es x
-own-after m (key target f) x = some (record { target = target; flags = f })
-own-after m (quick-texts o es) x = quick-after o es x
-own-after m (home h) x = some h
-own-after m (channels o ns) x = channels-after (m .channels) o ns x
-own-after m (system s) x = some s
-own-after m (status-texts o es) x = status-after o es x
-own-after m (group o f s) x = some (set x (s .index) (slot-after o (record { flags = f; address = s .address; text = s .text })))
-own-after m (individual o f s) x = some (set x (s .index) (slot-after o (record { flags = f; address = s .address; text = s .text })))
-own-after m (last f h) x = some h
+own-after lim (lines o f es) x = lines-after (lim .lines) o f es x
+own-after lim (key target f) x = some (record { target = target; flags = f })
+own-after lim (quick-texts o es) x = quick-after o es x
+own-after lim (home h) x = some h
+own-after lim (channels o ns) x = channels-after (lim .channels) o ns x
+own-after lim (system s) x = some s
+own-after lim (status-texts o es) x = status-after o es x
+own-after lim (group o f s) x = some (set x (s .index) (slot-after o (record { flags = f; address = s .address; text = s .text })))
+own-after lim (individual o f s) x = some (set x (s .index) (slot-after o (record { flags = f; address = s .address; text = s .text })))
+own-after lim (last f h) x = some h
 
 -- and of the tables: the others stay
 abbrev pub apply : Limits → Setting → Tables → Option Tables
-apply m s t = with-room (put-own (kind s) t) (own-after m s (own (kind s) t))
+apply lim s t = with-room (put-own (kind s) t) (own-after lim s (own (kind s) t))

@@ -6,7 +6,7 @@ use mathlib.Core.List.{List}
 use mathlib.Core.Option.{Option, none, some}
 use lib.ListN.{length}
 use Rattle.writing.specs.Settings.{Text}
-use Rattle.read_fields.specs.Parts.{TextIs}
+use Rattle.read_fields.specs.TextsAndNumbers.{TextIs}
 use Rattle.read_fields.specs.declared.texts.TextPlace.{TextPlace}
 use Rattle.tables.specs.Layout.{text-bytes}
 

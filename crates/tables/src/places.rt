@@ -1,4 +1,4 @@
-// Where the parts of a store stand, how wide a slot is, and where things stand in it: docs/STORE.md.
+// Where the regions of a store stand, how wide a slot is, and where things stand in it: docs/STORE.md.
 
 // The widths of slots.
 pub const QUICK_SLOT: usize = 46;
@@ -25,7 +25,7 @@ pub const STATUS_SIZE: usize = STATUS_PLACES * STATUS_SLOT;
 
 pub const MEMBER_SIZE: usize = SLOT_PLACES * MEMBER_SLOT;
 
-// Where the parts start, the hash first; behind the individuals come the channels, and behind them the lines.
+// Where the regions start, the hash first; behind the individuals come the channels, and behind them the lines.
 pub const HASH: usize = 0;
 
 pub const KEY: usize = 11;

@@ -1,11 +1,5 @@
 -- No two settings share bytes: what is written says where it ends, and what it says. Assumes nothing.
-use Prim.Native.Nat.{ℕ, zero, suc, _/_}
-use mathlib.Core.Path.{_≡_, refl, sym, ap, ap₂, _∙_, subst, subst₂, subst⁻¹}
-use mathlib.Core.List.{List, [], _∷_, _++_, map, append-assoc, append-nil, nil≢cons}
-use mathlib.Core.Bool.{Bool, true, false, cond, true≢false}
-use native.Mathlib.Omega.{arith}
-use lib.ListN.{length, length-append}
-use lib.Dec.{eqb}
+use Rattle.lists.proofs.Kit.{ℕ, zero, suc, _/_, _≡_, refl, sym, ap, ap₂, _∙_, subst, subst₂, subst⁻¹, List, [], _∷_, _++_, map, append-assoc, append-nil, nil≢cons, Bool, true, false, cond, true≢false, arith, length, length-append, eqb}
 use Rattle.lists.proofs.Seqs.{cut}
 use Rattle.plan.specs.declared.numbers.GroupAddress.{GroupAddress}
 use Rattle.plan.specs.declared.numbers.IndividualAddress.{IndividualAddress}

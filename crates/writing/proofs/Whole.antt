@@ -1,9 +1,5 @@
 -- Settings are whole bytes: how many, and that the first is a type byte. Assumes nothing.
-use Prim.Native.Nat.{ℕ, zero, suc, _+_, _*_, _<_}
-use mathlib.Core.Path.{_≡_, refl, ap, _∙_}
-use mathlib.Core.List.{List, [], _∷_, _++_, map, nil≢cons}
-use native.Mathlib.Omega.{arith}
-use lib.ListN.{length}
+use Rattle.lists.proofs.Kit.{ℕ, zero, suc, _+_, _*_, _<_, _≡_, refl, ap, _∙_, List, [], _∷_, _++_, map, nil≢cons, arith, length}
 use Rattle.lists.specs.Every.{All}
 use Rattle.lists.proofs.Seqs.{cut}
 use Rattle.writing.specs.declared.KeyTarget.{KeyTarget}

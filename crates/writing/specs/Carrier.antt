@@ -17,8 +17,8 @@ use Rattle.writing.specs.Writing.{hash, request-head, WrittenAs}
 -- ---- the carrier
 
 -- "The fixed start bytes 02 02": protocol version and service
-abbrev pub start : List ℕ
-start = 0x02 ∷ 0x02 ∷ []
+abbrev pub start-bytes : List ℕ
+start-bytes = 0x02 ∷ 0x02 ∷ []
 
 -- "length (2 bytes), MFID 08, a byte of 4 reserved bits and the coding type (4)"
 abbrev pub carrier : ℕ → ℕ → List Field
@@ -32,7 +32,7 @@ States stated after = (stated ≡ 0) ⊎ (stated ≡ after)
 pub record Carries (coding-type : ℕ) (data-bytes message : List ℕ) : Type 0 where
   pub stated : ℕ
   pub header : List ℕ
-  pub whole : message ≡ start ++ header ++ data-bytes
+  pub whole : message ≡ start-bytes ++ header ++ data-bytes
   pub fields : Shows (carrier stated coding-type) (bitsOf header)
   pub length-field : States stated (2 + length data-bytes)
 

@@ -1,7 +1,4 @@
-use borrow.Author.Needs.{needs}
-use Prim.Native.Nat.{_≤_}
-use lib.ListN.{length}
-use mathlib.Core.Path.{subst}
+use Rattle.lists.proofs.Kit.{needs, _≤_, length, subst}
 use Rattle.lists.specs.Ladder.{Answers}
 use Rattle.tables.specs.Limits.{handheld}
 use Rattle.export.specs.declared.parts.Export.{Export}

@@ -1,4 +1,4 @@
-use borrow.Author.Needs.{needs}
+use Rattle.lists.proofs.Kit.{needs}
 use Rattle.export.proofs.RequestLaws.{handheld-exportable}
 use Rattle.export.proofs.exporting.export.Statement.{statement}
 use Rattle.export.proofs.exporting.export.Tie as tie

@@ -1,9 +1,7 @@
 use Rattle.export.specs.PartWriters.{FoundAs}
-use mathlib.Core.Path.{subst}
+use Rattle.lists.proofs.Kit.{subst, needs, arith}
 use Rattle.tables.proofs.AnswerLaws.{not-said, was-said}
 use Rattle.export.proofs.ExportLaws.{says-15, says-11, says-16, says-0}
-use borrow.Author.Needs.{needs}
-use native.Mathlib.Omega.{arith}
 use Rattle.export.proofs.exporting.export_in.Statement.{statement}
 use Rattle.export.proofs.exporting.export_in.Tie as tie
 

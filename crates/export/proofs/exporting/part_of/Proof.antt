@@ -1,9 +1,6 @@
-use Prim.Native.Nat.{_-_}
-use mathlib.Core.Path.{_≡_, ap}
+use Rattle.lists.proofs.Kit.{_-_, _≡_, ap, needs, arith}
 use Rattle.export.specs.PartWriters.{part-at}
 use Rattle.export.proofs.PartWriting.{past-parts, part-within}
-use borrow.Author.Needs.{needs}
-use native.Mathlib.Omega.{arith}
 use Rattle.export.proofs.exporting.part_of.Statement.{statement}
 use Rattle.export.proofs.exporting.part_of.Tie as tie
 

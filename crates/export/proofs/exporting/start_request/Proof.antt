@@ -1,7 +1,6 @@
 use Rattle.export_write.proofs.WroteLaws.{wrote-copied}
 use Rattle.export.proofs.RequestLaws.{request-headed}
-use borrow.Author.Needs.{needs}
-use native.Mathlib.Omega.{arith}
+use Rattle.lists.proofs.Kit.{needs, arith}
 use Rattle.export.proofs.exporting.start_request.Statement.{statement}
 use Rattle.export.proofs.exporting.start_request.Tie as tie
 

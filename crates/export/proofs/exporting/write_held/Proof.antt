@@ -1,4 +1,4 @@
-use borrow.Author.Needs.{needs}
+use Rattle.lists.proofs.Kit.{needs}
 use Rattle.export.proofs.exporting.write_held.Statement.{statement}
 use Rattle.export.proofs.exporting.write_held.Tie as tie
 

@@ -1,6 +1,5 @@
 use Rattle.export.proofs.PartWriting.{part-written}
-use borrow.Author.Needs.{needs}
-use native.Mathlib.Omega.{arith}
+use Rattle.lists.proofs.Kit.{needs, arith}
 use Rattle.export.proofs.exporting.write_part.Statement.{statement}
 use Rattle.export.proofs.exporting.write_part.Tie as tie
 

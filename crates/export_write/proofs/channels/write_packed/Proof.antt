@@ -1,20 +1,16 @@
-use mathlib.Core.Path.{subst, _≡_, refl}
+use Rattle.lists.proofs.Kit.{subst, _≡_, refl, ℕ, _≤_, _-_, _+_, _*_, _/_, arith, length, needs}
 use Rattle.writing.specs.Canonical.{plain}
 use Rattle.export_write.proofs.WroteLaws.{writing-start}
 use Rattle.export_write.specs.ChannelWriters.{packed}
 use Rattle.export_write.proofs.ChannelWriting.{Packed, packed-more, packed-even, packed-odd}
-use Prim.Native.Nat.{ℕ, _≤_, _-_, _+_, _*_, _/_}
-use native.Mathlib.Omega.{arith}
-use lib.ListN.{length}
-use borrow.Author.Needs.{needs}
 use Rattle.export_write.proofs.channels.write_packed.Statement.{statement}
 use Rattle.export_write.proofs.channels.write_packed.Tie as tie
 
 abbrev Inv-loop : tie.InvT-loop
-Inv-loop buffer₀ at part count pairs to₀ i₀ buffer to i = (length buffer ≡ length buffer₀) × (i ≤ pairs) × (to ≡ at + 3 * i) × Packed part buffer₀ buffer count at to i
+Inv-loop buffer₀ at region count pairs to₀ i₀ buffer to i = (length buffer ≡ length buffer₀) × (i ≤ pairs) × (to ≡ at + 3 * i) × Packed region buffer₀ buffer count at to i
 
 abbrev μ-loop : tie.MeasureT-loop
-μ-loop buffer₀ at part count pairs to₀ i₀ buffer to i = pairs - i
+μ-loop buffer₀ at region count pairs to₀ i₀ buffer to i = pairs - i
 
 loop-holds : tie.Need-loop-holds Inv-loop μ-loop
 loop-holds c = let a = c .before .before .args in (refl, omega arith, omega arith, λ cs k. writing-start (plain (packed cs)) (a .at) (a .buffer .now) (omega arith))
@@ -47,7 +43,7 @@ loop-again c =
       omega arith,
       omega arith,
       omega (arith, t .ensures .0, w .ensures .next),
-      packed-more (a .part .now) (a .buffer .now) (l .buffer) (a .count) (a .at) (l .to) (l .i) (l .inv .3) (w .last .0) (t .result) (w .result) (b .result) (omega arith) (b .ensures) (t .ensures .1) (w .ensures),
+      packed-more (a .region .now) (a .buffer .now) (l .buffer) (a .count) (a .at) (l .to) (l .i) (l .inv .3) (w .last .0) (t .result) (w .result) (b .result) (omega arith) (b .ensures) (t .ensures .1) (w .ensures),
     )
 
 same-length : tie.Need-same-length Inv-loop μ-loop
@@ -60,7 +56,7 @@ returns c =
     record {
       from = omega arith;
       most = omega arith;
-      wrote = packed-even (a .part .now) (a .buffer .now) (l .buffer) (a .count) (a .at) (l .to) (l .i) (l .inv .3) (omega arith) (omega arith);
+      wrote = packed-even (a .region .now) (a .buffer .now) (l .buffer) (a .count) (a .at) (l .to) (l .i) (l .inv .3) (omega arith) (omega arith);
     }
 
 last-channel-requires : tie.Need-last-channel-requires Inv-loop μ-loop
@@ -88,11 +84,11 @@ returns-2 c =
     let b = c .before .before .before .before .before .last-channel in
     let w = c .before .before .write-bytes2 in
     let e : l .i ≡ a .count / 2 = omega arith in
-    let g = subst (λ (k : ℕ). Packed (a .part .now) (a .buffer .now) (l .buffer) (a .count) (a .at) (l .to) k) e (l .inv .3) in
+    let g = subst (λ (k : ℕ). Packed (a .region .now) (a .buffer .now) (l .buffer) (a .count) (a .at) (l .to) k) e (l .inv .3) in
     record {
       from = omega arith;
       most = omega arith;
-      wrote = packed-odd (a .part .now) (a .buffer .now) (l .buffer) (a .count) (a .at) (l .to) (a .count / 2) g (w .last .0) (w .result) (b .result) refl (omega arith) (b .ensures .0) (w .ensures);
+      wrote = packed-odd (a .region .now) (a .buffer .now) (l .buffer) (a .count) (a .at) (l .to) (a .count / 2) g (w .last .0) (w .result) (b .result) refl (omega arith) (b .ensures .0) (w .ensures);
     }
 
 pub write-packed-spec : {M : Type 1} → statement M

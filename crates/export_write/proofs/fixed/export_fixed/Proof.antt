@@ -1,12 +1,7 @@
 use Rattle.export_write.specs.FixedWriters.{key-setting}
 use Rattle.writing.specs.Settings.{home, system}
 use Rattle.export_write.proofs.FixedWriting.{three-wrote, home-three, system-three}
-use Prim.Native.Nat.{ℕ}
-use mathlib.Core.Path.{refl, ap}
-use mathlib.Core.List.{List}
-use native.Mathlib.Omega.{arith}
-use lib.ListN.{drop, take}
-use borrow.Author.Needs.{needs}
+use Rattle.lists.proofs.Kit.{ℕ, refl, ap, List, arith, drop, take, needs}
 use Rattle.export_write.proofs.fixed.export_fixed.Statement.{statement}
 use Rattle.export_write.proofs.fixed.export_fixed.Tie as tie
 

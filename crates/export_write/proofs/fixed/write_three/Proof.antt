@@ -1,5 +1,5 @@
 use Rattle.export_write.proofs.FixedWriting.{bits-wrote}
-use borrow.Author.Needs.{needs}
+use Rattle.lists.proofs.Kit.{needs}
 use Rattle.export_write.proofs.fixed.write_three.Statement.{statement}
 use Rattle.export_write.proofs.fixed.write_three.Tie as tie
 

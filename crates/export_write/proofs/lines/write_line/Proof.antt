@@ -1,9 +1,7 @@
-use borrow.Rule.Slice.PartMut.{mid-len}
+use Rattle.lists.proofs.Kit.{mid-len, needs, arith}
 use Rattle.export_write.specs.LineSettings.{line-add}
 use Rattle.export_write.proofs.LineWriting.{line-wrote}
 use Rattle.export_write.proofs.StartLaws.{setting-writes}
-use borrow.Author.Needs.{needs}
-use native.Mathlib.Omega.{arith}
 use Rattle.tables.specs.Layout.{line-width}
 use Rattle.export_write.proofs.lines.write_line.Statement.{statement}
 use Rattle.export_write.proofs.lines.write_line.Tie as tie

@@ -1,10 +1,7 @@
-use borrow.Rule.Slice.PartMut.{mid-len}
+use Rattle.lists.proofs.Kit.{mid-len, needs, sym, _∙_, arith}
 use Rattle.export_write.specs.MemberWriters.{member-setting}
 use Rattle.export_write.proofs.MemberWriting.{member-wrote}
 use Rattle.export_write.proofs.StartLaws.{setting-writes}
-use borrow.Author.Needs.{needs}
-use mathlib.Core.Path.{sym, _∙_}
-use native.Mathlib.Omega.{arith}
 use Rattle.export_write.proofs.members.write_member.Statement.{statement}
 use Rattle.export_write.proofs.members.write_member.Tie as tie
 

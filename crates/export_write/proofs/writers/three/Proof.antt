@@ -1,7 +1,5 @@
-use mathlib.Core.Path.{refl}
-use mathlib.Core.List.{tail-eq-of-cons-eq}
+use Rattle.lists.proofs.Kit.{refl, tail-eq-of-cons-eq, needs}
 use Rattle.tables.proofs.HeadLaws.{address-cut}
-use borrow.Author.Needs.{needs}
 use Rattle.export_write.proofs.writers.three.Statement.{statement}
 use Rattle.export_write.proofs.writers.three.Tie as tie
 

@@ -1,20 +1,15 @@
-use borrow.Author.Needs.{needs}
-use native.Mathlib.Omega.{arith}
-use Prim.Native.Nat.{_+_, _/_, _%_}
-use mathlib.Core.Path.{_≡_, refl, sym, ap, _∙_, subst}
+use Rattle.lists.proofs.Kit.{needs, arith, _+_, _/_, _%_, _≡_, refl, sym, ap, _∙_, subst, List, false}
 use Rattle.settings.proofs.BodyLaws.{no-room, no-body, the-body, flag-bit}
 use Rattle.read_bodies.proofs.FixedLaws.{key-head, key-address-out, address-in}
 use Rattle.read_fields.proofs.Parts.{nothing}
 use Rattle.settings.specs.declared.settings.Setting.the-variants.{Key}
 use Rattle.writing.specs.declared.Kind.the-variants.{Key as KKey}
-use mathlib.Core.List.{List}
 use Rattle.writing.specs.declared.KeyTarget.the-variants.{Current}
 use Rattle.writing.specs.Fields.{Field}
 use Rattle.writing.specs.Writing.{bit}
 use Rattle.writing.specs.Ranges.{InAddress}
-use Rattle.read_fields.specs.Parts.{AddressRefused}
-use Rattle.read_fields.specs.Places.{PartAt}
-use mathlib.Core.Bool.{false}
+use Rattle.read_fields.specs.TextsAndNumbers.{AddressRefused}
+use Rattle.read_fields.specs.Places.{FieldsAt}
 use Rattle.read_bodies.proofs.fixed_bodies.read_key.Statement.{statement}
 use Rattle.read_bodies.proofs.fixed_bodies.read_key.Tie as tie
 
@@ -85,7 +80,7 @@ returns-5 c =
       subst (λ x. c .before .before .before .before .before .before .before .before .before .before .before .number .result / 128 % 2 ≡ bit x) (sym cur) (let z : c .before .before .before .before .before .before .before .before .before .before .before .number .result / 128 % 2 ≡ bit false = omega (arith, c .before .before .before .before .before .before .if2 .left) in z),
       (subst (λ x. c .before .before .before .before .before .before .before .before .before .before .before .number .result / 64 % 2 ≡ bit x) (sym grp) (flag-bit (c .before .before .before .before .before .before .before .before .before .before .before .number .result / 64) (c .before .before .before .before .before .before .before .before .before .before .flag .result) (c .before .before .before .before .before .before .before .before .before .before .flag .ensures)), (flag-bit (c .before .before .before .before .before .before .before .before .before .before .before .number .result / 32) (c .before .before .before .before .before .before .before .before .before .flag2 .result) (c .before .before .before .before .before .before .before .before .before .flag2 .ensures), (flag-bit (c .before .before .before .before .before .before .before .before .before .before .before .number .result / 16) (c .before .before .before .before .before .before .before .before .flag3 .result) (c .before .before .before .before .before .before .before .before .flag3 .ensures), (flag-bit (c .before .before .before .before .before .before .before .before .before .before .before .number .result / 8) (c .before .before .before .before .before .before .before .flag4 .result) (c .before .before .before .before .before .before .before .flag4 .ensures), (tt, tt))))),
     ) (ok good)
-    (subst (λ (l : List Field). PartAt l (c .before .before .before .before .before .before .before .before .before .before .before .before .before .before .before .args .m .now) (c .before .before .before .before .before .before .before .before .before .before .before .before .before .before .before .args .p + 1) (c .before .before .before .before .before .before .before .before .before .before .before .before .before .before .before .args .p + 1 + 3)) (sym at) (address-in _ _ _ (λ i. (c .before .before .before .before .before .before .before .before .before .before .before .before .before .before .shared-slice-known .given i) .fits) (omega arith) (ap (λ n. n % 16777216) (c .before .before .before .number2 .ensures (omega arith, omega arith))))) refl
+    (subst (λ (l : List Field). FieldsAt l (c .before .before .before .before .before .before .before .before .before .before .before .before .before .before .before .args .m .now) (c .before .before .before .before .before .before .before .before .before .before .before .before .before .before .before .args .p + 1) (c .before .before .before .before .before .before .before .before .before .before .before .before .before .before .before .args .p + 1 + 3)) (sym at) (address-in _ _ _ (λ i. (c .before .before .before .before .before .before .before .before .before .before .before .before .before .before .shared-slice-known .given i) .fits) (omega arith) (ap (λ n. n % 16777216) (c .before .before .before .number2 .ensures (omega arith, omega arith))))) refl
 
 pub read-key-spec : {M : Type 1} → statement M
 read-key-spec =

@@ -1,14 +1,9 @@
-use borrow.Author.Needs.{needs}
-use native.Mathlib.Omega.{arith}
-use Prim.Native.Nat.{_+_, _/_, _%_}
-use mathlib.Core.Path.{refl, sym, subst}
-use lib.ListN.{length}
+use Rattle.lists.proofs.Kit.{needs, arith, _+_, _/_, _%_, refl, sym, subst, length, map}
 use Rattle.settings.proofs.BodyLaws.{no-room, no-body, the-body, flag-bit}
 use Rattle.read_bodies.proofs.FixedLaws.{last-head, not-last}
 use Rattle.writing.specs.Ranges.{HashSize}
 use Rattle.writing.specs.Fields.{val}
-use mathlib.Core.List.{map}
-use Rattle.read_fields.specs.Places.{PartAt}
+use Rattle.read_fields.specs.Places.{FieldsAt}
 use Rattle.read_fields.specs.Hashes.{HashAt}
 use Rattle.read_fields.proofs.HashLaws.{bytes-out}
 use Rattle.settings.specs.declared.settings.Setting.the-variants.{Last}
@@ -66,7 +61,7 @@ returns-4 c =
     the-body KLast (last-head coding) _ (c .before .before .before .before .before .before .before .before .before .before .before .args .m .now) (c .before .before .before .before .before .before .before .before .before .before .before .args .p) (λ i. (c .before .before .before .before .before .before .before .before .before .before .shared-slice-known .given i) .fits) (c .before .before .before .before .before .before .number .ensures (omega arith, omega arith)) ((record { reboot = c .before .flag .result; reply = c .flag2 .result }), record { code = place .code; value = v }) (Last (record { reboot = c .before .flag .result; reply = c .flag2 .result }) place) (c .before .before .before .value .given .0 .1 .0) (omega arith)
     (flag-bit (c .before .before .before .before .before .before .number .result / 128) (c .before .flag .result) (c .before .flag .ensures), (flag-bit (c .before .before .before .before .before .before .number .result / 64) (c .flag2 .result) (c .flag2 .ensures), (omega (arith, z .2), tt)))
     (size, omega arith) (z .4)
-    (v, refl, subst (λ n. PartAt (map (val 8) v) (c .before .before .before .before .before .before .before .before .before .before .before .args .m .now) n (n + length v)) (sym (z .1)) (subst (PartAt (map (val 8) v) (c .before .before .before .before .before .before .before .before .before .before .before .args .m .now) (c .before .before .before .before .before .before .before .before .before .before .before .args .p + 1)) (ends .1) (z .4)), size)
+    (v, refl, subst (λ n. FieldsAt (map (val 8) v) (c .before .before .before .before .before .before .before .before .before .before .before .args .m .now) n (n + length v)) (sym (z .1)) (subst (FieldsAt (map (val 8) v) (c .before .before .before .before .before .before .before .before .before .before .before .args .m .now) (c .before .before .before .before .before .before .before .before .before .before .before .args .p + 1)) (ends .1) (z .4)), size)
 
 pub read-last-spec : {M : Type 1} → statement M
 read-last-spec =

@@ -1,8 +1,5 @@
-use borrow.Author.Needs.{needs}
-use native.Mathlib.Omega.{arith}
-use Prim.Native.Nat.{ℕ, _/_, _%_}
-use mathlib.Core.Path.{refl, ap, subst}
-use Rattle.settings.specs.Rows.{OperationIs}
+use Rattle.lists.proofs.Kit.{needs, arith, ℕ, _/_, _%_, refl, ap, subst}
+use Rattle.settings.specs.TypeTable.{OperationIs}
 use Rattle.read_bodies.proofs.list_bodies.list_head.Statement.{statement}
 use Rattle.read_bodies.proofs.list_bodies.list_head.Tie as tie
 

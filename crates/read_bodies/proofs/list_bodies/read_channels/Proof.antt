@@ -1,11 +1,8 @@
-use borrow.Author.Needs.{needs}
-use native.Mathlib.Omega.{arith}
-use Prim.Native.Nat.{ℕ}
-use mathlib.Core.Path.{refl, sym, _∙_, subst, subst⁻¹}
+use Rattle.lists.proofs.Kit.{needs, arith, ℕ, refl, sym, _∙_, subst, subst⁻¹}
 use Rattle.lists.specs.Bytes.{Bytes}
 use Rattle.writing.specs.declared.Kind.the-variants.{Channels as KChannels}
 use Rattle.read_fields.specs.Entries.{ChannelsAt, channel-list}
-use Rattle.read_fields.specs.Places.{PartAt}
+use Rattle.read_fields.specs.Places.{FieldsAt}
 use Rattle.settings.specs.declared.settings.Setting.the-variants.{Channels}
 use Rattle.settings.proofs.BodyLaws.{no-head, no-body, the-body, op-small}
 use Rattle.read_bodies.specs.Heads.{HeadIs}
@@ -46,7 +43,7 @@ returns-2 c =
     let z = subst (HeadIs (a .m .now) (a .p) 2 1024 (a .operations)) (h .1) (c .before .before .before .before .before .before .list-head .ensures) in
     let stop = subst (ChannelsAt (a .m .now) (h .0 .1 .0) (h .0 .1 .1 .0)) (c .enum-told2 .given .1) (c .before .before .walk-channels .ensures) in
     λ ops left. no-body KChannels (channels-head (a .coding)) left (a .m .now) (a .p) bytes refl
-    (λ x next k i t. stop (x .1) next (record { counted = omega (arith, z .3, k .1 .1 .0); in-range = i; stands = subst⁻¹ (λ (s : ℕ). PartAt (channel-list (x .1)) (a .m .now) s next) (z .2) t }))
+    (λ x next k i t. stop (x .1) next (record { counted = omega (arith, z .3, k .1 .1 .0); in-range = i; stands = subst⁻¹ (λ (s : ℕ). FieldsAt (channel-list (x .1)) (a .m .now) s next) (z .2) t }))
 
 returns-3 : tie.Need-returns-3
 returns-3 c =
@@ -58,7 +55,7 @@ returns-3 c =
     let w = subst (ChannelsAt (a .m .now) (h .0 .1 .0) (h .0 .1 .1 .0)) (c .before .walked .given .1) (c .before .before .before .walk-channels .ensures) in
     λ ops left. the-body KChannels (channels-head (a .coding)) left (a .m .now) (a .p) bytes refl (h .0 .0, w .0)
     (Channels (h .0 .0) (record { start = h .0 .1 .0; count = h .0 .1 .1 .0; next = next; coding = a .coding })) next (z .0) (top-bits (a .m .now) (a .p) bytes (z .0) ∙ sym (z .1), (tt, (omega (arith, w .1 .counted, z .3), tt))) (w .1 .in-range)
-    (subst (λ (s : ℕ). PartAt (channel-list (w .0)) (a .m .now) s next) (z .2) (w .1 .stands)) (w .0, refl, record { counted = w .1 .counted; stands = w .1 .stands })
+    (subst (λ (s : ℕ). FieldsAt (channel-list (w .0)) (a .m .now) s next) (z .2) (w .1 .stands)) (w .0, refl, record { counted = w .1 .counted; stands = w .1 .stands })
 
 pub read-channels-spec : {M : Type 1} → statement M
 read-channels-spec =

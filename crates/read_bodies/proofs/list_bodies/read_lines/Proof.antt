@@ -1,13 +1,9 @@
-use borrow.Author.Needs.{needs}
-use native.Mathlib.Omega.{arith}
-use Prim.Native.Nat.{_+_, _/_, _%_}
-use mathlib.Core.Path.{refl, sym, subst}
-use mathlib.Core.List.{List, [], _∷_}
+use Rattle.lists.proofs.Kit.{needs, arith, _+_, _/_, _%_, refl, sym, subst, List, [], _∷_}
 use Rattle.writing.specs.declared.Kind.the-variants.{Lines as KLines}
 use Rattle.writing.specs.Ranges.{text-limits}
 use Rattle.read_fields.specs.Entries.{EntriesAt}
 use Rattle.read_fields.specs.declared.entries.Listed.the-variants.{Contacts as LContacts}
-use Rattle.settings.specs.Rows.{OperationIs}
+use Rattle.settings.specs.TypeTable.{OperationIs}
 use Rattle.settings.specs.declared.settings.Setting.the-variants.{Lines}
 use Rattle.settings.proofs.BodyLaws.{no-room, no-body, the-body, flag-bit, op-small}
 use Rattle.read_bodies.proofs.ListLaws.{lines-head}

@@ -1,7 +1,4 @@
-use borrow.Author.Needs.{needs}
-use native.Mathlib.Omega.{arith}
-use Prim.Native.Nat.{ℕ}
-use mathlib.Core.Path.{refl, sym, _∙_, subst, subst⁻¹}
+use Rattle.lists.proofs.Kit.{needs, arith, ℕ, refl, sym, _∙_, subst, subst⁻¹}
 use Rattle.lists.specs.Bytes.{Bytes}
 use Rattle.writing.specs.declared.Kind.the-variants.{QuickTexts as KQuickTexts}
 use Rattle.writing.specs.Fields.{each}
@@ -9,7 +6,7 @@ use Rattle.writing.specs.Ranges.{text-limits}
 use Rattle.writing.specs.Writing.{quick-text}
 use Rattle.read_fields.specs.Entries.{EntriesAt}
 use Rattle.read_fields.specs.declared.entries.Listed.the-variants.{QuickTexts as LQuickTexts}
-use Rattle.read_fields.specs.Places.{PartAt}
+use Rattle.read_fields.specs.Places.{FieldsAt}
 use Rattle.settings.specs.declared.settings.Setting.the-variants.{QuickTexts}
 use Rattle.settings.proofs.BodyLaws.{no-head, no-body, the-body, op-small}
 use Rattle.read_bodies.specs.Heads.{HeadIs}
@@ -53,7 +50,7 @@ returns-2 c =
     let z = subst (HeadIs (a .m .now) (a .p) 1 64 (a .operations)) (h .1) (c .before .before .before .before .before .before .before .list-head .ensures) in
     let stop = subst (EntriesAt (LQuickTexts (c .before .before .before .least-units .result)) (a .coding) text-limits (a .m .now) (h .0 .1 .0) (h .0 .1 .1 .0)) (c .enum-told2 .given .1) (c .before .before .walk-entries .ensures) in
     λ ops left. no-body KQuickTexts (quick-head (a .coding)) left (a .m .now) (a .p) bytes refl
-    (λ x next k i t. stop (x .1) next (record { counted = omega (arith, z .3, k .1 .0); in-range = quick-from (h .0 .0) (x .0) _ (x .1) (z .1 ∙ k .0) (c .before .before .before .least-units .ensures) i; stands = subst⁻¹ (λ (s : ℕ). PartAt (each (quick-text (a .coding)) (x .1)) (a .m .now) s next) (z .2) t }))
+    (λ x next k i t. stop (x .1) next (record { counted = omega (arith, z .3, k .1 .0); in-range = quick-from (h .0 .0) (x .0) _ (x .1) (z .1 ∙ k .0) (c .before .before .before .least-units .ensures) i; stands = subst⁻¹ (λ (s : ℕ). FieldsAt (each (quick-text (a .coding)) (x .1)) (a .m .now) s next) (z .2) t }))
 
 returns-3 : tie.Need-returns-3
 returns-3 c =
@@ -65,7 +62,7 @@ returns-3 c =
     let w = subst (EntriesAt (LQuickTexts (c .before .before .before .before .least-units .result)) (a .coding) text-limits (a .m .now) (h .0 .1 .0) (h .0 .1 .1 .0)) (c .before .walked .given .1) (c .before .before .before .walk-entries .ensures) in
     λ ops left. the-body KQuickTexts (quick-head (a .coding)) left (a .m .now) (a .p) bytes refl (h .0 .0, w .0)
     (QuickTexts (h .0 .0) (record { start = h .0 .1 .0; count = h .0 .1 .1 .0; next = next; coding = a .coding })) next (z .0) (sym (z .1), (omega (arith, w .1 .counted, z .3), tt)) (quick-in (h .0 .0) _ (w .0) (c .before .before .before .before .least-units .ensures) (w .1 .in-range))
-    (subst (λ (s : ℕ). PartAt (each (quick-text (a .coding)) (w .0)) (a .m .now) s next) (z .2) (w .1 .stands)) (w .0, refl, record { counted = w .1 .counted; stands = w .1 .stands })
+    (subst (λ (s : ℕ). FieldsAt (each (quick-text (a .coding)) (w .0)) (a .m .now) s next) (z .2) (w .1 .stands)) (w .0, refl, record { counted = w .1 .counted; stands = w .1 .stands })
 
 pub read-quick-texts-spec : {M : Type 1} → statement M
 read-quick-texts-spec =

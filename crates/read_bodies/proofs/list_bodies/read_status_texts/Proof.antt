@@ -1,7 +1,4 @@
-use borrow.Author.Needs.{needs}
-use native.Mathlib.Omega.{arith}
-use Prim.Native.Nat.{ℕ}
-use mathlib.Core.Path.{refl, sym, _∙_, subst, subst⁻¹}
+use Rattle.lists.proofs.Kit.{needs, arith, ℕ, refl, sym, _∙_, subst, subst⁻¹}
 use Rattle.lists.specs.Bytes.{Bytes}
 use Rattle.writing.specs.declared.Kind.the-variants.{StatusTexts as KStatusTexts}
 use Rattle.writing.specs.Fields.{each}
@@ -9,7 +6,7 @@ use Rattle.writing.specs.Ranges.{text-limits}
 use Rattle.writing.specs.Writing.{status-text}
 use Rattle.read_fields.specs.Entries.{EntriesAt}
 use Rattle.read_fields.specs.declared.entries.Listed.the-variants.{StatusTexts as LStatusTexts}
-use Rattle.read_fields.specs.Places.{PartAt}
+use Rattle.read_fields.specs.Places.{FieldsAt}
 use Rattle.settings.specs.declared.settings.Setting.the-variants.{StatusTexts}
 use Rattle.settings.proofs.BodyLaws.{no-head, no-body, the-body, op-small}
 use Rattle.read_bodies.specs.Heads.{HeadIs}
@@ -50,7 +47,7 @@ returns-2 c =
     let z = subst (HeadIs (a .m .now) (a .p) 2 256 (a .operations)) (h .1) (c .before .before .before .before .before .before .list-head .ensures) in
     let stop = subst (EntriesAt LStatusTexts (a .coding) text-limits (a .m .now) (h .0 .1 .0) (h .0 .1 .1 .0)) (c .enum-told2 .given .1) (c .before .before .walk-entries .ensures) in
     λ ops left. no-body KStatusTexts (status-head (a .coding)) left (a .m .now) (a .p) bytes refl
-    (λ x next k i t. stop (x .1) next (record { counted = omega (arith, z .3, k .1 .1 .0); in-range = i; stands = subst⁻¹ (λ (s : ℕ). PartAt (each (status-text (a .coding)) (x .1)) (a .m .now) s next) (z .2) t }))
+    (λ x next k i t. stop (x .1) next (record { counted = omega (arith, z .3, k .1 .1 .0); in-range = i; stands = subst⁻¹ (λ (s : ℕ). FieldsAt (each (status-text (a .coding)) (x .1)) (a .m .now) s next) (z .2) t }))
 
 returns-3 : tie.Need-returns-3
 returns-3 c =
@@ -62,7 +59,7 @@ returns-3 c =
     let w = subst (EntriesAt LStatusTexts (a .coding) text-limits (a .m .now) (h .0 .1 .0) (h .0 .1 .1 .0)) (c .before .walked .given .1) (c .before .before .before .walk-entries .ensures) in
     λ ops left. the-body KStatusTexts (status-head (a .coding)) left (a .m .now) (a .p) bytes refl (h .0 .0, w .0)
     (StatusTexts (h .0 .0) (record { start = h .0 .1 .0; count = h .0 .1 .1 .0; next = next; coding = a .coding })) next (z .0) (top-bits (a .m .now) (a .p) bytes (z .0) ∙ sym (z .1), (tt, (omega (arith, w .1 .counted, z .3), tt))) (w .1 .in-range)
-    (subst (λ (s : ℕ). PartAt (each (status-text (a .coding)) (w .0)) (a .m .now) s next) (z .2) (w .1 .stands)) (w .0, refl, record { counted = w .1 .counted; stands = w .1 .stands })
+    (subst (λ (s : ℕ). FieldsAt (each (status-text (a .coding)) (w .0)) (a .m .now) s next) (z .2) (w .1 .stands)) (w .0, refl, record { counted = w .1 .counted; stands = w .1 .stands })
 
 pub read-status-texts-spec : {M : Type 1} → statement M
 read-status-texts-spec =

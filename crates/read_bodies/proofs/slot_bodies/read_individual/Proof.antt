@@ -1,13 +1,10 @@
-use borrow.Author.Needs.{needs}
-use native.Mathlib.Omega.{arith}
-use Prim.Native.Nat.{_+_, _/_, _%_}
-use mathlib.Core.Path.{refl, sym, _∙_, subst}
+use Rattle.lists.proofs.Kit.{needs, arith, _+_, _/_, _%_, refl, sym, _∙_, subst}
 use Rattle.settings.proofs.BodyLaws.{no-room, no-body, the-body, flag-bit}
 use Rattle.read_bodies.proofs.SlotLaws.{individual-head, slot-op, slot-in, slot-turn}
 use Rattle.settings.specs.declared.settings.Setting.the-variants.{Individual}
 use Rattle.writing.specs.declared.Kind.the-variants.{Individual as KIndividual}
-use Rattle.settings.specs.Rows.{OperationIs}
-use Rattle.read_fields.specs.Parts.{TextAt}
+use Rattle.settings.specs.TypeTable.{OperationIs}
+use Rattle.read_fields.specs.TextsAndNumbers.{TextAt}
 use Rattle.read_fields.proofs.TextWalk.{text-read}
 use Rattle.read_bodies.specs.Refused.{SlotRefused}
 use Rattle.read_bodies.proofs.slot_bodies.read_individual.Statement.{statement}

@@ -1,5 +1,4 @@
-use borrow.Author.Needs.{needs}
-use native.Mathlib.Omega.{arith}
+use Rattle.lists.proofs.Kit.{needs, arith}
 use Rattle.read_bodies.proofs.SlotLaws.{slot-add}
 use Rattle.read_bodies.proofs.slot_bodies.slot_refused.Statement.{statement}
 use Rattle.read_bodies.proofs.slot_bodies.slot_refused.Tie as tie

@@ -1,5 +1,4 @@
-use borrow.Author.Needs.{needs}
-use mathlib.Core.Path.{subst}
+use Rattle.lists.proofs.Kit.{needs, subst}
 use Rattle.writing.specs.Ranges.{text-limits}
 use Rattle.read_fields.specs.Entries.{ContactAt, QuickAt, StatusAt}
 use Rattle.read_fields.specs.declared.entries.Walk.the-variants.{To, Stopped}

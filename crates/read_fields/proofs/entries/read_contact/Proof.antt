@@ -1,4 +1,4 @@
-use borrow.Author.Needs.{needs}
+use Rattle.lists.proofs.Kit.{needs}
 use Rattle.writing.specs.Ranges.{text-limits}
 use Rattle.read_fields.proofs.EntryLaws.{no-number, no-contact-text, the-contact}
 use Rattle.read_fields.proofs.entries.read_contact.Statement.{statement}

@@ -1,8 +1,4 @@
-use borrow.Author.Needs.{needs}
-use native.Mathlib.Omega.{arith}
-use Prim.Native.Nat.{_%_}
-use mathlib.Core.Path.{refl}
-use mathlib.Core.List.{[], _∷_}
+use Rattle.lists.proofs.Kit.{needs, arith, _%_, refl, [], _∷_}
 use Rattle.writing.specs.Fields.{val}
 use Rattle.writing.specs.Ranges.{text-limits, InStatus}
 use Rattle.read_fields.proofs.EntryLaws.{status-byte, no-byte, no-index, no-entry-text, the-entry}

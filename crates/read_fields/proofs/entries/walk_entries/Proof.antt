@@ -1,6 +1,4 @@
-use borrow.Author.Needs.{needs}
-use native.Mathlib.Omega.{arith}
-use mathlib.Core.Path.{subst}
+use Rattle.lists.proofs.Kit.{needs, arith, subst}
 use Rattle.read_fields.specs.Entries.{form-of, range-of, PassAt}
 use Rattle.read_fields.proofs.EntryLaws.{list-ends, list-whole}
 use Rattle.read_fields.proofs.Walk.{Passed, none-passed, walk-on, walk-stops, walk-ends}

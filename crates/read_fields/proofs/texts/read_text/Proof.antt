@@ -1,6 +1,4 @@
-use borrow.Author.Needs.{needs}
-use native.Mathlib.Omega.{arith}
-use Prim.Native.Nat.{suc, _-_}
+use Rattle.lists.proofs.Kit.{needs, arith, suc, _-_}
 use Rattle.read_fields.proofs.TextWalk.{two, TextPassed, no-unit-yet, no-unit, too-many, unit-passed, text-ended}
 use Rattle.read_fields.proofs.texts.read_text.Statement.{statement}
 use Rattle.read_fields.proofs.texts.read_text.Tie as tie

@@ -1,6 +1,5 @@
-use borrow.Author.Needs.{needs}
-use native.Mathlib.Omega.{arith}
-use Rattle.settings.proofs.RowLaws.{one-of-ten}
+use Rattle.lists.proofs.Kit.{needs, arith}
+use Rattle.settings.proofs.TypeTableLaws.{one-of-ten}
 use Rattle.read_setting.proofs.SettingLaws.{by-row}
 use Rattle.writing.specs.declared.Kind.the-variants.{Lines, Key, QuickTexts, Home, Channels, System, StatusTexts, Group, Individual, Last}
 use Rattle.read_setting.proofs.reader.read_body.Statement.{statement}

@@ -1,8 +1,6 @@
-use borrow.Author.Needs.{needs}
-use mathlib.Core.Path.{subst}
-use borrow.Author.Tests.{not-true, not-false}
+use Rattle.lists.proofs.Kit.{needs, subst, not-true, not-false}
 use Rattle.writing.specs.Settings.{unicode16}
-use Rattle.read_setting.specs.Settings.{SettingAt}
+use Rattle.read_setting.specs.SettingAt.{SettingAt}
 use Rattle.requests.proofs.RunLaws.{at-end, at-unknown, at-field}
 use Rattle.requests.proofs.Steps.{step-taken, step-full}
 use Rattle.requests.proofs.run.take_setting.Statement.{statement}

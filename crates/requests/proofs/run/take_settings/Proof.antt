@@ -1,8 +1,4 @@
-use borrow.Author.Needs.{needs}
-use Prim.Native.Nat.{_≤_, _-_}
-use mathlib.Core.Path.{_≡_, refl, subst}
-use native.Mathlib.Omega.{arith}
-use lib.ListN.{length}
+use Rattle.lists.proofs.Kit.{needs, _≤_, _-_, _≡_, refl, subst, arith, length}
 use Rattle.tables.specs.Layout.{Roomy}
 use Rattle.tables.specs.Store.{Works}
 use Rattle.tables.specs.Tables.{Tables}

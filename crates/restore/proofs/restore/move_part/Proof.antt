@@ -1,7 +1,4 @@
-use borrow.Author.Needs.{needs}
-use Prim.Native.Nat.{_≤_}
-use mathlib.Core.Path.{refl, subst}
-use lib.ListN.{length}
+use Rattle.lists.proofs.Kit.{needs, _≤_, refl, subst, length}
 use Rattle.lists.specs.Ladder.{Answers}
 use Rattle.export.specs.declared.parts.Export.{Export}
 use Rattle.export.specs.Exportable.{Exportable}

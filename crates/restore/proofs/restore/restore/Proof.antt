@@ -1,4 +1,4 @@
-use borrow.Author.Needs.{needs}
+use Rattle.lists.proofs.Kit.{needs}
 use Rattle.export.proofs.RequestLaws.{handheld-exportable}
 use Rattle.restore.proofs.restore.restore.Statement.{statement}
 use Rattle.restore.proofs.restore.restore.Tie as tie

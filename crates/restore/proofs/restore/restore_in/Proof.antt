@@ -1,7 +1,4 @@
-use borrow.Author.Needs.{needs}
-use mathlib.Core.Path.{refl}
-use native.Mathlib.Omega.{arith}
-use mathlib.Core.Logic.{inl, inr}
+use Rattle.lists.proofs.Kit.{needs, refl, arith, inl, inr}
 use Rattle.tables.proofs.AnswerLaws.{not-said, was-said}
 use Rattle.restore.proofs.restore.restore_in.Statement.{statement}
 use Rattle.restore.proofs.restore.restore_in.Tie as tie

@@ -1,12 +1,7 @@
 -- `screen::names::name_in` meets its contract. Assumes nothing.
-use mathlib.Core.Path.{_≡_, sym, _∙_}
-use borrow.Author.Needs.{needs}
-use native.Mathlib.Omega.{arith}
+use Rattle.lists.proofs.Kit.{_≡_, sym, _∙_, needs, arith, _+_, inl, inr, length}
 use Rattle.screen.proofs.NameLaws.{Here, here, named-beyond, found-fits, member-text, three-bytes, named-zeros, named-text, named-empty, named-digits, named-group, named-individual}
 use Rattle.screen.proofs.SlotLaws.{SlotFits}
-use Prim.Native.Nat.{_+_}
-use mathlib.Core.Logic.{inl, inr}
-use lib.ListN.{length}
 use Rattle.screen.proofs.names.name_in.Statement.{statement}
 use Rattle.screen.proofs.names.name_in.Tie as tie
 

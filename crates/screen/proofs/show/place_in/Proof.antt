@@ -1,12 +1,9 @@
 -- `screen::show::place_in` meets its contract. Assumes nothing.
-use borrow.Author.Needs.{needs}
-use native.Mathlib.Omega.{arith}
+use Rattle.lists.proofs.Kit.{needs, arith, _≡_, refl, []}
 use Rattle.screen.specs.declared.names.Name.the-variants.{Text as TextAt, Digits, Group as GroupNumber, Individual as IndividualNumber}
 use Rattle.screen.specs.declared.names.Name.{Name}
 use Rattle.screen.specs.Rows.{group, individual}
 use Rattle.plan.specs.Numbers.{Individual as IndividualPlan, Group as GroupPlan}
-use mathlib.Core.Path.{_≡_, refl}
-use mathlib.Core.List.{[]}
 use Rattle.screen.proofs.AnswerLaws.{InRow, Kept, row-found, text-placed, digits-kept, digits-placed, address-placed}
 use Rattle.screen.proofs.ShowLaws.{place-refused}
 use Rattle.screen.proofs.show.place_in.Statement.{statement}

@@ -1,10 +1,4 @@
-use borrow.Author.Needs.{needs}
-use native.Mathlib.Omega.{arith}
-use Prim.Native.Nat.{_-_, _≤_}
-use mathlib.Core.Path.{_≡_, refl, _∙_}
-use lib.ListN.{length, drop, take}
-use mathlib.Core.List.{_++_}
-use lib.ListN.{length-set}
+use Rattle.lists.proofs.Kit.{needs, arith, _-_, _≤_, _≡_, refl, _∙_, length, drop, take, _++_, length-set}
 use Rattle.slots.proofs.Runs.{copy-more, copy-done}
 use Rattle.slots.proofs.bytes.copy.Statement.{statement}
 use Rattle.slots.proofs.bytes.copy.Tie as tie

@@ -1,11 +1,5 @@
-use borrow.Author.Needs.{needs}
-use native.Mathlib.Omega.{arith}
-use Prim.Native.Nat.{_-_, _≤_}
-use mathlib.Core.Path.{_≡_, refl, _∙_}
-use lib.ListN.{length, drop, replicate}
-use mathlib.Core.List.{_++_, append-nil}
+use Rattle.lists.proofs.Kit.{needs, arith, _-_, _≤_, _≡_, refl, _∙_, length, drop, replicate, _++_, append-nil, length-set, drop-of-length-le}
 use borrow.Author.Fill.{fill-more}
-use lib.ListN.{length-set, drop-of-length-le}
 use Rattle.slots.proofs.bytes.wipe.Statement.{statement}
 use Rattle.slots.proofs.bytes.wipe.Tie as tie
 

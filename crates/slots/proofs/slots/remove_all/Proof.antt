@@ -1,9 +1,4 @@
-use borrow.Author.Needs.{needs}
-use native.Mathlib.Omega.{arith}
-use Prim.Native.Nat.{ℕ, _-_, _≤_}
-use mathlib.Core.Path.{_≡_, refl, sym, _∙_}
-use lib.ListN.{length}
-use mathlib.Core.List.{List}
+use Rattle.lists.proofs.Kit.{needs, arith, ℕ, _-_, _≤_, _≡_, refl, sym, _∙_, length, List}
 use Rattle.slots.specs.Slots.{Slots, flat, KeyAt}
 use Rattle.slots.proofs.Search.{key-fits, key-not}
 use Rattle.slots.proofs.Gaps.{Gone, gone-start, gone-end, turn, turn-key, turn-miss, turn-hit}

@@ -1,13 +1,4 @@
-use borrow.Author.Needs.{needs}
-use native.Mathlib.Omega.{arith}
-use Prim.Native.Nat.{_+_, _-_, _≤_, _<_}
-use mathlib.Core.Path.{_≡_, refl}
-use lib.ListN.{length, getD, drop, take}
-use mathlib.Core.Logic.{⊎-elim}
-use mathlib.Core.List.{_++_}
-use native.Mathlib.Nat.{add-comm}
-use lib.ListN.{length-set, length-drop}
-use lib.Seq.{getD-drop}
+use Rattle.lists.proofs.Kit.{needs, arith, _+_, _-_, _≤_, _<_, _≡_, refl, length, getD, drop, take, ⊎-elim, _++_, add-comm, length-set, length-drop, getD-drop}
 use Rattle.slots.proofs.Runs.{copy-more, getD-past, shift-done}
 use Rattle.slots.proofs.slots.shift.Statement.{statement}
 use Rattle.slots.proofs.slots.shift.Tie as tie

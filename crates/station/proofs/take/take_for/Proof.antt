@@ -1,4 +1,4 @@
-use borrow.Author.Needs.{needs}
+use Rattle.lists.proofs.Kit.{needs}
 use Rattle.station.proofs.take.take_for.Statement.{statement}
 use Rattle.station.proofs.take.take_for.Tie as tie
 

@@ -1,5 +1,4 @@
-use borrow.Author.Needs.{needs}
-use mathlib.Core.Path.{subst}
+use Rattle.lists.proofs.Kit.{needs, subst}
 use Rattle.requests.specs.Running.{RunIs}
 use Rattle.station.proofs.TakeLaws.{forgotten, request-refused, request-taken}
 use Rattle.station.proofs.take.take_request.Statement.{statement}

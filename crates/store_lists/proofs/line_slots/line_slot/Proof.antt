@@ -1,4 +1,4 @@
-use borrow.Author.Needs.{needs}
+use Rattle.lists.proofs.Kit.{needs}
 use Rattle.store_lists.proofs.LineLaws.{slot-room, slot-made}
 use Rattle.store_lists.proofs.line_slots.line_slot.Statement.{statement}
 use Rattle.store_lists.proofs.line_slots.line_slot.Tie as tie

@@ -1,20 +1,14 @@
-use borrow.Author.Needs.{needs}
-use native.Mathlib.Omega.{arith}
-use Prim.Native.Nat.{_-_}
-use mathlib.Core.Path.{_≡_, refl}
-use lib.ListN.{length}
-use mathlib.Core.Bool.{true, false}
-use borrow.Author.Tests.{not-true, not-false}
+use Rattle.lists.proofs.Kit.{needs, arith, _-_, _≡_, refl, length, true, false, not-true, not-false}
 use Rattle.tables.specs.Apply.{line-of}
 use Rattle.store_lists.proofs.LineLaws.{LinesLeft, lines-start, lines-end, lines-stuck, lines-on, lines-full, lines-applied}
 use Rattle.store_lists.proofs.lines.apply_lines.Statement.{statement}
 use Rattle.store_lists.proofs.lines.apply_lines.Tie as tie
 
 abbrev Inv-loop : tie.InvT-loop
-Inv-loop part₀ m operation flags entries coding p₀ i₀ part p i = (length part ≡ length part₀) × LinesLeft operation m flags entries part₀ p i part
+Inv-loop list₀ m operation flags entries coding p₀ i₀ list p i = (length list ≡ length list₀) × LinesLeft operation m flags entries list₀ p i list
 
 abbrev μ-loop : tie.MeasureT-loop
-μ-loop part₀ m operation flags entries coding p₀ i₀ part p i = entries .count - i
+μ-loop list₀ m operation flags entries coding p₀ i₀ list p i = entries .count - i
 
 empty-to-replace-requires : tie.Need-empty-to-replace-requires Inv-loop μ-loop
 empty-to-replace-requires c κs = search needs
@@ -41,8 +35,8 @@ returns c =
     let a = c .before .before .before .before .before .before .before .before .before .before .before .before .args in
     let z = c .before .before .before .before .before .before .before .before .empty-to-replace in
     let l = c .before .before .before .before .before .loop in
-    lines-applied (a .operation) (a .m .now) (a .flags) (a .entries) (a .part .now) (z .last .0) (l .part) false (z .ensures)
-    (lines-stuck (a .operation) (a .m .now) (a .flags) (a .entries) (z .last .0) (l .p) (l .i) (l .part) (omega arith) (l .inv .1) (c .before .before .read-contact .ensures) (l .part) false (c .enum-told .given .1))
+    lines-applied (a .operation) (a .m .now) (a .flags) (a .entries) (a .list .now) (z .last .0) (l .list) false (z .ensures)
+    (lines-stuck (a .operation) (a .m .now) (a .flags) (a .entries) (z .last .0) (l .p) (l .i) (l .list) (omega arith) (l .inv .1) (c .before .before .read-contact .ensures) (l .list) false (c .enum-told .given .1))
 
 line-slot-requires : tie.Need-line-slot-requires Inv-loop μ-loop
 line-slot-requires c κs = search needs
@@ -63,8 +57,8 @@ returns-2 c =
     let l = c .before .before .before .before .before .before .before .before .before .before .before .before .before .loop in
     let x = c .before .before .before .before .before .before .line-slot in
     let k = c .before .before .before .step-line in
-    lines-applied (a .operation) (a .m .now) (a .flags) (a .entries) (a .part .now) (z .last .0) (k .last .0) false (z .ensures)
-    (lines-full (a .operation) (a .m .now) (a .flags) (a .entries) (z .last .0) (l .p) (l .i) (l .part) (omega arith) (l .inv .1) (c .before .before .before .before .before .before .before .before .before .before .read-contact .ensures) (λ j. (c .before .before .before .before .before .before .before .before .before .before .before .before .before .before .before .before .before .before .shared-slice-known .given j) .fits) _ _ (c .before .before .before .before .before .before .before .before .here .given .1) (x .result) (x .ensures) (k .last .0) (k .result) (λ e ok is n ls t. k .ensures n ls (line-of (a .flags) e) t ok is) (not-true (k .result) (c .if2 .taken)))
+    lines-applied (a .operation) (a .m .now) (a .flags) (a .entries) (a .list .now) (z .last .0) (k .last .0) false (z .ensures)
+    (lines-full (a .operation) (a .m .now) (a .flags) (a .entries) (z .last .0) (l .p) (l .i) (l .list) (omega arith) (l .inv .1) (c .before .before .before .before .before .before .before .before .before .before .read-contact .ensures) (λ j. (c .before .before .before .before .before .before .before .before .before .before .before .before .before .before .before .before .before .before .shared-slice-known .given j) .fits) _ _ (c .before .before .before .before .before .before .before .before .here .given .1) (x .result) (x .ensures) (k .last .0) (k .result) (λ e ok is n ls t. k .ensures n ls (line-of (a .flags) e) t ok is) (not-true (k .result) (c .if2 .taken)))
 
 add-i : tie.Need-add-i Inv-loop μ-loop
 add-i c = search needs
@@ -79,7 +73,7 @@ loop-again c =
     let l = c .before .before .before .before .before .before .before .before .before .before .before .before .before .loop in
     let x = c .before .before .before .before .before .before .line-slot in
     let k = c .before .before .before .step-line in
-    (search needs, lines-on (a .operation) (a .m .now) (a .flags) (a .entries) (z .last .0) (l .p) (l .i) (l .part) (omega arith) (l .inv .1) (c .before .before .before .before .before .before .before .before .before .before .read-contact .ensures) (λ j. (c .before .before .before .before .before .before .before .before .before .before .before .before .before .before .before .before .before .before .shared-slice-known .given j) .fits) _ _ (c .before .before .before .before .before .before .before .before .here .given .1) (x .result) (x .ensures) (k .last .0) (k .result) (λ e ok is n ls t. k .ensures n ls (line-of (a .flags) e) t ok is) (not-false (k .result) (c .if2 .left)))
+    (search needs, lines-on (a .operation) (a .m .now) (a .flags) (a .entries) (z .last .0) (l .p) (l .i) (l .list) (omega arith) (l .inv .1) (c .before .before .before .before .before .before .before .before .before .before .read-contact .ensures) (λ j. (c .before .before .before .before .before .before .before .before .before .before .before .before .before .before .before .before .before .before .shared-slice-known .given j) .fits) _ _ (c .before .before .before .before .before .before .before .before .here .given .1) (x .result) (x .ensures) (k .last .0) (k .result) (λ e ok is n ls t. k .ensures n ls (line-of (a .flags) e) t ok is) (not-false (k .result) (c .if2 .left)))
 
 same-length-3 : tie.Need-same-length-3 Inv-loop μ-loop
 same-length-3 c = search needs
@@ -89,8 +83,8 @@ returns-3 c =
     let a = c .before .before .before .before .before .before .before .before .before .args in
     let z = c .before .before .before .before .before .empty-to-replace in
     let l = c .before .before .loop in
-    lines-applied (a .operation) (a .m .now) (a .flags) (a .entries) (a .part .now) (z .last .0) (l .part) true (z .ensures)
-    (lines-end (a .operation) (a .m .now) (a .flags) (a .entries) (z .last .0) (l .p) (l .i) (l .part) (omega arith) (l .inv .1))
+    lines-applied (a .operation) (a .m .now) (a .flags) (a .entries) (a .list .now) (z .last .0) (l .list) true (z .ensures)
+    (lines-end (a .operation) (a .m .now) (a .flags) (a .entries) (z .last .0) (l .p) (l .i) (l .list) (omega arith) (l .inv .1))
 
 pub apply-lines-spec : {M : Type 1} → statement M
 apply-lines-spec =

@@ -1,5 +1,4 @@
-use borrow.Author.Needs.{needs}
-use mathlib.Core.Path.{refl}
+use Rattle.lists.proofs.Kit.{needs, refl}
 use Rattle.store_lists.specs.Lists.{LineTable}
 use Rattle.tables.proofs.ListLaws.{tried-room}
 use Rattle.store_lists.proofs.lines.step_line.Statement.{statement}

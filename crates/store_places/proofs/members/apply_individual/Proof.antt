@@ -1,5 +1,4 @@
-use borrow.Author.Needs.{needs}
-use mathlib.Core.Path.{refl}
+use Rattle.lists.proofs.Kit.{needs, refl}
 use Rattle.tables.specs.declared.members.Members.the-variants.{OfIndividuals}
 use Rattle.store_places.proofs.members.apply_individual.Statement.{statement}
 use Rattle.store_places.proofs.members.apply_individual.Tie as tie

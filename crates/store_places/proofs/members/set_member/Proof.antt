@@ -1,4 +1,4 @@
-use borrow.Author.Needs.{needs}
+use Rattle.lists.proofs.Kit.{needs}
 use Rattle.store_places.proofs.MemberLaws.{member-set}
 use Rattle.store_places.proofs.members.set_member.Statement.{statement}
 use Rattle.store_places.proofs.members.set_member.Tie as tie
@@ -20,7 +20,7 @@ returns c =
     let a = c .before .before .before .before .before .before .before .before .args in
     let h = c .before .before .before .before .before .head-of in
     let y = c .before .before .set-place in
-    member-set (a .m .now) (a .operation) (a .index) (a .flags) (a .address) (a .text) (a .part .now) (y .last .0) (h .result) (h .ensures .0) (h .ensures .1) (y .ensures)
+    member-set (a .m .now) (a .operation) (a .index) (a .flags) (a .address) (a .text) (a .region .now) (y .last .0) (h .result) (h .ensures .0) (h .ensures .1) (y .ensures)
 
 pub set-member-spec : {M : Type 1} → statement M
 set-member-spec =

@@ -1,5 +1,4 @@
-use borrow.Author.Needs.{needs}
-use mathlib.Core.Path.{sym, ap, _∙_}
+use Rattle.lists.proofs.Kit.{needs, sym, ap, _∙_}
 use Rattle.store_places.specs.Changes.{free?}
 use Rattle.store_places.proofs.overwriting.is_free.Statement.{statement}
 use Rattle.store_places.proofs.overwriting.is_free.Tie as tie

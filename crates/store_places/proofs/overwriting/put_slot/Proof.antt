@@ -1,7 +1,4 @@
-use borrow.Author.Needs.{needs}
-use native.Mathlib.Omega.{arith}
-use mathlib.Core.Path.{sym, _∙_}
-use borrow.Author.Tests.{not-true, not-false}
+use Rattle.lists.proofs.Kit.{needs, arith, sym, _∙_, not-true, not-false}
 use Rattle.store_places.proofs.OverwriteLaws.{slot-narrow, slot-kept, slot-filled}
 use Rattle.store_places.proofs.overwriting.put_slot.Statement.{statement}
 use Rattle.store_places.proofs.overwriting.put_slot.Tie as tie

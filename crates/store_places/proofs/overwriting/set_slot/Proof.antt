@@ -1,4 +1,4 @@
-use borrow.Author.Needs.{needs}
+use Rattle.lists.proofs.Kit.{needs}
 use Rattle.store_places.proofs.overwriting.set_slot.Statement.{statement}
 use Rattle.store_places.proofs.overwriting.set_slot.Tie as tie
 

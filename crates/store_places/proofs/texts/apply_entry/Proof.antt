@@ -1,5 +1,4 @@
-use borrow.Author.Needs.{needs}
-use native.Mathlib.Omega.{arith}
+use Rattle.lists.proofs.Kit.{needs, arith}
 use Rattle.store_places.proofs.TextTables.{quick-stepped, code-outside, status-stepped}
 use Rattle.store_places.proofs.texts.apply_entry.Statement.{statement}
 use Rattle.store_places.proofs.texts.apply_entry.Tie as tie
@@ -25,7 +24,7 @@ enum-told-2 c = search needs
 returns : tie.Need-returns
 returns c =
     let a = c .before .before .before .before .before .before .args in
-    rw (c .before .before .enum-told2 .given .1) (code-outside (a .m .now) (a .operation) (a .place) (a .part .now) (a .part .now) (omega arith))
+    rw (c .before .before .enum-told2 .given .1) (code-outside (a .m .now) (a .operation) (a .place) (a .region .now) (a .region .now) (omega arith))
 
 slice-aggregate-set-place : tie.Need-slice-aggregate-set-place
 slice-aggregate-set-place c = search needs
@@ -40,7 +39,7 @@ returns-2 : tie.Need-returns-2
 returns-2 c =
     let a = c .before .before .before .before .before .before .before .before .before .before .args in
     let y = c .before .before .set-place in
-    rw (c .before .before .before .before .before .before .enum-told .given .1) (quick-stepped (a .m .now) (a .operation) (a .place) (a .part .now) (y .last .0) (λ i. (c .before .before .before .before .before .before .before .before .shared-slice-known .given i) .fits) (y .ensures))
+    rw (c .before .before .before .before .before .before .enum-told .given .1) (quick-stepped (a .m .now) (a .operation) (a .place) (a .region .now) (y .last .0) (λ i. (c .before .before .before .before .before .before .before .before .shared-slice-known .given i) .fits) (y .ensures))
 
 same-length-2 : tie.Need-same-length-2
 same-length-2 c = search needs
@@ -49,7 +48,7 @@ returns-3 : tie.Need-returns-3
 returns-3 c =
     let a = c .before .before .before .before .before .before .before .before .before .before .before .before .args in
     let y = c .before .before .set-place2 in
-    rw (c .before .before .before .before .before .before .before .before .enum-told2 .given .1) (status-stepped (a .m .now) (a .operation) (a .place) (a .part .now) (y .last .0) (λ i. (c .before .before .before .before .before .before .before .before .before .before .shared-slice-known .given i) .fits) (y .ensures))
+    rw (c .before .before .before .before .before .before .before .before .enum-told2 .given .1) (status-stepped (a .m .now) (a .operation) (a .place) (a .region .now) (y .last .0) (λ i. (c .before .before .before .before .before .before .before .before .before .before .shared-slice-known .given i) .fits) (y .ensures))
 
 pub apply-entry-spec : {M : Type 1} → statement M
 apply-entry-spec =

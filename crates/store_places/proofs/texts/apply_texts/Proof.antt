@@ -1,17 +1,14 @@
-use borrow.Author.Needs.{needs}
-use native.Mathlib.Omega.{arith}
-use mathlib.Core.Path.{_≡_, refl}
-use lib.ListN.{length}
+use Rattle.lists.proofs.Kit.{needs, arith, _≡_, refl, length}
 use Rattle.tables.proofs.EntryWalk.{applying-start}
 use Rattle.store_places.proofs.TextTables.{TextsGoing, texts-next, texts-missing, texts-done}
 use Rattle.store_places.proofs.texts.apply_texts.Statement.{statement}
 use Rattle.store_places.proofs.texts.apply_texts.Tie as tie
 
 abbrev Inv-loop : tie.InvT-loop
-Inv-loop part₀ m table operation coding p₀ left₀ part p left = (length part ≡ length part₀) × TextsGoing table coding m operation part₀ p₀ left₀ p left part
+Inv-loop region₀ m table operation coding p₀ left₀ region p left = (length region ≡ length region₀) × TextsGoing table coding m operation region₀ p₀ left₀ p left region
 
 abbrev μ-loop : tie.MeasureT-loop
-μ-loop part₀ m table operation coding p₀ left₀ part p left = left
+μ-loop region₀ m table operation coding p₀ left₀ region p left = left
 
 empty-to-replace-requires : tie.Need-empty-to-replace-requires Inv-loop μ-loop
 empty-to-replace-requires c κs = search needs
@@ -36,7 +33,7 @@ returns c =
     let a = c .before .before .before .before .before .before .before .before .before .before .before .args in
     let l = c .before .before .before .before .loop in
     let z = c .before .before .before .before .before .before .before .empty-to-replace in
-    texts-missing (a .table) (a .m .now) (a .operation) (z .last .0) (a .entries) (l .p) (l .left) (l .part) (l .inv .1) (a .part .now) (z .ensures) (l .part) (omega arith) (c .before .before .read-entry .ensures) (c .enum-told .given .1)
+    texts-missing (a .table) (a .m .now) (a .operation) (z .last .0) (a .entries) (l .p) (l .left) (l .region) (l .inv .1) (a .region .now) (z .ensures) (l .region) (omega arith) (c .before .before .read-entry .ensures) (c .enum-told .given .1)
 
 apply-entry-requires : tie.Need-apply-entry-requires Inv-loop μ-loop
 apply-entry-requires c κs = search needs
@@ -54,7 +51,7 @@ loop-again c =
     let z = c .before .before .before .before .before .before .before .before .before .before .before .before .empty-to-replace in
     let h = c .before .before .before .before .before .here in
     let y = c .before .before .apply-entry in
-    (omega (arith, l .inv .0), texts-next (a .table) (a .m .now) (a .operation) (z .last .0) (a .entries) (l .p) (l .left) (l .part) (l .inv .1) (h .given .0 .0) (h .given .0 .1 .0) (y .last .0) (omega arith) (c .before .before .before .before .before .before .before .read-entry .ensures) (h .given .1) (y .ensures))
+    (omega (arith, l .inv .0), texts-next (a .table) (a .m .now) (a .operation) (z .last .0) (a .entries) (l .p) (l .left) (l .region) (l .inv .1) (h .given .0 .0) (h .given .0 .1 .0) (y .last .0) (omega arith) (c .before .before .before .before .before .before .before .read-entry .ensures) (h .given .1) (y .ensures))
 
 same-length-2 : tie.Need-same-length-2 Inv-loop μ-loop
 same-length-2 c = search needs
@@ -64,7 +61,7 @@ returns-2 c =
     let a = c .before .before .before .before .before .before .before .before .args in
     let l = c .before .loop in
     let z = c .before .before .before .before .empty-to-replace in
-    texts-done (a .table) (a .m .now) (a .operation) (z .last .0) (a .entries) (l .p) (l .left) (l .part) (l .inv .1) (a .part .now) (z .ensures) (omega arith)
+    texts-done (a .table) (a .m .now) (a .operation) (z .last .0) (a .entries) (l .p) (l .left) (l .region) (l .inv .1) (a .region .now) (z .ensures) (omega arith)
 
 pub apply-texts-spec : {M : Type 1} → statement M
 apply-texts-spec =

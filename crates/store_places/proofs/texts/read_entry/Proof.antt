@@ -1,4 +1,4 @@
-use borrow.Author.Needs.{needs}
+use Rattle.lists.proofs.Kit.{needs}
 use Rattle.store_places.proofs.texts.read_entry.Statement.{statement}
 use Rattle.store_places.proofs.texts.read_entry.Tie as tie
 

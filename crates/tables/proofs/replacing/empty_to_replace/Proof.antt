@@ -1,6 +1,4 @@
-use borrow.Author.Needs.{needs}
-use mathlib.Core.Path.{sym, ap, _∙_}
-use lib.ListN.{length, replicate}
+use Rattle.lists.proofs.Kit.{needs, sym, ap, _∙_, length, replicate}
 use Rattle.tables.specs.Apply.{start-from}
 use Rattle.tables.proofs.replacing.empty_to_replace.Statement.{statement}
 use Rattle.tables.proofs.replacing.empty_to_replace.Tie as tie

@@ -1,7 +1,7 @@
-use borrow.Author.Needs.{needs}
-use Rattle.settings.proofs.RowLaws.{no-code}
-use Rattle.settings.proofs.rows.operation_of.Statement.{statement}
-use Rattle.settings.proofs.rows.operation_of.Tie as tie
+use Rattle.lists.proofs.Kit.{needs}
+use Rattle.settings.proofs.TypeTableLaws.{no-code}
+use Rattle.settings.proofs.type_table.operation_of.Statement.{statement}
+use Rattle.settings.proofs.type_table.operation_of.Tie as tie
 
 returns : tie.Need-returns
 returns c = search needs

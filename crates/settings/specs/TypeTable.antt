@@ -10,14 +10,14 @@ use Rattle.writing.specs.declared.Operation.{Operation}
 use Rattle.writing.specs.declared.Operations.{Operations}
 use Rattle.writing.specs.declared.Operations.the-variants.{NoOperation, AnyOperation, AddOrDelete}
 use Rattle.writing.specs.Ranges.{text-limits}
-use Rattle.writing.specs.Rows.{row}
+use Rattle.writing.specs.Bounds.{bounds}
 use Rattle.writing.specs.Settings.{unicode16}
 use Rattle.writing.specs.Writing.{type-byte, op-code}
-use Rattle.settings.specs.declared.rows.Row.{Row}
-use Rattle.settings.specs.declared.rows.RowRead.{RowRead}
-use Rattle.settings.specs.declared.rows.RowRead.the-variants.{Found, Unknown}
-use Rattle.settings.specs.declared.rows.OperationRead.{OperationRead}
-use Rattle.settings.specs.declared.rows.OperationRead.the-variants.{Is, NoSuch}
+use Rattle.settings.specs.declared.type_table.Bounds.{Bounds}
+use Rattle.settings.specs.declared.type_table.BoundsRead.{BoundsRead}
+use Rattle.settings.specs.declared.type_table.BoundsRead.the-variants.{Found, Unknown}
+use Rattle.settings.specs.declared.type_table.OperationRead.{OperationRead}
+use Rattle.settings.specs.declared.type_table.OperationRead.the-variants.{Is, NoSuch}
 
 -- the most of a row, 65535 where it has none
 abbrev pub most-of : Option ℕ → ℕ
@@ -31,11 +31,11 @@ largest AnyOperation = 3
 largest AddOrDelete = 2
 
 -- the code's row is document 01's row of this kind
-pub record RowIs (k : Kind) (r : Row) : Type 0 where
+pub record BoundsAre (k : Kind) (r : Bounds) : Type 0 where
   pub type : r .«type_byte» ≡ type-byte k
-  pub least : r .least ≡ row unicode16 text-limits k .least
-  pub most : r .most ≡ most-of (row unicode16 text-limits k .most)
-  pub operations : r .operations ≡ largest (row unicode16 text-limits k .operations)
+  pub least : r .least ≡ bounds unicode16 text-limits k .least
+  pub most : r .most ≡ most-of (bounds unicode16 text-limits k .most)
+  pub operations : r .operations ≡ largest (bounds unicode16 text-limits k .operations)
 
 -- the ten, in the order of the table
 abbrev pub kinds : List Kind
@@ -47,9 +47,9 @@ pub record PlaceIs (b place : ℕ) : Type 0 where
   pub none : 10 ≤ place → (k : Kind) → type-byte k ≡ b → ⊥
 
 -- the row of a type byte, or that it is none of the ten
-abbrev pub RowAt : ℕ → RowRead → Type 0
-RowAt b (Found r) = (k : Kind) × (type-byte k ≡ b) × RowIs k r
-RowAt b Unknown = (k : Kind) → type-byte k ≡ b → ⊥
+abbrev pub BoundsAt : ℕ → BoundsRead → Type 0
+BoundsAt b (Found r) = (k : Kind) × (type-byte k ≡ b) × BoundsAre k r
+BoundsAt b Unknown = (k : Kind) → type-byte k ≡ b → ⊥
 
 -- the operation of a code among those allowed, or that there is none
 abbrev pub OperationIs : ℕ → ℕ → OperationRead → Type 0

@@ -11,7 +11,7 @@ use Rattle.writing.specs.declared.Coding.{Coding}
 use Rattle.writing.specs.Settings.{Contact, Entry, Text, Number}
 use Rattle.writing.specs.Writing.{text, number, contact, quick-text, status-text, fill}
 use Rattle.writing.specs.Ranges.{TextLimits, InNumber, InContact, InAddress}
-use Rattle.read_fields.specs.Places.{PartAt}
+use Rattle.read_fields.specs.Places.{FieldsAt}
 use Rattle.read_fields.specs.declared.texts.TextPlace.{TextPlace}
 use Rattle.read_fields.specs.declared.texts.TextRead.{TextRead}
 use Rattle.read_fields.specs.declared.texts.TextRead.the-variants.{Text as AText, NoText}
@@ -26,24 +26,24 @@ use Rattle.read_fields.specs.declared.numbers.Digits.the-variants.{Two, 
 -- the text stands at this place, under the coding that the place says, up to `next`
 pub record TextIs (m : List ℕ) (p : TextPlace) (us : Text) (next : ℕ) : Type 0 where
   pub units : length us ≡ p .units
-  pub stands : PartAt (text (p .coding) us) m (p .start) next
+  pub stands : FieldsAt (text (p .coding) us) m (p .start) next
 
 -- a text of at most `limit` units stands at `at` under this coding, which its place says, or none does
 abbrev pub TextAt : Coding → List ℕ → ℕ → ℕ → TextRead → Type 0
 TextAt c m at limit (AText p next) = (us : Text) × (p .start ≡ at) × (p .coding ≡ c) × (length us ≤ limit) × TextIs m p us next
-TextAt c m at limit NoText = (us : Text) (next : ℕ) → length us ≤ limit → PartAt (text c us) m at next → ⊥
+TextAt c m at limit NoText = (us : Text) (next : ℕ) → length us ≤ limit → FieldsAt (text c us) m at next → ⊥
 
 -- ---- numbers
 
 -- the number stands at this place, up to `next`
 pub record NumberIs (m : List ℕ) (p : NumberPlace) (ds : Number) (next : ℕ) : Type 0 where
   pub digits : length ds ≡ p .digits
-  pub stands : PartAt (number ds) m (p .start) next
+  pub stands : FieldsAt (number ds) m (p .start) next
 
 -- a number in range stands at `at`, or none does
 abbrev pub NumberAt : List ℕ → ℕ → NumberRead → Type 0
 NumberAt m at (ANumber p next) = (ds : Number) × (p .start ≡ at) × InNumber ds × NumberIs m p ds next
-NumberAt m at NoNumber = (ds : Number) (next : ℕ) → InNumber ds → PartAt (number ds) m at next → ⊥
+NumberAt m at NoNumber = (ds : Number) (next : ℕ) → InNumber ds → FieldsAt (number ds) m at next → ⊥
 
 -- what a byte of a number holds
 abbrev pub DigitsAre : ℕ → Digits → Type 0

@@ -1,10 +1,7 @@
-use Prim.Native.Nat.{_-_}
-use borrow.Author.Needs.{needs}
-use native.Mathlib.Omega.{arith}
-use mathlib.Core.Path.{_∙_}
-use Rattle.settings.proofs.RowLaws.{type-bytes, type-in-order}
-use Rattle.settings.proofs.rows.place_of.Statement.{statement}
-use Rattle.settings.proofs.rows.place_of.Tie as tie
+use Rattle.lists.proofs.Kit.{_-_, needs, arith, _∙_}
+use Rattle.settings.proofs.TypeTableLaws.{type-bytes, type-in-order}
+use Rattle.settings.proofs.type_table.place_of.Statement.{statement}
+use Rattle.settings.proofs.type_table.place_of.Tie as tie
 
 cast-result : tie.Need-cast-result
 cast-result c = search needs

@@ -1,17 +1,17 @@
 // Document 01's table of the ten types of setting, which the reader asks before any field.
 use writing::Operation;
-ghost use Rattle.settings.specs.Rows.{PlaceIs, RowAt, OperationIs};
+ghost use Rattle.settings.specs.TypeTable.{PlaceIs, BoundsAt, OperationIs};
 
 // The least and the most of DataLength, 65535 where the type has no most; operations is the largest code allowed, 0 where it has none.
-pub struct Row {
+pub struct Bounds {
     pub type_byte: u8,
     pub least: u16,
     pub most: u16,
     pub operations: u8,
 }
 
-pub enum RowRead {
-    Found(Row),
+pub enum BoundsRead {
+    Found(Bounds),
     Unknown,
 }
 
@@ -20,62 +20,62 @@ pub enum OperationRead {
     NoSuch,
 }
 
-const ROWS: [Row; 10] = [
-    Row {
+const ROWS: [Bounds; 10] = [
+    Bounds {
         type_byte: 0xCA,
         least: 4,
         most: 65535,
         operations: 3,
     },
-    Row {
+    Bounds {
         type_byte: 0xCB,
         least: 3,
         most: 6,
         operations: 0,
     },
-    Row {
+    Bounds {
         type_byte: 0xCC,
         least: 3,
         most: 65535,
         operations: 3,
     },
-    Row {
+    Bounds {
         type_byte: 0xCD,
         least: 5,
         most: 5,
         operations: 0,
     },
-    Row {
+    Bounds {
         type_byte: 0xCE,
         least: 4,
         most: 65535,
         operations: 3,
     },
-    Row {
+    Bounds {
         type_byte: 0xCF,
         least: 5,
         most: 5,
         operations: 0,
     },
-    Row {
+    Bounds {
         type_byte: 0xD0,
         least: 4,
         most: 65535,
         operations: 3,
     },
-    Row {
+    Bounds {
         type_byte: 0xD1,
         least: 9,
         most: 41,
         operations: 2,
     },
-    Row {
+    Bounds {
         type_byte: 0xD2,
         least: 9,
         most: 41,
         operations: 2,
     },
-    Row {
+    Bounds {
         type_byte: 0xFF,
         least: 3,
         most: 13,
@@ -95,14 +95,14 @@ fn place_of(b: u8) -> usize
 }
 
 // The row of a type byte.
-pub fn row_of(b: u8) -> RowRead
-    ensures { λ r. ⌜ RowAt b r ⌝ }
+pub fn bounds_of(b: u8) -> BoundsRead
+    ensures { λ r. ⌜ BoundsAt b r ⌝ }
 {
     let i = place_of(b);
     if i < 10 {
-        RowRead::Found(ROWS[i])
+        BoundsRead::Found(ROWS[i])
     } else {
-        RowRead::Unknown
+        BoundsRead::Unknown
     }
 }
 

@@ -9,7 +9,7 @@ use Rattle.writing.specs.Ranges.{text-limits, InRange}
 use Rattle.writing.specs.Settings.{Setting}
 use Rattle.writing.specs.Writing.{type-byte}
 use Rattle.read_fields.specs.Places.{StandsAt}
-use Rattle.settings.specs.Settings.{Meant}
+use Rattle.settings.specs.Meant.{Meant}
 use Rattle.read_setting.specs.declared.reader.SettingRead.{SettingRead}
 use Rattle.read_setting.specs.declared.reader.SettingRead.the-variants.{Taken, Missing, Unknown, Field as BadField}
 

@@ -1,25 +1,21 @@
 -- The ten rows, and what they say of settings in range. Assumes nothing.
-use Prim.Native.Nat.{ℕ, zero, suc, _+_, _≤_, _<_}
-use mathlib.Core.Path.{_≡_, refl, sym}
-use mathlib.Core.List.{List, [], _∷_}
-use native.Mathlib.Omega.{arith}
-use lib.ListN.{length, getD}
+use Rattle.lists.proofs.Kit.{ℕ, zero, suc, _+_, _≤_, _<_, _≡_, refl, sym, List, [], _∷_, arith, length, getD}
 use Rattle.writing.specs.declared.Kind.{Kind}
 use Rattle.writing.specs.declared.Kind.the-variants.{Lines, Key, QuickTexts, Home, Channels, System, StatusTexts, Group, Individual, Last}
 use Rattle.writing.specs.declared.Operation.{Operation}
 use Rattle.writing.specs.declared.Operation.the-variants.{Add, Delete, Replace}
 use Rattle.writing.specs.Writing.{type-byte, op-code}
-use Rattle.settings.specs.Rows.{RowIs, kinds}
-use Rattle.settings.specs.declared.rows.Row.{Row}
+use Rattle.settings.specs.TypeTable.{BoundsAre, kinds}
+use Rattle.settings.specs.declared.type_table.Bounds.{Bounds}
 
 -- each row is its kind's
-abbrev pub RowsAre : List Kind → List Row → Type 0
+abbrev pub RowsAre : List Kind → List Bounds → Type 0
 RowsAre [] rs = Unit {0}
 RowsAre (k ∷ ks) [] = ⊥
-RowsAre (k ∷ ks) (r ∷ rs) = RowIs k r × RowsAre ks rs
+RowsAre (k ∷ ks) (r ∷ rs) = BoundsAre k r × RowsAre ks rs
 
 -- so is the row in any place
-pub row-at : (ks : List Kind) (rs : List Row) → RowsAre ks rs → (i : ℕ) (k : Kind) (r : Row) → i < length ks → RowIs (getD ks i k) (getD rs i r)
+pub row-at : (ks : List Kind) (rs : List Bounds) → RowsAre ks rs → (i : ℕ) (k : Kind) (r : Bounds) → i < length ks → BoundsAre (getD ks i k) (getD rs i r)
 row-at [] rs h i k r l = absurd (omega arith)
 row-at (x ∷ ks) [] h i k r l = absurd h
 row-at (x ∷ ks) (y ∷ rs) h zero k r l = h .0

@@ -34,7 +34,7 @@ operation (individual o f s) = some o
 operation (last f h) = none
 
 -- a row: the least and, where fixed, the most of DataLength, and the operations
-pub record Row : Type 0 where
+pub record Bounds : Type 0 where
   pub least : ℕ
   pub most : Option ℕ
   pub operations : Operations
@@ -47,23 +47,23 @@ abbrev pub longest-text : Coding → TextLimits → ℕ
 longest-text c k = (k .short + 1) * (unit-width c / 8)
 
 -- the ten rows
-abbrev pub row : Coding → TextLimits → Kind → Row
-row c k Lines = record { least = 4; most = none; operations = AnyOperation }
-row c k Key = record { least = 3; most = some 6; operations = NoOperation }
-row c k QuickTexts = record { least = 3; most = none; operations = AnyOperation }
-row c k Home = record { least = 5; most = some 5; operations = NoOperation }
-row c k Channels = record { least = 4; most = none; operations = AnyOperation }
-row c k System = record { least = 5; most = some 5; operations = NoOperation }
-row c k StatusTexts = record { least = 4; most = none; operations = AnyOperation }
-row c k Group = record { least = 7 + no-text c; most = some (7 + longest-text c k); operations = AddOrDelete }
-row c k Individual = record { least = 7 + no-text c; most = some (7 + longest-text c k); operations = AddOrDelete }
-row c k Last = record { least = 3; most = some 13; operations = NoOperation }
+abbrev pub bounds : Coding → TextLimits → Kind → Bounds
+bounds c k Lines = record { least = 4; most = none; operations = AnyOperation }
+bounds c k Key = record { least = 3; most = some 6; operations = NoOperation }
+bounds c k QuickTexts = record { least = 3; most = none; operations = AnyOperation }
+bounds c k Home = record { least = 5; most = some 5; operations = NoOperation }
+bounds c k Channels = record { least = 4; most = none; operations = AnyOperation }
+bounds c k System = record { least = 5; most = some 5; operations = NoOperation }
+bounds c k StatusTexts = record { least = 4; most = none; operations = AnyOperation }
+bounds c k Group = record { least = 7 + no-text c; most = some (7 + longest-text c k); operations = AddOrDelete }
+bounds c k Individual = record { least = 7 + no-text c; most = some (7 + longest-text c k); operations = AddOrDelete }
+bounds c k Last = record { least = 3; most = some 13; operations = NoOperation }
 
 -- a DataLength within the row
 abbrev pub AtMost : Option ℕ → ℕ → Type 0
 AtMost none n = Unit {0}
 AtMost (some most) n = n ≤ most
 
-pub record Within (r : Row) (data-length : ℕ) : Type 0 where
+pub record Within (r : Bounds) (data-length : ℕ) : Type 0 where
   pub least : r .least ≤ data-length
   pub most : AtMost (r .most) data-length

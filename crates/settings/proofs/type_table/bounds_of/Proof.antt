@@ -1,15 +1,12 @@
-use mathlib.Core.Path.{refl}
-use borrow.Author.Needs.{needs}
-use native.Mathlib.Omega.{arith}
-use lib.ListN.{getD}
-use Rattle.settings.proofs.RowLaws.{row-at}
+use Rattle.lists.proofs.Kit.{refl, needs, arith, getD}
+use Rattle.settings.proofs.TypeTableLaws.{row-at}
 use Rattle.writing.specs.declared.Kind.the-variants.{Last}
-use Rattle.settings.specs.Rows.{kinds}
-use Rattle.settings.proofs.rows.row_of.Statement.{statement}
-use Rattle.settings.proofs.rows.row_of.Tie as tie
-use Rattle.settings.proofs.rows.row_of.Reads as reads
-use Rattle.settings.proofs.rows.row_of.Lts as lts
-use Rattle.settings.proofs.rows.place_of.Reads as place-of-reads
+use Rattle.settings.specs.TypeTable.{kinds}
+use Rattle.settings.proofs.type_table.bounds_of.Statement.{statement}
+use Rattle.settings.proofs.type_table.bounds_of.Tie as tie
+use Rattle.settings.proofs.type_table.bounds_of.Reads as reads
+use Rattle.settings.proofs.type_table.bounds_of.Lts as lts
+use Rattle.settings.proofs.type_table.place_of.Reads as place-of-reads
 
 place-of-requires : tie.Need-place-of-requires
 place-of-requires c κs = search needs
@@ -26,5 +23,5 @@ returns c = (getD kinds (c .before .before .place-of .result) Last, c .before .b
 returns-2 : tie.Need-returns-2
 returns-2 c = c .before .place-of .ensures .none (omega arith)
 
-pub row-of-spec : {M : Type 1} → statement M
-row-of-spec = tie.close (tie.spec place-of-requires mul-t16 array-copy-out-t19 returns returns-2)
+pub bounds-of-spec : {M : Type 1} → statement M
+bounds-of-spec = tie.close (tie.spec place-of-requires mul-t16 array-copy-out-t19 returns returns-2)

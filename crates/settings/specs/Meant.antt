@@ -10,8 +10,8 @@ use Rattle.writing.specs.Ranges.{text-limits, HashSize, InRange}
 use Rattle.writing.specs.Settings.{Setting, Contact, Entry, lines, key, quick-texts, home, channels, system, status-texts, group, individual, last, kind}
 use Rattle.writing.specs.Writing.{contact, quick-text, status-text, body}
 use Rattle.read_fields.specs.Entries.{channel-list}
-use Rattle.read_fields.specs.Parts.{TextIs}
-use Rattle.read_fields.specs.Places.{PartAt}
+use Rattle.read_fields.specs.TextsAndNumbers.{TextIs}
+use Rattle.read_fields.specs.Places.{FieldsAt}
 use Rattle.read_fields.specs.declared.texts.TextPlace.{TextPlace}
 use Rattle.settings.specs.declared.settings.Entries.{Entries}
 use Rattle.settings.specs.declared.settings.Setting.{Setting as Read}
@@ -22,7 +22,7 @@ use Rattle.settings.specs.declared.settings.BodyRead.the-variants.{Body,
 -- these entries stand at this place, in the form of a list under the coding that the place says
 pub record EntriesAre {A : Type 0} (form : Coding → List A → List Field) (m : List ℕ) (p : Entries) (es : List A) : Type 0 where
   pub counted : length es ≡ p .count
-  pub stands : PartAt (form (p .coding) es) m (p .start) (p .next)
+  pub stands : FieldsAt (form (p .coding) es) m (p .start) (p .next)
 
 -- a text, and where it ends
 abbrev pub TextOf : List ℕ → TextPlace → List ℕ → Type 0
@@ -39,9 +39,9 @@ Meant m (System x) s = s ≡ system x
 Meant m (StatusTexts o p) s = (es : List Entry) × (s ≡ status-texts o es) × EntriesAre (λ c. each (status-text c)) m p es
 Meant m (Group o f p) s = (us : List ℕ) × (s ≡ group o f (record { index = p .index; address = p .address; text = us })) × TextOf m (p .text) us
 Meant m (Individual o f p) s = (us : List ℕ) × (s ≡ individual o f (record { index = p .index; address = p .address; text = us })) × TextOf m (p .text) us
-Meant m (Last f p) s = (v : List ℕ) × (s ≡ last f (record { code = p .code; value = v })) × PartAt (map (val 8) v) m (p .start) (p .start + length v) × HashSize (p .code) (length v)
+Meant m (Last f p) s = (v : List ℕ) × (s ≡ last f (record { code = p .code; value = v })) × FieldsAt (map (val 8) v) m (p .start) (p .start + length v) × HashSize (p .code) (length v)
 
 -- the fields after DataLength of a setting in range of this kind stand at p under this coding, or none do
 abbrev pub BodyAt : Coding → Kind → ℕ → List ℕ → ℕ → BodyRead → Type 0
-BodyAt c k left m p (Body r next) = (s : Setting) × (kind s ≡ k) × Meant m r s × InRange text-limits left s × PartAt (body c s) m p next
-BodyAt c k left m p NoBody = (s : Setting) (next : ℕ) → kind s ≡ k → InRange text-limits left s → PartAt (body c s) m p next → ⊥
+BodyAt c k left m p (Body r next) = (s : Setting) × (kind s ≡ k) × Meant m r s × InRange text-limits left s × FieldsAt (body c s) m p next
+BodyAt c k left m p NoBody = (s : Setting) (next : ℕ) → kind s ≡ k → InRange text-limits left s → FieldsAt (body c s) m p next → ⊥
