@@ -1,7 +1,6 @@
 #!/bin/sh
 # count.sh [NAME ...]: instructions of one call on each side of `bench`, by callgrind; every call of `bench list` without names.
 here=$(cd "$(dirname "$0")" && pwd)
-[ "$(uname -m)" = x86_64 ] || { echo "the archive is for x86-64: instructions are not counted here"; exit 0; }
 command -v valgrind >/dev/null || { echo "valgrind is not here: instructions are not counted"; exit 0; }
 cargo build --release --quiet --manifest-path "$here/Cargo.toml" || exit 1
 bench=$here/target/release/bench

@@ -12,7 +12,7 @@ work=$(mktemp -d)
 trap 'rm -rf "$work"' EXIT
 
 # What is there: each path, and each name that an .antt or .rt file declares.
-find README.md crates.txt run .ci bench crates docs examples fuzz include rust -name target -prune -o -print > "$work/paths"
+find README.md archive crates.txt run .ci bench crates docs examples fuzz include rust tests -name target -prune -o -print > "$work/paths"
 cat > "$work/declared.awk" <<'AWK'
 FNR == 1 { body = 0 }
 { line = $0; sub(/^ +/, "", line); declares = 0 }

@@ -1,6 +1,6 @@
 /*
  * banks.h: two banks of flash for a store of libotap_handheld.a, so that a power cut while one is written leaves the other. Plain C99, to be copied;
- * docs/FIRMWARE.md says what it is for, and banks_test.c cuts it at every byte.
+ * docs/FIRMWARE.md says what it is for, and tests/banks_test.c cuts it at every byte.
  *
  * A bank is a head of 16 bytes, then the store. The head is eight bytes, then their complements: the layout, a sequence number, the CRC-32 of the store
  * (4 bytes), 0, 0. It is written last. Bits become only 0 in a write and only 1 in an erase, so the halves of a head that was cut are no complements.

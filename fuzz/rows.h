@@ -16,9 +16,9 @@ static Slot slot_of(uint32_t table, uint32_t row)
     int lies = table == OTAP_LINES ? row < 32 : table == OTAP_QUICK_TEXTS ? row < 64
              : table == OTAP_STATUS_TEXTS ? row >= 32 && row < 128 : (table == OTAP_GROUPS || table == OTAP_INDIVIDUALS) && row < 16;
     must(lies, "a row that is shown is one that there can be");
-    slot.first = table == OTAP_LINES ? 7414 + 51 * row : table == OTAP_QUICK_TEXTS ? 22 + 46 * row
+    slot.first = table == OTAP_LINES ? 7414 + 52 * row : table == OTAP_QUICK_TEXTS ? 22 + 46 * row
                : table == OTAP_STATUS_TEXTS ? 2966 + 33 * (row - 32) : (table == OTAP_GROUPS ? 6134 : 6710) + 36 * row;
-    slot.before = table == OTAP_LINES ? 19 : table == OTAP_QUICK_TEXTS ? 0 : table == OTAP_STATUS_TEXTS ? 1 : 4;
+    slot.before = table == OTAP_LINES ? 20 : table == OTAP_QUICK_TEXTS ? 0 : table == OTAP_STATUS_TEXTS ? 1 : 4;
     slot.most = table == OTAP_QUICK_TEXTS ? 46 : 32;
     return slot;
 }
@@ -42,8 +42,8 @@ static void check_text(const uint8_t *store, Slot slot, size_t offset, size_t le
 static size_t line_number(const uint8_t *slot, char *text)
 {
     size_t count = 0;
-    while (count < 18 && slot[1 + count] != 0) {
-        text[count] = (char)('0' + slot[1 + count] - 1);
+    while (count < 18 && slot[2 + count] != 0) {
+        text[count] = (char)('0' + slot[2 + count] - 1);
         count++;
     }
     return count;

@@ -3,12 +3,12 @@
 # fuzz/run.sh [SECONDS]: fuzzes the C functions for as long (60), with libFuzzer, else AFL++, else a driver of our own, and says which.
 # Ends with 1 on a finding, or if a check cannot fail.
 # FUZZ_WITH=libfuzzer, afl or driver asks for one; FUZZ_SEED (1) is the driver's and libFuzzer's seed. Findings are kept in target/fuzz/.
-# It links $OTAP_ARCHIVE_DIR/libotap_handheld.a, or target/staticlib/libotap_handheld.a, which `rt staticlib otap_handheld` writes.
+# It links $OTAP_ARCHIVE_DIR/libotap_handheld.a, or this machine's target/archive/TARGET/libotap_handheld.a, which ./archive writes.
 set -u
 cd "$(dirname "$0")/.." || exit 1
 seconds=${1:-60}
 seed=${FUZZ_SEED:-1}
-archive=${OTAP_ARCHIVE_DIR:-target/staticlib}/libotap_handheld.a
+archive=${OTAP_ARCHIVE_DIR:-target/archive/$(uname -m)-linux}/libotap_handheld.a
 flags="-std=c11 -Wall -Wextra -Iinclude -g -O1"
 sanitizers="-fsanitize=address,undefined -fno-sanitize-recover=all"
 wrapped="-Wl,--wrap=otap_take -Wl,--wrap=otap_export -Wl,--wrap=otap_row_number -Wl,--wrap=otap_row_part"
@@ -16,12 +16,8 @@ CC=${CC:-gcc}
 # There are many short-lived buffers: a large quarantine only slows it down.
 export ASAN_OPTIONS=quarantine_size_mb=1
 
-if [ "$(uname -m)" != x86_64 ]; then
-    echo "skipped fuzzing: the archive links only into x86-64 programs, and this is $(uname -m)"
-    exit 0
-fi
 if [ ! -f "$archive" ]; then
-    echo "FAILED  no $archive: rt staticlib otap_handheld writes it"
+    echo "FAILED  no $archive: ./archive writes it"
     exit 1
 fi
 work=$(mktemp -d) || exit 1

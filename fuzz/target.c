@@ -79,7 +79,7 @@ static void note(uint64_t answer)
     count_slots(2, 6134, 36, 16);
     count_slots(3, 6710, 36, 16);
     count_slots(4, 7286, 2, 64);
-    count_slots(5, 7414, 51, 32);
+    count_slots(5, 7414, 52, 32);
 }
 
 static void take_message(const uint8_t *message, size_t length, unsigned choice)

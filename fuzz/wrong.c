@@ -5,17 +5,17 @@
 #define WRONG 0
 #endif
 
-uint64_t __real_otap_take(const uint8_t *, size_t, uint8_t *, size_t, uint8_t *, size_t);
-uint64_t __real_otap_export(uint32_t, const uint8_t *, size_t, uint8_t *, size_t);
-uint32_t __real_otap_row_number(uint32_t, uint32_t, const uint8_t *, size_t, const uint8_t *, size_t);
-uint64_t __real_otap_row_part(uint32_t, uint32_t, const uint8_t *, size_t, uint8_t *, size_t);
-uint64_t __wrap_otap_take(const uint8_t *, size_t, uint8_t *, size_t, uint8_t *, size_t);
-uint64_t __wrap_otap_export(uint32_t, const uint8_t *, size_t, uint8_t *, size_t);
-uint32_t __wrap_otap_row_number(uint32_t, uint32_t, const uint8_t *, size_t, const uint8_t *, size_t);
-uint64_t __wrap_otap_row_part(uint32_t, uint32_t, const uint8_t *, size_t, uint8_t *, size_t);
+uint64_t __real_otap_take(const uint8_t *, uint64_t, uint8_t *, uint64_t, uint8_t *, uint64_t);
+uint64_t __real_otap_export(uint32_t, const uint8_t *, uint64_t, uint8_t *, uint64_t);
+uint32_t __real_otap_row_number(uint32_t, uint32_t, const uint8_t *, uint64_t, const uint8_t *, uint64_t);
+uint64_t __real_otap_row_part(uint32_t, uint32_t, const uint8_t *, uint64_t, uint8_t *, uint64_t);
+uint64_t __wrap_otap_take(const uint8_t *, uint64_t, uint8_t *, uint64_t, uint8_t *, uint64_t);
+uint64_t __wrap_otap_export(uint32_t, const uint8_t *, uint64_t, uint8_t *, uint64_t);
+uint32_t __wrap_otap_row_number(uint32_t, uint32_t, const uint8_t *, uint64_t, const uint8_t *, uint64_t);
+uint64_t __wrap_otap_row_part(uint32_t, uint32_t, const uint8_t *, uint64_t, uint8_t *, uint64_t);
 
-uint64_t __wrap_otap_take(const uint8_t *message, size_t message_length, uint8_t *store, size_t store_length, uint8_t *reply,
-                          size_t reply_length)
+uint64_t __wrap_otap_take(const uint8_t *message, uint64_t message_length, uint8_t *store, uint64_t store_length, uint8_t *reply,
+                          uint64_t reply_length)
 {
     uint64_t answer = __real_otap_take(message, message_length, store, store_length, reply, reply_length);
     uint32_t number = otap_answer_number(answer);
@@ -34,7 +34,7 @@ uint64_t __wrap_otap_take(const uint8_t *message, size_t message_length, uint8_t
     return WRONG == 5 && number == OTAP_BAD_CARRIER ? answer + 0x10000 : answer; /* sends what there is not */
 }
 
-uint64_t __wrap_otap_export(uint32_t part, const uint8_t *store, size_t store_length, uint8_t *buffer, size_t buffer_length)
+uint64_t __wrap_otap_export(uint32_t part, const uint8_t *store, uint64_t store_length, uint8_t *buffer, uint64_t buffer_length)
 {
     uint64_t answer = __real_otap_export(part, store, store_length, buffer, buffer_length);
     if (WRONG == 6 && part == OTAP_EXPORT_CHANNELS && otap_export_length(answer) > 13) {
@@ -46,8 +46,8 @@ uint64_t __wrap_otap_export(uint32_t part, const uint8_t *store, size_t store_le
     return answer;
 }
 
-uint32_t __wrap_otap_row_number(uint32_t table, uint32_t row, const uint8_t *store, size_t store_length, const uint8_t *scratch,
-                                size_t scratch_length)
+uint32_t __wrap_otap_row_number(uint32_t table, uint32_t row, const uint8_t *store, uint64_t store_length, const uint8_t *scratch,
+                                uint64_t scratch_length)
 {
     uint32_t number = __real_otap_row_number(table, row, store, store_length, scratch, scratch_length);
     if (WRONG == 8 && number == OTAP_NO_STORE && store_length == OTAP_STORE_BYTES) {
@@ -56,7 +56,7 @@ uint32_t __wrap_otap_row_number(uint32_t table, uint32_t row, const uint8_t *sto
     return number;
 }
 
-uint64_t __wrap_otap_row_part(uint32_t table, uint32_t row, const uint8_t *store, size_t store_length, uint8_t *scratch, size_t scratch_length)
+uint64_t __wrap_otap_row_part(uint32_t table, uint32_t row, const uint8_t *store, uint64_t store_length, uint8_t *scratch, uint64_t scratch_length)
 {
     uint64_t part = __real_otap_row_part(table, row, store, store_length, scratch, scratch_length);
     if (WRONG == 9 && table == OTAP_GROUPS && part != 0 && !otap_part_in_scratch(part)) {

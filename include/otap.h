@@ -7,11 +7,13 @@
  *
  * What the caller has to hold, for no C function can look at it:
  *
- *  - Each pointer is good for as many bytes as its length says, and is not null, also with length 0.
+ *  - Each pointer is good for as many bytes as its length says, and is not null, also with length 0. A length has 64 bits on every processor, since
+ *    that is what every archive takes; a size_t widens by itself.
  *  - The buffers of one call do not overlap. This is not checked.
  *  - While one task is in a call, no other task writes its buffers or reads those that the call may change. See "Screens".
  *  - The stack has room: OTAP_TAKE_STACK and its like, below. otap_take works on a copy of the store there.
- *  - memcpy and memset are there to link with; the archive needs nothing else.
+ *  - memcpy and memset are there to link with (on Cortex-M __aeabi_memcpy and __aeabi_memclr, which come with every C library for Arm); the archive
+ *    needs nothing else.
  *
  * Otherwise anything may be lent: any bytes, of any length, as a message, a store or a buffer. What is wrong is refused with a number.
  * docs/FIRMWARE.md says how firmware calls this: tasks and their lock, power-on, saving a store so that a power cut loses nothing, and updates.
@@ -43,18 +45,18 @@ enum {
 };
 
 /* The number of a store's layout, docs/STORE.md: it changes where the layout does. No store holds it; firmware saves it beside the store. */
-enum { OTAP_LAYOUT = 1 };
+enum { OTAP_LAYOUT = 2 };
 
 /*
- * Stack in bytes: a ceiling for each call, which examples/stack.c holds it to, and what that measured (x86-64, gcc 12 and glibc's memcpy). It is tested
- * on a full store with every kind of message; no theorem bounds it.
+ * Stack in bytes: a ceiling for each call on every processor, which tests/stack.c holds it to, and the most that it measured on x86-64, AArch64,
+ * Cortex-M4 and Cortex-M33 (docs/COSTS.md has each). It is tested on a full store with every kind of message; no theorem bounds it.
  */
 enum {
     OTAP_START_STACK = 256,      /* measured 40 */
-    OTAP_TAKE_STACK = 14336,     /* 13,018: 12,288 of them are the working copy of the store */
-    OTAP_EXPORT_STACK = 1024,    /* 458 */
-    OTAP_ROW_STACK = 1024,       /* 378 otap_row_number, 394 otap_row_part */
-    OTAP_CONVERSION_STACK = 4096 /* 2,592 at most, of otap_transmit and otap_receive */
+    OTAP_TAKE_STACK = 14336,     /* 13,504: 12,288 of them are the working copy of the store */
+    OTAP_EXPORT_STACK = 1024,    /* 632 */
+    OTAP_ROW_STACK = 1024,       /* 552 otap_row_number, 632 otap_row_part */
+    OTAP_CONVERSION_STACK = 4096 /* 2,600 at most, of otap_transmit and otap_receive */
 };
 
 /* The numbers. */
@@ -113,7 +115,7 @@ enum {
  *   0   every byte of the store is written
  *   11  store_length is not OTAP_STORE_BYTES; no byte is touched
  */
-uint32_t otap_start(uint8_t *store, size_t store_length);
+uint32_t otap_start(uint8_t *store, uint64_t store_length);
 
 /*
  * Takes one message, a request or a result query, whole or not at all.
@@ -126,9 +128,9 @@ uint32_t otap_start(uint8_t *store, size_t store_length);
  * A reply has 10, 14 or 20 bytes; bytes of the reply buffer past them stay. It is written for 0 to 5 also where send is no.
  * Unpack with otap_answer_number, otap_take_failed, otap_take_send, otap_take_reboot, otap_take_reply_length.
  */
-uint64_t otap_take(const uint8_t *message, size_t message_length,
-                   uint8_t *store, size_t store_length,
-                   uint8_t *reply, size_t reply_length);
+uint64_t otap_take(const uint8_t *message, uint64_t message_length,
+                   uint8_t *store, uint64_t store_length,
+                   uint8_t *reply, uint64_t reply_length);
 
 /*
  * Writes a part of the store as a request at the buffer's start. The seven parts, taken by any other started set, give it the same tables.
@@ -140,8 +142,8 @@ uint64_t otap_take(const uint8_t *message, size_t message_length,
  * Unpack with otap_answer_number, otap_export_length.
  */
 uint64_t otap_export(uint32_t part,
-                     const uint8_t *store, size_t store_length,
-                     uint8_t *buffer, size_t buffer_length);
+                     const uint8_t *store, uint64_t store_length,
+                     uint8_t *buffer, uint64_t buffer_length);
 
 /*
  * Whether a row can be shown. Touches no byte.
@@ -153,8 +155,8 @@ uint64_t otap_export(uint32_t part,
  * no store: that is how power-on knows whether to keep them or to start.
  */
 uint32_t otap_row_number(uint32_t table, uint32_t row,
-                         const uint8_t *store, size_t store_length,
-                         const uint8_t *scratch, size_t scratch_length);
+                         const uint8_t *store, uint64_t store_length,
+                         const uint8_t *scratch, uint64_t scratch_length);
 
 /*
  * The part of the store or of the scratch that shows a row: 16-bit units, high byte first, without an end unit.
@@ -167,8 +169,8 @@ uint32_t otap_row_number(uint32_t table, uint32_t row,
  * Unpack with otap_part_in_scratch, otap_part_offset, otap_part_length, or with otap_part_bytes.
  */
 uint64_t otap_row_part(uint32_t table, uint32_t row,
-                       const uint8_t *store, size_t store_length,
-                       uint8_t *scratch, size_t scratch_length);
+                       const uint8_t *store, uint64_t store_length,
+                       uint8_t *scratch, uint64_t scratch_length);
 
 /*
  * Conversions of GA/T 1056-2013. Frequencies are in units of 100 Hz; a dialled number has eight digits.

@@ -4,9 +4,7 @@
 FIRST=${1:-1} LAST=${2:-200} COUNT=${3:-200}
 here=$(cd "$(dirname "$0")" && pwd)
 bin=$here/target/release
-# On x86-64 the crate links the archive, so that comes first; where another place is named, it is there.
-[ "$(uname -m)" != x86_64 ] || [ -n "$OTAP_ARCHIVE_DIR" ] || (cd "$here/.." && rt staticlib otap_handheld) >&2 || exit 1
-(cd "$here" && cargo build --release --quiet) || exit 1
+(cd "$here" && cargo build --release --quiet --package otap-reference) || exit 1
 "$here/../run" take </dev/null >/dev/null && "$here/../run" put </dev/null >/dev/null || exit 1
 export BUILT=1
 work=$(mktemp -d) || exit 1

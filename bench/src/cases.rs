@@ -3,6 +3,7 @@
 use crate::conversions;
 use crate::messages;
 use crate::sides::{Call, Judging, Plain, Rattle, Side};
+use otap::{Part, Table};
 
 pub struct Case {
     pub name: String,
@@ -21,15 +22,15 @@ const PARTS: [&str; 7] = [
 ];
 
 /// Last rows have a text; the rows before them have none, where a number is written.
-const ROWS: [(&str, u32, u32); 8] = [
-    ("line-text", 1, 31),
-    ("line-number", 1, 30),
-    ("quick-text", 2, 63),
-    ("status-text", 3, 127),
-    ("group-text", 4, 15),
-    ("group-number", 4, 14),
-    ("individual-text", 5, 15),
-    ("individual-number", 5, 14),
+const ROWS: [(&str, Table, u32); 8] = [
+    ("line-text", Table::Lines, 31),
+    ("line-number", Table::Lines, 30),
+    ("quick-text", Table::QuickTexts, 63),
+    ("status-text", Table::StatusTexts, 127),
+    ("group-text", Table::Groups, 15),
+    ("group-number", Table::Groups, 14),
+    ("individual-text", Table::Individuals, 15),
+    ("individual-number", Table::Individuals, 14),
 ];
 
 pub fn all() -> Vec<Case> {
@@ -40,7 +41,7 @@ pub fn all() -> Vec<Case> {
     }
     cases.push(case("take-refused".into(), Call::Take(messages::refused()), 4));
     cases.push(case("take-query".into(), Call::Take(messages::matching_query()), 0));
-    for (part, name) in (1..).zip(PARTS) {
+    for (&part, name) in Part::ALL.iter().zip(PARTS) {
         cases.push(case(format!("export-{name}"), Call::Export(part), 0));
     }
     for (name, table, row) in ROWS {

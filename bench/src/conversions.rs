@@ -1,7 +1,7 @@
 //! The seven conversions on each side, a hundred numbers to a call.
 
-use otap::reference::plan;
 use otap::{GroupAddress, IndividualAddress};
+use otap_reference::reference::plan;
 use std::hint::black_box;
 
 pub struct Conversion {

@@ -2,9 +2,9 @@
 //!
 //! Taken twice, each leaves what it left the first time, so that every repetition starts from the same store.
 
-use otap::reference::message::{query, request, Hash, LONGEST};
-use otap::reference::plan::{GroupAddress, IndividualAddress};
-use otap::reference::settings::{
+use otap_reference::reference::message::{query, request, Hash, LONGEST};
+use otap_reference::reference::plan::{GroupAddress, IndividualAddress};
+use otap_reference::reference::settings::{
     EmergencyKey, GroupSlot, HomeNumbers, IndividualSlot, LastItem, LineEntry, LineFlags,
     Operation, Setting, SystemCode, Text, TextEntry,
 };

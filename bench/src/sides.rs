@@ -1,19 +1,19 @@
 //! The same calls to the archive and to plain Rust.
 
 use crate::conversions;
-use otap::layout;
-use otap::reference::export::export;
-use otap::reference::screen::{row_part, Row};
-use otap::reference::tables::Set;
-use otap::reference::take::take;
 use otap::{Part, Store, Table, EXPORT_ROOM, REPLY_ROOM, SCRATCH_ROOM, STORE_SIZE};
+use otap_reference::layout;
+use otap_reference::reference::export::export;
+use otap_reference::reference::screen::{row_part, Row};
+use otap_reference::reference::tables::Set;
+use otap_reference::reference::take::take;
 use std::hint::black_box;
 
 #[derive(Clone)]
 pub enum Call {
     Take(Vec<u8>),
-    Export(u32),
-    Row(u32, u32),
+    Export(Part),
+    Row(Table, u32),
     /// A hundred conversions, named by their place in `conversions::ALL`.
     Convert(usize),
 }
@@ -84,12 +84,12 @@ impl Side for Rattle {
                 store.take(black_box(message), &mut self.buffer[..REPLY_ROOM]).number()
             }
             Call::Export(part) => {
-                let exported = store.export(Part(black_box(*part)), &mut self.buffer);
+                let exported = store.export(black_box(*part), &mut self.buffer);
                 exported.map_or_else(|refusal| refusal.number(), |_| 0)
             }
             Call::Row(table, row) => {
                 let scratch = &mut self.buffer[..SCRATCH_ROOM];
-                let shown = store.row(Table(black_box(*table)), black_box(*row), scratch);
+                let shown = store.row(black_box(*table), black_box(*row), scratch);
                 black_box(shown).map_or_else(|refusal| refusal.number(), |_| 0)
             }
             Call::Convert(which) => {
@@ -107,7 +107,7 @@ impl Side for Plain {
                 take(black_box(message), &mut self.set, &mut self.buffer[..REPLY_ROOM]).number
             }
             Call::Export(part) => {
-                export(black_box(*part) as u8, true, &self.set, &mut self.buffer).number
+                export(black_box(*part).number() as u8, true, &self.set, &mut self.buffer).number
             }
             Call::Row(table, row) => {
                 let row = named(black_box(*table), black_box(*row) as usize);
@@ -122,12 +122,12 @@ impl Side for Plain {
     }
 }
 
-fn named(table: u32, row: usize) -> Row {
+fn named(table: Table, row: usize) -> Row {
     match table {
-        1 => Row::Line(row),
-        2 => Row::Quick(row),
-        3 => Row::Status(row),
-        4 => Row::Group(row),
+        Table::Lines => Row::Line(row),
+        Table::QuickTexts => Row::Quick(row),
+        Table::StatusTexts => Row::Status(row),
+        Table::Groups => Row::Group(row),
         _ => Row::Individual(row),
     }
 }

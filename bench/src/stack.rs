@@ -3,8 +3,8 @@
 use crate::cases;
 use crate::conversions;
 use crate::sides::{Call, Rattle, Side};
-use otap::inputs::Inputs;
 use otap::{Store, STORE_SIZE};
+use otap_reference::inputs::Inputs;
 use std::arch::asm;
 use std::collections::BTreeMap;
 use std::hint::black_box;
@@ -59,6 +59,7 @@ fn depth<F: FnMut()>(mut work: F) -> usize {
     let mut stack = vec![PAINT; ROOM];
     let top = (stack.as_mut_ptr() as usize + ROOM) & !15;
     // SAFETY: `enter` gets a live closure of its own type and a stack of its own, large enough for every call.
+    #[cfg(target_arch = "x86_64")]
     unsafe {
         asm!(
             "mov r12, rsp", "mov rsp, {top}", "call {enter}", "mov rsp, r12",
@@ -66,6 +67,18 @@ fn depth<F: FnMut()>(mut work: F) -> usize {
             enter = in(reg) enter::<F> as *const (),
             in("rdi") &mut work,
             out("r12") _,
+            clobber_abi("C"),
+        );
+    }
+    // SAFETY: as above.
+    #[cfg(target_arch = "aarch64")]
+    unsafe {
+        asm!(
+            "mov x20, sp", "mov sp, {top}", "blr {enter}", "mov sp, x20",
+            top = in(reg) top,
+            enter = in(reg) enter::<F> as *const (),
+            in("x0") &mut work,
+            out("x20") _,
             clobber_abi("C"),
         );
     }

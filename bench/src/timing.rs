@@ -9,7 +9,7 @@ const BATCHES: usize = 101;
 const BATCH: Duration = Duration::from_micros(300);
 
 pub fn table() {
-    println!("Rattle: the verified archive through the face. Plain: the reference in rust/src/reference, as it is.");
+    println!("Rattle: the verified archive through the face. Plain: the reference in rust/otap-reference, as it is.");
     println!("Judged: the same behind a plain check of the store's 12,288 bytes, which Rattle makes in every call too.");
     println!(
         "All on a full store, warm, {BATCHES} batches of about {} us in turn, median.",

@@ -1,21 +1,19 @@
 -- Every case that document 01 marks P holds. Assumes nothing.
-use mathlib.Core.List.{[], _∷_}
-use mathlib.Core.Path.{refl}
-use native.Mathlib.Omega.{arith}
-use lib.Dec.{lit≤}
+use Rattle.lists.proofs.Kit.{[], _∷_, refl, arith, lit≤}
 use Rattle.lists.specs.Every.{All}
 use Rattle.plan.specs.Frequencies.{Transmits, simplex, paired}
 use Rattle.plan.specs.Numbers.{Individual, IndividualShort, of-700, of-350, GroupShort, of-100}
-use Rattle.writing.specs.declared.Kind.the-variants.{Home}
+use Rattle.writing.specs.declared.Kind.the-variants.{Home, Channels}
 use Rattle.plan.proofs.NumberLaws.{individuals, groups}
 use Rattle.writing.specs.Ranges.{text-limits, InRange}
 use Rattle.writing.specs.Settings.{home}
 use Rattle.tables.specs.Allowed.{Allowed}
 use Rattle.tables.specs.Limits.{handheld}
-use Rattle.tables.specs.Tables.{fresh, with-channels}
+use Rattle.tables.specs.Tables.{fresh}
+use Rattle.tables.specs.Owns.{put-own}
 use Rattle.tables.proofs.AllowedLaws.{channels-allowed}
 use Rattle.tables.proofs.FreshLaws.{fresh-allowed}
-use Rattle.cases.specs.Marked.{Holds, two-channels, one-contact, marked}
+use Rattle.cases.specs.Marked.{CaseHolds, two-channels, one-contact, marked}
 use Rattle.cases.proofs.PlanRows.{member, channel, refusal-only, no-channel-0, no-channel-641, no-fleet-19, no-member-550}
 use Rattle.cases.proofs.TakenRows.{taken-row}
 use Rattle.cases.proofs.WritingRows.{digits, setting, out-of-range}
@@ -33,11 +31,11 @@ contact-in-range : InRange text-limits 0 one-contact
 contact-in-range = (((lit≤ tt, lit≤ tt, (lit≤ tt, (lit≤ tt, (lit≤ tt, (lit≤ tt, tt))))), lit≤ tt), tt)
 
 -- the tables before 10 are a set's
-channel-300 : Allowed handheld (with-channels fresh (300 ∷ []))
+channel-300 : Allowed handheld (put-own Channels fresh (300 ∷ []))
 channel-300 = channels-allowed handheld fresh (fresh-allowed handheld) (300 ∷ []) (lit≤ tt, ((lit≤ tt, lit≤ tt), tt))
 
 -- THE MARKED CASES
-pub marked-hold : All Holds marked
+pub marked-hold : All CaseHolds marked
 marked-hold =
     member IndividualShort individuals 328 20 200 1 tt (of-700 (lit≤ tt) (lit≤ tt) (lit≤ tt) (lit≤ tt) refl)
     then member IndividualShort individuals 328 41 899 15400 tt (of-700 (lit≤ tt) (lit≤ tt) (lit≤ tt) (lit≤ tt) refl)

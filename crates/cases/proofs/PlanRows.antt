@@ -1,9 +1,5 @@
 -- Rows of the number plan and the channels. Assumes nothing.
-use Prim.Native.Nat.{ℕ, _+_, _*_, _-_}
-use mathlib.Core.Path.{_≡_, refl}
-use native.Mathlib.Omega.{arith}
-use mathlib.Core.Bool.{_&&_}
-use lib.Dec.{T, leb, leb→le}
+use Rattle.lists.proofs.Kit.{ℕ, _+_, _*_, _-_, _≡_, refl, arith, _&&_, T, leb, leb→le}
 use Rattle.lists.proofs.Every.{both}
 use Rattle.plan.specs.Answers.{Answer, Answered, has, none, given, refused}
 use Rattle.plan.specs.Frequencies.{Transmits, simplex, paired}

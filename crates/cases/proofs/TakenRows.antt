@@ -1,11 +1,5 @@
 -- Rows of taking: requests of one setting, the reply and the tables that they leave. Assumes nothing.
-use Prim.Native.Nat.{ℕ, _≤_}
-use mathlib.Core.Path.{_≡_, refl, sym, subst}
-use mathlib.Core.List.{List, [], _∷_, _++_}
-use mathlib.Core.Option.{some}
-use native.Mathlib.Omega.{arith}
-use lib.Dec.{T, leb, leb→le}
-use lib.ListN.{length}
+use Rattle.lists.proofs.Kit.{ℕ, _≤_, _≡_, refl, sym, subst, List, [], _∷_, _++_, some, arith, T, leb, leb→le, length}
 use Rattle.lists.proofs.Bytes.{all-bytes}
 use Rattle.lists.proofs.Every.{all?}
 use Rattle.lists.specs.Ladder.{Answers}
@@ -30,7 +24,7 @@ use Rattle.laws_taking.proofs.Determined.{outcome-determined}
 use Rattle.station.proofs.TakeLaws.{request-answers}
 use Rattle.export.specs.Exported.{request-bytes}
 use Rattle.restore.proofs.Requests.{request-is, request-in-size}
-use Rattle.cases.specs.Marked.{Only, Holds, taken-is, took, reply-0}
+use Rattle.cases.specs.Marked.{Only, CaseHolds, taken-is, took, reply-0}
 
 -- a setting that fits, is in range and has room, sent alone to a set with the tables t, makes them u
 module _ (s : Setting) (t u : Tables) (ok : Allowed handheld t) (fit : T (all? fits? (fields unicode16 s))) (range : InRange text-limits 0 s)
@@ -56,7 +50,7 @@ module _ (s : Setting) (t u : Tables) (ok : Allowed handheld t) (fit : T (all? f
           (request-in-size 4096 (s ∷ []) b) (1, canonical unicode16 s ++ [], r, kept (s ∷ []) u, judged, settles)
 
     -- TAKEN: so the request is taken, and nothing else is allowed
-    pub taken-row : (message : List ℕ) → request-bytes (s ∷ []) ≡ message → Holds (taken-is t message reply-0 u)
+    pub taken-row : (message : List ℕ) → request-bytes (s ∷ []) ≡ message → CaseHolds (taken-is t message reply-0 u)
     taken-row message e store buffer holds long =
         subst (λ (x : List ℕ). Only (Answers (taken handheld x store buffer)) (took reply-0 u buffer)) e (record {
           allowed = answers store buffer holds long;

@@ -1,8 +1,5 @@
 -- Rows of the writing: numbers, settings, and bytes at fault. Assumes nothing.
-use Prim.Native.Nat.{ℕ}
-use mathlib.Core.Path.{_≡_, refl, sym, subst}
-use mathlib.Core.List.{List, [], _∷_, _++_}
-use lib.Dec.{T}
+use Rattle.lists.proofs.Kit.{ℕ, _≡_, refl, sym, subst, List, [], _∷_, _++_, T}
 use Rattle.lists.proofs.Every.{all?}
 use Rattle.writing.specs.declared.Kind.{Kind}
 use Rattle.writing.specs.Canonical.{plain, canonical}
@@ -14,7 +11,7 @@ use Rattle.writing.proofs.Unique.{unique}
 use Rattle.writing.proofs.Whole.{number-whole}
 use Rattle.requests.specs.Judge.{unknown, field, room}
 use Rattle.requests.specs.Requests.{WrittenIn, Fault}
-use Rattle.cases.specs.Marked.{Only, NumberIn, Holds, setting-is, refused-setting}
+use Rattle.cases.specs.Marked.{Only, NumberIn, CaseHolds, setting-is, refused-setting}
 
 -- the only bytes of a number
 pub digits : (ds bytes : List ℕ) → T (all? fits? (number ds)) → T (all? valued? (number ds)) → plain (number ds) ≡ bytes → Only (NumberIn ds) bytes
@@ -30,12 +27,12 @@ only s bytes t e =
     record { allowed = own; alone = λ r w. unique unicode16 r s bytes bytes [] [] w own refl .0 }
 
 -- a setting and its bytes
-pub setting : (s : Setting) (bytes : List ℕ) → T (all? fits? (fields unicode16 s)) → canonical unicode16 s ≡ bytes → InRange text-limits 0 s → Holds (setting-is s bytes)
+pub setting : (s : Setting) (bytes : List ℕ) → T (all? fits? (fields unicode16 s)) → canonical unicode16 s ≡ bytes → InRange text-limits 0 s → CaseHolds (setting-is s bytes)
 setting s bytes t e r = (only s bytes t e, e, r)
 
 -- bytes of a setting that is out of range: 4, and nothing else, wherever they stand
 pub out-of-range : (k : Kind) (s : Setting) (more : List ℕ) → T (all? fits? (fields unicode16 s)) → canonical unicode16 s ≡ type-byte k ∷ more
-    → ((left : ℕ) → InRange text-limits left s → ⊥) → Holds (refused-setting (type-byte k ∷ more) 4)
+    → ((left : ℕ) → InRange text-limits left s → ⊥) → CaseHolds (refused-setting (type-byte k ∷ more) 4)
 out-of-range k s more t e out m left u rest = record { allowed = field (k, refl) never; alone = alone }
   where
     -- no setting in range is written there

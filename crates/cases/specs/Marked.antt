@@ -19,10 +19,12 @@ use Rattle.writing.specs.Writing.{number, Written}
 use Rattle.tables.specs.declared.limits.Limits.{Limits}
 use Rattle.tables.specs.Layout.{layout}
 use Rattle.tables.specs.Limits.{handheld}
-use Rattle.tables.specs.Tables.{Line, Tables, fresh, with-channels, with-lines}
+use Rattle.tables.specs.Tables.{Line, Tables, fresh}
+use Rattle.writing.specs.declared.Kind.the-variants.{Lines, Channels}
+use Rattle.tables.specs.Owns.{put-own}
 use Rattle.requests.specs.Requests.{Fault}
 use Rattle.slots.specs.Slots.{written-over}
-use Rattle.station.specs.Taking.{After, taken}
+use Rattle.station.specs.Taking.{AfterTaking, taken}
 
 pub data Case : Type 0 where
   individual : (dialled : ℕ) → Answer → Case  -- the only answer: 0 and an address, or a refusal's number
@@ -43,7 +45,7 @@ abbrev pub NumberIn : List ℕ → List ℕ → Type 0
 NumberIn digits bytes = All (_< 256) bytes × Shows (number digits) (bitsOf bytes)
 
 -- what taking a request without FF leaves: number 0, failed ID 0, nothing to send, no restart; the bytes of these tables, and this reply over the buffer
-abbrev pub took : (reply : List ℕ) → Tables → (buffer : List ℕ) → After
+abbrev pub took : (reply : List ℕ) → Tables → (buffer : List ℕ) → AfterTaking
 took reply after buffer = record {
   answer = record { number = 0; failed = 0; send = false; reboot = false; reply-length = length reply };
   store = layout handheld after;
@@ -51,14 +53,14 @@ took reply after buffer = record {
 }
 
 -- what a case claims
-abbrev pub Holds : Case → Type 0
-Holds (individual dialled a) = Only (Answered Individual 20 dialled) a
-Holds (group dialled a) = Only (Answered Group 20 dialled) a
-Holds (transmit channel a) = Only (Answered Transmits 22 channel) a
-Holds (digits-are digits bytes) = Only (NumberIn digits) bytes
-Holds (setting-is s bytes) = Only (λ t. Written unicode16 t bytes) s × (canonical unicode16 s ≡ bytes) × InRange text-limits 0 s
-Holds (refused-setting bytes number) = (m : Limits) (left : ℕ) (t : Tables) (rest : List ℕ) → Only (Fault m left t (bytes ++ rest)) number
-Holds (taken-is before message reply after) =
+abbrev pub CaseHolds : Case → Type 0
+CaseHolds (individual dialled a) = Only (Answered Individual 20 dialled) a
+CaseHolds (group dialled a) = Only (Answered Group 20 dialled) a
+CaseHolds (transmit channel a) = Only (Answered Transmits 22 channel) a
+CaseHolds (digits-are digits bytes) = Only (NumberIn digits) bytes
+CaseHolds (setting-is s bytes) = Only (λ t. Written unicode16 t bytes) s × (canonical unicode16 s ≡ bytes) × InRange text-limits 0 s
+CaseHolds (refused-setting bytes number) = (lim : Limits) (left : ℕ) (t : Tables) (rest : List ℕ) → Only (Fault lim left t (bytes ++ rest)) number
+CaseHolds (taken-is before message reply after) =
     (store buffer : List ℕ) → store ≡ layout handheld before → 20 ≤ length buffer → Only (Answers (taken handheld message store buffer)) (took reply after buffer)
 
 -- the flags of 11: PABX, and nothing else
@@ -103,10 +105,10 @@ marked =
     ∷ refused-setting (0xCD ∷ 0x00 ∷ 0x05 ∷ 0x07 ∷ 0xE4 ∷ 0xE0 ∷ []) 4
     ∷ setting-is two-channels (0xCE ∷ 0x00 ∷ 0x07 ∷ 0xC0 ∷ 0x02 ∷ 0x0F ∷ 0x12 ∷ 0x80 ∷ [])  -- the setting of 10
     ∷ setting-is one-contact (0xCA ∷ 0x00 ∷ 0x09 ∷ 0x42 ∷ 0x01 ∷ 0x23 ∷ 0x45 ∷ 0xFF ∷ 0x00 ∷ 0x00 ∷ [])  -- the setting of 11
-    ∷ taken-is (with-channels fresh (300 ∷ []))
+    ∷ taken-is (put-own Channels fresh (300 ∷ []))
     (0x02 ∷ 0x02 ∷ 0x00 ∷ 0x0C ∷ 0x08 ∷ 0x07 ∷ 0x08 ∷ 0x01 ∷ 0xCE ∷ 0x00 ∷ 0x07 ∷ 0xC0 ∷ 0x02 ∷ 0x0F ∷ 0x12 ∷ 0x80 ∷ []) reply-0
-    (with-channels fresh (241 ∷ 640 ∷ []))  -- 10
+    (put-own Channels fresh (241 ∷ 640 ∷ []))  -- 10
     ∷ taken-is fresh
     (0x02 ∷ 0x02 ∷ 0x00 ∷ 0x0E ∷ 0x08 ∷ 0x07 ∷ 0x08 ∷ 0x01 ∷ 0xCA ∷ 0x00 ∷ 0x09 ∷ 0x42 ∷ 0x01 ∷ 0x23 ∷ 0x45 ∷ 0xFF ∷ 0x00 ∷ 0x00 ∷ []) reply-0
-    (with-lines fresh (line-2345 ∷ []))  -- 11
+    (put-own Lines fresh (line-2345 ∷ []))  -- 11
     ∷ []

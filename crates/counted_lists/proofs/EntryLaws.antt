@@ -1,12 +1,5 @@
 -- From slots to entries: a list of entries whose bytes are w long is changed as its slots are. Entries may be all zeros. Assumes nothing.
-use mathlib.Core.Path.{_≡_, refl, sym, ap, _∙_, subst}
-use mathlib.Core.Bool.{Bool, true, false, cond}
-use mathlib.Core.List.{List, [], _∷_, _++_, map, map-append}
-use mathlib.Core.Option.{Option, none, some}
-use Prim.Native.Nat.{ℕ, zero, suc, _+_, _*_, _-_, _≤_, _<_}
-use native.Mathlib.Omega.{arith}
-use lib.Dec.{ltb}
-use lib.ListN.{length, take, drop, replicate, length-map}
+use Rattle.lists.proofs.Kit.{_≡_, refl, sym, ap, _∙_, subst, Bool, true, false, cond, List, [], _∷_, _++_, map, map-append, Option, none, some, ℕ, zero, suc, _+_, _*_, _-_, _≤_, _<_, arith, ltb, length, take, drop, replicate, length-map}
 use Rattle.lists.specs.Every.{All}
 use Rattle.lists.proofs.Every.{all-append, all-made, all-turn}
 use Rattle.lists.proofs.Seqs.{cut}

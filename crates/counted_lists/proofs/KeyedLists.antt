@@ -1,14 +1,5 @@
 -- Lists by a key, whatever the entries: what putting, adding and taking out mean, when there is no room, and that no key is there twice. Assumes nothing.
-use mathlib.Core.Path.{_≡_, refl, sym, ap, _∙_}
-use mathlib.Core.Logic.{_↔_, _≢_}
-use mathlib.Core.Bool.{Bool, true, false, cond, true≢false}
-use mathlib.Core.List.{List, [], _∷_, _++_}
-use mathlib.Core.Option.{none, some, Option·some-ne-none}
-use Prim.Native.Nat.{ℕ, suc, _≤_, _<_}
-use native.Mathlib.Omega.{arith}
-use borrow.Author.Tests.{lt-ltb, le-ltb, ltb-false}
-use lib.Dec.{ltb}
-use lib.ListN.{length, length-append}
+use Rattle.lists.proofs.Kit.{_≡_, refl, sym, ap, _∙_, _↔_, _≢_, Bool, true, false, cond, true≢false, List, [], _∷_, _++_, none, some, Option·some-ne-none, ℕ, suc, _≤_, _<_, arith, lt-ltb, le-ltb, ltb-false, ltb, length, length-append}
 use Rattle.lists.proofs.Bools.{is-false}
 use Rattle.lists.specs.Every.{All}
 use Rattle.lists.proofs.Every.{all-turn, all-right}

@@ -1,8 +1,5 @@
 -- Exporting answers one thing. Assumes nothing.
-use Prim.Native.Nat.{ℕ, _-_}
-use mathlib.Core.Path.{_≡_, refl, sym, ap, ap₂, _∙_}
-use mathlib.Core.List.{List, [], _∷_}
-use lib.ListN.{getD}
+use Rattle.lists.proofs.Kit.{ℕ, _-_, _≡_, refl, sym, ap, ap₂, _∙_, List, [], _∷_, some, getD}
 use Rattle.lists.specs.Ladder.{Answers}
 use Rattle.lists.proofs.Ladder.{one-answer}
 use Rattle.lists.proofs.OneToOne.{decoded}
@@ -10,28 +7,17 @@ use Rattle.tables.specs.declared.limits.Limits.{Limits}
 use Rattle.tables.specs.Tables.{Tables}
 use Rattle.tables.proofs.LayoutLaws.{layout-one}
 use Rattle.export.specs.declared.parts.Part.{Part}
-use Rattle.export.specs.declared.parts.Part.the-variants.{Lines, Fixed, QuickTexts, Channels, StatusTexts, Groups, Individuals}
 use Rattle.export.specs.declared.parts.NoExport.the-variants.{Buffer, NotAStore, NoPart}
 use Rattle.export.specs.declared.parts.Export.{Export}
 use Rattle.export.specs.declared.parts.Export.the-variants.{Written, Untouched}
 use Rattle.export.specs.Exported.{part-number, exported, request-bytes}
-use Rattle.export.specs.Exporting.{Told, told, After, exporting, writes, Exports}
+use Rattle.export.specs.PartWriters.{part-at}
+use Rattle.export.specs.Exporting.{Told, told, AfterExport, exporting, writes, Exports}
+use Rattle.export.proofs.PartWriting.{at-number}
 
 -- the number of a part says which it is
-abbrev part-at : ℕ → Part
-part-at n = getD (Lines ∷ Lines ∷ Fixed ∷ QuickTexts ∷ Channels ∷ StatusTexts ∷ Groups ∷ Individuals ∷ []) n Lines
-
-at-number : (p : Part) → part-at (part-number p) ≡ p
-at-number Lines = refl
-at-number Fixed = refl
-at-number QuickTexts = refl
-at-number Channels = refl
-at-number StatusTexts = refl
-at-number Groups = refl
-at-number Individuals = refl
-
 pub one-part : (p q : Part) → part-number p ≡ part-number q → p ≡ q
-one-part = decoded part-number part-at at-number
+one-part p q e = let d : some p ≡ some q = sym (at-number p) ∙ ap part-at e ∙ at-number q in cc
 
 -- the number of an answer says which case it is: 0, or a refusal's, counted here from 11
 abbrev answer-of : Told → Export
@@ -47,18 +33,18 @@ answer-back (Untouched NotAStore) = refl
 answer-back (Untouched NoPart) = refl
 
 -- one number with its length, and one buffer
-pub outcome-determined : (m : Limits) (part : ℕ) (store buffer : List ℕ) (a b : After) → Answers (exporting m part store buffer) a → Answers (exporting m part store buffer) b → a ≡ b
-outcome-determined m part store buffer = one-answer (exporting m part store buffer) one
+pub outcome-determined : (lim : Limits) (part : ℕ) (store buffer : List ℕ) (a b : AfterExport) → Answers (exporting lim part store buffer) a → Answers (exporting lim part store buffer) b → a ≡ b
+outcome-determined lim part store buffer = one-answer (exporting lim part store buffer) one
   where
-    one : (a b : After) → Exports m part store buffer a → Exports m part store buffer b → a ≡ b
+    one : (a b : AfterExport) → Exports lim part store buffer a → Exports lim part store buffer b → a ≡ b
     one a b x y =
-        let t : x .tables ≡ y .tables = layout-one m (x .tables) (y .tables) (x .holds .0) (y .holds .0) (sym (x .holds .1) ∙ y .holds .1) in
+        let t : x .tables ≡ y .tables = layout-one lim (x .tables) (y .tables) (x .holds .0) (y .holds .0) (sym (x .holds .1) ∙ y .holds .1) in
         let p : x .which ≡ y .which = one-part (x .which) (y .which) (x .numbered ∙ sym (y .numbered)) in
-        x .after ∙ ap₂ (λ (q : Part) (u : Tables). writes m part store buffer (request-bytes (exported q u))) p t ∙ sym (y .after)
+        x .after ∙ ap₂ (λ (q : Part) (u : Tables). writes lim part store buffer (request-bytes (exported q u))) p t ∙ sym (y .after)
 
 -- DETERMINED: the contract of exporting allows one answer of the code, and one buffer
-pub export-determined : (m : Limits) (part : ℕ) (store buffer : List ℕ) (a b : Export) (s t : List ℕ)
-    → Answers (exporting m part store buffer) (record { answer = told a; buffer = s }) → Answers (exporting m part store buffer) (record { answer = told b; buffer = t }) → (a ≡ b) × (s ≡ t)
-export-determined m part store buffer a b s t x y =
-    let e = outcome-determined m part store buffer _ _ x y in
-    (decoded told answer-of answer-back a b (ap (λ (z : After). z .answer) e), ap (λ (z : After). z .buffer) e)
+pub export-determined : (lim : Limits) (part : ℕ) (store buffer : List ℕ) (a b : Export) (s t : List ℕ)
+    → Answers (exporting lim part store buffer) (record { answer = told a; buffer = s }) → Answers (exporting lim part store buffer) (record { answer = told b; buffer = t }) → (a ≡ b) × (s ≡ t)
+export-determined lim part store buffer a b s t x y =
+    let e = outcome-determined lim part store buffer _ _ x y in
+    (decoded told answer-of answer-back a b (ap (λ (z : AfterExport). z .answer) e), ap (λ (z : AfterExport). z .buffer) e)

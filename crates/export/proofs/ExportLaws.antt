@@ -1,45 +1,46 @@
 -- What exporting answers, refusal by refusal, and for a request that was written. Assumes nothing.
-use Prim.Native.Nat.{ℕ, _≤_, _<_}
-use mathlib.Core.Path.{_≡_, refl, sym, ap, _∙_}
-use mathlib.Core.Logic.{inl, inr}
-use mathlib.Core.List.{List, _++_}
-use native.Mathlib.Nat.{zero-add}
-use native.Mathlib.Omega.{arith}
-use lib.ListN.{length, drop}
+use Rattle.lists.proofs.Kit.{ℕ, _≤_, _<_, _≡_, refl, sym, ap, _∙_, inl, inr, List, _++_, none, some, zero-add, arith, length, drop, length-append}
 use Rattle.lists.specs.Ladder.{Answers}
-use Rattle.writing.specs.Settings.{Setting}
+use Rattle.writing.specs.Canonical.{canonical-all}
+use Rattle.writing.specs.Settings.{Setting, unicode16}
 use Rattle.tables.specs.declared.limits.Limits.{Limits}
 use Rattle.tables.specs.Store.{StoreOf, Holds}
 use Rattle.tables.specs.Tables.{Tables}
+use Rattle.export.specs.declared.parts.Export.the-variants.{Written}
 use Rattle.export.specs.declared.parts.Part.{Part}
 use Rattle.export_write.specs.declared.writers.Settings.{Settings}
 use Rattle.export.specs.Exported.{part-number, exported, request-bytes}
-use Rattle.export.specs.Exporting.{exporting, stays, writes}
-use Rattle.export.specs.PartWriters.{PartWritten, Headed}
+use Rattle.export.specs.Exporting.{AfterExport, told, exporting, stays, writes}
+use Rattle.export.specs.PartWriters.{part-at, PartWritten, Headed}
 use Rattle.export_write.specs.Writers.{Wrote}
+use Rattle.export_write.proofs.WroteLaws.{wrote-length}
+use Rattle.export.proofs.PartWriting.{numbered, not-numbered}
 
-module _ (m : Limits) (part : ℕ) (store buffer : List ℕ) where
+module _ (lim : Limits) (part : ℕ) (store buffer : List ℕ) where
   -- "15"
-  pub says-15 : length buffer < m .message → Answers (exporting m part store buffer) (stays m part store buffer 15)
+  pub says-15 : length buffer < lim .message → Answers (exporting lim part store buffer) (stays lim part store buffer 15)
   says-15 h = inl (h, refl)
 
   -- "11"
-  pub says-11 : m .message ≤ length buffer → (StoreOf m store → ⊥) → Answers (exporting m part store buffer) (stays m part store buffer 11)
+  pub says-11 : lim .message ≤ length buffer → (StoreOf lim store → ⊥) → Answers (exporting lim part store buffer) (stays lim part store buffer 11)
   says-11 h n = inr (λ l. omega arith, inl (n, refl))
 
   -- "16"
-  pub says-16 : m .message ≤ length buffer → StoreOf m store → ((p : Part) → part-number p ≡ part → ⊥) → Answers (exporting m part store buffer) (stays m part store buffer 16)
-  says-16 h s n = inr (λ l. omega arith, inr (λ k. k s, inl (n, refl)))
+  pub says-16 : lim .message ≤ length buffer → StoreOf lim store → part-at part ≡ none → Answers (exporting lim part store buffer) (stays lim part store buffer 16)
+  says-16 h s n = inr (λ l. omega arith, inr (λ k. k s, inl (not-numbered part n, refl)))
 
   -- the request was written
-  pub says-0 : (which : Part) (mid after : List ℕ) (r : Settings) (end : ℕ) → m .message ≤ length buffer → StoreOf m store → part-number which ≡ part → PartWritten m which store buffer mid r
-      → Headed (r .count) (r .end) mid after end
-      → Answers (exporting m part store buffer) (record { answer = record { number = 0; request-length = end }; buffer = after })
-  says-0 which mid after r end h s n w k =
+  pub says-0 : (which : Part) (mid after : List ℕ) (r : Settings) (end : ℕ) → lim .message ≤ length buffer → StoreOf lim store → part-at part ≡ some which
+      → PartWritten lim which store buffer mid r → ((8 ≤ r .end) × (r .end ≤ length mid) × (r .end < 65540) → Headed (r .count) (r .end) mid after end)
+      → Answers (exporting lim part store buffer) (record { answer = record { number = 0; request-length = end }; buffer = after })
+  says-0 which mid after r end h s found w headed =
       let t : Tables = s .store .tables in
-      let held : Holds m t store = (s .store .allowed, s .store .bytes-are) in
+      let held : Holds lim t store = (s .store .allowed, s .store .bytes-are) in
       let ss : List Setting = exported which t in
-      let z : Wrote (request-bytes ss) 0 buffer after end = k .request ss buffer (sym (w .writes .counted t held)) (w .writes .writes .wrote t held) in
+      let n : part-number which ≡ part = numbered part which found in
+      let v : Wrote (canonical-all unicode16 ss) 8 buffer mid (r .end) = w .writes .writes .wrote t held in
+      let k = headed (w .writes .writes .from, omega (arith, v .fits, v .next, wrote-length (canonical-all unicode16 ss) 8 (r .end) buffer mid v), w .small) in
+      let z : Wrote (request-bytes ss) 0 buffer after end = k .request ss buffer (sym (w .writes .counted t held)) v in
       let b : List ℕ = request-bytes ss in
       let e : end ≡ length b = z .next ∙ zero-add (length b) in
       let c : after ≡ b ++ drop (length b) buffer = z .content ∙ ap (λ (i : ℕ). b ++ drop i buffer) (zero-add (length b)) in
@@ -53,3 +54,14 @@ module _ (m : Limits) (part : ℕ) (store buffer : List ℕ) where
           ),
         ),
       )
+
+  -- a request that was written is within the buffer
+  pub written-within : (after : List ℕ) (n : ℕ) → Answers (exporting lim part store buffer) (record { answer = told (Written n); buffer = after }) → n ≤ length after
+  written-within after n (inl (_, e)) = absurd (omega (arith, ap (λ (a : AfterExport). a .answer .number) e))
+  written-within after n (inr (_, inl (_, e))) = absurd (omega (arith, ap (λ (a : AfterExport). a .answer .number) e))
+  written-within after n (inr (_, inr (_, inl (_, e)))) = absurd (omega (arith, ap (λ (a : AfterExport). a .answer .number) e))
+  written-within after n (inr (_, inr (_, inr (_, x)))) =
+      let bytes : List ℕ = request-bytes (exported (x .which) (x .tables)) in
+      let e : n ≡ length bytes = ap (λ (a : AfterExport). a .answer .request-length) (x .after) in
+      let d : length after ≡ length (bytes ++ drop (length bytes) buffer) = ap (λ (a : AfterExport). length (a .buffer)) (x .after) in
+      omega (arith, e, d, length-append bytes (drop (length bytes) buffer))

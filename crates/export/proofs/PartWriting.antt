@@ -1,122 +1,152 @@
 -- A part of the store was written as the settings that export it. Assumes nothing.
-use Prim.Native.Nat.{ℕ, _+_, _-_, _*_, _≤_}
-use mathlib.Core.Path.{_≡_, refl, sym, ap, _∙_, subst, subst⁻¹}
-use mathlib.Core.List.{List, _++_}
-use native.Mathlib.Omega.{arith}
-use borrow.Rule.Slice.PartMut.{midOf}
-use lib.ListN.{length, take, drop}
-use lib.Seq.{take-add, drop-drop}
+use Rattle.lists.proofs.Kit.{ℕ, zero, suc, _+_, _-_, _*_, _≤_, _<_, _≡_, refl, sym, ap, _∙_, subst, subst⁻¹, List, [], _∷_, _++_, map, none, some, arith, midOf, mid-len, eqb, eqb→eq, length, getD, take, drop, List·getD-eq-default, take-add, drop-drop}
+use Rattle.lists.proofs.Seqs.{getD-map}
 use Rattle.slots.specs.Slots.{u16, Listed}
 use Rattle.writing.specs.Canonical.{canonical-all}
 use Rattle.writing.specs.Ranges.{InChannel}
 use Rattle.writing.specs.Settings.{Setting, unicode16}
 use Rattle.tables.specs.declared.limits.Limits.{Limits}
 use Rattle.tables.specs.Allowed.{LineOk}
-use Rattle.tables.specs.Layout.{layout, line-bytes}
+use Rattle.tables.specs.Layout.{layout, line-bytes, groups-at, individuals-at, line-width, lines-at, lists-at, member-size, quick-at, quick-size, status-at, status-size}
 use Rattle.tables.specs.Store.{Holds}
 use Rattle.tables.specs.Tables.{Tables}
 use Rattle.tables.proofs.Frames.{key-get, home-get, system-get, quick-placed, status-placed, groups-placed, individuals-placed, channels-listed, lines-listed}
-use Rattle.export_write.specs.declared.members.Members.the-variants.{OfGroups, OfIndividuals}
+use Rattle.tables.specs.declared.members.Members.the-variants.{OfGroups, OfIndividuals}
 use Rattle.export_write.specs.declared.writers.Settings.{Settings}
-use Rattle.export_write.specs.ChannelWriters.{ChannelsIn, channel-settings}
-use Rattle.export_write.specs.EntryWriters.{QuicksIn, quick-settings, StatusesIn, status-settings}
-use Rattle.export_write.specs.FixedWriters.{FixedIn, fixed-settings}
-use Rattle.export_write.specs.LineWriters.{LinesIn, line-settings}
-use Rattle.export_write.specs.MemberWriters.{MembersIn, member-settings}
-use Rattle.export_write.specs.Writers.{Wrote, WritesAll}
+use Rattle.export_write.specs.ChannelWriters.{ChannelsIn}
+use Rattle.export_write.specs.EntryWriters.{QuicksIn, StatusesIn}
+use Rattle.export_write.specs.FixedWriters.{FixedIn}
+use Rattle.export_write.specs.LineWriters.{LinesIn}
+use Rattle.export_write.specs.MemberWriters.{MembersIn}
+use Rattle.export_write.specs.Writers.{Wrote, WritesTable}
 use Rattle.export.specs.declared.parts.Part.{Part}
 use Rattle.export.specs.declared.parts.Part.the-variants.{Lines, Fixed, QuickTexts, Channels, StatusTexts, Groups, Individuals}
 use Rattle.export.specs.Exportable.{Exportable}
-use Rattle.export.specs.Exported.{part-number, exported}
-use Rattle.export.specs.PartWriters.{PartWritten}
+use Rattle.export.specs.Exported.{seven, part-number, exported}
+use Rattle.export.specs.PartWriters.{part-at, part-from, part-to, WritesPart, PartWritten}
 
 -- ---- parts by their number
 
-pub no-part : (n : ℕ) → (n ≡ 1 → ⊥) → (n ≡ 2 → ⊥) → (n ≡ 3 → ⊥) → (n ≡ 4 → ⊥) → (n ≡ 5 → ⊥) → (n ≡ 6 → ⊥) → (n ≡ 7 → ⊥) → (p : Part) → part-number p ≡ n → ⊥
-no-part n a b c d e f g Lines h = a (sym h)
-no-part n a b c d e f g Fixed h = b (sym h)
-no-part n a b c d e f g QuickTexts h = c (sym h)
-no-part n a b c d e f g Channels h = d (sym h)
-no-part n a b c d e f g StatusTexts h = e (sym h)
-no-part n a b c d e f g Groups h = f (sym h)
-no-part n a b c d e f g Individuals h = g (sym h)
+-- the part at each place has the number after it
+pub seven-at : (k : ℕ) → k < length seven → part-number (getD seven k Lines) ≡ k + 1
+seven-at zero h = refl
+seven-at (suc zero) h = refl
+seven-at (suc (suc zero)) h = refl
+seven-at (suc (suc (suc zero))) h = refl
+seven-at (suc (suc (suc (suc zero)))) h = refl
+seven-at (suc (suc (suc (suc (suc zero))))) h = refl
+seven-at (suc (suc (suc (suc (suc (suc zero)))))) h = refl
+seven-at (suc (suc (suc (suc (suc (suc (suc k))))))) h = let l : length seven ≡ 7 = refl in absurd (omega arith)
+
+-- a part is found by its number
+pub at-number : (p : Part) → part-at (part-number p) ≡ some p
+at-number Lines = refl
+at-number Fixed = refl
+at-number QuickTexts = refl
+at-number Channels = refl
+at-number StatusTexts = refl
+at-number Groups = refl
+at-number Individuals = refl
+
+-- an entry that is found in a list
+found : {A : Type 0} (xs : List A) (k : ℕ) (x d : A) → getD (map some xs) k none ≡ some x → (k < length xs) × (getD xs k d ≡ x)
+found [] k x d e = let z : _≡_ {A = ℕ} 0 1 = cc in absurd (omega arith)
+found (y ∷ xs) zero x d e = (omega arith, cc)
+found (y ∷ xs) (suc k) x d e = let (h, q) = found xs k x d e in (omega arith, q)
+
+-- what is found has the number
+pub numbered : (n : ℕ) (p : Part) → part-at n ≡ some p → part-number p ≡ n
+numbered zero p e = let z : _≡_ {A = ℕ} 0 1 = cc in absurd (omega arith)
+numbered (suc k) p e = let (h, q) = found seven k p Lines e in ap part-number (sym q) ∙ seven-at k h ∙ omega arith
+
+-- where nothing is found, no part has the number
+pub not-numbered : (n : ℕ) → part-at n ≡ none → (p : Part) → part-number p ≡ n → ⊥
+not-numbered n e p h = let q : part-at n ≡ some p = ap part-at (sym h) ∙ at-number p in let z : _≡_ {A = ℕ} 0 1 = cc in omega arith
+
+-- the numbers of no part, and those of the parts
+pub past-parts : (n : ℕ) → length seven < n → part-at n ≡ none
+past-parts n h = List·getD-eq-default (none ∷ map some seven) none {n = n} (omega arith)
+
+pub part-within : (n k : ℕ) → n ≡ suc k → k < length seven → part-at n ≡ some (getD seven k Lines)
+part-within n k e h = ap part-at e ∙ getD-map some seven k Lines none h
 
 -- ---- what stands in a part of the store
 
-module _ (m : Limits) (t : Tables) (s : List ℕ) (h : Holds m t s) where
+module _ (lim : Limits) (t : Tables) (s : List ℕ) (h : Holds lim t s) where
   -- a part of the store is that part of the layout
-  at-part : (P : List ℕ → Type 0) (a n k : ℕ) → k ≡ n → P (midOf a n (layout m t)) → P (midOf a k s)
+  at-part : (P : List ℕ → Type 0) (a n k : ℕ) → k ≡ n → P (midOf a n (layout lim t)) → P (midOf a k s)
   at-part P a n k e p = subst⁻¹ (λ (i : ℕ). P (midOf a i s)) e (subst⁻¹ (λ (x : List ℕ). P (midOf a n x)) (h .1) p)
 
-  pub lines-in : (k : ℕ) → k ≡ m .lines * 51 → LinesIn (midOf (7286 + m .channels * 2) k s) (t .lines)
-  lines-in k e = (m .lines, at-part (λ x. Listed LineOk 51 line-bytes (m .lines) (t .lines) x) (7286 + m .channels * 2) (m .lines * 51) k e (lines-listed m t (h .0)))
+  pub lines-in : (k : ℕ) → k ≡ lim .lines * line-width → LinesIn (midOf (lists-at + lim .channels * 2) k s) (t .lines)
+  lines-in k e = (lim .lines, at-part (λ x. Listed LineOk line-width line-bytes (lim .lines) (t .lines) x) (lists-at + lim .channels * 2) (lim .lines * line-width) k e (lines-listed lim t (h .0)))
 
-  pub channels-in : (k : ℕ) → k ≡ m .channels * 2 → ChannelsIn (midOf 7286 k s) (t .channels)
-  channels-in k e = (m .channels, at-part (λ x. Listed InChannel 2 u16 (m .channels) (t .channels) x) 7286 (m .channels * 2) k e (channels-listed m t (h .0)))
+  pub channels-in : (k : ℕ) → k ≡ lim .channels * 2 → ChannelsIn (midOf lists-at k s) (t .channels)
+  channels-in k e = (lim .channels, at-part (λ x. Listed InChannel 2 u16 (lim .channels) (t .channels) x) lists-at (lim .channels * 2) k e (channels-listed lim t (h .0)))
 
-  pub quick-in : QuicksIn (midOf 22 2944 s) (t .quick)
-  quick-in = at-part (λ x. QuicksIn x (t .quick)) 22 2944 2944 refl (quick-placed m t (h .0))
+  pub quick-in : QuicksIn (midOf quick-at quick-size s) (t .quick)
+  quick-in = at-part (λ x. QuicksIn x (t .quick)) 22 quick-size quick-size refl (quick-placed lim t (h .0))
 
-  pub status-in : StatusesIn (midOf 2966 3168 s) (t .status)
-  status-in = at-part (λ x. StatusesIn x (t .status)) 2966 3168 3168 refl (status-placed m t (h .0))
+  pub status-in : StatusesIn (midOf status-at status-size s) (t .status)
+  status-in = at-part (λ x. StatusesIn x (t .status)) status-at status-size status-size refl (status-placed lim t (h .0))
 
-  pub groups-in : MembersIn OfGroups (midOf 6134 576 s) (t .groups)
-  groups-in = at-part (λ x. MembersIn OfGroups x (t .groups)) 6134 576 576 refl (groups-placed m t (h .0))
+  pub groups-in : MembersIn OfGroups (midOf groups-at member-size s) (t .groups)
+  groups-in = at-part (λ x. MembersIn OfGroups x (t .groups)) groups-at member-size member-size refl (groups-placed lim t (h .0))
 
-  pub individuals-in : MembersIn OfIndividuals (midOf 6710 576 s) (t .individuals)
-  individuals-in = at-part (λ x. MembersIn OfIndividuals x (t .individuals)) 6710 576 576 refl (individuals-placed m t (h .0))
+  pub individuals-in : MembersIn OfIndividuals (midOf individuals-at member-size s) (t .individuals)
+  individuals-in = at-part (λ x. MembersIn OfIndividuals x (t .individuals)) individuals-at member-size member-size refl (individuals-placed lim t (h .0))
 
   pub fixed-in : FixedIn (midOf 11 11 s) (t .key, (t .home, t .system))
   fixed-in =
-      let l : List ℕ = layout m t in
+      let l : List ℕ = layout lim t in
       let a : midOf 11 11 l ≡ midOf 11 4 l ++ (midOf 15 4 l ++ midOf 19 3 l)
       = take-add 4 7 (drop 11 l) ∙ ap (λ (x : List ℕ). midOf 11 4 l ++ take 7 x) (drop-drop 4 11 l)
       ∙ ap (λ (x : List ℕ). midOf 11 4 l ++ x) (take-add 4 3 (drop 15 l) ∙ ap (λ (x : List ℕ). midOf 15 4 l ++ take 3 x) (drop-drop 4 15 l)) in (
         (h .0 .key, (h .0 .home, h .0 .system)),
         ap (midOf 11 11) (h .1) ∙ a
-            ∙ (λ i. key-get m t (h .0) i ++ (home-get m t (h .0) i ++ system-get m t (h .0) i)),
+            ∙ (λ i. key-get lim t (h .0) i ++ (home-get lim t (h .0) i ++ system-get lim t (h .0) i)),
       )
 
 -- ---- part by part
 
-module _ (m : Limits) (store s u : List ℕ) (r : Settings) (x : Exportable m) where
+-- where a part starts and ends
+abbrev starts : Limits → Part → ℕ
+starts lim = part-from (lines-at lim) (lines-at lim + lim .lines * line-width)
+
+abbrev ends : Limits → Part → ℕ
+ends lim = part-to (lines-at lim) (lines-at lim + lim .lines * line-width)
+
+module _ (lim : Limits) (store s u : List ℕ) (r : Settings) (x : Exportable lim) (big : lim .message ≤ length s) where
   -- what was written of what a part holds are the part's settings, where they fit
-  part-of : (p : Part) {A : Type 0} (Held : A → Type 0) (f : Tables → A) (g : A → List Setting) (room : ℕ) → ((t : Tables) → Holds m t store → Held (f t))
-      → ((t : Tables) → g (f t) ≡ exported p t) → room ≤ m .message - 8 → room ≤ 60000 → WritesAll Held g 8 room s u r → PartWritten m p store s u r
-  part-of p Held f g room is e l k w = record {
-    small = omega (arith, w .writes .most);
-    writes = record {
-      writes = record {
-        from = w .writes .from;
-        most = omega (arith, w .writes .most);
-        wrote = λ t h. subst (λ (y : List Setting). Wrote (canonical-all unicode16 y) 8 s u (r .end)) (e t) (w .writes .wrote (f t) (is t h));
-      };
-      counted = λ t h. w .counted (f t) (is t h) ∙ ap length (e t);
-    };
-  }
+  part-of : (p : Part) {A : Type 0} {Long : Type 0} {Held : A → Type 0} {g : A → List Setting} {room : ℕ} (f : Tables → A) → ((t : Tables) → Holds lim t store → Held (f t))
+      → ((t : Tables) → g (f t) ≡ exported p t) → Long → room ≤ lim .message - 8 → room ≤ 60000 → WritesTable Long Held g room s u r → PartWritten lim p store s u r
+  part-of p f is e long l k table =
+      let w = table (long, omega (arith, x .status)) in
+      record {
+        small = omega (arith, w .writes .most);
+        writes = record {
+          writes = record {
+            from = w .writes .from;
+            most = omega (arith, w .writes .most);
+            wrote = λ t h. subst (λ (y : List Setting). Wrote (canonical-all unicode16 y) 8 s u (r .end)) (e t) (w .writes .wrote (f t) (is t h));
+          };
+          counted = λ t h. w .counted (f t) (is t h) ∙ ap length (e t);
+        };
+      }
 
-  pub lines-part : (k room : ℕ) → k ≡ m .lines * 51 → room ≤ 5 + m .lines * 49 → WritesAll (LinesIn (midOf (7286 + m .channels * 2) k store)) line-settings 8 room s u r → PartWritten m Lines store s u r
-  lines-part k room e l w =
-      part-of Lines _ (λ t. t .lines) line-settings room (λ t h. lines-in m t store h k e) (λ t. refl) (omega (arith, x .lines)) (omega (arith, x .counted)) w
+  -- the settings of the bytes of each part were written
+  part-held : (p : Part) → length (midOf (starts lim p) (ends lim p - starts lim p) store) ≡ ends lim p - starts lim p → WritesPart p (midOf (starts lim p) (ends lim p - starts lim p) store) s u r → PartWritten lim p store s u r
+  part-held Lines l =
+      part-of Lines (λ t. t .lines) (λ t h. lines-in lim t store h (ends lim Lines - starts lim Lines) (omega arith)) (λ t. refl) (omega (arith, x .counted)) (omega (arith, x .lines)) (omega (arith, x .counted))
+  part-held Fixed l = part-of Fixed (λ t. (t .key, (t .home, t .system))) (λ t h. fixed-in lim t store h) (λ t. refl) l (omega (arith, x .status)) (omega arith)
+  part-held QuickTexts l = part-of QuickTexts (λ t. t .quick) (λ t h. quick-in lim t store h) (λ t. refl) l (omega (arith, x .status)) (omega arith)
+  part-held Channels l =
+      part-of Channels (λ t. t .channels) (λ t h. channels-in lim t store h (ends lim Channels - starts lim Channels) (omega arith)) (λ t. refl) (omega (arith, x .channels)) (omega (arith, x .status, x .channels)) (omega (arith, x .channels))
+  part-held StatusTexts l = part-of StatusTexts (λ t. t .status) (λ t h. status-in lim t store h) (λ t. refl) l (omega (arith, x .status)) (omega arith)
+  part-held Groups l = part-of Groups (λ t. t .groups) (λ t h. groups-in lim t store h) (λ t. refl) l (omega (arith, x .status)) (omega arith)
+  part-held Individuals l = part-of Individuals (λ t. t .individuals) (λ t h. individuals-in lim t store h) (λ t. refl) l (omega (arith, x .status)) (omega arith)
 
-  pub fixed-part : WritesAll (FixedIn (midOf 11 11 store)) fixed-settings 8 19 s u r → PartWritten m Fixed store s u r
-  fixed-part w =
-      part-of Fixed _ (λ t. (t .key, (t .home, t .system))) fixed-settings 19 (λ t h. fixed-in m t store h) (λ t. refl) (omega (arith, x .status)) (omega arith) w
-
-  pub quick-part : WritesAll (QuicksIn (midOf 22 2944 store)) quick-settings 8 3144 s u r → PartWritten m QuickTexts store s u r
-  quick-part w = part-of QuickTexts _ (λ t. t .quick) quick-settings 3144 (λ t h. quick-in m t store h) (λ t. refl) (omega (arith, x .status)) (omega arith) w
-
-  pub channels-part : (k room : ℕ) → k ≡ m .channels * 2 → room ≤ 1540 → WritesAll (ChannelsIn (midOf 7286 k store)) channel-settings 8 room s u r → PartWritten m Channels store s u r
-  channels-part k room e l w =
-      part-of Channels _ (λ t. t .channels) channel-settings room (λ t h. channels-in m t store h k e) (λ t. refl) (omega (arith, x .status)) (omega arith) w
-
-  pub status-part : WritesAll (StatusesIn (midOf 2966 3168 store)) status-settings 8 3365 s u r → PartWritten m StatusTexts store s u r
-  status-part w = part-of StatusTexts _ (λ t. t .status) status-settings 3365 (λ t h. status-in m t store h) (λ t. refl) (omega (arith, x .status)) (omega arith) w
-
-  pub groups-part : WritesAll (MembersIn OfGroups (midOf 6134 576 store)) (member-settings OfGroups 0) 8 672 s u r → PartWritten m Groups store s u r
-  groups-part w =
-      part-of Groups _ (λ t. t .groups) (member-settings OfGroups 0) 672 (λ t h. groups-in m t store h) (λ t. refl) (omega (arith, x .status)) (omega arith) w
-
-  pub individuals-part : WritesAll (MembersIn OfIndividuals (midOf 6710 576 store)) (member-settings OfIndividuals 0) 8 672 s u r → PartWritten m Individuals store s u r
-  individuals-part w =
-      part-of Individuals _ (λ t. t .individuals) (member-settings OfIndividuals 0) 672 (λ t h. individuals-in m t store h) (λ t. refl) (omega (arith, x .status)) (omega arith) w
+  -- the settings of the bytes from the part's start to its end were written
+  pub part-written : (p : Part) (a b : ℕ) → a ≡ starts lim p → b ≡ ends lim p → b ≤ length store → WritesPart p (midOf a (b - a) store) s u r → PartWritten lim p store s u r
+  part-written p a b e d inside w =
+      part-held p (mid-len (starts lim p) (ends lim p) store (omega arith))
+      (subst (λ (i : ℕ). WritesPart p (midOf (starts lim p) (i - starts lim p) store) s u r) d (subst (λ (i : ℕ). WritesPart p (midOf i (b - i) store) s u r) e w))

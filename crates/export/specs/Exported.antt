@@ -4,7 +4,7 @@ use mathlib.Core.List.{List, [], _∷_, _++_, map}
 use lib.ListN.{length, take, drop}
 use Rattle.writing.specs.declared.Operation.the-variants.{Replace}
 use Rattle.writing.specs.Canonical.{plain, canonical-all}
-use Rattle.writing.specs.Carrier.{start, carrier, coding-type}
+use Rattle.writing.specs.Carrier.{start-bytes, carrier, coding-type}
 use Rattle.writing.specs.Settings.{Setting, lines, key, quick-texts, home, channels, system, status-texts, group, individual, unicode16}
 use Rattle.writing.specs.Writing.{request-head}
 use Rattle.tables.specs.Tables.{Tables}
@@ -12,6 +12,10 @@ use Rattle.export_write.specs.LineSettings.{no-line-flags, line-add}
 use Rattle.export_write.specs.EntrySettings.{entries, quick-add, no-group-flags, no-individual-flags, slots}
 use Rattle.export.specs.declared.parts.Part.{Part}
 use Rattle.export.specs.declared.parts.Part.the-variants.{Lines, Fixed, QuickTexts, Channels, StatusTexts, Groups, Individuals}
+
+-- the parts in the order of their numbers
+abbrev pub seven : List Part
+seven = Lines ∷ Fixed ∷ QuickTexts ∷ Channels ∷ StatusTexts ∷ Groups ∷ Individuals ∷ []
 
 -- "parts 1 to 7"
 abbrev pub part-number : Part → ℕ
@@ -39,4 +43,4 @@ abbrev pub data-bytes : List Setting → List ℕ
 data-bytes ss = plain (request-head (length ss)) ++ canonical-all unicode16 ss
 
 abbrev pub request-bytes : List Setting → List ℕ
-request-bytes ss = start ++ plain (carrier (2 + length (data-bytes ss)) (coding-type unicode16)) ++ data-bytes ss
+request-bytes ss = start-bytes ++ plain (carrier (2 + length (data-bytes ss)) (coding-type unicode16)) ++ data-bytes ss

@@ -31,31 +31,31 @@ told (Written n) = record { number = 0; request-length = n }
 told (Untouched r) = record { number = no-export r; request-length = 0 }
 
 -- the answer, and the buffer afterwards
-pub record After : Type 0 where
+pub record AfterExport : Type 0 where
   pub answer : Told
   pub buffer : List ℕ
 
-module _ (m : Limits) (part : ℕ) (store buffer : List ℕ) where
+module _ (lim : Limits) (part : ℕ) (store buffer : List ℕ) where
   -- "10 to 17 touch no byte of any buffer"
-  abbrev pub stays : ℕ → After
+  abbrev pub stays : ℕ → AfterExport
   stays n = record { answer = record { number = n; request-length = 0 }; buffer = buffer }
 
   -- "Bytes past the request's length stay"
-  abbrev pub writes : List ℕ → After
+  abbrev pub writes : List ℕ → AfterExport
   writes bytes = record { answer = record { number = 0; request-length = length bytes }; buffer = written-over bytes buffer }
 
   -- the settings of the part, from the tables that the store is the layout of
-  pub record Exports (a : After) : Type 0 where
+  pub record Exports (a : AfterExport) : Type 0 where
     pub tables : Tables
-    pub holds : Holds m tables store
+    pub holds : Holds lim tables store
     pub which : Part
     pub numbered : part-number which ≡ part
     pub after : a ≡ writes (request-bytes (exported which tables))
 
   -- "15, 11, 16"
-  abbrev pub exporting : Ladder After
+  abbrev pub exporting : Ladder AfterExport
   exporting =
-      rung (length buffer < m .message) (stays 15)
-      (rung (StoreOf m store → ⊥) (stays 11)
+      rung (length buffer < lim .message) (stays 15)
+      (rung (StoreOf lim store → ⊥) (stays 11)
       (rung ((p : Part) → part-number p ≡ part → ⊥) (stays 16)
       (foot Exports)))

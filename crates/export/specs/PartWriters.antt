@@ -1,28 +1,71 @@
 -- Parts by their number, and their settings in the buffer. No promise cites these.
 use Prim.Native.Nat.{ℕ, _-_, _<_}
 use mathlib.Core.Path.{_≡_}
-use mathlib.Core.List.{List}
-use lib.ListN.{length}
+use mathlib.Core.List.{List, _∷_, map}
+use mathlib.Core.Option.{Option, none, some}
+use lib.ListN.{length, getD}
 use Rattle.writing.specs.Canonical.{canonical-all}
 use Rattle.writing.specs.Settings.{Setting, unicode16}
 use Rattle.tables.specs.declared.limits.Limits.{Limits}
+use Rattle.tables.specs.Layout.{key-at, quick-at, status-at, groups-at, individuals-at, lists-at}
 use Rattle.tables.specs.Store.{Holds}
 use Rattle.export.specs.declared.exporting.FoundPart.{FoundPart}
 use Rattle.export.specs.declared.exporting.FoundPart.the-variants.{Is, NoneSuch}
 use Rattle.export.specs.declared.parts.Part.{Part}
+use Rattle.export.specs.declared.parts.Part.the-variants.{Lines, Fixed, QuickTexts, Channels, StatusTexts, Groups, Individuals}
+use Rattle.tables.specs.declared.members.Members.the-variants.{OfGroups, OfIndividuals}
 use Rattle.export_write.specs.declared.writers.Settings.{Settings}
-use Rattle.export.specs.Exported.{part-number, exported, request-bytes}
+use Rattle.export_write.specs.ChannelWriters.{WritesChannels}
+use Rattle.export_write.specs.EntryWriters.{WritesQuicks, WritesStatuses}
+use Rattle.export_write.specs.FixedWriters.{WritesFixed}
+use Rattle.export_write.specs.LineWriters.{WritesLines}
+use Rattle.export_write.specs.MemberWriters.{WritesMembers}
 use Rattle.export_write.specs.Writers.{Wrote, WritesAll}
+use Rattle.export.specs.Exported.{seven, exported, request-bytes}
 
--- the part with this number, or that there is none
+-- the part with this number, if there is one
+abbrev pub part-at : ℕ → Option Part
+part-at n = getD (none ∷ map some seven) n none
+
+-- it, or that there is none
 abbrev pub FoundAs : ℕ → FoundPart → Type 0
-FoundAs n (Is p) = part-number p ≡ n
-FoundAs n NoneSuch = (p : Part) → part-number p ≡ n → ⊥
+FoundAs n (Is p) = part-at n ≡ some p
+FoundAs n NoneSuch = part-at n ≡ none
+
+-- where a part's tables stand in a store whose lines start and end here: from this byte on
+abbrev pub part-from : (lines spare : ℕ) → Part → ℕ
+part-from lines spare Lines = lines
+part-from lines spare Fixed = key-at
+part-from lines spare QuickTexts = quick-at
+part-from lines spare Channels = lists-at
+part-from lines spare StatusTexts = status-at
+part-from lines spare Groups = groups-at
+part-from lines spare Individuals = individuals-at
+
+-- up to this one
+abbrev pub part-to : (lines spare : ℕ) → Part → ℕ
+part-to lines spare Lines = spare
+part-to lines spare Fixed = quick-at
+part-to lines spare QuickTexts = status-at
+part-to lines spare Channels = lines
+part-to lines spare StatusTexts = groups-at
+part-to lines spare Groups = individuals-at
+part-to lines spare Individuals = lists-at
+
+-- the settings of what a part's bytes hold were written behind a request's head
+abbrev pub WritesPart : Part → (held before after : List ℕ) → Settings → Type 0
+WritesPart Lines = WritesLines
+WritesPart Fixed = WritesFixed
+WritesPart QuickTexts = WritesQuicks
+WritesPart Channels = WritesChannels
+WritesPart StatusTexts = WritesStatuses
+WritesPart Groups = WritesMembers OfGroups
+WritesPart Individuals = WritesMembers OfIndividuals
 
 -- the settings of a part of a store were written behind a request's head, and the request fits its length field and the buffer
-pub record PartWritten (m : Limits) (part : Part) (store before after : List ℕ) (r : Settings) : Type 0 where
+pub record PartWritten (lim : Limits) (part : Part) (store before after : List ℕ) (r : Settings) : Type 0 where
   pub small : r .end < 65540
-  pub writes : WritesAll (λ t. Holds m t store) (exported part) 8 (m .message - 8) before after r
+  pub writes : WritesAll (λ t. Holds lim t store) (exported part) 8 (lim .message - 8) before after r
 
 -- the settings that were written up to `end` were given a request's head
 pub record Headed (count end : ℕ) (before after : List ℕ) (r : ℕ) : Type 0 where

@@ -1,37 +1,55 @@
 // Exports a part of a store as a request.
 use super::parts::Export;
 use super::parts::NoExport;
+use super::parts::PARTS;
 use super::parts::Part;
 use export_write::channels::export_channels;
 use export_write::fixed::export_fixed;
 use export_write::lines::export_lines;
-use export_write::members::Members;
 use export_write::members::export_members;
 use export_write::text_lists::export_quick;
 use export_write::text_lists::export_status;
 use export_write::writers::FIRST;
 use export_write::writers::Settings;
+use read_carrier::carrier::MFID;
 use read_carrier::carrier::START;
 use read_carrier::carrier::UNICODE16;
 use slots::bytes::copy;
 use store_check::checks::is_store;
 use tables::limits::HANDHELD;
 use tables::limits::Limits;
+use tables::members::Members;
+use tables::places::CHANNEL_SLOT;
+use tables::places::GROUPS;
+use tables::places::INDIVIDUALS;
+use tables::places::KEY;
+use tables::places::LINE_SLOT;
+use tables::places::LISTS;
+use tables::places::QUICK;
+use tables::places::STATUS;
 ghost use mathlib.Core.Path.{_≡_};
 ghost use Prim.Native.Nat.{_≤_, _<_};
 ghost use lib.ListN.{length};
 ghost use Rattle.lists.specs.Ladder.{Answers};
-ghost use Rattle.tables.specs.Layout.{Roomy};
+ghost use Rattle.tables.specs.Layout.{Roomy, lists-at};
 ghost use Rattle.tables.specs.Limits.{handheld};
 ghost use Rattle.export.specs.Exportable.{Exportable};
 ghost use Rattle.export.specs.Exporting.{exporting, told};
-ghost use Rattle.export.specs.PartWriters.{FoundAs, PartWritten, Headed};
-
-// The manufacturer that the carrier names.
-const MFID: u8 = 0x08;
+ghost use Rattle.export.specs.PartWriters.{FoundAs, part-from, part-to, WritesPart, PartWritten, Headed};
 
 // OTAPVer 1 and MsgType 0.
 const REQUEST: u8 = 0b0000_1000;
+
+// The parts in the order of their numbers.
+const IN_ORDER: [Part; 7] = [
+    Part::Lines,
+    Part::Fixed,
+    Part::QuickTexts,
+    Part::Channels,
+    Part::StatusTexts,
+    Part::Groups,
+    Part::Individuals,
+];
 
 // A part by its number.
 pub(crate) enum FoundPart {
@@ -42,46 +60,101 @@ pub(crate) enum FoundPart {
 fn part_of(number: u32) -> FoundPart
     ensures { λ r. ⌜ FoundAs number r ⌝ }
 {
-    match number {
-        1 => FoundPart::Is(Part::Lines),
-        2 => FoundPart::Is(Part::Fixed),
-        3 => FoundPart::Is(Part::QuickTexts),
-        4 => FoundPart::Is(Part::Channels),
-        5 => FoundPart::Is(Part::StatusTexts),
-        6 => FoundPart::Is(Part::Groups),
-        7 => FoundPart::Is(Part::Individuals),
-        _ => FoundPart::NoneSuch,
+    if number < 1 {
+        return FoundPart::NoneSuch;
+    }
+    if PARTS < number {
+        return FoundPart::NoneSuch;
+    }
+    let place = (number - 1) as usize;
+    FoundPart::Is(IN_ORDER[place])
+}
+
+// Where a part's tables stand in a store whose lines start and end here: docs/STORE.md.
+pub(crate) struct Span {
+    start: usize,
+    end: usize,
+}
+
+fn span_of(part: Part, lines: usize, spare: usize) -> Span
+    requires { ⌜ (lists-at ≤ lines) × (lines ≤ spare) ⌝ }
+    ensures { λ r. ⌜ (r .start ≡ part-from lines spare part) × (r .end ≡ part-to lines spare part) × (r .start ≤ r .end) × (r .end ≤ spare) ⌝ }
+{
+    match part {
+        Part::Lines => Span {
+            start: lines,
+            end: spare,
+        },
+        Part::Fixed => Span {
+            start: KEY,
+            end: QUICK,
+        },
+        Part::QuickTexts => Span {
+            start: QUICK,
+            end: STATUS,
+        },
+        Part::Channels => Span {
+            start: LISTS,
+            end: lines,
+        },
+        Part::StatusTexts => Span {
+            start: STATUS,
+            end: GROUPS,
+        },
+        Part::Groups => Span {
+            start: GROUPS,
+            end: INDIVIDUALS,
+        },
+        Part::Individuals => Span {
+            start: INDIVIDUALS,
+            end: LISTS,
+        },
     }
 }
 
-// The settings of a part, behind a request's head: docs/STORE.md says where the tables stand.
-fn write_part(buffer: &mut [u8], part: Part, store: &[u8], limits: Limits) -> Settings
-    requires { ⌜ Roomy limits × (length (now store) ≡ limits .size) × Exportable limits × (limits .message ≤ length (now buffer)) ⌝ }
-    ensures { λ r. ⌜ PartWritten limits part (now (store .entry)) (now (buffer .entry)) (now (buffer .exit)) r ⌝ }
+// The settings of what a part's bytes hold, behind a request's head.
+fn write_held(buffer: &mut [u8], part: Part, held: &[u8]) -> Settings
+    ensures { λ r. ⌜ WritesPart part (now (held .entry)) (now (buffer .entry)) (now (buffer .exit)) r ⌝ }
 {
-    let lines = 7286 + limits.channels * 2;
-    let spare = lines + limits.lines * 51;
     match part {
-        Part::Lines => export_lines(buffer, &store[lines..spare]),
-        Part::Fixed => export_fixed(buffer, &store[11..22]),
-        Part::QuickTexts => export_quick(buffer, &store[22..2966]),
-        Part::Channels => export_channels(buffer, &store[7286..lines]),
-        Part::StatusTexts => export_status(buffer, &store[2966..6134]),
-        Part::Groups => export_members(buffer, Members::OfGroups, &store[6134..6710]),
-        Part::Individuals => export_members(buffer, Members::OfIndividuals, &store[6710..7286]),
+        Part::Lines => export_lines(buffer, held),
+        Part::Fixed => export_fixed(buffer, held),
+        Part::QuickTexts => export_quick(buffer, held),
+        Part::Channels => export_channels(buffer, held),
+        Part::StatusTexts => export_status(buffer, held),
+        Part::Groups => export_members(buffer, Members::OfGroups, held),
+        Part::Individuals => export_members(buffer, Members::OfIndividuals, held),
     }
+}
+
+// The settings of a part of a store.
+fn write_part(buffer: &mut [u8], part: Part, store: &[u8], limits: Limits) -> Settings
+    requires { ⌜ Roomy limits × (length (now store) ≡ limits .size) × (limits .message ≤ length (now buffer)) ⌝ }
+    ensures { λ r. ⌜ (Exportable limits → PartWritten limits part (now (store .entry)) (now (buffer .entry)) (now (buffer .exit)) r) ⌝ }
+{
+    let lines = LISTS + limits.channels * CHANNEL_SLOT;
+    let spare = lines + limits.lines * LINE_SLOT;
+    let span = span_of(part, lines, spare);
+    let start = span.start;
+    let end = span.end;
+    write_held(buffer, part, &store[start..end])
 }
 
 // The carrier and the first data bytes of a request whose settings were written up to end.
 fn start_request(buffer: &mut [u8], count: u8, end: usize) -> usize
-    requires { ⌜ (8 ≤ end) × (end ≤ length (now buffer)) × (end < 65540) ⌝ }
-    ensures { λ r. ⌜ Headed count end (now (buffer .entry)) (now (buffer .exit)) r ⌝ }
+    ensures { λ r. ⌜ (r ≤ length (now (buffer .exit))) × ((8 ≤ end) × (end ≤ length (now (buffer .entry))) × (end < 65540) → Headed count end (now (buffer .entry)) (now (buffer .exit)) r) ⌝ }
 {
+    if end < FIRST {
+        return 0;
+    }
+    if buffer.len() < end {
+        return 0;
+    }
     let length = end - 4;
     let start = [
         START[0],
         START[1],
-        (length / 256) as u8,
+        (length / 256 % 256) as u8,
         (length % 256) as u8,
         MFID,
         UNICODE16,
@@ -93,9 +166,8 @@ fn start_request(buffer: &mut [u8], count: u8, end: usize) -> usize
 }
 
 // The request that exports a part of a store of a set with these limits; or why there is none, and the buffer stays.
-pub(crate) fn export_in(part: u32, store: &[u8], buffer: &mut [u8], limits: Limits) -> Export
-    requires { ⌜ Exportable limits ⌝ }
-    ensures { λ r. ⌜ Answers (exporting limits part (now (store .entry)) (now (buffer .entry))) (record { answer = told r; buffer = now (buffer .exit) }) ⌝ }
+pub fn export_in(part: u32, store: &[u8], buffer: &mut [u8], limits: Limits) -> Export
+    ensures { λ r. ⌜ (told r .request-length ≤ length (now (buffer .exit))) × (Exportable limits → Answers (exporting limits part (now (store .entry)) (now (buffer .entry))) (record { answer = told r; buffer = now (buffer .exit) })) ⌝ }
 {
     if buffer.len() < limits.message {
         return Export::Untouched(NoExport::Buffer);

@@ -9,6 +9,9 @@ pub enum Part {
     Individuals,
 }
 
+// How many parts there are: their numbers are 1 to this.
+pub const PARTS: u32 = 7;
+
 // Why nothing was exported.
 pub enum NoExport {
     Buffer,

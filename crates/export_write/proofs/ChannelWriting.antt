@@ -1,15 +1,9 @@
 -- Kept channels are written two in three bytes. Assumes nothing.
-use Prim.Native.Nat.{ℕ, suc, _+_, _*_, _/_, _%_, _≤_, _<_}
-use mathlib.Core.Path.{_≡_, refl, sym, ap, _∙_}
-use mathlib.Core.List.{List, [], _∷_, _++_, map}
-use native.Mathlib.Omega.{arith}
-use lib.ListN.{length, drop, getD, drop-of-length-le}
-use lib.Seq.{drop-cons}
+use Rattle.lists.proofs.Kit.{ℕ, suc, _+_, _-_, _*_, _/_, _%_, _≤_, _<_, _≡_, refl, sym, ap, _∙_, List, [], _∷_, _++_, map, arith, midOf, length, drop, getD, drop-of-length-le, drop-cons, getD-drop, getD-take}
 use Rattle.lists.specs.Every.{All}
 use Rattle.lists.proofs.Every.{all-append, all-get, all-map}
-use Rattle.slots.specs.Slots.{flat, pad, u16, zeros?, Listed, Found}
+use Rattle.slots.specs.Slots.{u16, u24, zeros?, Listed, Found}
 use Rattle.slots.proofs.Keys.{used-at}
-use Rattle.slots.proofs.Tables.{front-bytes}
 use Rattle.writing.specs.declared.Operation.the-variants.{Replace}
 use Rattle.writing.specs.Canonical.{plain, FitsField}
 use Rattle.writing.specs.Fields.{val, res}
@@ -19,10 +13,11 @@ use Rattle.writing.specs.Writing.{fill, op, type-byte, body}
 use Rattle.writing.proofs.Bits.{widths-append, widths-map}
 use Rattle.writing.proofs.Whole.{Whole, fill-whole}
 use Rattle.tables.proofs.EntryCodes.{channel-shown}
-use Rattle.export_write.specs.ChannelWriters.{ChannelsIn, Counted, packed, WritesPacked}
+use Rattle.export_write.specs.ChannelWriters.{ChannelsIn, Counted, packed, two-bits, last-bits, WritesPacked}
 use Rattle.export_write.specs.Writers.{Wrote}
+use Rattle.export_write.proofs.LineWriting.{entry-read}
 use Rattle.export_write.proofs.NumberWriting.{fill-fits}
-use Rattle.export_write.proofs.PairLaws.{all-drop, drop-two, getD-pad, high-byte, low-byte}
+use Rattle.export_write.proofs.PairLaws.{all-drop, drop-two}
 use Rattle.export_write.proofs.PlainLaws.{plain-two, plain-three}
 use Rattle.export_write.proofs.WroteLaws.{Writing, writing-more, writing-end, wrote-both, wrote-as}
 
@@ -33,47 +28,24 @@ packed-whole cs =
     let (n, e) = fill-whole (length cs) in
     (length cs + n, simp widths-append (omega (arith, widths-map (val 12) 12 (λ v. refl) cs)))
 
-packed-fits : (cs : List ℕ) → All InChannel cs → All FitsField (packed cs)
+pub packed-fits : (cs : List ℕ) → All InChannel cs → All FitsField (packed cs)
 packed-fits cs h =
     all-append FitsField (map (val 12) cs) (fill (length cs)) (all-map InChannel FitsField (val 12) (λ c k. omega (arith, k .1)) cs h) (fill-fits (length cs))
-
--- two channels are three bytes
-plain-pair : (a b : ℕ) (cs : List ℕ) → InChannel a → InChannel b → All InChannel cs
-    → plain (packed (a ∷ b ∷ cs)) ≡ (a / 16) ∷ (a % 16 * 16 + b / 256) ∷ (b % 256) ∷ plain (packed cs)
-plain-pair a b cs p q h =
-    let v : ℕ = a * 4096 + b in
-    let m : a ≤ 640 = p .1 in
-    let n : b ≤ 640 = q .1 in
-    let x : v / 65536 ≡ a / 16 = omega arith in
-    let y : v % 65536 / 256 ≡ a % 16 * 16 + b / 256 = omega arith in
-    let z : v % 65536 % 256 ≡ b % 256 = omega arith in
-    plain-three v (val 12 a ∷ val 12 b ∷ []) (packed cs) refl (omega arith) (omega arith) (packed-whole cs) (packed-fits cs h) ∙ (λ i. x i ∷ y i ∷ z i ∷ plain (packed cs))
-
--- the last one is two
-plain-last : (a : ℕ) → InChannel a → plain (packed (a ∷ [])) ≡ (a / 16) ∷ (a % 16 * 16 + 15) ∷ []
-plain-last a p =
-    let v : ℕ = a * 16 + 15 in
-    let m : a ≤ 640 = p .1 in
-    let x : v / 256 ≡ a / 16 = omega arith in
-    let y : v % 256 ≡ a % 16 * 16 + 15 = omega arith in
-    plain-two v (val 12 a ∷ val 4 15 ∷ []) [] refl (omega arith) (omega arith) (0, refl) tt ∙ (λ i. x i ∷ y i ∷ [])
 
 -- ---- channels as they are kept
 
 module _ (s cs : List ℕ) (n : ℕ) (t : Listed InChannel 2 u16 n cs s) where
-  kept-bytes : s ≡ pad 0 (n * 2) (flat (map u16 cs))
-  kept-bytes = t .bytes ∙ front-bytes 2 u16 (λ u. refl) n cs
-
   -- the two bytes of channel k
-  pub kept-high : (k : ℕ) → k < length cs → getD s (2 * k) 0 ≡ getD cs k 0 / 256
-  kept-high k h =
-      let f : length cs ≤ n = t .few in
-      ap (λ (l : List ℕ). getD l (2 * k) 0) kept-bytes ∙ getD-pad (n * 2) (flat (map u16 cs)) (2 * k) (omega arith) ∙ high-byte cs k
-
-  pub kept-low : (k : ℕ) → k < length cs → getD s (2 * k + 1) 0 ≡ getD cs k 0 % 256
-  kept-low k h =
-      let f : length cs ≤ n = t .few in
-      ap (λ (l : List ℕ). getD l (2 * k + 1) 0) kept-bytes ∙ getD-pad (n * 2) (flat (map u16 cs)) (2 * k + 1) (omega arith) ∙ low-byte cs k
+  kept-number : (i j k : ℕ) → i ≡ 2 * k → j ≡ 2 * k + 1 → k < length cs → getD s i 0 * 256 + getD s j 0 ≡ getD cs k 0
+  kept-number i j k e f h =
+      let z = entry-read InChannel 2 u16 (λ u. refl) n cs s 0 t k h .1 in
+      let x : getD s i 0 ≡ getD cs k 0 / 256 = byte-at i 0 k (omega arith) (omega arith) ∙ ap (λ (l : List ℕ). getD l 0 0) z in
+      let y : getD s j 0 ≡ getD cs k 0 % 256 = byte-at j 1 k (omega arith) (omega arith) ∙ ap (λ (l : List ℕ). getD l 1 0) z in
+      omega arith
+    where
+      byte-at : (i b k : ℕ) → i ≡ k * 2 + b → b < 2 → getD s i 0 ≡ getD (midOf (k * 2) (k * 2 + 2 - k * 2) s) b 0
+      byte-at i b k e l =
+          ap (λ (q : ℕ). getD s q 0) e ∙ sym (getD-drop (k * 2) s b 0) ∙ sym (getD-take (k * 2 + 2 - k * 2) (drop (k * 2) s) b 0 (omega arith))
 
 -- as many as stand before the first empty slot
 pub channels-used : (s cs : List ℕ) (r : ℕ) → ChannelsIn s cs → Found (0 < 2) zeros? 2 s r → length cs ≡ r / 2
@@ -82,63 +54,48 @@ channels-used s cs r (n, t) f = let e : r ≡ length cs * 2 = used-at InChannel 
 -- ---- the walk
 
 -- so many pairs are written
-abbrev pub Packed : (part buffer₀ buffer : List ℕ) → (count at to i : ℕ) → Type 0
-Packed part buffer₀ buffer count at to i = (cs : List ℕ) → Counted part count cs → Writing (plain (packed cs)) at buffer₀ buffer to (plain (packed (drop (2 * i) cs)))
+abbrev pub Packed : (region buffer₀ buffer : List ℕ) → (count at to i : ℕ) → Type 0
+Packed region buffer₀ buffer count at to i = (cs : List ℕ) → Counted region count cs → Writing (plain (packed cs)) at buffer₀ buffer to (plain (packed (drop (2 * i) cs)))
 
-module _ (part buffer₀ buffer : List ℕ) (count at to i : ℕ) (g : Packed part buffer₀ buffer count at to i) where
+module _ (region buffer₀ buffer : List ℕ) (count at to i : ℕ) (g : Packed region buffer₀ buffer count at to i) where
   -- three bytes more
-  pub packed-more : (after : List ℕ) (r : ℕ) → i < count / 2
-      → Wrote ((getD part (4 * i) 0 % 16 * 16 + getD part (4 * i + 1) 0 / 16) ∷ (getD part (4 * i + 1) 0 % 16 * 16 + getD part (4 * i + 2) 0 % 16) ∷ getD part (4 * i + 3) 0 ∷ []) to buffer after r
-      → Packed part buffer₀ after count at r (i + 1)
-  packed-more after r l w cs ((n, t), m) =
+  pub packed-more : (after x : List ℕ) (r bits : ℕ) → i < count / 2 → bits ≡ two-bits region i → (bits < 16777216 → x ≡ u24 bits) → Wrote x to buffer after r
+      → Packed region buffer₀ after count at r (i + 1)
+  packed-more after x r bits l e f w cs ((n, t), m) =
       let k : 2 * i + 1 < length cs = omega arith in
       let a : ℕ = getD cs (2 * i) 0 in
       let b : ℕ = getD cs (2 * i + 1) 0 in
-      let p : InChannel a = all-get InChannel cs (2 * i) 0 (t .each) (omega arith) in
-      let q : InChannel b = all-get InChannel cs (2 * i + 1) 0 (t .each) k in
-      let i0 : 2 * (2 * i) ≡ 4 * i = omega arith in
-      let i1 : 2 * (2 * i) + 1 ≡ 4 * i + 1 = omega arith in
-      let i2 : 2 * (2 * i + 1) ≡ 4 * i + 2 = omega arith in
-      let i3 : 2 * (2 * i + 1) + 1 ≡ 4 * i + 3 = omega arith in
-      let e0 : getD part (4 * i) 0 ≡ a / 256 = ap (λ (j : ℕ). getD part j 0) (sym i0) ∙ kept-high part cs n t (2 * i) (omega arith) in
-      let e1 : getD part (4 * i + 1) 0 ≡ a % 256 = ap (λ (j : ℕ). getD part j 0) (sym i1) ∙ kept-low part cs n t (2 * i) (omega arith) in
-      let e2 : getD part (4 * i + 2) 0 ≡ b / 256 = ap (λ (j : ℕ). getD part j 0) (sym i2) ∙ kept-high part cs n t (2 * i + 1) k in
-      let e3 : getD part (4 * i + 3) 0 ≡ b % 256 = ap (λ (j : ℕ). getD part j 0) (sym i3) ∙ kept-low part cs n t (2 * i + 1) k in
-      let a1 : a ≤ 640 = p .1 in
-      let b1 : b ≤ 640 = q .1 in
-      let x : a / 16 ≡ getD part (4 * i) 0 % 16 * 16 + getD part (4 * i + 1) 0 / 16 = omega arith in
-      let y : a % 16 * 16 + b / 256 ≡ getD part (4 * i + 1) 0 % 16 * 16 + getD part (4 * i + 2) 0 % 16 = omega arith in
-      let z : b % 256 ≡ getD part (4 * i + 3) 0 = sym e3 in
-      writing-more (plain (packed cs)) at to r buffer₀ buffer after (plain (packed (drop (2 * i) cs))) _ (plain (packed (drop (2 * (i + 1)) cs))) (g cs ((n, t), m))
-      (ap (λ (l : List ℕ). plain (packed l)) (drop-two 0 cs i k) ∙ plain-pair a b (drop (2 * (i + 1)) cs) p q (all-drop InChannel (2 * (i + 1)) cs (t .each))
-      ∙ (λ j. x j ∷ y j ∷ z j ∷ plain (packed (drop (2 * (i + 1)) cs)))) w
+      let rest : List ℕ = drop (2 * (i + 1)) cs in
+      let a1 : a ≤ 640 = all-get InChannel cs (2 * i) 0 (t .each) (omega arith) .1 in
+      let b1 : b ≤ 640 = all-get InChannel cs (2 * i + 1) 0 (t .each) k .1 in
+      let ka : getD region (4 * i) 0 * 256 + getD region (4 * i + 1) 0 ≡ a = kept-number region cs n t (4 * i) (4 * i + 1) (2 * i) (omega arith) (omega arith) (omega arith) in
+      let kb : getD region (4 * i + 2) 0 * 256 + getD region (4 * i + 3) 0 ≡ b = kept-number region cs n t (4 * i + 2) (4 * i + 3) (2 * i + 1) (omega arith) (omega arith) k in
+      let v : bits ≡ a * 4096 + b = omega arith in
+      writing-more (plain (packed cs)) at to r buffer₀ buffer after (plain (packed (drop (2 * i) cs))) x (plain (packed rest)) (g cs ((n, t), m))
+      (ap (λ (z : List ℕ). plain (packed z)) (drop-two 0 cs i k)
+      ∙ plain-three bits (val 12 a ∷ val 12 b ∷ []) (packed rest) refl (omega arith) (omega arith) (packed-whole rest) (packed-fits rest (all-drop InChannel (2 * (i + 1)) cs (t .each)))
+      ∙ ap (λ (z : List ℕ). z ++ plain (packed rest)) (sym (f (omega arith)))) w
 
   -- none is left
-  pub packed-even : i ≡ count / 2 → count % 2 ≡ 0 → (cs : List ℕ) → Counted part count cs → Wrote (plain (packed cs)) at buffer₀ buffer to
+  pub packed-even : i ≡ count / 2 → count % 2 ≡ 0 → (cs : List ℕ) → Counted region count cs → Wrote (plain (packed cs)) at buffer₀ buffer to
   packed-even l e cs (t, m) =
       writing-end (plain (packed cs)) at to buffer₀ buffer (plain (packed (drop (2 * i) cs))) (g cs (t, m))
       (ap (λ (x : List ℕ). plain (packed x)) (drop-of-length-le cs {i = 2 * i} (omega arith)))
 
   -- one is left
-  pub packed-odd : (after : List ℕ) (r : ℕ) → i ≡ count / 2 → count % 2 ≡ 1
-      → Wrote ((getD part (4 * i) 0 % 16 * 16 + getD part (4 * i + 1) 0 / 16) ∷ (getD part (4 * i + 1) 0 % 16 * 16 + 15) ∷ []) to buffer after r
-      → (cs : List ℕ) → Counted part count cs → Wrote (plain (packed cs)) at buffer₀ after r
-  packed-odd after r l o w cs ((n, t), m) =
+  pub packed-odd : (after : List ℕ) (r bits : ℕ) → i ≡ count / 2 → count % 2 ≡ 1 → bits ≡ last-bits region i → Wrote (u16 bits) to buffer after r
+      → (cs : List ℕ) → Counted region count cs → Wrote (plain (packed cs)) at buffer₀ after r
+  packed-odd after r bits l o e w cs ((n, t), m) =
       let k : 2 * i < length cs = omega arith in
       let a : ℕ = getD cs (2 * i) 0 in
-      let p : InChannel a = all-get InChannel cs (2 * i) 0 (t .each) k in
-      let i0 : 2 * (2 * i) ≡ 4 * i = omega arith in
-      let i1 : 2 * (2 * i) + 1 ≡ 4 * i + 1 = omega arith in
-      let e0 : getD part (4 * i) 0 ≡ a / 256 = ap (λ (j : ℕ). getD part j 0) (sym i0) ∙ kept-high part cs n t (2 * i) k in
-      let e1 : getD part (4 * i + 1) 0 ≡ a % 256 = ap (λ (j : ℕ). getD part j 0) (sym i1) ∙ kept-low part cs n t (2 * i) k in
-      let a1 : a ≤ 640 = p .1 in
-      let x : a / 16 ≡ getD part (4 * i) 0 % 16 * 16 + getD part (4 * i + 1) 0 / 16 = omega arith in
-      let y : a % 16 * 16 + 15 ≡ getD part (4 * i + 1) 0 % 16 * 16 + 15 = omega arith in
+      let a1 : a ≤ 640 = all-get InChannel cs (2 * i) 0 (t .each) k .1 in
+      let ka : getD region (4 * i) 0 * 256 + getD region (4 * i + 1) 0 ≡ a = kept-number region cs n t (4 * i) (4 * i + 1) (2 * i) (omega arith) (omega arith) k in
+      let v : bits ≡ a * 16 + 15 = omega arith in
       let d : drop (2 * i) cs ≡ a ∷ []
       = drop-cons cs (2 * i) 0 k ∙ ap (λ (u : List ℕ). a ∷ u) (drop-of-length-le cs {i = suc (2 * i)} (omega arith)) in
       writing-end (plain (packed cs)) at r buffer₀ after []
-      (writing-more (plain (packed cs)) at to r buffer₀ buffer after (plain (packed (drop (2 * i) cs))) _ [] (g cs ((n, t), m))
-      (ap (λ (u : List ℕ). plain (packed u)) d ∙ plain-last a p ∙ (λ j. x j ∷ y j ∷ [])) w) refl
+      (writing-more (plain (packed cs)) at to r buffer₀ buffer after (plain (packed (drop (2 * i) cs))) (u16 bits) [] (g cs ((n, t), m))
+      (ap (λ (u : List ℕ). plain (packed u)) d ∙ plain-two bits (val 12 a ∷ val 4 15 ∷ []) [] refl (omega arith) (omega arith) (0, refl) tt) w) refl
 
 -- ---- the setting
 
@@ -152,12 +109,12 @@ channels-plain cs h l =
     plain-two v (op Replace ∷ res 4 ∷ val 10 n ∷ []) (packed cs) refl (omega arith) (omega arith) (packed-whole cs) (packed-fits cs h) ∙ (λ i. x i ∷ y i ∷ plain (packed cs))
 
 -- it is written as a replace
-pub channels-wrote : (part : List ℕ) (at used m end : ℕ) (s t u : List ℕ) → used ≤ 2046 → Found (0 < 2) zeros? 2 part used
-    → Wrote ((192 + used / 2 / 256) ∷ (used / 2 % 256) ∷ []) (at + 3) s t m → WritesPacked part (used / 2) m t u end
-    → (cs : List ℕ) → ChannelsIn part cs
+pub channels-wrote : (region : List ℕ) (at used m end : ℕ) (s t u : List ℕ) → used ≤ 2046 → Found (0 < 2) zeros? 2 region used
+    → Wrote ((192 + used / 2 / 256) ∷ (used / 2 % 256) ∷ []) (at + 3) s t m → WritesPacked region (used / 2) m t u end
+    → (cs : List ℕ) → ChannelsIn region cs
     → (type-byte (kind (channels Replace cs)) ≡ 0xCE) × All FitsField (body unicode16 (channels Replace cs)) × Wrote (plain (body unicode16 (channels Replace cs))) (at + 3) s u end
-channels-wrote part at used m end s t u few f v w cs k =
-    let n : length cs ≡ used / 2 = channels-used part cs used k f in
+channels-wrote region at used m end s t u few f v w cs k =
+    let n : length cs ≡ used / 2 = channels-used region cs used k f in
     let h : All InChannel cs = k .1 .each in
     let head : List ℕ = (192 + used / 2 / 256) ∷ (used / 2 % 256) ∷ [] in
     let e : head ++ plain (packed cs) ≡ plain (body unicode16 (channels Replace cs))

@@ -1,11 +1,5 @@
 -- The emergency key, home numbers and system code are written as their settings. Assumes nothing.
-use Prim.Native.Nat.{ℕ, _+_, _-_, _*_, _/_, _%_, _≤_, _<_}
-use mathlib.Core.Path.{_≡_, refl, sym, ap, ap₂, _∙_}
-use mathlib.Core.Bool.{true, false}
-use mathlib.Core.List.{List, [], _∷_, _++_, append-nil}
-use native.Mathlib.Omega.{arith}
-use borrow.Rule.Slice.PartMut.{midOf}
-use lib.ListN.{getD, take}
+use Rattle.lists.proofs.Kit.{ℕ, _+_, _-_, _*_, _/_, _%_, _≤_, _<_, _≡_, refl, sym, ap, ap₂, _∙_, true, false, List, [], _∷_, _++_, append-nil, arith, midOf, length, getD, take}
 use Rattle.lists.specs.Every.{All}
 use Rattle.slots.specs.Slots.{u24}
 use Rattle.writing.specs.declared.KeyTarget.{KeyTarget}
@@ -22,70 +16,51 @@ use Rattle.store_check.specs.Checks.{KeyOk}
 use Rattle.tables.specs.Layout.{key-bytes, key-flags, home-bytes, system-bytes, key-address as kept-address}
 use Rattle.tables.specs.Tables.{Key}
 use Rattle.tables.proofs.EntryCodes.{bit-small}
-use Rattle.export_write.specs.Writers.{Wrote, Kept}
+use Rattle.export_write.specs.FixedWriters.{home-bits, system-bits, Three, WritesThree}
+use Rattle.export_write.specs.Writers.{Wrote, Kept, Started}
 use Rattle.export_write.proofs.PlainLaws.{plain-byte, plain-three}
 use Rattle.export_write.proofs.WroteLaws.{wrote-both, wrote-as}
 
--- ---- home numbers
+-- ---- settings of three bytes
 
--- their values fit
-home-fits : (h : HomeNumbers) → HomeOk h → All FitsField (body unicode16 (home h))
+-- three bytes were written, and the setting started before them
+pub bits-wrote : (type bits at end r : ℕ) (a s t u : List ℕ) → length a ≡ 3 → (bits < 16777216 → a ≡ u24 bits) → Wrote a (at + 3) s t end → Started type at end t u r
+    → WritesThree type bits at s u r
+bits-wrote type bits at end r a s t u l e w st = (
+  omega (arith, st .same, w .next),
+  λ x k.
+      let B : List Field = body unicode16 x in
+      let p : plain B ≡ u24 bits = ap plain (sym (append-nil B)) ∙ plain-three bits B [] (k .wide) (k .are) (k .small) (0, refl) tt in
+      st .setting x s (k .type-is) (k .fits) (wrote-as a (plain B) (at + 3) end s t (e (k .small) ∙ sym p) w),
+)
+
+-- home numbers: their values fit
+pub home-fits : (h : HomeNumbers) → HomeOk h → All FitsField (body unicode16 (home h))
 home-fits h ok = (omega (arith, ok .nzi), (omega (arith, ok .np), (tt, tt)))
 
--- their three bytes
-home-plain : (h : HomeNumbers) → HomeOk h → (p : List ℕ) → p ≡ home-bytes h
-    → plain (body unicode16 (home h))
-    ≡ (getD p 0 0 % 2 * 128 + getD p 1 0 / 2) ∷ (getD p 1 0 % 2 * 128 + getD p 2 0 % 4 * 32 + getD p 3 0 / 8) ∷ (getD p 3 0 % 8 * 32) ∷ []
-home-plain h ok p e =
-    let a : h .nzi < 512 = ok .nzi in
-    let b : h .np ≤ 806 = ok .np in
-    let e0 : getD p 0 0 ≡ h .nzi / 256 = ap (λ (l : List ℕ). getD l 0 0) e in
-    let e1 : getD p 1 0 ≡ h .nzi % 256 = ap (λ (l : List ℕ). getD l 1 0) e in
-    let e2 : getD p 2 0 ≡ h .np / 256 = ap (λ (l : List ℕ). getD l 2 0) e in
-    let e3 : getD p 3 0 ≡ h .np % 256 = ap (λ (l : List ℕ). getD l 3 0) e in
-    let v : ℕ = h .nzi * 32768 + h .np * 32 in
-    let x : v / 65536 ≡ getD p 0 0 % 2 * 128 + getD p 1 0 / 2 = omega arith in
-    let y : v % 65536 / 256 ≡ getD p 1 0 % 2 * 128 + getD p 2 0 % 4 * 32 + getD p 3 0 / 8 = omega arith in
-    let z : v % 65536 % 256 ≡ getD p 3 0 % 8 * 32 = omega arith in
-    plain-three v (body unicode16 (home h)) [] refl (omega arith) (omega arith) (0, refl) tt ∙ (λ i. x i ∷ y i ∷ z i ∷ [])
+-- and they are one
+pub home-three : (p : List ℕ) (bits : ℕ) → bits ≡ home-bits p → (h : HomeNumbers) → Kept HomeOk home-bytes p h → Three 0xCD bits (home h)
+home-three p bits b h (ok, e) =
+    let k : h .nzi < 512 = ok .nzi in
+    let l : h .np ≤ 806 = ok .np in
+    let x : (getD p 0 0 * 256 + getD p 1 0) % 512 ≡ h .nzi = ap (λ (q : List ℕ). (getD q 0 0 * 256 + getD q 1 0) % 512) e ∙ omega arith in
+    let y : (getD p 2 0 * 256 + getD p 3 0) % 1024 ≡ h .np = ap (λ (q : List ℕ). (getD q 2 0 * 256 + getD q 3 0) % 1024) e ∙ omega arith in
+    record { type-is = refl; wide = refl; are = omega arith; small = omega arith; fits = home-fits h ok }
 
--- they are written as their setting
-pub home-wrote : (p : List ℕ) (at end : ℕ) (s t : List ℕ)
-    → Wrote ((getD p 0 0 % 2 * 128 + getD p 1 0 / 2) ∷ (getD p 1 0 % 2 * 128 + getD p 2 0 % 4 * 32 + getD p 3 0 / 8) ∷ (getD p 3 0 % 8 * 32) ∷ []) (at + 3) s t end
-    → (h : HomeNumbers) → Kept HomeOk home-bytes p h
-    → (type-byte (kind (home h)) ≡ 0xCD) × All FitsField (body unicode16 (home h)) × Wrote (plain (body unicode16 (home h))) (at + 3) s t end
-home-wrote p at end s t w h k = (refl, home-fits h (k .0), wrote-as _ (plain (body unicode16 (home h))) (at + 3) end s t (sym (home-plain h (k .0) p (k .1))) w)
-
--- ---- the system code
-
--- its values fit
-system-fits : (s : SystemCode) → SystemOk s → All FitsField (body unicode16 (system s))
+-- a system code: its values fit
+pub system-fits : (s : SystemCode) → SystemOk s → All FitsField (body unicode16 (system s))
 system-fits s ok = (omega (arith, ok .lai), (omega (arith, ok .la), (omega (arith, ok .roaming), (omega (arith, bit-small (s .par)), (tt, tt)))))
 
--- its three bytes
-system-plain : (s : SystemCode) → SystemOk s → (p : List ℕ) → p ≡ system-bytes s
-    → plain (body unicode16 (system s))
-    ≡ (getD p 0 0 % 16 * 16 + getD p 1 0 / 16) ∷ (getD p 1 0 % 16 * 16 + getD p 2 0 / 8 % 16) ∷ (getD p 2 0 % 8 * 32) ∷ []
-system-plain s ok p e =
-    let a : s .lai < 4096 = ok .lai in
-    let b : s .la ≤ 8 = ok .la in
-    let c : s .roaming < 3 = ok .roaming in
-    let d : bit (s .par) ≤ 1 = bit-small (s .par) in
-    let e0 : getD p 0 0 ≡ s .lai / 256 = ap (λ (l : List ℕ). getD l 0 0) e in
-    let e1 : getD p 1 0 ≡ s .lai % 256 = ap (λ (l : List ℕ). getD l 1 0) e in
-    let e2 : getD p 2 0 ≡ s .la * 8 + s .roaming * 2 + bit (s .par) = ap (λ (l : List ℕ). getD l 2 0) e in
-    let v : ℕ = s .lai * 4096 + (s .la * 256 + (s .roaming * 64 + bit (s .par) * 32)) in
-    let x : v / 65536 ≡ getD p 0 0 % 16 * 16 + getD p 1 0 / 16 = omega arith in
-    let y : v % 65536 / 256 ≡ getD p 1 0 % 16 * 16 + getD p 2 0 / 8 % 16 = omega arith in
-    let z : v % 65536 % 256 ≡ getD p 2 0 % 8 * 32 = omega arith in
-    plain-three v (body unicode16 (system s)) [] refl (omega arith) (omega arith) (0, refl) tt ∙ (λ i. x i ∷ y i ∷ z i ∷ [])
-
--- it is written as its setting
-pub system-wrote : (p : List ℕ) (at end : ℕ) (s t : List ℕ)
-    → Wrote ((getD p 0 0 % 16 * 16 + getD p 1 0 / 16) ∷ (getD p 1 0 % 16 * 16 + getD p 2 0 / 8 % 16) ∷ (getD p 2 0 % 8 * 32) ∷ []) (at + 3) s t end
-    → (x : SystemCode) → Kept SystemOk system-bytes p x
-    → (type-byte (kind (system x)) ≡ 0xCF) × All FitsField (body unicode16 (system x)) × Wrote (plain (body unicode16 (system x))) (at + 3) s t end
-system-wrote p at end s t w x k = (refl, system-fits x (k .0), wrote-as _ (plain (body unicode16 (system x))) (at + 3) end s t (sym (system-plain x (k .0) p (k .1))) w)
+-- and it is one
+pub system-three : (p : List ℕ) (bits : ℕ) → bits ≡ system-bits p → (s : SystemCode) → Kept SystemOk system-bytes p s → Three 0xCF bits (system s)
+system-three p bits b s (ok, e) =
+    let k : s .lai < 4096 = ok .lai in
+    let l : s .la ≤ 8 = ok .la in
+    let m : s .roaming < 3 = ok .roaming in
+    let n : bit (s .par) ≤ 1 = bit-small (s .par) in
+    let x : (getD p 0 0 * 256 + getD p 1 0) % 4096 ≡ s .lai = ap (λ (q : List ℕ). (getD q 0 0 * 256 + getD q 1 0) % 4096) e ∙ omega arith in
+    let y : getD p 2 0 % 128 ≡ s .la * 8 + s .roaming * 2 + bit (s .par) = ap (λ (q : List ℕ). getD q 2 0 % 128) e ∙ omega arith in
+    record { type-is = refl; wide = refl; are = omega arith; small = omega arith; fits = system-fits s ok }
 
 -- ---- the emergency key
 
@@ -96,17 +71,14 @@ address-fits (ToGroup a) h = (h .1, tt)
 address-fits (ToIndividual a) h = (h .1, tt)
 
 -- its values fit
-key-fits : (k : Key) → KeyOk k → All FitsField (body unicode16 (key (k .target) (k .flags)))
-key-fits k ok = (
-  omega (arith, bit-small (current (k .target))),
-  (
-    omega (arith, bit-small (to-group (k .target))),
-    (
-      omega (arith, bit-small (k .flags .voice)),
-      (omega (arith, bit-small (k .flags .status)), (omega (arith, bit-small (k .flags .siren)), (tt, address-fits (k .target) ok))),
-    ),
-  ),
-)
+pub key-fits : (k : Key) → KeyOk k → All FitsField (body unicode16 (key (k .target) (k .flags)))
+key-fits k ok =
+    let a = bit-small (current (k .target)) in
+    let b = bit-small (to-group (k .target)) in
+    let c = bit-small (k .flags .voice) in
+    let d = bit-small (k .flags .status) in
+    let e = bit-small (k .flags .siren) in
+    (omega arith, (omega arith, (omega arith, (omega arith, (omega arith, (tt, address-fits (k .target) ok))))))
 
 -- it is absent or has three bytes
 address-whole : (t : KeyTarget) → Whole (key-address t)

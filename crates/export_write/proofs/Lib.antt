@@ -1,4 +1,4 @@
-mod LineWriting
+pub mod LineWriting
 pub mod ChannelWriting
 pub mod EntryWriting
 pub mod FixedWriting

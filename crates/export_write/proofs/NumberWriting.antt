@@ -1,14 +1,5 @@
 -- A kept number is written as its digits, two to a byte, and the end mark. Assumes nothing.
-use Prim.Native.Nat.{ℕ, zero, suc, _+_, _-_, _*_, _/_, _%_, _≤_, _<_}
-use mathlib.Core.Path.{_≡_, refl, sym, ap, _∙_, subst}
-use mathlib.Core.Bool.{true, false}
-use mathlib.Core.List.{List, [], _∷_, map}
-use native.Mathlib.Nat.{add-zero, not-suc-le-zero, le-of-suc-le-suc}
-use native.Mathlib.Omega.{arith}
-use borrow.Author.Tests.{eqb-true}
-use lib.Dec.{eqb}
-use lib.ListN.{length, drop, getD, set, length-drop, List·getD-eq-default}
-use lib.Seq.{getD-drop}
+use Rattle.lists.proofs.Kit.{ℕ, zero, suc, _+_, _-_, _*_, _/_, _%_, _≤_, _<_, _≡_, refl, sym, ap, _∙_, subst, true, false, List, [], _∷_, map, add-zero, not-suc-le-zero, le-of-suc-le-suc, arith, eqb-true, eqb, length, drop, getD, set, length-drop, List·getD-eq-default, getD-drop}
 use Rattle.lists.proofs.Bools.{is-false, and-parts}
 use Rattle.lists.specs.Every.{All}
 use Rattle.lists.proofs.Every.{all-append, all-get, all-map}

@@ -1,8 +1,5 @@
 -- The bytes of fields, piece by piece. Assumes nothing.
-use Prim.Native.Nat.{ℕ, _*_, _/_, _%_, _<_}
-use mathlib.Core.Path.{_≡_, ap, ap₂, _∙_}
-use mathlib.Core.List.{List, _∷_, _++_}
-use native.Mathlib.Omega.{arith}
+use Rattle.lists.proofs.Kit.{ℕ, _*_, _/_, _%_, _<_, _≡_, ap, ap₂, _∙_, List, _∷_, _++_, arith}
 use Rattle.lists.specs.Every.{All}
 use Rattle.slots.specs.Slots.{u16, u24}
 use Rattle.writing.specs.Canonical.{side-by-side, bytes, plain, FitsField}

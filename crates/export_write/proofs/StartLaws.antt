@@ -1,9 +1,5 @@
 -- A setting's type byte and DataLength, written before what follows them. Assumes nothing.
-use Prim.Native.Nat.{ℕ, _+_, _-_, _≤_, _<_}
-use mathlib.Core.Path.{_≡_, refl, sym, ap, ap₂, _∙_, subst}
-use mathlib.Core.List.{List, [], _∷_, _++_, append-nil}
-use native.Mathlib.Omega.{arith}
-use lib.ListN.{length}
+use Rattle.lists.proofs.Kit.{ℕ, _+_, _-_, _≤_, _<_, _≡_, refl, sym, ap, ap₂, _∙_, subst, List, [], _∷_, _++_, append-nil, arith, length}
 use Rattle.lists.specs.Every.{All}
 use Rattle.slots.specs.Slots.{u16}
 use Rattle.writing.specs.declared.Kind.{Kind}
@@ -19,7 +15,7 @@ use Rattle.export_write.proofs.PlainLaws.{plain-byte, plain-two}
 use Rattle.export_write.proofs.WroteLaws.{wrote-before, wrote-as}
 
 -- type bytes are bytes
-type-small : (k : Kind) → type-byte k < 256
+pub type-small : (k : Kind) → type-byte k < 256
 type-small Lines = omega arith
 type-small Key = omega arith
 type-small QuickTexts = omega arith

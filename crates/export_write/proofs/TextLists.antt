@@ -1,10 +1,5 @@
 -- Quick and status texts are written as their settings. Assumes nothing.
-use Prim.Native.Nat.{ℕ, suc, _+_, _*_, _≤_, _<_}
-use mathlib.Core.Path.{_≡_, refl, ap, ap₂, _∙_}
-use mathlib.Core.List.{List, [], _∷_, _++_, map}
-use mathlib.Core.Option.{Option, none, some}
-use native.Mathlib.Omega.{arith}
-use lib.ListN.{length}
+use Rattle.lists.proofs.Kit.{ℕ, suc, _+_, _*_, _≤_, _<_, _≡_, refl, ap, ap₂, _∙_, List, [], _∷_, _++_, map, Option, none, some, arith, length}
 use Rattle.lists.specs.Every.{All}
 use Rattle.lists.proofs.Every.{all-append, all-turn}
 use Rattle.slots.specs.Slots.{flat, Present, Placed}

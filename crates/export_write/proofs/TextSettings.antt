@@ -1,13 +1,5 @@
 -- Quick and status texts: their settings were written, the entries first and the heads before them. Assumes nothing.
-use Prim.Native.Nat.{ℕ, suc, _+_, _≤_, _<_}
-use mathlib.Core.Path.{_≡_, refl, sym, ap, ap₂, _∙_, subst}
-use mathlib.Core.Bool.{true, false, true≢false}
-use mathlib.Core.List.{List, [], _∷_, _++_, map, append-nil}
-use mathlib.Core.Option.{Option, none, some}
-use native.Mathlib.Omega.{arith}
-use borrow.Rule.Slice.PartMut.{midOf}
-use lib.ListN.{length, getD, take, drop, drop-of-length-le, length-take}
-use lib.Seq.{drop-cons, take-all}
+use Rattle.lists.proofs.Kit.{ℕ, suc, _+_, _≤_, _<_, _≡_, refl, sym, ap, ap₂, _∙_, subst, true, false, true≢false, List, [], _∷_, _++_, map, append-nil, Option, none, some, arith, midOf, length, getD, take, drop, drop-of-length-le, length-take, drop-cons, take-all}
 use Rattle.lists.specs.Every.{All}
 use Rattle.lists.proofs.Every.{all-get, all-take}
 use Rattle.slots.specs.Slots.{flat, zeros?, Present}
@@ -37,15 +29,15 @@ head-before a b at m n r s t u v w e = wrote-before a b at m r s t u v (subst (�
 abbrev pub status-table : TextTable
 status-table = record { width = 33; skip = 1; places = 96; first = 32; most = 96 }
 
-pub status-wrote : (part s t u : List ℕ) (at m : ℕ) (r : Entries) → EntersAll status-table part (at + 5) s t r → Wrote (192 ∷ r .count ∷ []) (at + 3) t u m
-    → (os : List (Option Text)) → StatusesIn part os
+pub status-wrote : (region s t u : List ℕ) (at m : ℕ) (r : Entries) → EntersAll status-table region (at + 5) s t r → Wrote (192 ∷ r .count ∷ []) (at + 3) t u m
+    → (os : List (Option Text)) → StatusesIn region os
     → (type-byte (kind (status-texts Replace (entries 32 os))) ≡ 0xD0) × All FitsField (body unicode16 (status-texts Replace (entries 32 os)))
     × Wrote (plain (body unicode16 (status-texts Replace (entries 32 os)))) (at + 3) s u (r .end)
-status-wrote part s t u at m r g w os p =
+status-wrote region s t u at m r g w os p =
     let es : List Entry = entries 32 os in
     let few : length es ≤ 96 = omega (arith, entries-few 32 os, p .many) in
     let h : All (EntryOk 128) es = entries-ok StatusOk (λ us q. q .units) 128 32 os (p .each) (omega (arith, p .many)) in
-    let k = g .entered (1 ∷ []) 16 os refl refl (status-placed os part p) in
+    let k = g .entered (1 ∷ []) 16 os refl refl (status-placed os region p) in
     let a : take 96 es ≡ es = take-all 96 es few in
     let c : r .count ≡ length es = k .counted ∙ ap length a in
     let b : flat (map entry-bytes (take 96 es)) ≡ flat (map entry-bytes es) = ap (λ (x : List Entry). flat (map entry-bytes x)) a in
@@ -63,18 +55,18 @@ abbrev pub quick-table : TextTable
 quick-table = record { width = 46; skip = 0; places = 64; first = 0; most = 63 }
 
 -- the entries of a table are quick texts
-quick-entries : (part : List ℕ) (os : List (Option Text)) → QuicksIn part os → All (EntryOk 64) (entries 0 os)
-quick-entries part os p = entries-ok QuickOk (λ us q. q .text .units) 64 0 os (p .each) (omega (arith, p .many))
+quick-entries : (region : List ℕ) (os : List (Option Text)) → QuicksIn region os → All (EntryOk 64) (entries 0 os)
+quick-entries region os p = entries-ok QuickOk (λ us q. q .text .units) 64 0 os (p .each) (omega (arith, p .many))
 
 -- the replace
-pub quick-wrote : (part s t u v : List ℕ) (at m z : ℕ) (r : Entries) → EntersAll quick-table part (at + 4) s t r → Wrote ((192 + r .count) ∷ []) (at + 3) t u m
-    → Started 0xCC at (r .end) u v z → (os : List (Option Text)) → QuicksIn part os
+pub quick-wrote : (region s t u v : List ℕ) (at m z : ℕ) (r : Entries) → EntersAll quick-table region (at + 4) s t r → Wrote ((192 + r .count) ∷ []) (at + 3) t u m
+    → Started 0xCC at (r .end) u v z → (os : List (Option Text)) → QuicksIn region os
     → Wrote (canonical unicode16 (quick-texts Replace (take 63 (entries 0 os)))) at s v z
-quick-wrote part s t u v at m z r g w st os p =
+quick-wrote region s t u v at m z r g w st os p =
     let es : List Entry = take 63 (entries 0 os) in
     let few : length es < 64 = omega (arith, length-take 63 (entries 0 os)) in
-    let h : All (EntryOk 64) es = all-take (EntryOk 64) 63 (entries 0 os) (quick-entries part os p) in
-    let k = g .entered [] 23 os refl refl (quick-placed os part p) in
+    let h : All (EntryOk 64) es = all-take (EntryOk 64) 63 (entries 0 os) (quick-entries region os p) in
+    let k = g .entered [] 23 os refl refl (quick-placed os region p) in
     let e : ((192 + r .count) ∷ []) ++ flat (map entry-bytes es) ≡ plain (body unicode16 (quick-texts Replace es))
     = ap (λ (i : ℕ). (192 + i) ∷ flat (map entry-bytes es)) (k .counted) ∙ sym (quick-plain Replace es h few (omega arith)) in
     st .setting (quick-texts Replace es) s refl (quick-fits Replace es h few (omega arith))
@@ -118,27 +110,27 @@ quick-left os next l e r =
     ∙ ap (entries 63) (drop-cons os 63 none (omega arith) ∙ ap (λ (x : List (Option Text)). getD os 63 none ∷ x) (drop-of-length-le os {i = 64} (omega arith)))
 
 -- which is the slot there
-pub quick-last : (part : List ℕ) (os : List (Option Text)) → QuicksIn part os → QuickIn (midOf 2898 46 part) (getD os 63 none)
-quick-last part os p = (
+pub quick-last : (region : List ℕ) (os : List (Option Text)) → QuicksIn region os → QuickIn (midOf 2898 46 region) (getD os 63 none)
+quick-last region os p = (
   all-get (Present QuickOk) os 63 none (p .each) (omega (arith, p .many)),
-  place-read QuickOk 46 quick-bytes (quick-code .long) 64 os part p 63 (omega arith),
+  place-read QuickOk 46 quick-bytes (quick-code .long) 64 os region p 63 (omega arith),
 )
 
--- ---- the part
+-- ---- the region
 
-module _ (part s t v : List ℕ) (at z : ℕ) (r : Entries) (g : EntersAll quick-table part (at + 4) s t r) where
+module _ (region s t v : List ℕ) (at z : ℕ) (r : Entries) (g : EntersAll quick-table region (at + 4) s t r) where
   -- the replace is all
-  pub quick-done : r .next ≡ 64 → ((os : List (Option Text)) → QuicksIn part os → Wrote (canonical unicode16 (quick-texts Replace (take 63 (entries 0 os)))) at s v z)
-      → at ≤ z → z ≤ at + 3091 → WritesAll (QuicksIn part) quick-settings at 3144 s v (record { end = z; count = 1 })
+  pub quick-done : r .next ≡ 64 → ((os : List (Option Text)) → QuicksIn region os → Wrote (canonical unicode16 (quick-texts Replace (take 63 (entries 0 os)))) at s v z)
+      → at ≤ z → z ≤ at + 3091 → WritesAll (QuicksIn region) quick-settings at 3144 s v (record { end = z; count = 1 })
   quick-done e w low high = record {
     writes = record { from = low; most = omega arith; wrote = all };
     counted = λ os p. ap (λ (x : List Entry). suc (length (map quick-add x))) (sym (rest os p));
   }
     where
-      rest : (os : List (Option Text)) → QuicksIn part os → drop 63 (entries 0 os) ≡ []
-      rest os p = quick-all os (r .next) (p .many) e (g .entered [] 23 os refl refl (quick-placed os part p) .rest)
+      rest : (os : List (Option Text)) → QuicksIn region os → drop 63 (entries 0 os) ≡ []
+      rest os p = quick-all os (r .next) (p .many) e (g .entered [] 23 os refl refl (quick-placed os region p) .rest)
 
-      all : (os : List (Option Text)) → QuicksIn part os → Wrote (canonical-all unicode16 (quick-settings os)) at s v z
+      all : (os : List (Option Text)) → QuicksIn region os → Wrote (canonical-all unicode16 (quick-settings os)) at s v z
       all os p =
           let c : List ℕ = canonical unicode16 (quick-texts Replace (take 63 (entries 0 os))) in
           wrote-as c (canonical-all unicode16 (quick-settings os)) at z s v
@@ -146,25 +138,25 @@ module _ (part s t v : List ℕ) (at z : ℕ) (r : Entries) (g : EntersAll quick
 
   -- the last place may have an add
   pub quick-more : (after : List ℕ) (y : Settings) → (r .next ≡ 64 → ⊥)
-      → ((os : List (Option Text)) → QuicksIn part os → Wrote (canonical unicode16 (quick-texts Replace (take 63 (entries 0 os)))) at s v z)
-      → WritesAll (QuickIn (midOf 2898 46 part)) last-quick z 53 v after y → at ≤ z → z ≤ at + 3091
-      → WritesAll (QuicksIn part) quick-settings at 3144 s after (record { end = y .end; count = 1 + y .count })
+      → ((os : List (Option Text)) → QuicksIn region os → Wrote (canonical unicode16 (quick-texts Replace (take 63 (entries 0 os)))) at s v z)
+      → WritesAll (QuickIn (midOf 2898 46 region)) last-quick z 53 v after y → at ≤ z → z ≤ at + 3091
+      → WritesAll (QuicksIn region) quick-settings at 3144 s after (record { end = y .end; count = 1 + y .count })
   quick-more after y n w h low high = record {
     writes = record { from = omega (arith, h .writes .from); most = omega (arith, h .writes .most); wrote = all };
     counted = λ os p.
-        let k : y .count ≡ length (last-quick (getD os 63 none)) = h .counted (getD os 63 none) (quick-last part os p) in
+        let k : y .count ≡ length (last-quick (getD os 63 none)) = h .counted (getD os 63 none) (quick-last region os p) in
         omega (arith, k, ap (λ (x : List Entry). length (map quick-add x)) (rest os p));
   }
     where
       at-63 : r .next ≡ 63
       at-63 = let f : r .next < 64 = omega (arith, g .within, n) in omega (arith, g .full f, g .passed)
 
-      rest : (os : List (Option Text)) → QuicksIn part os → drop 63 (entries 0 os) ≡ entries 63 (getD os 63 none ∷ [])
-      rest os p = quick-left os (r .next) (p .many) at-63 (g .entered [] 23 os refl refl (quick-placed os part p) .rest)
+      rest : (os : List (Option Text)) → QuicksIn region os → drop 63 (entries 0 os) ≡ entries 63 (getD os 63 none ∷ [])
+      rest os p = quick-left os (r .next) (p .many) at-63 (g .entered [] 23 os refl refl (quick-placed os region p) .rest)
 
-      all : (os : List (Option Text)) → QuicksIn part os → Wrote (canonical-all unicode16 (quick-settings os)) at s after (y .end)
+      all : (os : List (Option Text)) → QuicksIn region os → Wrote (canonical-all unicode16 (quick-settings os)) at s after (y .end)
       all os p =
           let c : List ℕ = canonical unicode16 (quick-texts Replace (take 63 (entries 0 os))) in
           let d : List ℕ = canonical-all unicode16 (last-quick (getD os 63 none)) in
           wrote-as (c ++ d) (canonical-all unicode16 (quick-settings os)) at (y .end) s after (ap (λ (x : List Entry). c ++ canonical-all unicode16 (map quick-add x)) (sym (rest os p)))
-          (wrote-both c d at z (y .end) s v after (w os p) (h .writes .wrote (getD os 63 none) (quick-last part os p)))
+          (wrote-both c d at z (y .end) s v after (w os p) (h .writes .wrote (getD os 63 none) (quick-last region os p)))

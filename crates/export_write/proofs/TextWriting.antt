@@ -1,11 +1,5 @@
 -- A kept text is written as its units and the end unit. Assumes nothing.
-use Prim.Native.Nat.{ℕ, _-_, _*_, _≤_, _<_}
-use mathlib.Core.Path.{_≡_, refl, sym, ap, ap₂, _∙_}
-use mathlib.Core.List.{List, [], _∷_, _++_, map}
-use native.Mathlib.Omega.{arith}
-use borrow.Rule.Slice.PartMut.{midOf}
-use lib.ListN.{length, take, replicate, length-map}
-use lib.Seq.{take-at, take-all}
+use Rattle.lists.proofs.Kit.{ℕ, _-_, _*_, _≤_, _<_, _≡_, refl, sym, ap, ap₂, _∙_, List, [], _∷_, _++_, map, arith, midOf, length, take, replicate, length-map, take-at, take-all}
 use Rattle.lists.specs.Every.{All}
 use Rattle.lists.proofs.Every.{all-made}
 use Rattle.slots.specs.Slots.{flat, pad, u16, zeros?, Listed, Found}

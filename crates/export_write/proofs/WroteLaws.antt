@@ -1,13 +1,5 @@
 -- Writes one after the other, and a head written before what follows it. Assumes nothing.
-use Prim.Native.Nat.{ℕ, _+_, _-_, _≤_, _<_}
-use mathlib.Core.Path.{_≡_, refl, sym, ap, ap₂, _∙_, subst}
-use mathlib.Core.List.{List, [], _∷_, _++_, append-assoc, append-nil}
-use native.Mathlib.Omega.{arith}
-use borrow.Rule.Slice.PartMut.{midOf, putMid, mid-len}
-use lib.ListN.{length, take, drop, set, length-append, length-drop, take-append-drop}
-use native.Mathlib.Nat.{add-zero}
-use native.Mathlib.Numerals.{add-one}
-use lib.Seq.{take-at, drop-at, take-append-le, drop-drop, length-take-le, take-take, set-split}
+use Rattle.lists.proofs.Kit.{ℕ, _+_, _-_, _≤_, _<_, _≡_, refl, sym, ap, ap₂, _∙_, subst, List, [], _∷_, _++_, append-assoc, append-nil, arith, midOf, putMid, mid-len, length, take, drop, set, length-append, length-drop, take-append-drop, add-zero, add-one, take-at, drop-at, take-append-le, drop-drop, length-take-le, take-take, set-split}
 use Rattle.slots.proofs.Runs.{copy-whole}
 use Rattle.export_write.specs.Writers.{Wrote}
 
@@ -88,7 +80,7 @@ wrote-none at s h = record { fits = omega arith; content = rw add-zero (sym (tak
 pub wrote-as : (a b : List ℕ) (at r : ℕ) (s t : List ℕ) → a ≡ b → Wrote a at s t r → Wrote b at s t r
 wrote-as a b at r s t e w = subst (λ (x : List ℕ). Wrote x at s t r) e w
 
--- bytes copied into their part of the buffer
+-- bytes copied into their region of the buffer
 pub wrote-copied : (b : List ℕ) (at : ℕ) (s y : List ℕ) → at + length b ≤ length s
     → y ≡ take (length (midOf at (at + length b - at) s)) b ++ drop (length b) (midOf at (at + length b - at) s)
     → Wrote b at s (putMid at (at + length b - at) s y) (at + length b)

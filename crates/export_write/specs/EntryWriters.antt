@@ -11,7 +11,7 @@ use Rattle.writing.specs.Canonical.{plain}
 use Rattle.writing.specs.Settings.{Text, Entry, Setting, quick-texts, status-texts, unicode16}
 use Rattle.writing.specs.Writing.{text}
 use Rattle.tables.specs.Allowed.{TextOk, QuickOk, StatusOk}
-use Rattle.tables.specs.Layout.{text-bytes, quick-bytes, quick-width, status-bytes}
+use Rattle.tables.specs.Layout.{text-bytes, quick-bytes, quick-width, status-bytes, quick-size, status-size}
 use Rattle.export_write.specs.declared.entries.TextTable.{TextTable}
 use Rattle.export_write.specs.declared.entries.Entries.{Entries}
 use Rattle.export_write.specs.declared.writers.Settings.{Settings}
@@ -40,10 +40,10 @@ abbrev pub entry-size : TextTable → ℕ
 entry-size t = t .width - t .skip + 3
 
 -- the text stands in a slot, every index is a byte, and the table has its places
-pub record Indexed (t : TextTable) (part : List ℕ) : Type 0 where
+pub record Indexed (t : TextTable) (region : List ℕ) : Type 0 where
   pub skips : t .skip ≤ t .width
   pub indices : t .first + t .places ≤ 256
-  pub long : length part ≡ t .places * t .width
+  pub long : length region ≡ t .places * t .width
 
 -- of these texts, the entries up to the most were written, and the others stand from the next place on
 pub record Entered (t : TextTable) (os : List (Option Text)) (at : ℕ) (before after : List ℕ) (r : Entries) : Type 0 where
@@ -52,7 +52,7 @@ pub record Entered (t : TextTable) (os : List (Option Text)) (at : ℕ) (before 
   pub rest : drop (t .most) (entries (t .first) os) ≡ entries (t .first + r .next) (drop (r .next) os)
 
 -- the texts of a table were written, whatever they are
-pub record EntersAll (t : TextTable) (part : List ℕ) (at : ℕ) (before after : List ℕ) (r : Entries) : Type 0 where
+pub record EntersAll (t : TextTable) (region : List ℕ) (at : ℕ) (before after : List ℕ) (r : Entries) : Type 0 where
   pub from : at ≤ r .end
   pub most : r .end ≤ at + r .count * entry-size t
   pub few : r .count ≤ t .most
@@ -60,7 +60,7 @@ pub record EntersAll (t : TextTable) (part : List ℕ) (at : ℕ) (before after 
   pub within : r .next ≤ t .places
   pub full : r .next < t .places → r .count ≡ t .most
   pub entered : (lead : List ℕ) (n : ℕ) (os : List (Option Text)) → length lead ≡ t .skip → t .width ≡ t .skip + 2 * n
-      → Placed (Shown lead n) (t .width) (led lead n) (t .places) os part → Entered t os at before after r
+      → Placed (Shown lead n) (t .width) (led lead n) (t .places) os region → Entered t os at before after r
 
 -- ---- quick texts
 
@@ -73,24 +73,24 @@ last-quick o = map quick-add (entries 63 (o ∷ []))
 
 -- the lent bytes are a table of quick texts, and the settings that export it
 abbrev pub QuicksIn : List ℕ → List (Option Text) → Type 0
-QuicksIn part os = Placed QuickOk 46 quick-bytes 64 os part
+QuicksIn region os = Placed QuickOk 46 quick-bytes 64 os region
 
 abbrev pub quick-settings : List (Option Text) → List Setting
 quick-settings os = quick-texts Replace (take 63 (entries 0 os)) ∷ map quick-add (drop 63 (entries 0 os))
 
 -- it was written
-abbrev pub WritesQuicks : (part before after : List ℕ) → Settings → Type 0
-WritesQuicks part before after r = WritesTable (length part ≡ 2944) (QuicksIn part) quick-settings 3144 before after r
+abbrev pub WritesQuicks : (region before after : List ℕ) → Settings → Type 0
+WritesQuicks region before after r = WritesTable (length region ≡ quick-size) (QuicksIn region) quick-settings 3144 before after r
 
 -- ---- status texts
 
 -- the lent bytes are a table of status texts, and the setting that exports it
 abbrev pub StatusesIn : List ℕ → List (Option Text) → Type 0
-StatusesIn part os = Placed StatusOk 33 status-bytes 96 os part
+StatusesIn region os = Placed StatusOk 33 status-bytes 96 os region
 
 abbrev pub status-settings : List (Option Text) → List Setting
 status-settings os = status-texts Replace (entries 32 os) ∷ []
 
 -- it was written
-abbrev pub WritesStatuses : (part before after : List ℕ) → Settings → Type 0
-WritesStatuses part before after r = WritesTable (length part ≡ 3168) (StatusesIn part) status-settings 3365 before after r
+abbrev pub WritesStatuses : (region before after : List ℕ) → Settings → Type 0
+WritesStatuses region before after r = WritesTable (length region ≡ status-size) (StatusesIn region) status-settings 3365 before after r

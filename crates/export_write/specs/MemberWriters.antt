@@ -1,33 +1,20 @@
 -- Group and individual slots as the writers see them, by one table of cases, and what writing them promises.
-use Prim.Native.Nat.{ℕ, _*_}
+use Prim.Native.Nat.{ℕ, _+_, _*_}
 use mathlib.Core.Path.{_≡_}
+use mathlib.Core.Bool.{cond}
 use mathlib.Core.List.{List, []}
 use mathlib.Core.Option.{Option, none, some}
-use lib.ListN.{length}
-use Rattle.slots.specs.Slots.{slot, Present, Placed}
+use lib.ListN.{length, getD}
+use Rattle.slots.specs.Slots.{slot, zeros?, Present, Placed}
 use Rattle.writing.specs.declared.Operation.the-variants.{Add, Delete}
 use Rattle.writing.specs.Settings.{Setting, group, individual}
-use Rattle.tables.specs.Allowed.{GroupOk, IndividualOk}
-use Rattle.tables.specs.Layout.{group-bytes, individual-bytes, member-width}
-use Rattle.tables.specs.Tables.{GroupMember, IndividualMember}
-use Rattle.export_write.specs.declared.members.Members.{Members}
-use Rattle.export_write.specs.declared.members.Members.the-variants.{OfGroups, OfIndividuals}
+use Rattle.tables.specs.declared.members.Members.{Members}
+use Rattle.tables.specs.declared.members.Members.the-variants.{OfGroups, OfIndividuals}
+use Rattle.tables.specs.Layout.{member-width, member-size}
+use Rattle.tables.specs.Members.{MemberIn, member-ok, member-bytes}
 use Rattle.export_write.specs.declared.writers.Settings.{Settings}
 use Rattle.export_write.specs.EntrySettings.{slots, no-group-flags, no-individual-flags}
 use Rattle.export_write.specs.Writers.{WritesTable}
-
--- what a slot holds, what it may hold, and its bytes
-abbrev pub MemberIn : Members → Type 0
-MemberIn OfGroups = GroupMember
-MemberIn OfIndividuals = IndividualMember
-
-abbrev pub member-ok : (w : Members) → MemberIn w → Type 0
-member-ok OfGroups = GroupOk
-member-ok OfIndividuals = IndividualOk
-
-abbrev pub member-bytes : (w : Members) → MemberIn w → List ℕ
-member-bytes OfGroups = group-bytes
-member-bytes OfIndividuals = individual-bytes
 
 -- the lent bytes are the slot of an entry, or an empty one
 abbrev pub SlotIn : (w : Members) → List ℕ → Option (MemberIn w) → Type 0
@@ -43,6 +30,10 @@ abbrev pub flags-at : Members → ℕ → ℕ
 flags-at OfGroups f = f * 64
 flags-at OfIndividuals f = f * 1024
 
+-- an inner step: the first 16 bits of the setting of a slot with these bytes
+abbrev pub member-head : Members → ℕ → List ℕ → ℕ
+member-head w i p = cond (zeros? p) 2 1 * 16384 + flags-at w (getD p 0 0) + i
+
 -- the setting of a slot, and those of a table from an index on
 abbrev pub member-setting : (w : Members) → ℕ → Option (MemberIn w) → Setting
 member-setting OfGroups i none = group Delete no-group-flags (record { index = i; address = record { 0 = 0 }; text = [] })
@@ -56,8 +47,8 @@ member-settings OfIndividuals = slots individual no-individual-flags (record { 0
 
 -- the lent bytes are a table of sixteen slots
 abbrev pub MembersIn : (w : Members) → List ℕ → List (Option (MemberIn w)) → Type 0
-MembersIn w part os = Placed (member-ok w) 36 (member-bytes w) 16 os part
+MembersIn w region os = Placed (member-ok w) 36 (member-bytes w) 16 os region
 
 -- it was written
-abbrev pub WritesMembers : Members → (part before after : List ℕ) → Settings → Type 0
-WritesMembers w part before after r = WritesTable (length part ≡ 576) (MembersIn w part) (member-settings w 0) 672 before after r
+abbrev pub WritesMembers : Members → (region before after : List ℕ) → Settings → Type 0
+WritesMembers w region before after r = WritesTable (length region ≡ member-size) (MembersIn w region) (member-settings w 0) 672 before after r

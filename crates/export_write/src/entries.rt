@@ -39,9 +39,14 @@ pub(crate) fn write_entry(
 }
 
 // The entries of a table, in order, until the most are written.
-pub(crate) fn write_entries(buffer: &mut [u8], at: usize, table: TextTable, part: &[u8]) -> Entries
-    requires { ⌜ Indexed table (now part) × (at + table .most * entry-size table ≤ length (now buffer)) ⌝ }
-    ensures { λ r. ⌜ EntersAll table (now (part .entry)) at (now (buffer .entry)) (now (buffer .exit)) r ⌝ }
+pub(crate) fn write_entries(
+    buffer: &mut [u8],
+    at: usize,
+    table: TextTable,
+    region: &[u8],
+) -> Entries
+    requires { ⌜ Indexed table (now region) × (at + table .most * entry-size table ≤ length (now buffer)) ⌝ }
+    ensures { λ r. ⌜ EntersAll table (now (region .entry)) at (now (buffer .entry)) (now (buffer .exit)) r ⌝ }
 {
     let mut end = at;
     let mut count = 0;
@@ -52,9 +57,9 @@ pub(crate) fn write_entries(buffer: &mut [u8], at: usize, table: TextTable, part
         }
         let a = next * table.width;
         let e = a + table.width;
-        if !is_zeros(&part[a..e]) {
+        if !is_zeros(&region[a..e]) {
             let index = (table.first + next) as u8;
-            end = write_entry(buffer, end, index, &part[a..e], table.skip);
+            end = write_entry(buffer, end, index, &region[a..e], table.skip);
             count += 1;
         }
         next += 1;

@@ -7,45 +7,60 @@ use super::writers::Settings;
 use super::writers::start_setting;
 use super::writers::write_bytes;
 use slots::slots::used;
+use tables::places::LINE_DIGITS;
+use tables::places::LINE_IDTYPE;
+use tables::places::LINE_SLOT;
+use tables::places::LINE_TEXT;
 ghost use mathlib.Core.Path.{_≡_};
 ghost use Prim.Native.Nat.{_+_, _≤_};
 ghost use lib.ListN.{length};
 ghost use Rattle.tables.specs.Allowed.{LineOk};
-ghost use Rattle.tables.specs.Layout.{line-bytes};
+ghost use Rattle.tables.specs.Layout.{line-bytes, line-width};
 ghost use Rattle.export_write.specs.LineSettings.{line-add};
-ghost use Rattle.export_write.specs.LineWriters.{WritesLines};
+ghost use Rattle.export_write.specs.LineWriters.{line-byte, WritesLines};
 ghost use Rattle.export_write.specs.Writers.{Kept, WritesSetting};
 
-// An add of the contact in a slot: its flags are sent a bit higher than they are kept.
+// The bytes of 254 lines, for which a request has settings.
+const MOST: usize = 254 * LINE_SLOT;
+
+// The first byte of an add: the flags are sent two bits higher than they are kept, and the IDtype one.
+fn line_byte(slot: &[u8]) -> u8
+    requires { ⌜ length (now slot) ≡ line-width ⌝ }
+    ensures { λ r. ⌜ r ≡ line-byte (now (slot .entry)) ⌝ }
+{
+    64 + slot[0] % 16 * 4 + slot[LINE_IDTYPE] % 2 * 2
+}
+
+// An add of the contact in a slot.
 fn write_line(buffer: &mut [u8], at: usize, slot: &[u8]) -> usize
-    requires { ⌜ (length (now slot) ≡ 51) × (at + 49 ≤ length (now buffer)) ⌝ }
+    requires { ⌜ (length (now slot) ≡ line-width) × (at + 49 ≤ length (now buffer)) ⌝ }
     ensures { λ r. ⌜ WritesSetting (Kept LineOk line-bytes (now (slot .entry))) line-add at 49 (now (buffer .entry)) (now (buffer .exit)) r ⌝ }
 {
-    let head = [64 + slot[0] % 32 * 2, 1];
+    let head = [line_byte(slot), 1];
     let number = write_bytes(buffer, at + 3, &head);
-    let text = write_number(buffer, number, &slot[1..19]);
-    let end = write_text(buffer, text, &slot[19..51]);
+    let text = write_number(buffer, number, &slot[LINE_DIGITS..LINE_TEXT]);
+    let end = write_text(buffer, text, &slot[LINE_TEXT..LINE_SLOT]);
     start_setting(buffer, at, 0xCA, end)
 }
 
-// A replace with flags and Count 0, then an add for each contact of a part of the store.
-pub fn export_lines(buffer: &mut [u8], part: &[u8]) -> Settings
-    ensures { λ r. ⌜ WritesLines (now (part .entry)) (now (buffer .entry)) (now (buffer .exit)) r ⌝ }
+// A replace with flags and Count 0, then an add for each contact of a region of the store.
+pub fn export_lines(buffer: &mut [u8], region: &[u8]) -> Settings
+    ensures { λ r. ⌜ WritesLines (now (region .entry)) (now (buffer .entry)) (now (buffer .exit)) r ⌝ }
 {
-    if 12954 < part.len() {
+    if MOST < region.len() {
         return NOTHING;
     }
-    if buffer.len() < FIRST + 5 + part.len() / 51 * 49 {
+    if buffer.len() < FIRST + 5 + region.len() / LINE_SLOT * 49 {
         return NOTHING;
     }
     let replace = [0xCA, 0, 4, 0xC0, 0];
     let mut end = write_bytes(buffer, FIRST, &replace);
-    let count = used(part, 51) / 51;
+    let count = used(region, LINE_SLOT) / LINE_SLOT;
     let mut i = 0;
     while i < count {
-        let a = i * 51;
-        let e = a + 51;
-        end = write_line(buffer, end, &part[a..e]);
+        let a = i * LINE_SLOT;
+        let e = a + LINE_SLOT;
+        end = write_line(buffer, end, &region[a..e]);
         i += 1;
     }
     Settings {

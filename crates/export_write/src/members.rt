@@ -6,19 +6,15 @@ use super::writers::Settings;
 use super::writers::start_setting;
 use super::writers::write_bytes;
 use slots::bytes::is_zeros;
+use tables::members::Members;
+use tables::places::MEMBER_SIZE;
 ghost use mathlib.Core.Path.{_≡_};
 ghost use mathlib.Core.Bool.{cond};
 ghost use Prim.Native.Nat.{_+_, _≤_, _<_};
 ghost use lib.ListN.{length};
 ghost use Rattle.slots.specs.Slots.{zeros?};
-ghost use Rattle.export_write.specs.MemberWriters.{SlotIn, member-type, flags-at, member-setting, WritesMembers};
+ghost use Rattle.export_write.specs.MemberWriters.{SlotIn, member-type, flags-at, member-head, member-setting, WritesMembers};
 ghost use Rattle.export_write.specs.Writers.{WritesSetting};
-
-// The two tables of slots.
-pub enum Members {
-    OfGroups,
-    OfIndividuals,
-}
 
 fn type_of(which: Members) -> u8
     ensures { λ r. ⌜ r ≡ member-type which ⌝ }
@@ -46,12 +42,20 @@ fn operation(slot: &[u8]) -> u32
     if is_zeros(slot) { 2 } else { 1 }
 }
 
+// The first 16 bits of the setting of a slot.
+fn member_bits(which: Members, index: u8, slot: &[u8]) -> u32
+    requires { ⌜ length (now slot) ≡ 36 ⌝ }
+    ensures { λ r. ⌜ r ≡ member-head which index (now (slot .entry)) ⌝ }
+{
+    operation(slot) * 16384 + flag_bits(which, slot[0]) + index as u32
+}
+
 // An add of what the slot holds; of an empty slot, whose address and text are 0 and empty, a delete.
 fn write_member(buffer: &mut [u8], at: usize, which: Members, index: u8, slot: &[u8]) -> usize
     requires { ⌜ (length (now slot) ≡ 36) × (at + 42 ≤ length (now buffer)) × (index < 16) ⌝ }
     ensures { λ r. ⌜ WritesSetting (SlotIn which (now (slot .entry))) (member-setting which index) at 42 (now (buffer .entry)) (now (buffer .exit)) r ⌝ }
 {
-    let head = operation(slot) * 16384 + flag_bits(which, slot[0]) + index as u32;
+    let head = member_bits(which, index, slot);
     let bytes = [
         (head / 256 % 256) as u8,
         (head % 256) as u8,
@@ -65,10 +69,10 @@ fn write_member(buffer: &mut [u8], at: usize, which: Members, index: u8, slot: &
 }
 
 // The sixteen settings of a table of slots.
-pub fn export_members(buffer: &mut [u8], which: Members, part: &[u8]) -> Settings
-    ensures { λ r. ⌜ WritesMembers which (now (part .entry)) (now (buffer .entry)) (now (buffer .exit)) r ⌝ }
+pub fn export_members(buffer: &mut [u8], which: Members, region: &[u8]) -> Settings
+    ensures { λ r. ⌜ WritesMembers which (now (region .entry)) (now (buffer .entry)) (now (buffer .exit)) r ⌝ }
 {
-    if part.len() != 576 {
+    if region.len() != MEMBER_SIZE {
         return NOTHING;
     }
     if buffer.len() < FIRST + 672 {
@@ -79,7 +83,7 @@ pub fn export_members(buffer: &mut [u8], which: Members, part: &[u8]) -> Setting
     while index < 16 {
         let a = index as usize * 36;
         let e = a + 36;
-        end = write_member(buffer, end, which, index, &part[a..e]);
+        end = write_member(buffer, end, which, index, &region[a..e]);
         index += 1;
     }
     Settings { end, count: 16 }

@@ -8,6 +8,8 @@ use super::writers::Settings;
 use super::writers::start_setting;
 use super::writers::write_bytes;
 use slots::bytes::is_zeros;
+use tables::places::QUICK_SIZE;
+use tables::places::STATUS_SIZE;
 ghost use mathlib.Core.Path.{_≡_};
 ghost use Prim.Native.Nat.{_+_, _≤_};
 ghost use lib.ListN.{length};
@@ -32,16 +34,16 @@ const STATUS: TextTable = TextTable {
 };
 
 // A replace by all status texts.
-pub fn export_status(buffer: &mut [u8], part: &[u8]) -> Settings
-    ensures { λ r. ⌜ WritesStatuses (now (part .entry)) (now (buffer .entry)) (now (buffer .exit)) r ⌝ }
+pub fn export_status(buffer: &mut [u8], region: &[u8]) -> Settings
+    ensures { λ r. ⌜ WritesStatuses (now (region .entry)) (now (buffer .entry)) (now (buffer .exit)) r ⌝ }
 {
-    if part.len() != 3168 {
+    if region.len() != STATUS_SIZE {
         return NOTHING;
     }
     if buffer.len() < FIRST + 3365 {
         return NOTHING;
     }
-    let entries = write_entries(buffer, FIRST + 5, STATUS, part);
+    let entries = write_entries(buffer, FIRST + 5, STATUS, region);
     let head = [0xC0, entries.count as u8];
     write_bytes(buffer, FIRST + 3, &head);
     let end = start_setting(buffer, FIRST, 0xD0, entries.end);
@@ -64,23 +66,23 @@ fn write_last_quick(buffer: &mut [u8], at: usize, slot: &[u8]) -> Settings
 }
 
 // A replace by the first 63 quick texts, and an add of the last where there are 64.
-pub fn export_quick(buffer: &mut [u8], part: &[u8]) -> Settings
-    ensures { λ r. ⌜ WritesQuicks (now (part .entry)) (now (buffer .entry)) (now (buffer .exit)) r ⌝ }
+pub fn export_quick(buffer: &mut [u8], region: &[u8]) -> Settings
+    ensures { λ r. ⌜ WritesQuicks (now (region .entry)) (now (buffer .entry)) (now (buffer .exit)) r ⌝ }
 {
-    if part.len() != 2944 {
+    if region.len() != QUICK_SIZE {
         return NOTHING;
     }
     if buffer.len() < FIRST + 3144 {
         return NOTHING;
     }
-    let entries = write_entries(buffer, FIRST + 4, QUICK, part);
+    let entries = write_entries(buffer, FIRST + 4, QUICK, region);
     let head = [0xC0 + entries.count as u8];
     write_bytes(buffer, FIRST + 3, &head);
     let end = start_setting(buffer, FIRST, 0xCC, entries.end);
     if entries.next == 64 {
         return Settings { end, count: 1 };
     }
-    let more = write_last_quick(buffer, end, &part[2898..2944]);
+    let more = write_last_quick(buffer, end, &region[2898..QUICK_SIZE]);
     Settings {
         end: more.end,
         count: 1 + more.count,

@@ -1,14 +1,5 @@
 -- After any messages from a start the store is that of the tables after the settings taken, in order. Assumes nothing.
-use Prim.Native.Nat.{ℕ, zero, suc, _≤_, _<_}
-use mathlib.Core.Path.{_≡_, refl, sym, ap, _∙_, subst}
-use mathlib.Core.Logic.{_⊎_, inl, inr}
-use mathlib.Core.Bool.{Bool, true, false}
-use mathlib.Core.List.{List, [], _∷_, _++_, append-nil}
-use mathlib.Core.Option.{Option, Option·some-injective}
-use native.Mathlib.Omega.{arith}
-use borrow.Author.Tests.{eqb-true, eqb-false, ltb-true, ltb-false}
-use lib.Dec.{eqb, ltb}
-use lib.ListN.{length}
+use Rattle.lists.proofs.Kit.{ℕ, zero, suc, _≤_, _<_, _≡_, refl, sym, ap, _∙_, subst, _⊎_, inl, inr, Bool, true, false, List, [], _∷_, _++_, append-nil, Option, Option·some-injective, arith, eqb-true, eqb-false, ltb-true, ltb-false, eqb, ltb, length}
 use Rattle.lists.specs.Bytes.{Bytes}
 use Rattle.lists.specs.Ladder.{Answers}
 use Rattle.writing.specs.Carrier.{InSize}
@@ -26,7 +17,7 @@ use Rattle.tables.proofs.FreshLaws.{fresh-allowed}
 use Rattle.tables.proofs.LayoutLaws.{holds-store}
 use Rattle.laws_taking.specs.Demands.{InTurn, Passes}
 use Rattle.requests.specs.Requests.{forget}
-use Rattle.station.specs.Taking.{After, AsRequest, AsQuery, Handled, taken}
+use Rattle.station.specs.Taking.{AfterTaking, AsRequest, AsQuery, Handled, taken}
 use Rattle.laws_taking.proofs.Theorems.{taken-leaves, taken-exactly, store-stays}
 use Rattle.laws_screen.specs.Reached.{Takes, Adds, its-settings, nothing, Reached, from-start, then-message, InOrder}
 use Rattle.screen.proofs.AnswerLaws.{one-tables}
@@ -34,33 +25,33 @@ use Rattle.screen.proofs.AnswerLaws.{one-tables}
 -- ---- settings in turn
 
 -- they leave allowed tables
-in-turn-allowed : (m : Limits) (n : ℕ) (t u : Tables) (l : List Setting) (w : List ℕ) → Allowed m t → WrittenAll unicode16 l w → InTurn m n t l u → Allowed m u
-in-turn-allowed m n t u [] w ok y z = subst (Allowed m) z ok
-in-turn-allowed m zero t u (s ∷ l) w ok y z = absurd z
-in-turn-allowed m (suc n) t u (s ∷ l) w ok (v, r, p, x, y) (i, t′, a, z) =
-    in-turn-allowed m n t′ u l r (apply-allowed m t t′ n s ok i (has-writing unicode16 s v x) a) y z
+in-turn-allowed : (lim : Limits) (n : ℕ) (t u : Tables) (l : List Setting) (w : List ℕ) → Allowed lim t → WrittenAll unicode16 l w → InTurn lim n t l u → Allowed lim u
+in-turn-allowed lim n t u [] w ok y z = subst (Allowed lim) z ok
+in-turn-allowed lim zero t u (s ∷ l) w ok y z = absurd z
+in-turn-allowed lim (suc n) t u (s ∷ l) w ok (v, r, p, x, y) (i, t′, a, z) =
+    in-turn-allowed lim n t′ u l r (apply-allowed lim t t′ n s ok i (has-writing unicode16 s v x) a) y z
 
 -- and one set of tables
-in-turn-one : (m : Limits) (n : ℕ) (t u v : Tables) (l : List Setting) → InTurn m n t l u → InTurn m n t l v → u ≡ v
-in-turn-one m n t u v [] p q = sym p ∙ q
-in-turn-one m zero t u v (s ∷ l) p q = absurd p
-in-turn-one m (suc n) t u v (s ∷ l) (i, t′, a, p) (j, t″, b, q) =
-    in-turn-one m n t″ u v l (subst (λ (x : Tables). InTurn m n x l u) (Option·some-injective t′ t″ (sym a ∙ b)) p) q
+in-turn-one : (lim : Limits) (n : ℕ) (t u v : Tables) (l : List Setting) → InTurn lim n t l u → InTurn lim n t l v → u ≡ v
+in-turn-one lim n t u v [] p q = sym p ∙ q
+in-turn-one lim zero t u v (s ∷ l) p q = absurd p
+in-turn-one lim (suc n) t u v (s ∷ l) (i, t′, a, p) (j, t″, b, q) =
+    in-turn-one lim n t″ u v l (subst (λ (x : Tables). InTurn lim n x l u) (Option·some-injective t′ t″ (sym a ∙ b)) p) q
 
 -- IN ORDER ONE: the settings taken leave one set of tables
-pub in-order-one : (m : Limits) (t u v : Tables) (log : List (List Setting)) → InOrder m t log u → InOrder m t log v → u ≡ v
-in-order-one m t u v [] p q = sym p ∙ q
-in-order-one m t u v (l ∷ log) (t′, a, p) (t″, b, q) =
-    in-order-one m t″ u v log (subst (λ (x : Tables). InOrder m x log u) (in-turn-one m (length l) (forget t) t′ t″ l a b) p) q
+pub in-order-one : (lim : Limits) (t u v : Tables) (log : List (List Setting)) → InOrder lim t log u → InOrder lim t log v → u ≡ v
+in-order-one lim t u v [] p q = sym p ∙ q
+in-order-one lim t u v (l ∷ log) (t′, a, p) (t″, b, q) =
+    in-order-one lim t″ u v log (subst (λ (x : Tables). InOrder lim x log u) (in-turn-one lim (length l) (forget t) t′ t″ l a b) p) q
 
 -- one log after another
-order-append : (m : Limits) (t v u : Tables) (log more : List (List Setting)) → InOrder m t log v → InOrder m v more u → InOrder m t (log ++ more) u
-order-append m t v u [] more p q = subst (λ (x : Tables). InOrder m x more u) (sym p) q
-order-append m t v u (l ∷ log) more (t′, a, p) q = (t′, a, order-append m t′ v u log more p q)
+order-append : (lim : Limits) (t v u : Tables) (log more : List (List Setting)) → InOrder lim t log v → InOrder lim v more u → InOrder lim t (log ++ more) u
+order-append lim t v u [] more p q = subst (λ (x : Tables). InOrder lim x more u) (sym p) q
+order-append lim t v u (l ∷ log) more (t′, a, p) q = (t′, a, order-append lim t′ v u log more p q)
 
 -- ---- one message
 
-module _ (m : Limits) (message store reply : List ℕ) (b : Bytes message) (s : StoreOf m store) (x : After) where
+module _ (lim : Limits) (message store reply : List ℕ) (b : Bytes message) (s : StoreOf lim store) (x : AfterTaking) where
   -- what is not under 20 bytes has them
   big-enough : (length reply < 20 → ⊥) → 20 ≤ length reply
   big-enough h = go (ltb (length reply) 20) refl
@@ -70,63 +61,63 @@ module _ (m : Limits) (message store reply : List ℕ) (b : Bytes message) (s : 
       go false e = ltb-false (length reply) 20 e
 
   -- a message that is answered 0 passes every test
-  answered-0 : x .answer .number ≡ 0 → Answers (taken m message store reply) x → (20 ≤ length reply) × InSize (m .message) message × Handled m message store reply x
-  answered-0 n (inl (_, e)) = absurd (omega (arith, n, ap (λ (y : After). y .answer .number) e))
-  answered-0 n (inr (_, inl (_, e))) = absurd (omega (arith, n, ap (λ (y : After). y .answer .number) e))
-  answered-0 n (inr (_, inr (_, inl (_, e)))) = absurd (omega (arith, n, ap (λ (y : After). y .answer .number) e))
-  answered-0 n (inr (_, inr (_, inr (_, inl (_, e))))) = absurd (omega (arith, n, ap (λ (y : After). y .answer .number) e))
-  answered-0 n (inr (_, inr (_, inr (_, inr (_, inl (_, e)))))) = absurd (omega (arith, n, ap (λ (y : After). y .answer .number) e))
-  answered-0 n (inr (_, inr (_, inr (_, inr (_, inr (_, inl (_, e))))))) = absurd (omega (arith, n, ap (λ (y : After). y .answer .number) e))
-  answered-0 n (inr (_, inr (_, inr (_, inr (_, inr (_, inr (_, inl (_, e)))))))) = absurd (omega (arith, n, ap (λ (y : After). y .answer .number) e))
-  answered-0 n (inr (big, inr (_, inr (sized, inr (_, inr (_, inr (_, inr (_, h)))))))) = (big-enough big, in-size (m .message) message sized, h)
+  answered-0 : x .answer .number ≡ 0 → Answers (taken lim message store reply) x → (20 ≤ length reply) × InSize (lim .message) message × Handled lim message store reply x
+  answered-0 n (inl (_, e)) = absurd (omega (arith, n, ap (λ (y : AfterTaking). y .answer .number) e))
+  answered-0 n (inr (_, inl (_, e))) = absurd (omega (arith, n, ap (λ (y : AfterTaking). y .answer .number) e))
+  answered-0 n (inr (_, inr (_, inl (_, e)))) = absurd (omega (arith, n, ap (λ (y : AfterTaking). y .answer .number) e))
+  answered-0 n (inr (_, inr (_, inr (_, inl (_, e))))) = absurd (omega (arith, n, ap (λ (y : AfterTaking). y .answer .number) e))
+  answered-0 n (inr (_, inr (_, inr (_, inr (_, inl (_, e)))))) = absurd (omega (arith, n, ap (λ (y : AfterTaking). y .answer .number) e))
+  answered-0 n (inr (_, inr (_, inr (_, inr (_, inr (_, inl (_, e))))))) = absurd (omega (arith, n, ap (λ (y : AfterTaking). y .answer .number) e))
+  answered-0 n (inr (_, inr (_, inr (_, inr (_, inr (_, inr (_, inl (_, e)))))))) = absurd (omega (arith, n, ap (λ (y : AfterTaking). y .answer .number) e))
+  answered-0 n (inr (big, inr (_, inr (sized, inr (_, inr (_, inr (_, inr (_, h)))))))) = (big-enough big, in-size (lim .message) message sized, h)
 
-  module _ (a : Answers (taken m message store reply) x) where
+  module _ (a : Answers (taken lim message store reply) x) where
     -- a request that is answered 0 is taken
-    takes-it : x .answer .number ≡ 0 → (h : Handled m message store reply x) → AsRequest m message store reply (h .tables) x → (l : List Setting) × Takes m message store reply l
+    takes-it : x .answer .number ≡ 0 → (h : Handled lim message store reply x) → AsRequest lim message store reply (h .tables) x → (l : List Setting) × Takes lim message store reply l
     takes-it n h (count, settings, r, _, _, _) =
         let (big, sized, _) = answered-0 n a in
-        let p : Passes m message store reply (h .tables) (r .data-bytes)
+        let p : Passes lim message store reply (h .tables) (r .data-bytes)
         = record { buffer = big; store-is = s; holds = h .holds; in-size = sized; opens = request-opens r } in
-        let (l, u, w, z) = taken-exactly m message store reply b (h .tables) (r .data-bytes) p x a .0 n in
+        let (l, u, w, z) = taken-exactly lim message store reply b (h .tables) (r .data-bytes) p x a .0 n in
         (l, record { before = h .tables; after = u; data-bytes = r .data-bytes; passes = p; written = w; in-turn = z })
 
     -- what takes none leaves the store
-    pub nothing-changed : ((l : List Setting) → Takes m message store reply l → ⊥) → x .store ≡ store
+    pub nothing-changed : ((l : List Setting) → Takes lim message store reply l → ⊥) → x .store ≡ store
     nothing-changed never = by (eqb (x .answer .number) 0) refl
       where
-        by-kind : x .answer .number ≡ 0 → (h : Handled m message store reply x) → AsRequest m message store reply (h .tables) x ⊎ AsQuery m message store reply (h .tables) x → x .store ≡ store
+        by-kind : x .answer .number ≡ 0 → (h : Handled lim message store reply x) → AsRequest lim message store reply (h .tables) x ⊎ AsQuery lim message store reply (h .tables) x → x .store ≡ store
         by-kind n h (inl r) = let (l, k) = takes-it n h r in absurd (never l k)
-        by-kind n h (inr (_, _, inl (_, _, e))) = ap (λ (y : After). y .store) e
-        by-kind n h (inr (_, _, inr (_, e))) = ap (λ (y : After). y .store) e
+        by-kind n h (inr (_, _, inl (_, _, e))) = ap (λ (y : AfterTaking). y .store) e
+        by-kind n h (inr (_, _, inr (_, e))) = ap (λ (y : AfterTaking). y .store) e
 
         by : (c : Bool) → eqb (x .answer .number) 0 ≡ c → x .store ≡ store
-        by false e = store-stays m message store reply x a (eqb-false (x .answer .number) 0 e)
+        by false e = store-stays lim message store reply x a (eqb-false (x .answer .number) 0 e)
         by true e =
             let n : x .answer .number ≡ 0 = eqb-true (x .answer .number) 0 e in
             let (_, _, h) = answered-0 n a in
             by-kind n h (h .comes-to)
 
     -- and what takes settings leaves the tables after them
-    pub tables-after : (l : List Setting) (k : Takes m message store reply l) → Holds m (k .after) (x .store)
+    pub tables-after : (l : List Setting) (k : Takes lim message store reply l) → Holds lim (k .after) (x .store)
     tables-after l k =
-        let e = taken-leaves m message store reply b (k .before) (k .data-bytes) (k .passes) x a l (k .after) (k .written) (k .in-turn) in (
-          in-turn-allowed m (length l) (forget (k .before)) (k .after) l (k .written .settings) (forget-allowed m (k .before) (k .passes .holds .0)) (k .written .written) (k .in-turn),
-          ap (λ (y : After). y .store) e,
+        let e = taken-leaves lim message store reply b (k .before) (k .data-bytes) (k .passes) x a l (k .after) (k .written) (k .in-turn) in (
+          in-turn-allowed lim (length l) (forget (k .before)) (k .after) l (k .written .settings) (forget-allowed lim (k .before) (k .passes .holds .0)) (k .written .written) (k .in-turn),
+          ap (λ (y : AfterTaking). y .store) e,
         )
 
     -- ADDS ALWAYS: every message takes settings or nothing
-    pub adds-always : (added : List (List Setting)) × Adds m message store reply added
+    pub adds-always : (added : List (List Setting)) × Adds lim message store reply added
     adds-always = by (eqb (x .answer .number) 0) refl
       where
         Goal : Type 0
-        Goal = (added : List (List Setting)) × Adds m message store reply added
+        Goal = (added : List (List Setting)) × Adds lim message store reply added
 
         -- a request that is taken is answered 0
-        taken-0 : (l : List Setting) → Takes m message store reply l → x .answer .number ≡ 0
-        taken-0 l k = taken-exactly m message store reply b (k .before) (k .data-bytes) (k .passes) x a .1 (l, k .after, k .written, k .in-turn)
+        taken-0 : (l : List Setting) → Takes lim message store reply l → x .answer .number ≡ 0
+        taken-0 l k = taken-exactly lim message store reply b (k .before) (k .data-bytes) (k .passes) x a .1 (l, k .after, k .written, k .in-turn)
 
         -- answered 0: a request, or a query that matches
-        by-kind : x .answer .number ≡ 0 → (h : Handled m message store reply x) → AsRequest m message store reply (h .tables) x ⊎ AsQuery m message store reply (h .tables) x → Goal
+        by-kind : x .answer .number ≡ 0 → (h : Handled lim message store reply x) → AsRequest lim message store reply (h .tables) x ⊎ AsQuery lim message store reply (h .tables) x → Goal
         by-kind n h (inl r) = let (l, k) = takes-it n h r in (l ∷ [], its-settings k)
         by-kind n h (inr (k, q, _)) = ([], nothing (λ l y. opens-no-query (y .passes .opens) refl k q))
 
@@ -140,17 +131,17 @@ module _ (m : Limits) (message store reply : List ℕ) (b : Bytes message) (s : 
 -- ---- any messages
 
 -- REACHED: the store is that of the tables after the settings taken, in order
-pub reached-holds : (m : Limits) (log : List (List Setting)) (store : List ℕ) → Reached m log store → (t : Tables) × Roomy m × Holds m t store × InOrder m fresh log t
-reached-holds m log store (from-start before (inl (_, e))) = absurd (omega (arith, ap (λ (x : Begun). x .number) e))
-reached-holds m log store (from-start before (inr (_, (size, roomy, e)))) = (fresh, roomy, (fresh-allowed m, ap (λ (x : Begun). x .store) e), refl)
-reached-holds m log store (then-message {log = old} {store = was} {message} {reply} x r b a (its-settings {l} k)) =
-    let (t, roomy, holds, order) = reached-holds m old was r in
-    let e : k .before ≡ t = one-tables m was (k .before) t (k .passes .holds) holds in (
+pub reached-holds : (lim : Limits) (log : List (List Setting)) (store : List ℕ) → Reached lim log store → (t : Tables) × Roomy lim × Holds lim t store × InOrder lim fresh log t
+reached-holds lim log store (from-start before (inl (_, e))) = absurd (omega (arith, ap (λ (x : Begun). x .number) e))
+reached-holds lim log store (from-start before (inr (_, (size, roomy, e)))) = (fresh, roomy, (fresh-allowed lim, ap (λ (x : Begun). x .store) e), refl)
+reached-holds lim log store (then-message {log = old} {store = was} {message} {reply} x r b a (its-settings {l} k)) =
+    let (t, roomy, holds, order) = reached-holds lim old was r in
+    let e : k .before ≡ t = one-tables lim was (k .before) t (k .passes .holds) holds in (
       k .after,
       roomy,
-      tables-after m message was reply b (k .passes .store-is) x a l k,
-      order-append m fresh t (k .after) old (l ∷ []) order (k .after, subst (λ (y : Tables). InTurn m (length l) (forget y) l (k .after)) e (k .in-turn), refl),
+      tables-after lim message was reply b (k .passes .store-is) x a l k,
+      order-append lim fresh t (k .after) old (l ∷ []) order (k .after, subst (λ (y : Tables). InTurn lim (length l) (forget y) l (k .after)) e (k .in-turn), refl),
     )
-reached-holds m log store (then-message {log = old} {store = was} {message} {reply} x r b a (nothing never)) =
-    let (t, roomy, holds, order) = reached-holds m old was r in
-    (t, roomy, (holds .0, nothing-changed m message was reply b (holds-store m t was roomy holds) x a never ∙ holds .1), subst (λ (y : List (List Setting)). InOrder m fresh y t) (sym (append-nil old)) order)
+reached-holds lim log store (then-message {log = old} {store = was} {message} {reply} x r b a (nothing never)) =
+    let (t, roomy, holds, order) = reached-holds lim old was r in
+    (t, roomy, (holds .0, nothing-changed lim message was reply b (holds-store lim t was roomy holds) x a never ∙ holds .1), subst (λ (y : List (List Setting)). InOrder lim fresh y t) (sym (append-nil old)) order)

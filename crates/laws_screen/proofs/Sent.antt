@@ -1,14 +1,5 @@
 -- What stands in a slot is what the last setting for it sent. Assumes nothing.
-use Prim.Native.Nat.{ℕ, zero, suc, _<_}
-use mathlib.Core.Path.{_≡_, refl, sym, ap, _∙_, subst, subst⁻¹}
-use mathlib.Core.Logic.{_⊎_, inl, inr}
-use mathlib.Core.Bool.{Bool, true, false, cond}
-use mathlib.Core.List.{List, [], _∷_, _++_}
-use mathlib.Core.Option.{Option, none, some, Option·some-injective, Option·none-ne-some}
-use borrow.Author.Tests.{eqb-true, eqb-false}
-use lib.Dec.{eqb}
-use lib.ListN.{length, getD, set, length-set}
-use lib.Seq.{getD-set-same, getD-set-other}
+use Rattle.lists.proofs.Kit.{ℕ, zero, suc, _<_, _≡_, refl, sym, ap, _∙_, subst, subst⁻¹, _⊎_, inl, inr, Bool, true, false, cond, List, [], _∷_, _++_, Option, none, some, Option·some-injective, Option·none-ne-some, eqb-true, eqb-false, eqb, length, getD, set, length-set, getD-set-same, getD-set-other}
 use Rattle.lists.specs.Every.{All}
 use Rattle.plan.specs.declared.numbers.GroupAddress.{GroupAddress}
 use Rattle.plan.specs.declared.numbers.IndividualAddress.{IndividualAddress}
@@ -18,7 +9,9 @@ use Rattle.writing.specs.declared.Operation.{Operation}
 use Rattle.writing.specs.Settings.{Setting, Slot, kind, lines, key, quick-texts, home, channels, system, status-texts, group, individual, last}
 use Rattle.tables.specs.declared.limits.Limits.{Limits}
 use Rattle.tables.specs.Apply.{apply, slot-after}
-use Rattle.tables.specs.Tables.{Tables, GroupMember, IndividualMember, with-groups, with-individuals}
+use Rattle.tables.specs.Tables.{Tables, GroupMember, IndividualMember}
+use Rattle.writing.specs.declared.Kind.the-variants.{Group, Individual}
+use Rattle.tables.specs.Owns.{put-own}
 use Rattle.tables.proofs.RoomSentences.{with-own, own-table}
 use Rattle.laws_taking.specs.Demands.{InTurn}
 use Rattle.requests.specs.Requests.{forget, or-else}
@@ -86,21 +79,21 @@ Step o os ps i = (length ps ≡ length os) × (i < length os → getD ps i none 
 -- a table of the tables, and which settings are for a place of it
 pub record Places {A : Type 0} (of : Tables → List (Option A)) (to : ℕ → Setting → Option (Option A)) : Type 0 where
   pub forgets : (t : Tables) → of (forget t) ≡ of t
-  pub step : (m : Limits) (s : Setting) (t u : Tables) (i : ℕ) → apply m s t ≡ some u → Step (to i s) (of t) (of u) i
+  pub step : (lim : Limits) (s : Setting) (t u : Tables) (i : ℕ) → apply lim s t ≡ some u → Step (to i s) (of t) (of u) i
 
-module _ {A : Type 0} (of : Tables → List (Option A)) (to : ℕ → Setting → Option (Option A)) (p : Places of to) (m : Limits) (i : ℕ) where
+module _ {A : Type 0} (of : Tables → List (Option A)) (to : ℕ → Setting → Option (Option A)) (p : Places of to) (lim : Limits) (i : ℕ) where
   -- the settings of a request, in turn
-  turn-left : (n : ℕ) (t u : Tables) (l : List Setting) → InTurn m n t l u → i < length (of t)
+  turn-left : (n : ℕ) (t u : Tables) (l : List Setting) → InTurn lim n t l u → i < length (of t)
       → (getD (of u) i none ≡ left-by (to i) (getD (of t) i none) l) × (i < length (of u))
   turn-left n t u [] z h = (ap (λ x. getD (of x) i none) (sym z), subst (λ (x : Tables). i < length (of x)) z h)
   turn-left zero t u (s ∷ l) z h = absurd z
   turn-left (suc n) t u (s ∷ l) (r, v, e, z) h =
-      let (many, each) = p .step m s t v i e in
+      let (many, each) = p .step lim s t v i e in
       let (d, w) = turn-left n v u l z (subst (λ (j : ℕ). i < j) (sym many) h) in
       (d ∙ ap (λ o. left-by (to i) o l) (each h), w)
 
   -- the settings of all requests, in order
-  pub order-left : (t u : Tables) (log : List (List Setting)) → InOrder m t log u → i < length (of t) → getD (of u) i none ≡ left-by (to i) (getD (of t) i none) (all-of log)
+  pub order-left : (t u : Tables) (log : List (List Setting)) → InOrder lim t log u → i < length (of t) → getD (of u) i none ≡ left-by (to i) (getD (of t) i none) (all-of log)
   order-left t u [] z h = ap (λ x. getD (of x) i none) (sym z)
   order-left t u (l ∷ log) (v, x, z) h =
       let (d, w) = turn-left (length l) (forget t) v l x (subst (λ (k : List (Option A)). i < length k) (sym (p .forgets t)) h) in
@@ -141,27 +134,27 @@ for-slot (individual o f s) = an-individual
 for-slot (last f h) = neither (λ t u. refl) (λ t u. refl) (λ i. refl) (λ i. refl)
 
 -- a setting that is for no place of a table leaves it
-not-for : {A : Type 0} (of : Tables → List (Option A)) (m : Limits) (s : Setting) (t u : Tables) (i : ℕ) (o : Option (Option A))
-    → apply m s t ≡ some u → of (with-own (kind s) t u) ≡ of t → o ≡ none → Step o (of t) (of u) i
-not-for {A} of m s t u i o e k n =
-    subst⁻¹ (λ (x : Option (Option A)). Step x (of t) (of u) i) n (stays (of t) (of u) i (ap of (own-table m s t u e) ∙ k))
+not-for : {A : Type 0} (of : Tables → List (Option A)) (lim : Limits) (s : Setting) (t u : Tables) (i : ℕ) (o : Option (Option A))
+    → apply lim s t ≡ some u → of (with-own (kind s) t u) ≡ of t → o ≡ none → Step o (of t) (of u) i
+not-for {A} of lim s t u i o e k n =
+    subst⁻¹ (λ (x : Option (Option A)). Step x (of t) (of u) i) n (stays (of t) (of u) i (ap of (own-table lim s t u e) ∙ k))
 
 pub group-places : Places (λ t. t .groups) to-group
-group-places = record { forgets = λ t. refl; step = λ m s t u i e. by m s (for-slot s) t u i e }
+group-places = record { forgets = λ t. refl; step = λ lim s t u i e. by lim s (for-slot s) t u i e }
   where
-    by : (m : Limits) (s : Setting) → ForSlot s → (t u : Tables) (i : ℕ) → apply m s t ≡ some u → Step (to-group i s) (t .groups) (u .groups) i
-    by m s (neither g _ n _) t u i e = not-for (λ x. x .groups) m s t u i (to-group i s) e (g t u) (n i)
-    by m (individual o f s) an-individual t u i e = not-for (λ x. x .groups) m (individual o f s) t u i none e refl refl
-    by m (group o f s) a-group t u i e =
+    by : (lim : Limits) (s : Setting) → ForSlot s → (t u : Tables) (i : ℕ) → apply lim s t ≡ some u → Step (to-group i s) (t .groups) (u .groups) i
+    by lim s (neither g _ n _) t u i e = not-for (λ x. x .groups) lim s t u i (to-group i s) e (g t u) (n i)
+    by lim (individual o f s) an-individual t u i e = not-for (λ x. x .groups) lim (individual o f s) t u i none e refl refl
+    by lim (group o f s) a-group t u i e =
         let g : Option GroupMember = slot-after o (record { flags = f; address = s .address; text = s .text }) in
-        is-set (t .groups) (u .groups) (s .index) i g (sym (ap (λ x. x .groups) (Option·some-injective (with-groups t (set (t .groups) (s .index) g)) u e)))
+        is-set (t .groups) (u .groups) (s .index) i g (sym (ap (λ x. x .groups) (Option·some-injective (put-own Group t (set (t .groups) (s .index) g)) u e)))
 
 pub individual-places : Places (λ t. t .individuals) to-individual
-individual-places = record { forgets = λ t. refl; step = λ m s t u i e. by m s (for-slot s) t u i e }
+individual-places = record { forgets = λ t. refl; step = λ lim s t u i e. by lim s (for-slot s) t u i e }
   where
-    by : (m : Limits) (s : Setting) → ForSlot s → (t u : Tables) (i : ℕ) → apply m s t ≡ some u → Step (to-individual i s) (t .individuals) (u .individuals) i
-    by m s (neither _ g _ n) t u i e = not-for (λ x. x .individuals) m s t u i (to-individual i s) e (g t u) (n i)
-    by m (group o f s) a-group t u i e = not-for (λ x. x .individuals) m (group o f s) t u i none e refl refl
-    by m (individual o f s) an-individual t u i e =
+    by : (lim : Limits) (s : Setting) → ForSlot s → (t u : Tables) (i : ℕ) → apply lim s t ≡ some u → Step (to-individual i s) (t .individuals) (u .individuals) i
+    by lim s (neither _ g _ n) t u i e = not-for (λ x. x .individuals) lim s t u i (to-individual i s) e (g t u) (n i)
+    by lim (group o f s) a-group t u i e = not-for (λ x. x .individuals) lim (group o f s) t u i none e refl refl
+    by lim (individual o f s) an-individual t u i e =
         let g : Option IndividualMember = slot-after o (record { flags = f; address = s .address; text = s .text }) in
-        is-set (t .individuals) (u .individuals) (s .index) i g (sym (ap (λ x. x .individuals) (Option·some-injective (with-individuals t (set (t .individuals) (s .index) g)) u e)))
+        is-set (t .individuals) (u .individuals) (s .index) i g (sym (ap (λ x. x .individuals) (Option·some-injective (put-own Individual t (set (t .individuals) (s .index) g)) u e)))

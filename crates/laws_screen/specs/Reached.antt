@@ -18,34 +18,34 @@ use Rattle.tables.specs.Store.{starting, begins}
 use Rattle.tables.specs.Tables.{Tables, GroupMember, IndividualMember}
 use Rattle.laws_taking.specs.Demands.{InTurn, Passes}
 use Rattle.requests.specs.Requests.{forget}
-use Rattle.station.specs.Taking.{After, taken}
+use Rattle.station.specs.Taking.{AfterTaking, taken}
 
 -- ---- messages, one after another
 
 -- the message is a request that is taken, with these settings: demand 3
-pub record Takes (m : Limits) (message store reply : List ℕ) (l : List Setting) : Type 0 where
+pub record Takes (lim : Limits) (message store reply : List ℕ) (l : List Setting) : Type 0 where
   pub before : Tables
   pub after : Tables
   pub data-bytes : List ℕ
-  pub passes : Passes m message store reply before data-bytes
+  pub passes : Passes lim message store reply before data-bytes
   pub written : WrittenAs unicode16 l data-bytes
-  pub in-turn : InTurn m (length l) (forget before) l after
+  pub in-turn : InTurn lim (length l) (forget before) l after
 
 -- what a message adds to the lists of settings taken: a taken request its own, any other message nothing
-pub data Adds (m : Limits) (message store reply : List ℕ) : List (List Setting) → Type 0 where
-  its-settings : {l : List Setting} → Takes m message store reply l → Adds m message store reply (l ∷ [])
-  nothing : ((l : List Setting) → Takes m message store reply l → ⊥) → Adds m message store reply []
+pub data Adds (lim : Limits) (message store reply : List ℕ) : List (List Setting) → Type 0 where
+  its-settings : {l : List Setting} → Takes lim message store reply l → Adds lim message store reply (l ∷ [])
+  nothing : ((l : List Setting) → Takes lim message store reply l → ⊥) → Adds lim message store reply []
 
 -- "any sequence of messages from a start" took these lists of settings and left this store
-pub data Reached (m : Limits) : List (List Setting) → List ℕ → Type 0 where
-  from-start : (before : List ℕ) {store : List ℕ} → Answers (starting m before) (begins Fresh store) → Reached m [] store
-  then-message : {log added : List (List Setting)} {store message reply : List ℕ} (x : After) → Reached m log store → Bytes message
-      → Answers (taken m message store reply) x → Adds m message store reply added → Reached m (log ++ added) (x .store)
+pub data Reached (lim : Limits) : List (List Setting) → List ℕ → Type 0 where
+  from-start : (before : List ℕ) {store : List ℕ} → Answers (starting lim before) (begins Fresh store) → Reached lim [] store
+  then-message : {log added : List (List Setting)} {store message reply : List ℕ} (x : AfterTaking) → Reached lim log store → Bytes message
+      → Answers (taken lim message store reply) x → Adds lim message store reply added → Reached lim (log ++ added) (x .store)
 
 -- "the settings taken, in order" make the tables t the tables u; each request first forgets the hash
 abbrev pub InOrder : Limits → Tables → List (List Setting) → Tables → Type 0
-InOrder m t [] u = t ≡ u
-InOrder m t (l ∷ log) u = (after : Tables) × InTurn m (length l) (forget t) l after × InOrder m after log u
+InOrder lim t [] u = t ≡ u
+InOrder lim t (l ∷ log) u = (after : Tables) × InTurn lim (length l) (forget t) l after × InOrder lim after log u
 
 -- all of them, in one list
 abbrev pub all-of : List (List Setting) → List Setting

@@ -1,8 +1,5 @@
 -- Two outcomes that taking allows for one message, store and reply buffer are equal. Assumes nothing.
-use Prim.Native.Nat.{ℕ}
-use mathlib.Core.Path.{_≡_, sym, ap, _∙_, subst, subst₂}
-use mathlib.Core.Logic.{_⊎_, inl, inr}
-use mathlib.Core.List.{List, _∷_, _++_}
+use Rattle.lists.proofs.Kit.{ℕ, _≡_, sym, ap, _∙_, subst, subst₂, _⊎_, inl, inr, List, _∷_, _++_}
 use Rattle.lists.proofs.Bytes.{bytes-all}
 use Rattle.lists.specs.Ladder.{Answers}
 use Rattle.lists.proofs.Ladder.{one-answer}
@@ -19,7 +16,7 @@ use Rattle.tables.proofs.LayoutLaws.{layout-one}
 use Rattle.requests.specs.Judge.{Outcome}
 use Rattle.requests.specs.Requests.{WrittenIn, Known, Judged, forget}
 use Rattle.station.specs.declared.answers.Answer.{Answer}
-use Rattle.station.specs.Taking.{After, leaves, settled, Asked, AsRequest, AsQuery, Handled, taken}
+use Rattle.station.specs.Taking.{AfterTaking, leaves, settled, Asked, AsRequest, AsQuery, Handled, taken}
 use Rattle.station.proofs.AnswerLaws.{said-one}
 use Rattle.laws_taking.proofs.JudgeLaws.{determined}
 
@@ -32,43 +29,43 @@ pub type-first : (s : Setting) (w : List ℕ) → WrittenIn s w → (b : ℕ) ×
 type-first s w (x, y) = let (b, v, e, k) = headed unicode16 s w (bytes-all w y) x in (b, v, e, (kind s, sym k))
 
 -- a request comes to one thing
-pub judged-determined : (m : Limits) (n : ℕ) (t : Tables) (bs : List ℕ) (a b : Outcome Setting Tables) → Judged m n t bs a → Judged m n t bs b → a ≡ b
-judged-determined m n t bs a b p q =
-    determined Setting Tables WrittenIn (InRange text-limits) (apply m) Known one-writing type-first p q
+pub judged-determined : (lim : Limits) (n : ℕ) (t : Tables) (bs : List ℕ) (a b : Outcome Setting Tables) → Judged lim n t bs a → Judged lim n t bs b → a ≡ b
+judged-determined lim n t bs a b p q =
+    determined Setting Tables WrittenIn (InRange text-limits) (apply lim) Known one-writing type-first p q
 
-module _ (m : Limits) (message store reply : List ℕ) where
+module _ (lim : Limits) (message store reply : List ℕ) where
   -- a query is answered in one way
-  one-asked : (h k : Hash) (a b : After) → Asked m message store reply h k a → Asked m message store reply h k b → a ≡ b
+  one-asked : (h k : Hash) (a b : AfterTaking) → Asked lim message store reply h k a → Asked lim message store reply h k b → a ≡ b
   one-asked h k a b (inl (_, _, e)) (inl (_, _, d)) = e ∙ sym d
   one-asked h k a b (inl (n, s, e)) (inr (never, d)) = absurd (never n s)
   one-asked h k a b (inr (never, e)) (inl (n, s, d)) = absurd (never n s)
   one-asked h k a b (inr (_, e)) (inr (_, d)) = e ∙ sym d
 
   -- a message comes to one thing
-  one-outcome : (t : Tables) (a b : After) → AsRequest m message store reply t a ⊎ AsQuery m message store reply t a
-      → AsRequest m message store reply t b ⊎ AsQuery m message store reply t b → a ≡ b
+  one-outcome : (t : Tables) (a b : AfterTaking) → AsRequest lim message store reply t a ⊎ AsQuery lim message store reply t a
+      → AsRequest lim message store reply t b ⊎ AsQuery lim message store reply t b → a ≡ b
   one-outcome t a b (inl (count, settings, r, o, x, p)) (inl (count′, settings′, r′, o′, y, q)) =
       let (n, s) = request-one r r′ in
-      let z : Judged m count′ (forget t) settings′ o = subst₂ (λ (i : ℕ) (l : List ℕ). Judged m i (forget t) l o) n s x in
-      p ∙ ap (settled m message store reply) (judged-determined m count′ _ _ o o′ z y) ∙ sym q
+      let z : Judged lim count′ (forget t) settings′ o = subst₂ (λ (i : ℕ) (l : List ℕ). Judged lim i (forget t) l o) n s x in
+      p ∙ ap (settled lim message store reply) (judged-determined lim count′ _ _ o o′ z y) ∙ sym q
   one-outcome t a b (inl (count, settings, r, o, x, p)) (inr (h, y, q)) = absurd (not-both r y)
   one-outcome t a b (inr (h, x, p)) (inl (count, settings, r, o, y, q)) = absurd (not-both r x)
   one-outcome t a b (inr (h, x, p)) (inr (k, y, q)) =
-      one-asked k (t .hash) a b (subst (λ (z : Hash). Asked m message store reply z (t .hash) a) (query-hash x y) p) q
+      one-asked k (t .hash) a b (subst (λ (z : Hash). Asked lim message store reply z (t .hash) a) (query-hash x y) p) q
 
-  one-handled : (a b : After) → Handled m message store reply a → Handled m message store reply b → a ≡ b
+  one-handled : (a b : AfterTaking) → Handled lim message store reply a → Handled lim message store reply b → a ≡ b
   one-handled a b p q =
-      let t : p .tables ≡ q .tables = layout-one m (p .tables) (q .tables) (p .holds .0) (q .holds .0) (sym (p .holds .1) ∙ q .holds .1) in
+      let t : p .tables ≡ q .tables = layout-one lim (p .tables) (q .tables) (p .holds .0) (q .holds .0) (sym (p .holds .1) ∙ q .holds .1) in
       one-outcome (q .tables) a b
-      (subst (λ (z : Tables). AsRequest m message store reply z a ⊎ AsQuery m message store reply z a) t (p .comes-to)) (q .comes-to)
+      (subst (λ (z : Tables). AsRequest lim message store reply z a ⊎ AsQuery lim message store reply z a) t (p .comes-to)) (q .comes-to)
 
   -- one number with its values, one store and one reply buffer
-  pub outcome-determined : (a b : After) → Answers (taken m message store reply) a → Answers (taken m message store reply) b → a ≡ b
-  outcome-determined a b p q = one-answer (taken m message store reply) one-handled a b p q
+  pub outcome-determined : (a b : AfterTaking) → Answers (taken lim message store reply) a → Answers (taken lim message store reply) b → a ≡ b
+  outcome-determined a b p q = one-answer (taken lim message store reply) one-handled a b p q
 
   -- DETERMINED: the contract of taking allows one answer of the code, one store and one reply buffer
-  pub taken-determined : (a b : Answer) (s t r q : List ℕ) → Answers (taken m message store reply) (leaves a s r) → Answers (taken m message store reply) (leaves b t q)
+  pub taken-determined : (a b : Answer) (s t r q : List ℕ) → Answers (taken lim message store reply) (leaves a s r) → Answers (taken lim message store reply) (leaves b t q)
       → (a ≡ b) × (s ≡ t) × (r ≡ q)
   taken-determined a b s t r q x y =
       let e = outcome-determined (leaves a s r) (leaves b t q) x y in
-      (said-one a b (ap (λ (z : After). z .answer) e), ap (λ (z : After). z .store) e, ap (λ (z : After). z .reply) e)
+      (said-one a b (ap (λ (z : AfterTaking). z .answer) e), ap (λ (z : AfterTaking). z .store) e, ap (λ (z : AfterTaking). z .reply) e)

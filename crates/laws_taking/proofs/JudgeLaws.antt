@@ -1,11 +1,5 @@
 -- A request comes to one thing only, where no setting's writing starts another's. Over any settings, tables and writing. Assumes nothing.
-use mathlib.Core.Path.{_≡_, refl, sym, ap, ap₂, _∙_, subst, subst₂}
-use mathlib.Core.List.{List, [], _∷_, _++_}
-use mathlib.Core.Logic.{_⊎_, inl, inr}
-use mathlib.Core.Option.{Option, none, some}
-use Prim.Native.Nat.{ℕ, zero, suc, _+_, _-_, _≤_, _<_}
-use native.Mathlib.Omega.{arith}
-use lib.ListN.{length, length-append}
+use Rattle.lists.proofs.Kit.{_≡_, refl, sym, ap, ap₂, _∙_, subst, subst₂, List, [], _∷_, _++_, _⊎_, inl, inr, Option, none, some, ℕ, zero, suc, _+_, _-_, _≤_, _<_, arith, length, length-append}
 use Rattle.lists.proofs.Seqs.{append-cancel}
 use Rattle.requests.specs.Judge as J
 use Rattle.requests.specs.Judge.{Outcome, kept, refused, done, step, missing, unknown, field, room, taken, over, fault}

@@ -1,12 +1,5 @@
 -- Demand 2's "the reply is the standard's", over the contract of take: for every message, store and reply buffer. Assumes nothing.
-use Prim.Native.Nat.{ℕ, _+_, _≤_, _<_}
-use mathlib.Core.Path.{_≡_, refl, ap, subst⁻¹}
-use mathlib.Core.Logic.{inl, inr, ⊎-elim}
-use mathlib.Core.Bool.{Bool, true, false}
-use mathlib.Core.List.{List, _++_}
-use native.Mathlib.Omega.{arith}
-use lib.ListN.{length, take, drop}
-use lib.Seq.{take-at}
+use Rattle.lists.proofs.Kit.{ℕ, _+_, _≤_, _<_, _≡_, refl, ap, subst⁻¹, inl, inr, ⊎-elim, Bool, true, false, List, _++_, arith, length, take, drop, take-at}
 use Rattle.lists.specs.Ladder.{Answers}
 use Rattle.writing.specs.Carrier.{Reply, Counted}
 use Rattle.writing.specs.Ranges.{text-limits, InRange}
@@ -23,7 +16,7 @@ use Rattle.station.specs.Replies.{reply-bytes}
 use Rattle.station.proofs.StandardReply.{reply-length, standard-bytes}
 use Rattle.requests.specs.Judge.{kept, refused, taken as all-taken, over, fault}
 use Rattle.requests.specs.Requests.{WrittenIn, Known, Judged, forget, last-item}
-use Rattle.station.specs.Taking.{After, replies, stays, turned-down, AsRequest, AsQuery, taken}
+use Rattle.station.specs.Taking.{AfterTaking, replies, stays, turned-down, AsRequest, AsQuery, taken}
 use Rattle.station.proofs.TakeLaws.{no-hash-ok}
 use Rattle.laws_taking.specs.StandardReply.{HashSent, code-0, kept-afterwards, StandardReply}
 use Rattle.laws_taking.proofs.Demand.{run-allowed}
@@ -35,50 +28,50 @@ counted-small : {count : ℕ} {settings ds : List ℕ} → Counted count setting
 counted-small k = let z = k .says .5 .5 in omega (arith, z .2, z .3)
 
 -- a failed ID is at most ParamSum
-failed-counted : (m : Limits) (t : Tables) {n number failed : ℕ} {bs : List ℕ} → Judged m n t bs (refused number failed) → failed ≤ n
-failed-counted m t (over e q) = omega arith
-failed-counted m t (fault left e q f) = omega arith
+failed-counted : (lim : Limits) (t : Tables) {n number failed : ℕ} {bs : List ℕ} → Judged lim n t bs (refused number failed) → failed ≤ n
+failed-counted lim t (over e q) = omega arith
+failed-counted lim t (fault left e q f) = omega arith
 
-module _ (m : Limits) (message store reply : List ℕ) where
+module _ (lim : Limits) (message store reply : List ℕ) where
   -- a reply that was written over the buffer
   written : (number failed : ℕ) (send reboot : Bool) (h : Hash) (after : List ℕ) → number < 256 → failed < 256 → HashOk h
-      → HashSent m number after h → (x : After) → x ≡ replies m message store reply number failed send reboot h after → StandardReply m x
+      → HashSent lim number after h → (x : AfterTaking) → x ≡ replies lim message store reply number failed send reboot h after → StandardReply lim x
   written number failed send reboot h after n f ok s x e =
       let bytes : List ℕ = reply-bytes number failed h in
       let t : take (10 + length (h .value)) (bytes ++ drop (length bytes) reply) ≡ bytes
       = take-at bytes (drop (length bytes) reply) (10 + length (h .value)) (reply-length number failed h) in
       let r = subst⁻¹ (λ (l : List ℕ). (r : Reply number failed h l) × (r .carried .stated ≡ 2 + length (r .data-bytes))) t
       (standard-bytes number failed h n f ok) in
-      subst⁻¹ (StandardReply m) e (record { hash = h; is = r .0; true-length = r .1; sent = s })
+      subst⁻¹ (StandardReply lim) e (record { hash = h; is = r .0; true-length = r .1; sent = s })
 
   -- a request's reply: 0 carries the hash kept now, a refusal none
-  request-reply : (t : Tables) → Allowed m t → (x : After) → AsRequest m message store reply t x → StandardReply m x
+  request-reply : (t : Tables) → Allowed lim t → (x : AfterTaking) → AsRequest lim message store reply t x → StandardReply lim x
   request-reply t ok x (count, settings, r, kept l u, all-taken _ q, e) =
-      let now : Allowed m u = run-allowed m q (forget-allowed m t ok) in
-      written 0 0 (last-item l .flags .reply) (last-item l .flags .reboot) (u .hash) (layout m u) (omega arith) (omega arith) (now .hash)
+      let now : Allowed lim u = run-allowed lim q (forget-allowed lim t ok) in
+      written 0 0 (last-item l .flags .reply) (last-item l .flags .reboot) (u .hash) (layout lim u) (omega arith) (omega arith) (now .hash)
       (kept-afterwards (inl refl) u (now, refl) refl) x e
   request-reply t ok x (count, settings, r, refused number failed, j, e) =
-      let (a, b) = refused-number Setting Tables WrittenIn (InRange text-limits) (apply m) Known one-writing type-first j in
-      written number failed true false no-hash store (omega arith) (omega (arith, failed-counted m (forget t) j, counted-small (r .counted)))
+      let (a, b) = refused-number Setting Tables WrittenIn (InRange text-limits) (apply lim) Known one-writing type-first j in
+      written number failed true false no-hash store (omega arith) (omega (arith, failed-counted lim (forget t) j, counted-small (r .counted)))
       no-hash-ok (code-0 (omega arith) b refl) x e
 
   -- a result query's reply: the store stays, and so does its hash
-  query-reply : (t : Tables) → Holds m t store → (x : After) → AsQuery m message store reply t x → StandardReply m x
+  query-reply : (t : Tables) → Holds lim t store → (x : AfterTaking) → AsQuery lim message store reply t x → StandardReply lim x
   query-reply t now x (h, q, inl (_, _, e)) =
       written 0 0 true false (t .hash) store (omega arith) (omega arith) (now .0 .hash) (kept-afterwards (inl refl) t now refl) x e
   query-reply t now x (h, q, inr (_, e)) =
       written 5 0 true false (t .hash) store (omega arith) (omega arith) (now .0 .hash) (kept-afterwards (inr refl) t now refl) x e
 
   -- a message that is turned down before its settings
-  turned-reply : (number : ℕ) → 1 ≤ number → number ≤ 4 → (x : After) → x ≡ turned-down m message store reply number 0 → StandardReply m x
+  turned-reply : (number : ℕ) → 1 ≤ number → number ≤ 4 → (x : AfterTaking) → x ≡ turned-down lim message store reply number 0 → StandardReply lim x
   turned-reply number a b x e = written number 0 true false no-hash store (omega arith) (omega arith) no-hash-ok (code-0 a b refl) x e
 
   -- 10 and more write none
-  no-reply : (k : ℕ) → 10 ≤ k → (x : After) → x ≡ stays m message store reply k → x .answer .number < 10 → StandardReply m x
-  no-reply k a x e n = absurd (omega (arith, ap (λ (y : After). y .answer .number) e))
+  no-reply : (k : ℕ) → 10 ≤ k → (x : AfterTaking) → x ≡ stays lim message store reply k → x .answer .number < 10 → StandardReply lim x
+  no-reply k a x e n = absurd (omega (arith, ap (λ (y : AfterTaking). y .answer .number) e))
 
   -- STANDARD REPLY: "the reply is the standard's" (demand 2); "0 to 5 write a reply"
-  pub reply-standard : (x : After) → Answers (taken m message store reply) x → x .answer .number < 10 → StandardReply m x
+  pub reply-standard : (x : AfterTaking) → Answers (taken lim message store reply) x → x .answer .number < 10 → StandardReply lim x
   reply-standard x (inl (_, e)) = no-reply 10 (omega arith) x e
   reply-standard x (inr (_, inl (_, e))) = no-reply 11 (omega arith) x e
   reply-standard x (inr (_, inr (_, inl (_, e)))) = no-reply 12 (omega arith) x e
@@ -90,10 +83,10 @@ module _ (m : Limits) (message store reply : List ℕ) where
       λ n. ⊎-elim (request-reply (h .tables) (h .holds .0) x) (query-reply (h .tables) (h .holds) x) (h .comes-to)
 
   -- NO OTHER REPLY: whatever reply these bytes are, it says the answer's number and failed ID, and that hash
-  pub reply-says : (x : After) → Answers (taken m message store reply) x → x .answer .number < 10 → {number failed : ℕ} {h : Hash}
+  pub reply-says : (x : AfterTaking) → Answers (taken lim message store reply) x → x .answer .number < 10 → {number failed : ℕ} {h : Hash}
       → Reply number failed h (take (x .answer .reply-length) (x .reply))
-      → (number ≡ x .answer .number) × (failed ≡ x .answer .failed) × HashSent m (x .answer .number) (x .store) h
+      → (number ≡ x .answer .number) × (failed ≡ x .answer .failed) × HashSent lim (x .answer .number) (x .store) h
   reply-says x a n r =
-      let s : StandardReply m x = reply-standard x a n in
+      let s : StandardReply lim x = reply-standard x a n in
       let (p, q, k) = reply-one r (s .is) in
-      (p, q, subst⁻¹ (HashSent m (x .answer .number) (x .store)) k (s .sent))
+      (p, q, subst⁻¹ (HashSent lim (x .answer .number) (x .store)) k (s .sent))

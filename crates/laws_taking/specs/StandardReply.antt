@@ -9,16 +9,16 @@ use Rattle.writing.specs.Settings.{Hash}
 use Rattle.tables.specs.declared.limits.Limits.{Limits}
 use Rattle.tables.specs.Store.{Holds}
 use Rattle.tables.specs.Tables.{Tables, no-hash}
-use Rattle.station.specs.Taking.{After}
+use Rattle.station.specs.Taking.{AfterTaking}
 
 -- "A reply carries the hash kept afterwards, except that 1, 2, 3 and 4 carry code 0": by the number and the store afterwards
-pub data HashSent (m : Limits) (number : ℕ) (store : List ℕ) (h : Hash) : Type 0 where
-  code-0 : 1 ≤ number → number ≤ 4 → h ≡ no-hash → HashSent m number store h
-  kept-afterwards : (number ≡ 0) ⊎ (number ≡ 5) → (u : Tables) → Holds m u store → h ≡ u .hash → HashSent m number store h
+pub data HashSent (lim : Limits) (number : ℕ) (store : List ℕ) (h : Hash) : Type 0 where
+  code-0 : 1 ≤ number → number ≤ 4 → h ≡ no-hash → HashSent lim number store h
+  kept-afterwards : (number ≡ 0) ⊎ (number ≡ 5) → (u : Tables) → Holds lim u store → h ≡ u .hash → HashSent lim number store h
 
 -- as many bytes of the reply buffer as the answer says are a reply with its number and failed ID; "We write coding type 0000 and the true length"
-pub record StandardReply (m : Limits) (x : After) : Type 0 where
+pub record StandardReply (lim : Limits) (x : AfterTaking) : Type 0 where
   pub hash : Hash
   pub is : Reply (x .answer .number) (x .answer .failed) hash (take (x .answer .reply-length) (x .reply))
   pub true-length : is .carried .stated ≡ 2 + length (is .data-bytes)
-  pub sent : HashSent m (x .answer .number) (x .store) hash
+  pub sent : HashSent lim (x .answer .number) (x .store) hash

@@ -1,6 +1,5 @@
 -- Laws on tests that the kit lacks. Assumes nothing.
-use mathlib.Core.Path.{_≡_, refl}
-use mathlib.Core.Bool.{Bool, true, false, _&&_, _||_, false≢true}
+use Rattle.lists.proofs.Kit.{_≡_, refl, Bool, true, false, _&&_, _||_, false≢true}
 
 -- what is not true is false
 pub is-false : (b : Bool) → (b ≡ true → ⊥) → b ≡ false
@@ -11,11 +10,6 @@ is-false false h = refl
 pub and-parts : (a b : Bool) → (a && b) ≡ true → (a ≡ true) × (b ≡ true)
 and-parts true b h = (refl, h)
 and-parts false b h = absurd (false≢true h)
-
--- and together they make it
-pub and-made : (a b : Bool) → a ≡ true → b ≡ true → (a && b) ≡ true
-and-made true b h k = k
-and-made false b h k = h
 
 -- a test that fails leaves the other
 pub or-rest : (a b : Bool) → b ≡ false → (a || b) ≡ a

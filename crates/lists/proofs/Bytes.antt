@@ -1,13 +1,5 @@
 -- Lists of which every element is a byte. Assumes nothing.
-use mathlib.Core.Path.{_≡_, refl}
-use mathlib.Core.Bool.{Bool, true, false}
-use mathlib.Core.List.{List, [], _∷_, _++_}
-use Prim.Native.Nat.{ℕ, zero, suc, _+_, _<_}
-use native.Mathlib.Omega.{arith}
-use borrow.Author.Tests.{ltb-true, ltb-false}
-use lib.Dec.{ltb}
-use lib.ListN.{getD, take, drop, replicate, length-take, List·getD-eq-default}
-use lib.Seq.{getD-take, getD-drop}
+use Rattle.lists.proofs.Kit.{_≡_, refl, Bool, true, false, List, [], _∷_, _++_, ℕ, zero, suc, _+_, _<_, arith, ltb-true, ltb-false, ltb, getD, take, drop, replicate, length-take, List·getD-eq-default, getD-take, getD-drop}
 use Rattle.lists.specs.Bytes.{Bytes}
 use Rattle.lists.specs.Every.{All}
 use Rattle.lists.proofs.Every.{all-replicate}

@@ -1,13 +1,5 @@
 -- Lists of which every element has a property. Assumes nothing.
-use mathlib.Core.Bool.{Bool, true, false, _&&_}
-use mathlib.Core.Logic.{_↔_, Iff·rfl}
-use mathlib.Core.List.{List, [], _∷_, _++_, map}
-use Prim.Native.Nat.{ℕ, zero, suc, _+_, _<_}
-use native.Mathlib.Nat.{not-suc-le-zero, le-of-suc-le-suc}
-use native.Mathlib.Numerals.{add-one}
-use lib.Dec.{T}
-use lib.ListN.{getD, drop, length, set, take, replicate}
-use lib.Seq.{drop-cons}
+use Rattle.lists.proofs.Kit.{Bool, true, false, _&&_, _↔_, Iff·rfl, List, [], _∷_, _++_, map, ℕ, zero, suc, _+_, _<_, not-suc-le-zero, le-of-suc-le-suc, add-one, T, getD, drop, length, set, take, replicate, drop-cons}
 use Rattle.lists.specs.Every.{All}
 
 -- every element of two lists, one after the other

@@ -1,6 +1,5 @@
 -- A ladder has one answer if its foot has. Assumes nothing.
-use mathlib.Core.Path.{_≡_, refl, sym, _∙_}
-use mathlib.Core.Logic.{inl, inr}
+use Rattle.lists.proofs.Kit.{_≡_, refl, sym, _∙_, inl, inr}
 use Rattle.lists.specs.Ladder.{Ladder, rung, foot, Answers}
 
 -- the foot's answers are equal

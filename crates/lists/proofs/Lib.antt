@@ -1,3 +1,4 @@
+pub mod Kit
 pub mod Bools
 pub mod Bytes
 pub mod Every

@@ -1,11 +1,5 @@
 -- Laws on lists that the kit lacks. Assumes nothing.
-use Prim.Native.Nat.{ℕ, zero, suc, _<_}
-use mathlib.Core.Path.{_≡_, refl, sym, ap, ap₂, _∙_}
-use mathlib.Core.List.{List, [], _∷_, _++_, map, nil≢cons, cons≢nil, head-eq-of-cons-eq, tail-eq-of-cons-eq}
-use native.Mathlib.Nat.{not-suc-le-zero, le-of-suc-le-suc}
-use native.Mathlib.Omega.{arith}
-use lib.ListN.{length, drop, getD, set}
-use lib.Seq.{drop-append-seam}
+use Rattle.lists.proofs.Kit.{ℕ, zero, suc, _<_, _≡_, refl, sym, ap, ap₂, _∙_, List, [], _∷_, _++_, map, nil≢cons, cons≢nil, head-eq-of-cons-eq, tail-eq-of-cons-eq, not-suc-le-zero, le-of-suc-le-suc, arith, length, drop, getD, set, drop-append-seam}
 
 -- two lists that begin alike, cut at one length
 pub cut : {A : Type 0} (a b : List A) {x y : List A} → length a ≡ length b → a ++ x ≡ b ++ y → (a ≡ b) × (x ≡ y)

@@ -1,11 +1,5 @@
 -- A table's rule, proved at every entry by one computed test over the whole table. Assumes nothing.
-use mathlib.Core.Path.{_∙_, subst, sym}
-use mathlib.Core.Bool.{Bool, true, _&&_}
-use mathlib.Core.List.{List, [], _∷_}
-use Prim.Native.Nat.{ℕ, zero, suc, _+_, _<_}
-use native.Mathlib.Nat.{add-zero, zero-add, add-suc, suc-add, le-of-suc-le-suc, not-suc-le-zero}
-use lib.Dec.{T}
-use lib.ListN.{length, getD}
+use Rattle.lists.proofs.Kit.{_∙_, subst, sym, Bool, true, _&&_, List, [], _∷_, ℕ, zero, suc, _+_, _<_, add-zero, zero-add, add-suc, suc-add, le-of-suc-le-suc, not-suc-le-zero, T, length, getD}
 use Rattle.lists.proofs.Every.{both}
 
 -- the test passes at each entry and its place, counted from i

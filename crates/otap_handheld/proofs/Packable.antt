@@ -1,7 +1,7 @@
 -- The hand-held's limits let every answer be packed. Assumes nothing.
 use native.Mathlib.Omega.{arith}
 use Rattle.tables.specs.Limits.{handheld}
-use Rattle.restore.proofs.Requests.{handheld-exportable}
+use Rattle.export.proofs.RequestLaws.{handheld-exportable}
 use Rattle.packing.specs.Packing.{Packable}
 
 pub handheld-packable : Packable handheld

@@ -5,12 +5,12 @@ use screen::handheld::row_number;
 use screen::handheld::row_place;
 use screen::rows::row_of;
 ghost use Rattle.tables.specs.Limits.{handheld};
-ghost use Rattle.packing.specs.Packing.{Numbers, Shows};
+ghost use Rattle.packing.specs.Packing.{AnswersNumber, AnswersPart};
 
 // 0: the row is shown. 15, 11, 17: it is not.
 #[no_mangle]
 pub extern "C" fn otap_row_number(table: u32, row: u32, store: &[u8], scratch: &[u8]) -> u32
-    ensures { λ r. ⌜ Numbers handheld table row (now (store .entry)) (now (scratch .entry)) r ⌝ }
+    ensures { λ r. ⌜ AnswersNumber handheld table row (now (store .entry)) (now (scratch .entry)) r ⌝ }
 {
     let which = row_of(table, row);
     let answer = row_number(store, scratch, which);
@@ -20,7 +20,7 @@ pub extern "C" fn otap_row_number(table: u32, row: u32, store: &[u8], scratch: &
 // Whether it is a part of the store or of the scratch, where it starts and its length; 0 on a refusal.
 #[no_mangle]
 pub extern "C" fn otap_row_part(table: u32, row: u32, store: &[u8], scratch: &mut [u8]) -> u64
-    ensures { λ r. ⌜ Shows handheld table row (now (store .entry)) (now (scratch .entry)) (now (scratch .exit)) r ⌝ }
+    ensures { λ r. ⌜ AnswersPart handheld table row (now (store .entry)) (now (scratch .entry)) (now (scratch .exit)) r ⌝ }
 {
     let which = row_of(table, row);
     let place = row_place(store, scratch, which);

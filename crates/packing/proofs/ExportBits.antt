@@ -1,10 +1,5 @@
 -- What exporting answers, packed: the length of a request that was exported has 16 bits. Assumes nothing.
-use Prim.Native.Nat.{ℕ, _*_, _≤_, _<_}
-use mathlib.Core.Path.{_≡_, sym, ap, subst}
-use mathlib.Core.Logic.{inl, inr}
-use mathlib.Core.List.{List}
-use native.Mathlib.Omega.{arith}
-use lib.ListN.{length}
+use Rattle.lists.proofs.Kit.{ℕ, _*_, _≤_, _<_, _≡_, sym, ap, subst, inl, inr, List, arith, length}
 use Rattle.lists.specs.Ladder.{Answers}
 use Rattle.tables.specs.declared.limits.Limits.{Limits}
 use Rattle.export.specs.declared.parts.Export.{Export}
@@ -12,7 +7,7 @@ use Rattle.export.specs.declared.parts.Export.the-variants.{Written, Untouched}
 use Rattle.export.specs.declared.parts.NoExport.{NoExport}
 use Rattle.export.specs.declared.parts.NoExport.the-variants.{Buffer, NotAStore, NoPart}
 use Rattle.export.specs.Exported.{exported, request-bytes}
-use Rattle.export.specs.Exporting.{After, Told, told, no-export, exporting}
+use Rattle.export.specs.Exporting.{AfterExport, Told, told, no-export, exporting}
 use Rattle.restore.specs.Restored.{longest}
 use Rattle.restore.proofs.Requests.{exported-length, longest-fits}
 use Rattle.packing.specs.Packing.{Packable, PacksExport, Exports}
@@ -39,20 +34,20 @@ refusal-packed x why r e p =
 
 -- ---- what the call answers
 
-module _ (m : Limits) (ok : Packable m) (part : ℕ) (store buffer after : List ℕ) where
+module _ (lim : Limits) (ok : Packable lim) (part : ℕ) (store buffer after : List ℕ) where
   -- no part is longer than 16 bits say
-  length-small : (t : Told) → Answers (exporting m part store buffer) (record { answer = t; buffer = after }) → t .request-length < 65536
-  length-small t (inl (_, e)) = omega (arith, ap (λ (a : After). a .answer .request-length) e)
-  length-small t (inr (_, inl (_, e))) = omega (arith, ap (λ (a : After). a .answer .request-length) e)
-  length-small t (inr (_, inr (_, inl (_, e)))) = omega (arith, ap (λ (a : After). a .answer .request-length) e)
+  length-small : (t : Told) → Answers (exporting lim part store buffer) (record { answer = t; buffer = after }) → t .request-length < 65536
+  length-small t (inl (_, e)) = omega (arith, ap (λ (a : AfterExport). a .answer .request-length) e)
+  length-small t (inr (_, inl (_, e))) = omega (arith, ap (λ (a : AfterExport). a .answer .request-length) e)
+  length-small t (inr (_, inr (_, inl (_, e)))) = omega (arith, ap (λ (a : AfterExport). a .answer .request-length) e)
   length-small t (inr (_, inr (_, inr (_, x)))) =
-      let e : t .request-length ≡ length (request-bytes (exported (x .which) (x .tables))) = ap (λ (a : After). a .answer .request-length) (x .after) in
-      let b : length (request-bytes (exported (x .which) (x .tables))) ≤ longest m (x .which)
-      = exported-length m (ok .exportable) (x .tables) (x .holds .0) (x .which) in
-      let l : longest m (x .which) ≤ 65535 = longest-fits m (ok .exportable) (x .which) .1 in
+      let e : t .request-length ≡ length (request-bytes (exported (x .which) (x .tables))) = ap (λ (a : AfterExport). a .answer .request-length) (x .after) in
+      let b : length (request-bytes (exported (x .which) (x .tables))) ≤ longest lim (x .which)
+      = exported-length lim (ok .exportable) (x .tables) (x .holds .0) (x .which) in
+      let l : longest lim (x .which) ≤ 65535 = longest-fits lim (ok .exportable) (x .which) .1 in
       omega arith
 
   -- EXPORTS: what the call answers is packed whole
-  pub exports-packed : (x : Export) (r : ℕ) → Answers (exporting m part store buffer) (record { answer = told x; buffer = after })
-      → (told x .request-length < 65536 → PacksExport (told x) r) → Exports m part store buffer after r
+  pub exports-packed : (x : Export) (r : ℕ) → Answers (exporting lim part store buffer) (record { answer = told x; buffer = after })
+      → (told x .request-length < 65536 → PacksExport (told x) r) → Exports lim part store buffer after r
   exports-packed x r a packs = record { answer = told x; allowed = a; packs = packs (length-small (told x) a) }

@@ -1,8 +1,5 @@
 -- A packed answer by its case. Assumes nothing.
-use Prim.Native.Nat.{ℕ, _+_, _*_, _<_}
-use mathlib.Core.Path.{_≡_, sym, subst}
-use mathlib.Core.List.{List}
-use native.Mathlib.Omega.{arith}
+use Rattle.lists.proofs.Kit.{ℕ, _+_, _*_, _<_, _≡_, sym, subst, List, arith}
 use Rattle.lists.specs.Ladder.{Answers}
 use Rattle.plan.specs.Answers.{Said, answer, refused}
 use Rattle.writing.specs.Carrier.{result-number}
@@ -30,8 +27,8 @@ value-refused n h = record { number = h; value = omega arith; bits = omega arith
 -- ---- starting
 
 -- STARTS: what the call answers, by its number
-pub starts-packed : (m : Limits) (before after : List ℕ) (a : Started) (r : ℕ) → r ≡ started a → Answers (starting m before) (begins a after) → Starts m before after r
-starts-packed m before after a r e x = subst (λ (n : ℕ). Starts m before after n) (sym e) x
+pub starts-packed : (lim : Limits) (before after : List ℕ) (a : Started) (r : ℕ) → r ≡ started a → Answers (starting lim before) (begins a after) → Starts lim before after r
+starts-packed lim before after a r e x = subst (λ (n : ℕ). Starts lim before after n) (sym e) x
 
 -- ---- taking
 

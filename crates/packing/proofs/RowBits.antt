@@ -1,8 +1,5 @@
 -- What a row answers, packed: where its part starts and how long it is have 16 bits each. Assumes nothing.
-use Prim.Native.Nat.{ℕ, _+_, _*_, _<_}
-use mathlib.Core.Path.{_≡_, sym, subst}
-use mathlib.Core.List.{List}
-use native.Mathlib.Omega.{arith}
+use Rattle.lists.proofs.Kit.{ℕ, _+_, _*_, _<_, _≡_, sym, subst, List, arith}
 use Rattle.lists.specs.Ladder.{Answers}
 use Rattle.tables.specs.declared.limits.Limits.{Limits}
 use Rattle.screen.specs.declared.rows.Refusal.{Refusal}
@@ -11,9 +8,9 @@ use Rattle.screen.specs.Rows.{row-named}
 use Rattle.screen.specs.declared.answers.Answer.{Answer}
 use Rattle.screen.specs.declared.answers.Place.{Place}
 use Rattle.screen.specs.declared.answers.Place.the-variants.{Store, Scratch, Refused as NoPlace}
-use Rattle.screen.specs.Screen.{Part, of-store, of-scratch, number, leaves, showing, numbering}
+use Rattle.screen.specs.Screen.{RowPart, of-store, of-scratch, number, leaves, showing, numbering}
 use Rattle.screen.proofs.PartLaws.{PartFits, part-fits}
-use Rattle.packing.specs.Packing.{Packable, part-of, start-of, length-of, PacksPart, Shows, Numbers}
+use Rattle.packing.specs.Packing.{Packable, part-of, start-of, length-of, PacksPart, AnswersPart, AnswersNumber}
 
 -- ---- a place by its case
 
@@ -38,27 +35,27 @@ nothing-packed p why e = subst (λ (q : Place). Packed q 0) (sym e) (λ h k. rec
 
 -- ---- what the calls answer
 
-module _ (m : Limits) (table row : ℕ) (store scratch : List ℕ) (which : Row) (named : which ≡ row-named table row) where
+module _ (lim : Limits) (table row : ℕ) (store scratch : List ℕ) (which : Row) (named : which ≡ row-named table row) where
   -- NUMBERS: the number of a row
-  pub numbers-packed : (a : Answer) (r : ℕ) → r ≡ number a → Answers (numbering m store scratch which) (number a) → Numbers m table row store scratch r
+  pub numbers-packed : (a : Answer) (r : ℕ) → r ≡ number a → Answers (numbering lim store scratch which) (number a) → AnswersNumber lim table row store scratch r
   numbers-packed a r e x =
-      subst (λ (w : Row). Answers (numbering m store scratch w) r) named (subst (Answers (numbering m store scratch which)) (sym e) x)
+      subst (λ (w : Row). Answers (numbering lim store scratch w) r) named (subst (Answers (numbering lim store scratch which)) (sym e) x)
 
-  module _ (ok : Packable m) (after : List ℕ) where
-    small : (p : Part) → PartFits m store p → (start-of p < 65536) × (length-of p < 65536)
+  module _ (ok : Packable lim) (after : List ℕ) where
+    small : (p : RowPart) → PartFits lim store p → (start-of p < 65536) × (length-of p < 65536)
     small (of-store start bytes) (_, h) = (omega (arith, ok .size), omega (arith, ok .size))
     small (of-scratch bytes) h = (omega arith, omega arith)
 
     -- an answer of the code, by its name for C
-    moved : (p : Place) → Answers (showing m store scratch which) (leaves p after) → Answers (showing m store scratch (row-named table row)) (leaves p after)
-    moved p a = subst (λ (w : Row). Answers (showing m store scratch w) (leaves p after)) named a
+    moved : (p : Place) → Answers (showing lim store scratch which) (leaves p after) → Answers (showing lim store scratch (row-named table row)) (leaves p after)
+    moved p a = subst (λ (w : Row). Answers (showing lim store scratch w) (leaves p after)) named a
 
-    fits : (p : Place) → Answers (showing m store scratch which) (leaves p after)
+    fits : (p : Place) → Answers (showing lim store scratch which) (leaves p after)
         → (start-of (leaves p after .part) < 65536) × (length-of (leaves p after .part) < 65536)
-    fits p a = small (leaves p after .part) (part-fits m (ok .roomy) store scratch which (leaves p after) a)
+    fits p a = small (leaves p after .part) (part-fits lim (ok .roomy) store scratch which (leaves p after) a)
 
     -- SHOWS: what the call answers is packed whole
-    pub shows-packed : (p : Place) (r : ℕ) → Answers (showing m store scratch which) (leaves p after) → Packed p r → Shows m table row store scratch after r
+    pub shows-packed : (p : Place) (r : ℕ) → Answers (showing lim store scratch which) (leaves p after) → Packed p r → AnswersPart lim table row store scratch after r
     shows-packed (Store start bytes) r a packs =
         let (h, k) = fits (Store start bytes) a in
         record { number = _; part = of-store start bytes; allowed = moved (Store start bytes) a; packs = packs h k }

@@ -1,57 +1,54 @@
 -- What firmware may rely on: two answers that a contract allows are equal, and the bits of an answer give its values back. Assumes nothing.
-use Prim.Native.Nat.{ℕ, _/_, _%_, _≤_}
-use mathlib.Core.Path.{_≡_, sym, ap, _∙_}
-use mathlib.Core.Bool.{Bool, true, false}
-use mathlib.Core.List.{List}
-use native.Mathlib.Omega.{arith}
+use Rattle.lists.proofs.Kit.{ℕ, _/_, _%_, _≤_, _≡_, sym, ap, _∙_, List, arith}
 use Rattle.plan.specs.Answers.{Answer}
 use Rattle.plan.proofs.AnswerLaws.{One, determined as value-determined}
 use Rattle.writing.specs.Writing.{bit}
 use Rattle.tables.specs.declared.limits.Limits.{Limits}
 use Rattle.tables.specs.Store.{Begun}
+use Rattle.tables.proofs.EntryCodes.{bit-small}
 use Rattle.tables.proofs.Theorems.{begun-determined}
 use Rattle.station.specs.Answers.{Said}
-use Rattle.station.specs.Taking.{After}
+use Rattle.station.specs.Taking.{AfterTaking}
 use Rattle.laws_taking.proofs.Determined.{outcome-determined}
-use Rattle.export.specs.Exporting.{Told, After as Exported}
+use Rattle.export.specs.Exporting.{Told, AfterExport as Exported}
 use Rattle.export.proofs.Determined.{outcome-determined as export-determined}
 use Rattle.screen.specs.Rows.{row-named}
-use Rattle.screen.specs.Screen.{Part, of-store, of-scratch, After as Row}
+use Rattle.screen.specs.Screen.{RowPart, of-store, of-scratch, AfterRow as Row}
 use Rattle.screen.proofs.Determined.{shown-determined, number-one}
-use Rattle.packing.specs.Packing.{Starts, packed, Packs, Takes, packed-export, PacksExport, Exports, Numbers, packed-part, start-of, length-of, PacksPart, Shows, packed-value, PacksValue, Converts}
+use Rattle.packing.specs.Packing.{Starts, packed, Packs, Takes, packed-export, PacksExport, Exports, AnswersNumber, packed-part, start-of, length-of, PacksPart, AnswersPart, packed-value, PacksValue, Converts}
 
 -- ---- one answer
 
 -- STARTING: one number, and one store afterwards
-pub starts-determined : (m : Limits) (s t u : List ℕ) (r q : ℕ) → Starts m s t r → Starts m s u q → (r ≡ q) × (t ≡ u)
-starts-determined m s t u r q x y =
-    let e = begun-determined m s _ _ x y in (ap (λ (a : Begun). a .number) e, ap (λ (a : Begun). a .store) e)
+pub starts-determined : (lim : Limits) (s t u : List ℕ) (r q : ℕ) → Starts lim s t r → Starts lim s u q → (r ≡ q) × (t ≡ u)
+starts-determined lim s t u r q x y =
+    let e = begun-determined lim s _ _ x y in (ap (λ (a : Begun). a .number) e, ap (λ (a : Begun). a .store) e)
 
 -- TAKING: one number, one store and one reply afterwards
-pub takes-determined : (m : Limits) (message store reply s t u v : List ℕ) (r q : ℕ) → Takes m message store reply s t r → Takes m message store reply u v q → (r ≡ q) × (s ≡ u) × (t ≡ v)
-takes-determined m message store reply s t u v r q x y =
-    let e = outcome-determined m message store reply _ _ (x .allowed) (y .allowed) in (
-      x .packs .bits ∙ ap (λ (a : After). packed (a .answer)) e ∙ sym (y .packs .bits),
-      ap (λ (a : After). a .store) e,
-      ap (λ (a : After). a .reply) e,
+pub takes-determined : (lim : Limits) (message store reply s t u v : List ℕ) (r q : ℕ) → Takes lim message store reply s t r → Takes lim message store reply u v q → (r ≡ q) × (s ≡ u) × (t ≡ v)
+takes-determined lim message store reply s t u v r q x y =
+    let e = outcome-determined lim message store reply _ _ (x .allowed) (y .allowed) in (
+      x .packs .bits ∙ ap (λ (a : AfterTaking). packed (a .answer)) e ∙ sym (y .packs .bits),
+      ap (λ (a : AfterTaking). a .store) e,
+      ap (λ (a : AfterTaking). a .reply) e,
     )
 
 -- EXPORTING: one number, and one buffer afterwards
-pub exports-determined : (m : Limits) (part : ℕ) (store buffer s t : List ℕ) (r q : ℕ) → Exports m part store buffer s r → Exports m part store buffer t q → (r ≡ q) × (s ≡ t)
-exports-determined m part store buffer s t r q x y =
-    let e = export-determined m part store buffer _ _ (x .allowed) (y .allowed) in (
+pub exports-determined : (lim : Limits) (part : ℕ) (store buffer s t : List ℕ) (r q : ℕ) → Exports lim part store buffer s r → Exports lim part store buffer t q → (r ≡ q) × (s ≡ t)
+exports-determined lim part store buffer s t r q x y =
+    let e = export-determined lim part store buffer _ _ (x .allowed) (y .allowed) in (
       x .packs .bits ∙ ap (λ (a : Exported). packed-export (a .answer)) e ∙ sym (y .packs .bits),
       ap (λ (a : Exported). a .buffer) e,
     )
 
 -- A ROW'S NUMBER: one
-pub numbers-determined : (m : Limits) (table row : ℕ) (store scratch : List ℕ) (r q : ℕ) → Numbers m table row store scratch r → Numbers m table row store scratch q → r ≡ q
-numbers-determined m table row store scratch = number-one m store scratch (row-named table row)
+pub numbers-determined : (lim : Limits) (table row : ℕ) (store scratch : List ℕ) (r q : ℕ) → AnswersNumber lim table row store scratch r → AnswersNumber lim table row store scratch q → r ≡ q
+numbers-determined lim table row store scratch = number-one lim store scratch (row-named table row)
 
 -- A ROW: one number, and one scratch afterwards
-pub shows-determined : (m : Limits) (table row : ℕ) (store scratch s t : List ℕ) (r q : ℕ) → Shows m table row store scratch s r → Shows m table row store scratch t q → (r ≡ q) × (s ≡ t)
-shows-determined m table row store scratch s t r q x y =
-    let e = shown-determined m store scratch (row-named table row) _ _ (x .allowed) (y .allowed) in (
+pub shows-determined : (lim : Limits) (table row : ℕ) (store scratch s t : List ℕ) (r q : ℕ) → AnswersPart lim table row store scratch s r → AnswersPart lim table row store scratch t q → (r ≡ q) × (s ≡ t)
+shows-determined lim table row store scratch s t r q x y =
+    let e = shown-determined lim store scratch (row-named table row) _ _ (x .allowed) (y .allowed) in (
       x .packs .bits ∙ ap (λ (a : Row). packed-part (a .part)) e ∙ sym (y .packs .bits),
       ap (λ (a : Row). a .scratch) e,
     )
@@ -62,11 +59,6 @@ converts-determined Has one refusal x r q a b =
     a .packs .bits ∙ ap packed-value (value-determined Has one refusal x (a .answer) (b .answer) (a .allowed) (b .allowed)) ∙ sym (b .packs .bits)
 
 -- ---- the values of an answer
-
--- a bit is one bit
-bit-small : (b : Bool) → bit b ≤ 1
-bit-small true = omega arith
-bit-small false = omega arith
 
 -- TAKING: shifts and masks give the values back, and no other bit is set
 pub take-unpacked : (s : Said) (r : ℕ) → Packs s r
@@ -89,12 +81,12 @@ export-unpacked t r p =
     (omega arith, omega arith, omega arith)
 
 -- which slice a part is of
-abbrev pub slice-of : Part → ℕ
+abbrev pub slice-of : RowPart → ℕ
 slice-of (of-store start bytes) = 0
 slice-of (of-scratch bytes) = 1
 
 -- A ROW
-pub part-unpacked : (p : Part) (r : ℕ) → PacksPart p r → (r % 65536 ≡ slice-of p) × (r / 65536 % 65536 ≡ start-of p) × (r / 4294967296 ≡ length-of p)
+pub part-unpacked : (p : RowPart) (r : ℕ) → PacksPart p r → (r % 65536 ≡ slice-of p) × (r / 65536 % 65536 ≡ start-of p) × (r / 4294967296 ≡ length-of p)
 part-unpacked (of-store start bytes) r p =
     let s = p .start in
     let l = p .bytes in

@@ -1,4 +1,4 @@
--- How an answer is packed in one number for C, and what each C function of a set with limits m answers.
+-- How an answer is packed in one number for C, and what each C function of a set with limits lim answers.
 use Prim.Native.Nat.{ℕ, _+_, _*_, _≤_, _<_}
 use mathlib.Core.Path.{_≡_}
 use mathlib.Core.List.{List, []}
@@ -14,21 +14,21 @@ use Rattle.export.specs.Exportable.{Exportable}
 use Rattle.export.specs.Exporting.{Told, exporting}
 use Rattle.screen.specs.declared.answers.Place.{Place}
 use Rattle.screen.specs.Rows.{row-named}
-use Rattle.screen.specs.Screen.{Part, of-store, of-scratch, leaves, showing, numbering}
+use Rattle.screen.specs.Screen.{RowPart, of-store, of-scratch, leaves, showing, numbering}
 
 -- ---- the limits
 
 -- limits under which every place in a store and every length has 16 bits
-pub record Packable (m : Limits) : Type 0 where
-  pub roomy : Roomy m
-  pub size : m .size ≤ 65535
-  pub exportable : Exportable m
+pub record Packable (lim : Limits) : Type 0 where
+  pub roomy : Roomy lim
+  pub size : lim .size ≤ 65535
+  pub exportable : Exportable lim
 
 -- ---- starting
 
 -- the number that starting answers
-abbrev pub Starts : (m : Limits) (before after : List ℕ) (r : ℕ) → Type 0
-Starts m before after r = Answers (starting m before) (record { number = r; store = after })
+abbrev pub Starts : (lim : Limits) (before after : List ℕ) (r : ℕ) → Type 0
+Starts lim before after r = Answers (starting lim before) (record { number = r; store = after })
 
 -- ---- taking
 
@@ -44,9 +44,9 @@ pub record Packs (s : Said) (r : ℕ) : Type 0 where
   pub bits : r ≡ packed s
 
 -- an outcome that the contract of taking allows, with its answer packed
-pub record Takes (m : Limits) (message store reply store-after reply-after : List ℕ) (r : ℕ) : Type 0 where
+pub record Takes (lim : Limits) (message store reply store-after reply-after : List ℕ) (r : ℕ) : Type 0 where
   pub answer : Said
-  pub allowed : Answers (taken m message store reply) (record { answer = answer; store = store-after; reply = reply-after })
+  pub allowed : Answers (taken lim message store reply) (record { answer = answer; store = store-after; reply = reply-after })
   pub packs : Packs answer r
 
 -- ---- exporting
@@ -61,44 +61,44 @@ pub record PacksExport (t : Told) (r : ℕ) : Type 0 where
   pub bits : r ≡ packed-export t
 
 -- an outcome that the contract of exporting allows, with its answer packed
-pub record Exports (m : Limits) (part : ℕ) (store buffer buffer-after : List ℕ) (r : ℕ) : Type 0 where
+pub record Exports (lim : Limits) (part : ℕ) (store buffer buffer-after : List ℕ) (r : ℕ) : Type 0 where
   pub answer : Told
-  pub allowed : Answers (exporting m part store buffer) (record { answer = answer; buffer = buffer-after })
+  pub allowed : Answers (exporting lim part store buffer) (record { answer = answer; buffer = buffer-after })
   pub packs : PacksExport answer r
 
 -- ---- the screen's rows
 
 -- whether the row is shown
-abbrev pub Numbers : (m : Limits) (table row : ℕ) (store scratch : List ℕ) (r : ℕ) → Type 0
-Numbers m table row store scratch r = Answers (numbering m store scratch (row-named table row)) r
+abbrev pub AnswersNumber : (lim : Limits) (table row : ℕ) (store scratch : List ℕ) (r : ℕ) → Type 0
+AnswersNumber lim table row store scratch r = Answers (numbering lim store scratch (row-named table row)) r
 
 -- bit 0: 0 store, 1 scratch; 16-31 offset; 32-47 length
-abbrev pub packed-part : Part → ℕ
+abbrev pub packed-part : RowPart → ℕ
 packed-part (of-store start bytes) = start * 65536 + bytes * 4294967296
 packed-part (of-scratch bytes) = 1 + bytes * 4294967296
 
 -- the part of a place that the code answers
-abbrev pub part-of : Place → Part
+abbrev pub part-of : Place → RowPart
 part-of p = leaves p [] .part
 
-abbrev pub start-of : Part → ℕ
+abbrev pub start-of : RowPart → ℕ
 start-of (of-store start bytes) = start
 start-of (of-scratch bytes) = 0
 
-abbrev pub length-of : Part → ℕ
+abbrev pub length-of : RowPart → ℕ
 length-of (of-store start bytes) = bytes
 length-of (of-scratch bytes) = bytes
 
-pub record PacksPart (p : Part) (r : ℕ) : Type 0 where
+pub record PacksPart (p : RowPart) (r : ℕ) : Type 0 where
   pub start : start-of p < 65536
   pub bytes : length-of p < 65536
   pub bits : r ≡ packed-part p
 
 -- an outcome that the contract of a row allows, with its part packed; its number is that of Numbers
-pub record Shows (m : Limits) (table row : ℕ) (store scratch scratch-after : List ℕ) (r : ℕ) : Type 0 where
+pub record AnswersPart (lim : Limits) (table row : ℕ) (store scratch scratch-after : List ℕ) (r : ℕ) : Type 0 where
   pub number : ℕ
-  pub part : Part
-  pub allowed : Answers (showing m store scratch (row-named table row)) (record { number = number; part = part; scratch = scratch-after })
+  pub part : RowPart
+  pub allowed : Answers (showing lim store scratch (row-named table row)) (record { number = number; part = part; scratch = scratch-after })
   pub packs : PacksPart part r
 
 -- ---- conversions

@@ -1,8 +1,5 @@
 -- Which answers are right: one at most, and the same under another name of the question. Assumes nothing.
-use Prim.Native.Nat.{ℕ}
-use mathlib.Core.Path.{_≡_, sym, ap, _∙_}
-use mathlib.Core.List.{[], _∷_}
-use lib.ListN.{getD}
+use Rattle.lists.proofs.Kit.{ℕ, _≡_, sym, ap, _∙_, [], _∷_, getD}
 use Rattle.lists.proofs.OneToOne.{decoded}
 use Rattle.plan.specs.Answers.{Said, Answer, answer, Answered, has, none, given, refused, Back, BothWays}
 

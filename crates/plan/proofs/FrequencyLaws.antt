@@ -1,12 +1,5 @@
 -- Channels and frequencies: one each way, and what the code's parts of a frequency are. Assumes nothing.
-use Prim.Native.Nat.{ℕ, _+_, _*_, _-_, _/_, _%_, _≤_, _<_}
-use mathlib.Core.Path.{_≡_, refl, sym, _∙_}
-use mathlib.Core.Bool.{Bool, true, false, cond, _&&_}
-use native.Mathlib.Omega.{arith}
-use lib.Dec.{T, ltb, eqb, eqb→eq}
-use lib.ListN.{length, getD}
-use mathlib.Core.List.{List}
-use borrow.Author.Tests.{ltb-true, ltb-false}
+use Rattle.lists.proofs.Kit.{ℕ, _+_, _*_, _-_, _/_, _%_, _≤_, _<_, _≡_, refl, sym, _∙_, Bool, true, false, cond, _&&_, arith, T, ltb, eqb, eqb→eq, length, getD, List, ltb-true, ltb-false}
 use Rattle.lists.proofs.Every.{both}
 use Rattle.lists.proofs.Table.{every, every-at}
 use Rattle.plan.specs.Answers.{Back}

@@ -1,7 +1,5 @@
 -- The promises of the crate: each conversion has one right answer, and channels go both ways. Assumes nothing.
-use Prim.Native.Nat.{ℕ}
-use mathlib.Core.Path.{_≡_, refl}
-use native.Mathlib.Omega.{arith}
+use Rattle.lists.proofs.Kit.{ℕ, _≡_, refl, arith}
 use Rattle.plan.specs.declared.frequencies.FrequencyAnswer.{FrequencyAnswer}
 use Rattle.plan.specs.declared.frequencies.FrequencyAnswer.the-variants.{Frequency, NoChannel as NoFrequency}
 use Rattle.plan.specs.declared.frequencies.ChannelAnswer.{ChannelAnswer}

@@ -1,7 +1,5 @@
 -- The number plan: its bounds, that it goes both ways, and what the code's parts of a number are. Assumes nothing.
-use Prim.Native.Nat.{ℕ, _+_, _*_, _-_, _/_, _%_, _≤_, _<_}
-use mathlib.Core.Path.{_≡_, refl, sym, _∙_, subst, subst₂}
-use native.Mathlib.Omega.{arith}
+use Rattle.lists.proofs.Kit.{ℕ, _+_, _*_, _-_, _/_, _%_, _≤_, _<_, _≡_, refl, sym, _∙_, subst, subst₂, arith}
 use Rattle.plan.specs.Answers.{Answer, Answered, has, none, given, refused, Back, answer, dialled}
 use Rattle.plan.specs.Numbers.{IndividualShort, of-700, of-350, GroupShort, of-100, Numbered, Individual, Group}
 use Rattle.plan.specs.Inner.{ShortIs, MemberIs, ShortFits, MemberFits, AddressOf, DialledOf}

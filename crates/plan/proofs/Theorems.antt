@@ -1,7 +1,5 @@
 -- The promises of the crate: each conversion has one right answer, and each goes both ways. Assumes nothing.
-use Prim.Native.Nat.{ℕ}
-use mathlib.Core.Path.{_≡_, refl}
-use native.Mathlib.Omega.{arith}
+use Rattle.lists.proofs.Kit.{ℕ, _≡_, refl, arith}
 use Rattle.plan.specs.declared.numbers.IndividualAnswer.{IndividualAnswer}
 use Rattle.plan.specs.declared.numbers.IndividualAnswer.the-variants.{Address as AnIndividual, OutsidePlan as NoIndividual}
 use Rattle.plan.specs.declared.numbers.GroupAnswer.{GroupAnswer}

@@ -1,6 +1,7 @@
 // Takes the messages of the records on standard input, from a fresh store, and writes the seven records that the store is exported as.
 use export::exporting::export;
 use export::parts::Export;
+use export::parts::PARTS;
 use libc::STDOUT_FILENO;
 use records::Record;
 use records::read_record;
@@ -51,7 +52,7 @@ fn main() {
     start(&mut store);
     take_all(&mut buffer, &mut store);
     let mut part = 1;
-    while part <= 7 {
+    while part <= PARTS {
         put_part(part, &store, &mut buffer);
         part += 1;
     }

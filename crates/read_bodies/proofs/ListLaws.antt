@@ -1,44 +1,45 @@
 -- The heads of settings that hold a list, and the range of quick texts. Assumes nothing.
-use Prim.Native.Nat.{ℕ}
-use mathlib.Core.Path.{_≡_, refl, sym, subst}
-use mathlib.Core.List.{List, [], _∷_}
-use native.Mathlib.Omega.{arith}
-use lib.ListN.{length}
+use Rattle.lists.proofs.Kit.{ℕ, _+_, _/_, _%_, _≤_, _≡_, refl, sym, subst, List, [], _∷_, arith, length, drop, take}
+use Rattle.lists.specs.Bytes.{Bytes}
 use Rattle.lists.specs.Every.{All}
 use Rattle.lists.proofs.Every.{all-turn}
+use Rattle.writing.specs.declared.Coding.{Coding}
 use Rattle.writing.specs.declared.Kind.the-variants.{Lines, QuickTexts, Channels, StatusTexts}
 use Rattle.writing.specs.declared.Operation.{Operation}
 use Rattle.writing.specs.declared.Operation.the-variants.{Add, Delete, Replace}
 use Rattle.writing.specs.Fields.{val, res, each}
 use Rattle.writing.specs.Ranges.{text-limits, InQuick}
-use Rattle.writing.specs.Settings.{Entry, unicode16}
+use Rattle.writing.specs.Settings.{Entry}
 use Rattle.writing.specs.Writing.{flag, op, op-code, contact, quick-text, status-text}
+use Rattle.read_fields.specs.Places.{be}
+use Rattle.read_fields.proofs.Heads.{be-turn}
 use Rattle.read_fields.specs.Entries.{channel-list, QuickFrom}
-use Rattle.settings.proofs.BodyLaws.{Headed, one-op}
+use Rattle.writing.proofs.Unique.{one-op}
+use Rattle.settings.proofs.BodyLaws.{Headed}
 use Rattle.read_bodies.specs.Units.{LeastIs}
 
-abbrev pub lines-head : Headed Lines
-lines-head = record {
+abbrev pub lines-head : (c : Coding) → Headed c Lines
+lines-head c = record {
   head = λ x. op (x .0) ∷ flag (x .1 .encryption) ∷ flag (x .1 .emergency) ∷ val 2 (x .1 .priority) ∷ flag (x .1 .pabx) ∷ res 1 ∷ val 8 (length (x .2)) ∷ [];
-  tail = λ x. each (contact unicode16) (x .2);
+  tail = λ x. each (contact c) (x .2);
   size = 2;
   split = λ x. refl;
   wide = λ x. refl;
   some-byte = omega arith;
 }
 
-abbrev pub quick-head : Headed QuickTexts
-quick-head = record {
+abbrev pub quick-head : (c : Coding) → Headed c QuickTexts
+quick-head c = record {
   head = λ x. op (x .0) ∷ val 6 (length (x .1)) ∷ [];
-  tail = λ x. each (quick-text unicode16) (x .1);
+  tail = λ x. each (quick-text c) (x .1);
   size = 1;
   split = λ x. refl;
   wide = λ x. refl;
   some-byte = omega arith;
 }
 
-abbrev pub channels-head : Headed Channels
-channels-head = record {
+abbrev pub channels-head : (c : Coding) → Headed c Channels
+channels-head c = record {
   head = λ x. op (x .0) ∷ res 4 ∷ val 10 (length (x .1)) ∷ [];
   tail = λ x. channel-list (x .1);
   size = 2;
@@ -47,15 +48,19 @@ channels-head = record {
   some-byte = omega arith;
 }
 
-abbrev pub status-head : Headed StatusTexts
-status-head = record {
+abbrev pub status-head : (c : Coding) → Headed c StatusTexts
+status-head c = record {
   head = λ x. op (x .0) ∷ res 6 ∷ val 8 (length (x .1)) ∷ [];
-  tail = λ x. each (status-text unicode16) (x .1);
+  tail = λ x. each (status-text c) (x .1);
   size = 2;
   split = λ x. refl;
   wide = λ x. refl;
   some-byte = omega arith;
 }
+
+-- the operation of a head of two bytes is in the first
+pub top-bits : (m : List ℕ) (p : ℕ) → Bytes m → p + 2 ≤ length m → be 0 (take 2 (drop p m)) / 16384 % 4 ≡ be 0 (take 1 (drop p m)) / 64 % 4
+top-bits m p h r = omega (arith, be-turn m p 1 (omega arith), h (p + 1))
 
 -- the range of quick texts in an operation is that from its least number of units
 quick-one : (o : Operation) (n : ℕ) (e : Entry) → LeastIs o n → InQuick text-limits o e → QuickFrom text-limits n e

@@ -1,37 +1,33 @@
 -- The heads of slots, and which slots are in range. Assumes nothing.
-use Prim.Native.Nat.{ℕ, _≤_}
-use mathlib.Core.Path.{_≡_, refl, sym, subst}
-use mathlib.Core.Bool.{Bool, true, false}
-use mathlib.Core.Logic.{_≢_}
-use mathlib.Core.List.{[], _∷_}
-use native.Mathlib.Omega.{arith}
+use Rattle.lists.proofs.Kit.{ℕ, _≤_, _≡_, refl, sym, subst, Bool, true, false, _≢_, [], _∷_, arith}
+use Rattle.writing.specs.declared.Coding.{Coding}
 use Rattle.writing.specs.declared.Kind.the-variants.{Group, Individual}
 use Rattle.writing.specs.declared.Operation.{Operation}
 use Rattle.writing.specs.declared.Operation.the-variants.{Add, Delete, Replace}
 use Rattle.writing.specs.Fields.{val, res}
 use Rattle.writing.specs.Ranges.{InAddress, InSlot}
-use Rattle.writing.specs.Settings.{unicode16}
 use Rattle.writing.specs.Writing.{flag, op, op-code, text}
-use Rattle.settings.specs.Settings.{AddressRefused}
-use Rattle.settings.proofs.BodyLaws.{Headed, one-op}
-use Rattle.read_bodies.specs.Refused.{GroupRefused, IndividualRefused}
+use Rattle.read_fields.specs.TextsAndNumbers.{AddressRefused}
+use Rattle.writing.proofs.Unique.{one-op}
+use Rattle.settings.proofs.BodyLaws.{Headed}
+use Rattle.read_bodies.specs.Refused.{SlotRefused}
 
-abbrev pub group-head : Headed Group
-group-head = record {
+abbrev pub group-head : (c : Coding) → Headed c Group
+group-head c = record {
   head = λ x. op (x .0) ∷ val 2 (x .1 .attribute) ∷ flag (x .1 .broadcast) ∷ flag (x .1 .encryption) ∷ flag (x .1 .ovcm) ∷ flag (x .1 .emergency)
       ∷ val 2 (x .1 .priority) ∷ res 2 ∷ val 4 (x .2 .index) ∷ val 24 (x .2 .address .0) ∷ [];
-  tail = λ x. text unicode16 (x .2 .text);
+  tail = λ x. text c (x .2 .text);
   size = 5;
   split = λ x. refl;
   wide = λ x. refl;
   some-byte = omega arith;
 }
 
-abbrev pub individual-head : Headed Individual
-individual-head = record {
+abbrev pub individual-head : (c : Coding) → Headed c Individual
+individual-head c = record {
   head = λ x. op (x .0) ∷ flag (x .1 .encryption) ∷ flag (x .1 .emergency) ∷ val 2 (x .1 .priority) ∷ res 6 ∷ val 4 (x .2 .index)
       ∷ val 24 (x .2 .address .0) ∷ [];
-  tail = λ x. text unicode16 (x .2 .text);
+  tail = λ x. text c (x .2 .text);
   size = 5;
   split = λ x. refl;
   wide = λ x. refl;
@@ -39,23 +35,21 @@ individual-head = record {
 }
 
 -- what is in range of a slot is said by its cuts
-pub group-in : (o p : Operation) (a b x y : ℕ) → op-code o ≡ op-code p → a ≡ b → x ≡ y → InSlot p ((b ≢ 0) × InAddress y) → InSlot o ((a ≢ 0) × InAddress x)
-group-in o p a b x y e d f i =
+pub slot-in : (o p : Operation) (a b x y : ℕ) → op-code o ≡ op-code p → a ≡ b → x ≡ y → InSlot p ((b ≢ 0) × InAddress y) → InSlot o ((a ≢ 0) × InAddress x)
+slot-in o p a b x y e d f i =
     subst (λ (q : Operation). InSlot q ((a ≢ 0) × InAddress x)) (sym (one-op o p e))
     (subst (λ (z : ℕ). InSlot p ((z ≢ 0) × InAddress x)) (sym d) (subst (λ (z : ℕ). InSlot p ((b ≢ 0) × InAddress z)) (sym f) i))
 
-pub individual-in : (o p : Operation) (x y : ℕ) → op-code o ≡ op-code p → x ≡ y → InSlot p (InAddress y) → InSlot o (InAddress x)
-individual-in o p x y e f i =
-    subst (λ (q : Operation). InSlot q (InAddress x)) (sym (one-op o p e)) (subst (λ (z : ℕ). InSlot p (InAddress z)) (sym f) i)
+-- what follows of an add's range follows of a slot's
+pub slot-turn : (o : Operation) {P Q : Type 0} → (P → Q) → InSlot o P → InSlot o Q
+slot-turn Add f i = f i
+slot-turn Delete f i = tt
+slot-turn Replace f i = i
 
--- an add is refused as its address is, a group's where its attribute is not 0
-pub group-add : (attribute a : ℕ) (r : Bool) → (attribute ≡ 0 → ⊥) → AddressRefused a r → GroupRefused Add attribute a r
-group-add attribute a true n h = λ i. h (i .1)
-group-add attribute a false n h = (n, h)
-
-pub individual-add : (a : ℕ) (r : Bool) → AddressRefused a r → IndividualRefused Add a r
-individual-add a true h = h
-individual-add a false h = h
+-- an add is refused as its address is where its attribute is not 0
+pub slot-add : (attribute a : ℕ) (r : Bool) → (attribute ≡ 0 → ⊥) → AddressRefused a r → SlotRefused Add attribute a r
+slot-add attribute a true n h = λ i. h (i .1)
+slot-add attribute a false n h = (n, h)
 
 -- a slot's operation in range is add or delete
 pub slot-op : (o : Operation) (P : Type 0) → InSlot o P → op-code o ≤ 2

@@ -1,3 +1,4 @@
+pub mod Heads
 pub mod Refused
 pub mod Targets
 pub mod Units

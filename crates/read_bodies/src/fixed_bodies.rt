@@ -1,12 +1,12 @@
 // Settings that hold neither a list nor a slot: the emergency key, home numbers, system code and the last item.
 use plan::numbers::GroupAddress;
 use plan::numbers::IndividualAddress;
+use read_fields::addresses::address_refused;
 use read_fields::bytes::flag;
 use read_fields::bytes::number;
 use read_fields::bytes::remaining;
 use read_fields::hashes::HashRead;
 use read_fields::hashes::read_hash;
-use settings::addresses::address_refused;
 use settings::settings::BodyRead;
 use settings::settings::Setting;
 use writing::HomeNumbers;
@@ -16,7 +16,8 @@ use writing::LastFlags;
 use writing::SystemCode;
 ghost use Prim.Native.Nat.{ℕ};
 ghost use Rattle.read_bodies.specs.Targets.{TargetIs};
-ghost use Rattle.settings.specs.Settings.{BodyAt};
+ghost use Rattle.settings.specs.Meant.{BodyAt};
+ghost use Rattle.writing.specs.declared.Coding.{Coding};
 ghost use Rattle.writing.specs.declared.Kind.{Kind};
 
 // An address of the kind that the group bit says.
@@ -31,7 +32,7 @@ fn target(group: bool, address: u32) -> KeyTarget
 }
 
 pub fn read_key(m: &[u8], p: usize) -> BodyRead
-    ensures { λ r. ⌜ ((left : ℕ) → BodyAt Kind.Key left (now (m .entry)) p r) ⌝ }
+    ensures { λ r. ⌜ ((coding : Coding) (left : ℕ) → BodyAt coding Kind.Key left (now (m .entry)) p r) ⌝ }
 {
     if remaining(m, p) < 1 {
         return BodyRead::NoBody;
@@ -58,7 +59,7 @@ pub fn read_key(m: &[u8], p: usize) -> BodyRead
 }
 
 pub fn read_home(m: &[u8], p: usize) -> BodyRead
-    ensures { λ r. ⌜ ((left : ℕ) → BodyAt Kind.Home left (now (m .entry)) p r) ⌝ }
+    ensures { λ r. ⌜ ((coding : Coding) (left : ℕ) → BodyAt coding Kind.Home left (now (m .entry)) p r) ⌝ }
 {
     if remaining(m, p) < 3 {
         return BodyRead::NoBody;
@@ -73,7 +74,7 @@ pub fn read_home(m: &[u8], p: usize) -> BodyRead
 }
 
 pub fn read_system(m: &[u8], p: usize) -> BodyRead
-    ensures { λ r. ⌜ ((left : ℕ) → BodyAt Kind.System left (now (m .entry)) p r) ⌝ }
+    ensures { λ r. ⌜ ((coding : Coding) (left : ℕ) → BodyAt coding Kind.System left (now (m .entry)) p r) ⌝ }
 {
     if remaining(m, p) < 3 {
         return BodyRead::NoBody;
@@ -102,7 +103,7 @@ pub fn read_system(m: &[u8], p: usize) -> BodyRead
 
 // The last item, which is in range only where no setting is still counted after it.
 pub fn read_last(m: &[u8], p: usize, left: usize) -> BodyRead
-    ensures { λ r. ⌜ BodyAt Kind.Last left (now (m .entry)) p r ⌝ }
+    ensures { λ r. ⌜ ((coding : Coding) → BodyAt coding Kind.Last left (now (m .entry)) p r) ⌝ }
 {
     if 0 < left {
         return BodyRead::NoBody;

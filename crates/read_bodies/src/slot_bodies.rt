@@ -1,29 +1,31 @@
 // Settings of a slot: one group or one individual.
 use plan::numbers::GroupAddress;
 use plan::numbers::IndividualAddress;
+use read_fields::addresses::address_refused;
 use read_fields::bytes::flag;
 use read_fields::bytes::number;
 use read_fields::bytes::remaining;
 use read_fields::texts::TextRead;
 use read_fields::texts::read_text;
-use settings::addresses::address_refused;
-use settings::rows::OperationRead;
-use settings::rows::operation_of;
 use settings::settings::BodyRead;
 use settings::settings::GroupPlace;
 use settings::settings::IndividualPlace;
 use settings::settings::Setting;
+use settings::type_table::OperationRead;
+use settings::type_table::operation_of;
+use writing::Coding;
 use writing::GroupFlags;
 use writing::IndividualFlags;
 use writing::Operation;
 ghost use mathlib.Core.Path.{_≡_};
 ghost use Prim.Native.Nat.{ℕ};
-ghost use Rattle.settings.specs.Settings.{BodyAt};
-ghost use Rattle.read_bodies.specs.Refused.{GroupRefused, IndividualRefused};
+ghost use Rattle.settings.specs.Meant.{BodyAt};
+ghost use Rattle.read_bodies.specs.Refused.{SlotRefused};
 ghost use Rattle.writing.specs.declared.Kind.{Kind};
 
-fn group_refused(operation: Operation, attribute: u8, address: u32) -> bool
-    ensures { λ r. ⌜ GroupRefused operation attribute address r ⌝ }
+// Whether a slot is out of range. An individual has no attribute: 1 stands for it.
+fn slot_refused(operation: Operation, attribute: u8, address: u32) -> bool
+    ensures { λ r. ⌜ SlotRefused operation attribute address r ⌝ }
 {
     match operation {
         Operation::Add => {
@@ -33,22 +35,12 @@ fn group_refused(operation: Operation, attribute: u8, address: u32) -> bool
             address_refused(address)
         }
         Operation::Delete => false,
-        Operation::Replace => true, // 11 in D1
+        Operation::Replace => true, // 11 in D1 and D2
     }
 }
 
-fn individual_refused(operation: Operation, address: u32) -> bool
-    ensures { λ r. ⌜ IndividualRefused operation address r ⌝ }
-{
-    match operation {
-        Operation::Add => address_refused(address),
-        Operation::Delete => false,
-        Operation::Replace => true, // 11 in D2
-    }
-}
-
-pub fn read_group(m: &[u8], p: usize, operations: u8) -> BodyRead
-    ensures { λ r. ⌜ (operations ≡ 2 → (left : ℕ) → BodyAt Kind.Group left (now (m .entry)) p r) ⌝ }
+pub fn read_group(m: &[u8], p: usize, operations: u8, coding: Coding) -> BodyRead
+    ensures { λ r. ⌜ (operations ≡ 2 → (left : ℕ) → BodyAt coding Kind.Group left (now (m .entry)) p r) ⌝ }
 {
     if remaining(m, p) < 5 {
         return BodyRead::NoBody;
@@ -60,10 +52,10 @@ pub fn read_group(m: &[u8], p: usize, operations: u8) -> BodyRead
     };
     let attribute = (n / 0x10_0000_0000 % 4) as u8;
     let address = (n % 0x100_0000) as u32;
-    if group_refused(operation, attribute, address) {
+    if slot_refused(operation, attribute, address) {
         return BodyRead::NoBody;
     }
-    let units = read_text(m, p + 5, 16);
+    let units = read_text(m, p + 5, 16, coding);
     let TextRead::Text(text, next) = units else {
         return BodyRead::NoBody;
     };
@@ -84,8 +76,8 @@ pub fn read_group(m: &[u8], p: usize, operations: u8) -> BodyRead
     BodyRead::Body(Setting::Group(operation, flags, place), next)
 }
 
-pub fn read_individual(m: &[u8], p: usize, operations: u8) -> BodyRead
-    ensures { λ r. ⌜ (operations ≡ 2 → (left : ℕ) → BodyAt Kind.Individual left (now (m .entry)) p r) ⌝ }
+pub fn read_individual(m: &[u8], p: usize, operations: u8, coding: Coding) -> BodyRead
+    ensures { λ r. ⌜ (operations ≡ 2 → (left : ℕ) → BodyAt coding Kind.Individual left (now (m .entry)) p r) ⌝ }
 {
     if remaining(m, p) < 5 {
         return BodyRead::NoBody;
@@ -96,10 +88,10 @@ pub fn read_individual(m: &[u8], p: usize, operations: u8) -> BodyRead
         return BodyRead::NoBody;
     };
     let address = (n % 0x100_0000) as u32;
-    if individual_refused(operation, address) {
+    if slot_refused(operation, 1, address) {
         return BodyRead::NoBody;
     }
-    let units = read_text(m, p + 5, 16);
+    let units = read_text(m, p + 5, 16, coding);
     let TextRead::Text(text, next) = units else {
         return BodyRead::NoBody;
     };

@@ -1,21 +1,12 @@
 -- The carrier of a message: start bytes, and four bytes read as one number. Assumes nothing.
-use Prim.Native.Nat.{ℕ, suc, _+_, _-_, _*_, _/_, _%_, _≤_, _<_}
-use mathlib.Core.Path.{_≡_, refl, sym, ap, ap₂, _∙_, subst, subst⁻¹}
-use mathlib.Core.Logic.{_≢_, inr, ⊎-elim}
-use mathlib.Core.List.{List, [], _∷_, _++_}
-use mathlib.Core.Bool.{Bool, true, false, not}
-use native.Mathlib.Omega.{arith}
-use lib.Dec.{eqb}
-use lib.ListN.{length, getD, drop, take, length-drop}
-use lib.Seq.{drop-cons, drop-drop, drop-at, drop-append-seam}
-use borrow.Author.Tests.{eqb-true, eqb-false, not-true, not-false}
+use Rattle.lists.proofs.Kit.{ℕ, suc, _+_, _-_, _*_, _/_, _%_, _≤_, _<_, _≡_, refl, sym, ap, ap₂, _∙_, subst, subst⁻¹, _≢_, inr, ⊎-elim, List, [], _∷_, _++_, Bool, true, false, not, arith, eqb, length, getD, drop, take, length-drop, drop-cons, drop-drop, drop-at, drop-append-seam, eqb-true, eqb-false, not-true, not-false}
 use Rattle.lists.specs.Bytes.{Bytes}
 use Rattle.lists.proofs.Seqs.{cut}
 use Rattle.writing.specs.Fields.{bitsOf, Field, Shows, widths}
-use Rattle.writing.specs.Carrier.{start, carrier, States, Carries, first-byte, Opens}
+use Rattle.writing.specs.Carrier.{start-bytes, carrier, States, Carries, first-byte, Opens}
 use Rattle.writing.proofs.Bits.{shows-length, length-bitsOf}
 use Rattle.writing.proofs.Ends.{Agree, val-ends, res-ends}
-use Rattle.read_fields.specs.Places.{PartAt, be}
+use Rattle.read_fields.specs.Places.{FieldsAt, be}
 use Rattle.read_carrier.specs.Message.{StartsWith, LengthIs, CarrierIs}
 use Rattle.read_carrier.specs.declared.carrier.CarrierRead.the-variants.{Coding, NotCarried}
 use Rattle.read_fields.proofs.Heads.{Cut, cut-in, cut-out, head-in, head-out, be-small}
@@ -28,7 +19,7 @@ pub wide-bytes : (fs : List Field) (k : ℕ) (bs : List ℕ) → widths fs ≡ 8
 wide-bytes fs k bs w s = omega (arith, w, length-bitsOf bs, shows-length fs (bitsOf bs) s)
 
 -- after a part stands what follows its end
-pub part-rest : {fs : List Field} {m : List ℕ} {from next : ℕ} (p : PartAt fs m from next) → drop from m ≡ p .bytes ++ drop next m
+pub part-rest : {fs : List Field} {m : List ℕ} {from next : ℕ} (p : FieldsAt fs m from next) → drop from m ≡ p .bytes ++ drop next m
 part-rest {fs} {m} {from} {next} p =
     let e : drop next m ≡ p .rest
     = ap (λ i. drop i m) (p .ends) ∙ sym (drop-drop (length (p .bytes)) from m) ∙ ap (drop (length (p .bytes))) (p .split)
@@ -48,7 +39,7 @@ start-in (x ∷ []) l a b = absurd (omega arith)
 start-in (x ∷ y ∷ m) l a b = ap₂ (λ p q. p ∷ q ∷ m) a b
 
 -- the bytes of a message that starts so
-pub start-out : (m rest : List ℕ) → m ≡ start ++ rest → (2 ≤ length m) × (getD m 0 0 ≡ 2) × (getD m 1 0 ≡ 2)
+pub start-out : (m rest : List ℕ) → m ≡ start-bytes ++ rest → (2 ≤ length m) × (getD m 0 0 ≡ 2) × (getD m 1 0 ≡ 2)
 start-out m rest e =
     let l : length m ≡ suc (suc (length rest)) = ap length e in
     (omega arith, ap (λ (l : List ℕ). getD l 0 0) e, ap (λ (l : List ℕ). getD l 1 0) e)
@@ -77,7 +68,7 @@ length-right stated after n r k e t = subst (States stated) e (subst (LengthIs s
 -- the carrier's fields as one number says them
 pub record Head (m : List ℕ) (N coding : ℕ) : Type 0 where
   pub room : 6 ≤ length m
-  pub starts : m ≡ start ++ drop 2 m
+  pub starts : m ≡ start-bytes ++ drop 2 m
   pub length-field : States (N / 65536) (length m - 4)
   pub mfid : N / 256 % 256 ≡ 8
   pub coded : N % 16 ≡ coding
@@ -92,7 +83,7 @@ module _ (m : List ℕ) (h : Bytes m) {N : ℕ} (number : N ≡ be 0 (take 4 (dr
   carries-out coding data-bytes k =
       let lh : length (k .header) ≡ 4 = wide-bytes (carrier (k .stated) coding) 4 (k .header) refl (k .fields) in
       let e : drop 2 m ≡ k .header ++ data-bytes = ap (drop 2) (k .whole) in
-      let p : PartAt (carrier (k .stated) coding) m 2 6
+      let p : FieldsAt (carrier (k .stated) coding) m 2 6
       = record { bytes = k .header; rest = data-bytes; split = e; ends = omega arith; written = k .fields } in
       let (room, c, q) = head-out (carrier (k .stated) coding) [] m 2 4 refl (omega arith) h 6 p in
       let c′ = subst (Cut (carrier (k .stated) coding)) (sym number) c in
@@ -101,7 +92,7 @@ module _ (m : List ℕ) (h : Bytes m) {N : ℕ} (number : N ≡ be 0 (take 4 (dr
       let l : length m - 4 ≡ 2 + length data-bytes = omega (arith, sym (ap length d) ∙ length-drop 6 m) in (
         record {
           room = room;
-          starts = k .whole ∙ ap (λ (l : List ℕ). start ++ l) (sym e);
+          starts = k .whole ∙ ap (λ (l : List ℕ). start-bytes ++ l) (sym e);
           length-field = subst (λ (a : ℕ). States a (length m - 4)) (sym s) (subst (States (k .stated)) (sym l) (k .length-field));
           mfid = omega (arith, c′ .1 .0);
           coded = omega (arith, c′ .1 .1 .1 .0);
@@ -112,12 +103,12 @@ module _ (m : List ℕ) (h : Bytes m) {N : ℕ} (number : N ≡ be 0 (take 4 (dr
   -- a message with a carrier carries what follows it
   pub carries-in : (coding : ℕ) → Head m N coding → CarrierIs m (Coding coding)
   carries-in coding k =
-      let p : PartAt (carrier (N / 65536) coding) m 2 6 = head-in (carrier (N / 65536) coding) [] m 2 4 refl (omega arith) h 6 (k .room)
+      let p : FieldsAt (carrier (N / 65536) coding) m 2 6 = head-in (carrier (N / 65536) coding) [] m 2 4 refl (omega arith) h 6 (k .room)
       (subst (Cut (carrier (N / 65536) coding)) number (omega (arith, small (k .room)), (omega (arith, k .mfid), (tt, (omega (arith, k .coded), tt))))) (nothing m 6) in
       let l : length m - 4 ≡ 2 + length (drop 6 m) = omega (arith, length-drop 6 m, k .room) in record {
         stated = N / 65536;
         header = p .bytes;
-        whole = k .starts ∙ ap (λ (l : List ℕ). start ++ l) (part-rest p);
+        whole = k .starts ∙ ap (λ (l : List ℕ). start-bytes ++ l) (part-rest p);
         fields = p .written;
         length-field = subst (States (N / 65536)) l (k .length-field);
       }

@@ -1,36 +1,18 @@
 -- A message is one of the kinds that `writing/specs/Carrier.antt` tells apart, and of no two of them. Assumes nothing.
-use Prim.Native.Nat.{ℕ, _≤_}
-use mathlib.Core.Path.{_≡_, refl, sym, ap, _∙_, subst, subst⁻¹}
-use mathlib.Core.Logic.{_≢_, _⊎_, ⊎-elim}
-use mathlib.Core.Bool.{Bool, true, false}
-use mathlib.Core.List.{List, _++_}
-use native.Mathlib.Omega.{arith}
-use lib.Dec.{ltb}
-use lib.ListN.{length, drop}
-use lib.Seq.{drop-append-seam}
-use borrow.Author.Tests.{ltb-true, ltb-false}
+use Rattle.lists.proofs.Kit.{ℕ, _≤_, _≡_, refl, sym, ap, _∙_, subst, subst⁻¹, _≢_, _⊎_, ⊎-elim, Bool, true, false, List, _++_, arith, ltb, length, drop, drop-append-seam, ltb-true, ltb-false}
 use Rattle.lists.specs.Bytes.{Bytes}
 use Rattle.lists.proofs.Bytes.{bytes-drop}
-use Rattle.lists.proofs.Seqs.{cut}
 use Rattle.writing.specs.Settings.{Hash, unicode16}
-use Rattle.writing.specs.Writing.{request-head}
-use Rattle.writing.specs.Carrier.{start, Carries, coding-type, Opens, Counted, RequestOf, Query, InSize, OtherKind, OtherType, OtherVersion, NoRequest, NoQuery}
-use Rattle.read_carrier.proofs.CarrierLaws.{wide-bytes, carries-one}
+use Rattle.writing.specs.Carrier.{start-bytes, Carries, coding-type, Opens, Counted, RequestOf, Query, InSize, OtherKind, OtherType, OtherVersion, NoRequest, NoQuery}
+use Rattle.read_carrier.proofs.CarrierLaws.{carries-one}
 use Rattle.read_carrier.proofs.MessageOne.{opens-one, counted-one, counted-opens, query-opens}
 
 -- ---- requests
 
--- one count, and one rest after it
-pub counted-rest : {n k : ℕ} {s r d : List ℕ} → Counted n s d → Counted k r d → (n ≡ k) × (s ≡ r)
-counted-rest {n} {k} a b =
-    let la : length (a .head) ≡ 2 = wide-bytes (request-head n) 2 (a .head) refl (a .says) in
-    let lb : length (b .head) ≡ 2 = wide-bytes (request-head k) 2 (b .head) refl (b .says) in
-    (counted-one a b, cut (a .head) (b .head) (la ∙ sym lb) (sym (a .parts) ∙ b .parts) .1)
-
 -- REQUEST ONE: a request has one count, and one rest after it
 pub request-one : {n k : ℕ} {s r m : List ℕ} → RequestOf n s m → RequestOf k r m → (n ≡ k) × (s ≡ r)
 request-one {n} {k} {s} {r} a b =
-    counted-rest (subst (Counted n s) (carries-one (a .carried) (b .carried) .1) (a .counted)) (b .counted)
+    counted-one (subst (Counted n s) (carries-one (a .carried) (b .carried) .1) (a .counted)) (b .counted)
 
 -- it opens with version 1 and type 0
 pub request-opens : {n : ℕ} {s m : List ℕ} (q : RequestOf n s m) → Opens 1 0 (coding-type unicode16) (q .data-bytes) m
@@ -43,7 +25,7 @@ bytes-right a b h = subst Bytes (drop-append-seam a b) (bytes-drop (length a) (a
 -- a request's settings are bytes where the message is
 pub request-bytes : {n : ℕ} {s m : List ℕ} → RequestOf n s m → Bytes m → Bytes s
 request-bytes {n} {s} {m} q h =
-    let d : Bytes (q .data-bytes) = bytes-right (start ++ q .carried .header) (q .data-bytes) (subst Bytes (q .carried .whole) h) in
+    let d : Bytes (q .data-bytes) = bytes-right (start-bytes ++ q .carried .header) (q .data-bytes) (subst Bytes (q .carried .whole) h) in
     bytes-right (q .counted .head) s (subst Bytes (q .counted .parts) d)
 
 -- NOT BOTH: no request is a result query

@@ -1,18 +1,12 @@
 -- What follows the first data byte of version 1: a request's count, a result query's hash. Assumes nothing.
-use Prim.Native.Nat.{ℕ, _+_, _%_, _≤_, _<_}
-use mathlib.Core.Path.{_≡_, refl, sym, ap, _∙_, subst, subst⁻¹}
-use mathlib.Core.Logic.{_≢_}
-use mathlib.Core.List.{List, [], _∷_, _++_, map, append-nil}
-use native.Mathlib.Omega.{arith}
-use lib.ListN.{length, drop, take, length-drop}
-use lib.Seq.{drop-length}
+use Rattle.lists.proofs.Kit.{ℕ, _+_, _%_, _≤_, _<_, _≡_, refl, sym, ap, _∙_, subst, subst⁻¹, _≢_, List, [], _∷_, _++_, map, append-nil, arith, length, drop, take, length-drop, drop-length}
 use Rattle.lists.specs.Bytes.{Bytes}
 use Rattle.writing.specs.Fields.{bitsOf, val, res, Shows}
 use Rattle.writing.specs.Settings.{Hash}
 use Rattle.writing.specs.Writing.{request-head}
 use Rattle.writing.specs.Ranges.{HashSize}
 use Rattle.writing.specs.Carrier.{Carries, first-byte, Opens, Counted, query, Query, InSize}
-use Rattle.read_fields.specs.Places.{PartAt, be}
+use Rattle.read_fields.specs.Places.{FieldsAt, be}
 use Rattle.read_fields.specs.Hashes.{HashAt}
 use Rattle.read_carrier.specs.Message.{MessageIs}
 use Rattle.read_carrier.specs.declared.carrier.Message.the-variants.{NoRequest, Request, NoQuery, Query as AQuery}
@@ -35,7 +29,7 @@ module _ (m : List ℕ) (h : Bytes m) (coding : ℕ) {M : ℕ} (byte : M ≡ be 
   counted-out : (count : ℕ) (settings : List ℕ) → Counted count settings (drop 6 m) → (8 ≤ length m) × (count ≡ M % 256)
   counted-out count settings k =
       let n : length (k .head) ≡ 2 = wide-bytes (request-head count) 2 (k .head) refl (k .says) in
-      let p : PartAt (first-byte 1 0 ++ val 8 count ∷ []) m 6 8
+      let p : FieldsAt (first-byte 1 0 ++ val 8 count ∷ []) m 6 8
       = record { bytes = k .head; rest = settings; split = k .parts; ends = omega arith; written = k .says } in
       let (r, c, q) = head-out (first-byte 1 0) (val 8 count ∷ []) m 6 1 refl (omega arith) h 8 p in
       let (r′, c′, q′) = head-out (val 8 count ∷ []) [] m 7 1 refl (omega arith) h 8 q in
@@ -52,7 +46,7 @@ module _ (m : List ℕ) (h : Bytes m) (coding : ℕ) {M : ℕ} (byte : M ≡ be 
   pub the-request : (most : ℕ) → Opens 1 0 coding (drop 6 m) m → coding ≡ 7 → 8 ≤ length m → 1 ≤ M % 256 → InSize most m
       → MessageIs most m (Request (M % 256) 8)
   the-request most o e room some i =
-      let p : PartAt (request-head (M % 256)) m 6 8 = head-in (first-byte 1 0) (val 8 (M % 256) ∷ []) m 6 1 refl (omega arith) h 8 (omega arith) (opens-cut o)
+      let p : FieldsAt (request-head (M % 256)) m 6 8 = head-in (first-byte 1 0) (val 8 (M % 256) ∷ []) m 6 1 refl (omega arith) h 8 (omega arith) (opens-cut o)
       (head-in (val 8 (M % 256) ∷ []) [] m 7 1 refl (omega arith) h 8 room (subst (Cut (val 8 (M % 256) ∷ [])) byte (omega arith, tt)) (nothing m 8)) in (
         i,
         drop 6 m,
@@ -65,10 +59,10 @@ module _ (m : List ℕ) (h : Bytes m) (coding : ℕ) {M : ℕ} (byte : M ≡ be 
 
   -- a query's code is in that byte, and its value after it up to the end
   query-out : (x : Hash) → Opens 1 5 coding (drop 6 m) m → Query x m
-      → (8 ≤ length m) × (x .code ≡ M % 64) × PartAt (map (val 8) (x .value)) m 8 (length m)
+      → (8 ≤ length m) × (x .code ≡ M % 64) × FieldsAt (map (val 8) (x .value)) m 8 (length m)
   query-out x o k =
       let e : k .data-bytes ≡ drop 6 m = carries-one (k .carried) (o .carried) .1 in
-      let p : PartAt (first-byte 1 5 ++ (res 2 ∷ val 6 (x .code) ∷ map (val 8) (x .value))) m 6 (length m) = record {
+      let p : FieldsAt (first-byte 1 5 ++ (res 2 ∷ val 6 (x .code) ∷ map (val 8) (x .value))) m 6 (length m) = record {
         bytes = k .data-bytes;
         rest = [];
         split = sym e ∙ sym (append-nil (k .data-bytes));
@@ -82,7 +76,7 @@ module _ (m : List ℕ) (h : Bytes m) (coding : ℕ) {M : ℕ} (byte : M ≡ be 
 
   -- no query where no hash of that code ends the message
   pub no-query : (most : ℕ) → Opens 1 5 coding (drop 6 m) m
-      → ((v : List ℕ) → 8 ≤ length m → HashSize (M % 64) (length v) → PartAt (map (val 8) v) m 8 (length m) → ⊥)
+      → ((v : List ℕ) → 8 ≤ length m → HashSize (M % 64) (length v) → FieldsAt (map (val 8) v) m 8 (length m) → ⊥)
       → InSize most m → MessageIs most m NoQuery
   no-query most o never i = (
     i,
@@ -109,9 +103,9 @@ module _ (m : List ℕ) (h : Bytes m) (coding : ℕ) {M : ℕ} (byte : M ≡ be 
     pub the-query : 8 ≤ length m → next ≡ length m → InSize most m → MessageIs most m (AQuery x)
     the-query room n i =
         let (w, d, c, k, q) = subst (HashAt m 8 (M % 64)) e s in
-        let q′ : PartAt (map (val 8) w) m 8 (length m) = subst (PartAt (map (val 8) w) m 8) n q in
+        let q′ : FieldsAt (map (val 8) w) m 8 (length m) = subst (FieldsAt (map (val 8) w) m 8) n q in
         let y : Hash = record { code = M % 64; value = w } in
-        let p : PartAt (query y) m 6 (length m)
+        let p : FieldsAt (query y) m 6 (length m)
         = head-in (first-byte 1 5) (res 2 ∷ val 6 (M % 64) ∷ map (val 8) w) m 6 1 refl (omega arith) h (length m) (omega arith) (opens-cut o)
         (head-in (res 2 ∷ val 6 (M % 64) ∷ []) (map (val 8) w) m 7 1 refl (omega arith) h (length m) room
         (subst (Cut (res 2 ∷ val 6 (M % 64) ∷ [])) byte (tt, (omega arith, tt))) q′) in
@@ -126,5 +120,5 @@ module _ (m : List ℕ) (h : Bytes m) (coding : ℕ) {M : ℕ} (byte : M ≡ be 
             in-range = k;
           },
           sym c,
-          subst⁻¹ (λ (a : ℕ). PartAt (map (val 8) w) m a (length m)) d q′,
+          subst⁻¹ (λ (a : ℕ). FieldsAt (map (val 8) w) m a (length m)) d q′,
         )

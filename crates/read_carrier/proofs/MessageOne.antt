@@ -1,14 +1,5 @@
 -- A message is one thing: two answers that its contract allows are equal. Assumes nothing.
-use Prim.Native.Nat.{ℕ, zero, suc, _+_, _*_}
-use mathlib.Core.Path.{_≡_, refl, sym, ap, ap₂, _∙_, subst, subst⁻¹}
-use mathlib.Core.Logic.{_≢_, _⊎_, ⊎-elim}
-use mathlib.Core.List.{List, [], _∷_, _++_, map, append-nil}
-use mathlib.Core.Bool.{cond}
-use native.Mathlib.Nat.{mul-comm}
-use native.Mathlib.Omega.{arith}
-use lib.Dec.{eqb}
-use lib.ListN.{length, drop, length-append}
-use borrow.Author.Tests.{ne-eqb}
+use Rattle.lists.proofs.Kit.{ℕ, zero, suc, _+_, _*_, _≡_, refl, sym, ap, ap₂, _∙_, subst, subst⁻¹, _≢_, _⊎_, ⊎-elim, List, [], _∷_, _++_, map, append-nil, cond, mul-comm, arith, eqb, length, drop, length-append, ne-eqb}
 use Rattle.lists.proofs.Seqs.{cut}
 use Rattle.writing.specs.Fields.{bits, bitsOf, Field, val, res, Shows, widths}
 use Rattle.writing.specs.Settings.{Hash, unicode16}
@@ -17,7 +8,7 @@ use Rattle.writing.specs.Ranges.{HashSize}
 use Rattle.writing.specs.Carrier.{Carries, coding-type, first-byte, Opens, Counted, query, Query, InSize}
 use Rattle.writing.proofs.Bits.{shows-length, shows-split, widths-map}
 use Rattle.writing.proofs.Ends.{Agree, val-ends, res-ends, vals-end}
-use Rattle.read_fields.specs.Places.{PartAt}
+use Rattle.read_fields.specs.Places.{FieldsAt}
 use Rattle.read_carrier.specs.Message.{OpenedIs, MessageIs}
 use Rattle.read_fields.specs.declared.hashes.HashPlace.{HashPlace}
 use Rattle.read_carrier.specs.declared.carrier.Message.{Message}
@@ -58,8 +49,8 @@ opened-determined most m (Open v k c) (Open v′ k′ c′) p q =
     let (e, f, g, _) = opens-one (p .1) (q .1) in
     λ i. Open (e i) (f i) (g i)
 
--- a request counts once
-pub counted-one : {n k : ℕ} {s t x : List ℕ} → Counted n s x → Counted k t x → n ≡ k
+-- a request has one count, and one rest after it
+pub counted-one : {n k : ℕ} {s t x : List ℕ} → Counted n s x → Counted k t x → (n ≡ k) × (s ≡ t)
 counted-one {n} {k} a b =
     let la : length (a .head) ≡ 2 = wide-bytes (request-head n) 2 (a .head) refl (a .says) in
     let lb : length (b .head) ≡ 2 = wide-bytes (request-head k) 2 (b .head) refl (b .says) in
@@ -69,18 +60,7 @@ counted-one {n} {k} a b =
     let (p, g) = val-ends g in
     let (q, g) = val-ends g in
     let (z, g) = val-ends g in
-    z
-
--- a query has one code
-pub query-code : {h k : Hash} {m : List ℕ} → Query h m → Query k m → h .code ≡ k .code
-query-code {h} {k} a b =
-    let e : a .data-bytes ≡ b .data-bytes = carries-one (a .carried) (b .carried) .1 in
-    let g : Agree (query h) (query k) [] []
-    = agree (bitsOf (b .data-bytes)) (subst (λ (l : List ℕ). Shows (query h) (bitsOf l)) e (a .written)) (b .written) in
-    let (p, g) = val-ends g in
-    let (q, g) = val-ends g in
-    let (z, g) = val-ends (res-ends g) in
-    z
+    (z, r)
 
 -- a query has one hash
 pub query-hash : {h k : Hash} {m : List ℕ} → Query h m → Query k m → h ≡ k
@@ -132,17 +112,17 @@ data RequestOr (c : ℕ) (x m : List ℕ) : Message → Type 0 where
 -- a query, or none
 data QueryOr (m : List ℕ) : Message → Type 0 where
   no-query : ((h : Hash) → Query h m → ⊥) → QueryOr m NoQuery
-  a-query : {p : HashPlace} (h : Hash) → Query h m → h .code ≡ p .code → PartAt (map (val 8) (h .value)) m (p .start) (length m) → QueryOr m (AQuery p)
+  a-query : {p : HashPlace} (h : Hash) → Query h m → h .code ≡ p .code → FieldsAt (map (val 8) (h .value)) m (p .start) (length m) → QueryOr m (AQuery p)
 
 -- a request is one
 request-one : {c : ℕ} {x m : List ℕ} {a b : Message} → RequestOr c x m a → RequestOr c x m b → a ≡ b
 request-one (no-request n) (no-request k) = refl
 request-one (no-request n) (a-request e k z) = absurd (n _ _ e k)
 request-one (a-request e k z) (no-request n) = absurd (n _ _ e k)
-request-one (a-request e k z) (a-request d l y) = ap₂ Request (counted-one k l) (z ∙ sym y)
+request-one (a-request e k z) (a-request d l y) = ap₂ Request (counted-one k l .0) (z ∙ sym y)
 
 -- a hash value starts as far before the message's end as it is long
-value-start : (v m : List ℕ) (from : ℕ) → PartAt (map (val 8) v) m from (length m) → length m ≡ from + length v
+value-start : (v m : List ℕ) (from : ℕ) → FieldsAt (map (val 8) v) m from (length m) → length m ≡ from + length v
 value-start v m from p =
     let w : widths (map (val 8) v) ≡ 8 * length v = widths-map (val 8) 8 (λ u. refl) v ∙ mul-comm (length v) 8 in
     p .ends ∙ ap (λ (i : ℕ). from + i) (wide-bytes (map (val 8) v) (length v) (p .bytes) w (p .written))
@@ -153,10 +133,10 @@ query-one (no-query n) (no-query k) = refl
 query-one (no-query n) (a-query h q e s) = absurd (n h q)
 query-one (a-query h q e s) (no-query n) = absurd (n h q)
 query-one {m} (a-query {p} h q e s) (a-query {p = p′} k r d t) =
-    let z : h .code ≡ k .code = query-code q r in
-    let l : length (h .value) ≡ length (k .value) = one-size (subst (λ (n : ℕ). HashSize n (length (h .value))) z (q .in-range)) (r .in-range) in
+    let one : h ≡ k = query-hash q r in
+    let l : length (h .value) ≡ length (k .value) = ap (λ (x : Hash). length (x .value)) one in
     let u : p .start ≡ p′ .start = omega (arith, value-start (h .value) m (p .start) s, value-start (k .value) m (p′ .start) t) in
-    let w : p .code ≡ p′ .code = sym e ∙ z ∙ d in
+    let w : p .code ≡ p′ .code = sym e ∙ ap (λ (x : Hash). x .code) one ∙ d in
     λ i. AQuery (record { code = w i; start = u i })
 
 -- by version and type: 0 another type, 1 another version, 2 a request, 3 a query

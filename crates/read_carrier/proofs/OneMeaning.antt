@@ -1,12 +1,10 @@
 -- A message is a reply with one result, failed ID and hash, and a request of one list of settings. Assumes nothing.
-use Prim.Native.Nat.{ℕ}
-use mathlib.Core.Path.{_≡_, refl, subst, subst⁻¹}
-use mathlib.Core.List.{List, [], _++_, append-nil}
-use lib.ListN.{length}
+use Rattle.lists.proofs.Kit.{ℕ, _≡_, refl, subst, subst⁻¹, List, [], _++_, append-nil, length}
 use Rattle.writing.specs.Carrier.{Request, reply, Reply}
 use Rattle.writing.specs.Fields.{bitsOf, Field, Shows}
 use Rattle.writing.specs.Ranges.{HashSize}
-use Rattle.writing.specs.Settings.{Setting, Hash, Coding}
+use Rattle.writing.specs.declared.Coding.{Coding}
+use Rattle.writing.specs.Settings.{Setting, Hash}
 use Rattle.writing.specs.Writing.{WrittenAs}
 use Rattle.writing.proofs.Ends.{Agree, val-ends, res-ends, vals-end}
 use Rattle.writing.proofs.Unique.{no-two-lists}

@@ -8,8 +8,8 @@ use mathlib.Core.Bool.{Bool, true, false}
 use lib.ListN.{length, drop}
 use Rattle.writing.specs.Fields.{val}
 use Rattle.writing.specs.Settings.{Hash, unicode16}
-use Rattle.writing.specs.Carrier.{start, States, Carries, coding-type, Opens, Counted, Query, InSize, NothingCarried}
-use Rattle.read_fields.specs.Places.{PartAt}
+use Rattle.writing.specs.Carrier.{start-bytes, States, Carries, coding-type, Opens, Counted, Query, InSize, NothingCarried}
+use Rattle.read_fields.specs.Places.{FieldsAt}
 use Rattle.read_carrier.specs.declared.carrier.Message.{Message}
 use Rattle.read_carrier.specs.declared.carrier.Message.the-variants.{Size, Carrier, «Type» as OtherType, Version, NoRequest, Request, NoQuery, Query as AQuery}
 use Rattle.read_carrier.specs.declared.carrier.Opened.{Opened}
@@ -21,8 +21,8 @@ use Rattle.read_carrier.specs.declared.carrier.CarrierRead.the-variants.
 
 -- "The fixed start bytes 02 02 are compared as they stand"
 abbrev pub StartsWith : List ℕ → Bool → Type 0
-StartsWith m true = m ≡ start ++ drop 2 m
-StartsWith m false = (rest : List ℕ) → m ≡ start ++ rest → ⊥
+StartsWith m true = m ≡ start-bytes ++ drop 2 m
+StartsWith m false = (rest : List ℕ) → m ≡ start-bytes ++ rest → ⊥
 
 -- "The length counts everything after itself; 0 means that it isn't stated. Any other value must fit exactly"
 abbrev pub LengthIs : ℕ → ℕ → Bool → Type 0
@@ -60,4 +60,4 @@ MessageIs most m (Request count at) =
 MessageIs most m NoQuery =
     InSize most m × (coding : ℕ) × (data-bytes : List ℕ) × Opens 1 5 coding data-bytes m × ((h : Hash) → Query h m → ⊥)
 MessageIs most m (AQuery p) =
-    InSize most m × (h : Hash) × Query h m × (h .code ≡ p .code) × PartAt (map (val 8) (h .value)) m (p .start) (length m)
+    InSize most m × (h : Hash) × Query h m × (h .code ≡ p .code) × FieldsAt (map (val 8) (h .value)) m (p .start) (length m)

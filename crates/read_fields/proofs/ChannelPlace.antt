@@ -1,11 +1,7 @@
 -- The channel in a place of a list: where its 12 bits stand. Assumes nothing.
-use Prim.Native.Nat.{ℕ, zero, suc, _+_, _-_, _*_, _/_, _%_, _≤_, _<_}
-use mathlib.Core.Path.{_≡_, refl, sym, _∙_, subst}
-use mathlib.Core.List.{List, [], _∷_}
-use native.Mathlib.Omega.{arith}
-use lib.ListN.{length, getD, drop, take}
+use Rattle.lists.proofs.Kit.{ℕ, zero, suc, _+_, _-_, _*_, _/_, _%_, _≤_, _<_, _≡_, refl, sym, _∙_, subst, List, [], _∷_, arith, length, getD, drop, take}
 use Rattle.lists.specs.Bytes.{Bytes}
-use Rattle.read_fields.specs.Places.{PartAt, be}
+use Rattle.read_fields.specs.Places.{FieldsAt, be}
 use Rattle.read_fields.specs.Entries.{channel-list}
 use Rattle.read_fields.proofs.Heads.{be-turn, be-small, three-bytes}
 use Rattle.read_fields.proofs.ChannelWalk.{pair-out, single-out}
@@ -34,7 +30,7 @@ pub record Here (m es : List ℕ) (i q : ℕ) : Type 0 where
   pub odd : i % 2 ≡ 1 → (q + 3 ≤ length m) × (getD es i 0 ≡ be 0 (take 2 (drop (q + 1) m)) % 4096)
 
 module _ (m : List ℕ) (h : Bytes m) where
-  first-two : (es : List ℕ) (p next i : ℕ) → PartAt (channel-list es) m p next → i < length es → i < 2 → Here m es i p
+  first-two : (es : List ℕ) (p next i : ℕ) → FieldsAt (channel-list es) m p next → i < length es → i < 2 → Here m es i p
   first-two [] p next i x l k = absurd (omega arith)
   first-two (a ∷ []) p next zero x l k =
       let z = single-out m p next h a x in record { even = λ e. (z .room, z .first); odd = λ e. absurd (omega arith) }
@@ -50,7 +46,7 @@ module _ (m : List ℕ) (h : Bytes m) where
   first-two (a ∷ b ∷ rest) p next (suc (suc i)) x l k = absurd (omega arith)
 
   -- pairs before it take three bytes each
-  from-pair : (j i : ℕ) (es : List ℕ) (p next : ℕ) → PartAt (channel-list es) m p next → i < 2 → twice j + i < length es → Here m es (twice j + i) (p + j * 3)
+  from-pair : (j i : ℕ) (es : List ℕ) (p next : ℕ) → FieldsAt (channel-list es) m p next → i < 2 → twice j + i < length es → Here m es (twice j + i) (p + j * 3)
   from-pair zero i es p next x k l =
       let z : 0 + i ≡ i = omega arith in
       let q : p + 0 * 3 ≡ p = omega arith in
@@ -65,7 +61,7 @@ module _ (m : List ℕ) (h : Bytes m) where
       (record { even = λ e. y .even (omega arith); odd = λ e. y .odd (omega arith) }))
 
   -- where the channel in place i stands
-  pub channel-here : (i : ℕ) (es : List ℕ) (p next : ℕ) → PartAt (channel-list es) m p next → i < length es → Here m es i (p + i / 2 * 3)
+  pub channel-here : (i : ℕ) (es : List ℕ) (p next : ℕ) → FieldsAt (channel-list es) m p next → i < length es → Here m es i (p + i / 2 * 3)
   channel-here i es p next x l =
       let e : twice (i / 2) + i % 2 ≡ i = omega (arith, twice-is (i / 2)) in
       subst (λ (n : ℕ). Here m es n (p + i / 2 * 3)) e (from-pair (i / 2) (i % 2) es p next x (omega arith) (omega arith))

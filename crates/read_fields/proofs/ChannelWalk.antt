@@ -1,16 +1,12 @@
 -- Reading scan channels, two in three bytes. Assumes nothing.
-use Prim.Native.Nat.{ℕ, zero, suc, _+_, _-_, _*_, _/_, _%_, _^_, _≤_, _<_}
-use mathlib.Core.Path.{_≡_, refl, sym, ap, ap₂, _∙_, subst}
-use mathlib.Core.List.{List, [], _∷_, _++_, append-nil}
-use native.Mathlib.Omega.{arith}
-use lib.ListN.{length, getD, drop, take, length-append}
+use Rattle.lists.proofs.Kit.{ℕ, zero, suc, _+_, _-_, _*_, _/_, _%_, _^_, _≤_, _<_, _≡_, refl, sym, ap, ap₂, _∙_, subst, List, [], _∷_, _++_, append-nil, arith, length, getD, drop, take, length-append}
 use Rattle.lists.specs.Bytes.{Bytes}
 use Rattle.lists.specs.Every.{All}
 use Rattle.lists.proofs.Every.{all-append, all-right}
 use Rattle.writing.specs.Fields.{Field, val}
 use Rattle.writing.specs.Ranges.{InChannel}
 use Rattle.writing.proofs.Bits.{length-bitsOf}
-use Rattle.read_fields.specs.Places.{PartAt, be}
+use Rattle.read_fields.specs.Places.{FieldsAt, be}
 use Rattle.read_fields.specs.Entries.{Stand, ChannelsAt, channel-list}
 use Rattle.read_fields.specs.declared.entries.Walk.the-variants.{To, Stopped}
 use Rattle.read_fields.proofs.Heads.{Cut, head-in, head-out, be-small}
@@ -33,7 +29,7 @@ pub record Pair (m : List ℕ) (p next : ℕ) (a b : ℕ) (rest : List ℕ) : Ty
   pub room : p + 3 ≤ length m
   pub first : a ≡ be 0 (take 3 (drop p m)) / 4096
   pub second : b ≡ be 0 (take 3 (drop p m)) % 4096
-  pub more : PartAt (channel-list rest) m (p + 3) next
+  pub more : FieldsAt (channel-list rest) m (p + 3) next
 
 -- one channel and 1111 in two bytes
 pub record Single (m : List ℕ) (p next : ℕ) (a : ℕ) : Type 0 where
@@ -43,20 +39,20 @@ pub record Single (m : List ℕ) (p next : ℕ) (a : ℕ) : Type 0 where
   pub end : next ≡ p + 2
 
 module _ (m : List ℕ) (p next : ℕ) (h : Bytes m) where
-  pub pair-out : (a b : ℕ) (rest : List ℕ) → PartAt (channel-list (a ∷ b ∷ rest)) m p next → Pair m p next a b rest
+  pub pair-out : (a b : ℕ) (rest : List ℕ) → FieldsAt (channel-list (a ∷ b ∷ rest)) m p next → Pair m p next a b rest
   pair-out a b rest x =
       let (r, k, y) = head-out (val 12 a ∷ val 12 b ∷ []) (channel-list rest) m p 3 refl (omega arith) h next x in
       let s : be 0 (take 3 (drop p m)) < 16777216 = be-small m p 3 h r in
       record { room = r; first = omega (arith, s, k .0); second = omega (arith, s, k .1 .0); more = y }
 
-  pub pair-in : (rest : List ℕ) → p + 3 ≤ length m → PartAt (channel-list rest) m (p + 3) next
-      → PartAt (channel-list (be 0 (take 3 (drop p m)) / 4096 ∷ be 0 (take 3 (drop p m)) % 4096 ∷ rest)) m p next
+  pub pair-in : (rest : List ℕ) → p + 3 ≤ length m → FieldsAt (channel-list rest) m (p + 3) next
+      → FieldsAt (channel-list (be 0 (take 3 (drop p m)) / 4096 ∷ be 0 (take 3 (drop p m)) % 4096 ∷ rest)) m p next
   pair-in rest r y =
       let s : be 0 (take 3 (drop p m)) < 16777216 = be-small m p 3 h r in
       head-in (val 12 (be 0 (take 3 (drop p m)) / 4096) ∷ val 12 (be 0 (take 3 (drop p m)) % 4096) ∷ []) (channel-list rest) m p 3 refl (omega arith) h next r
       (omega (arith, s), (omega (arith, s), tt)) y
 
-  pub single-out : (a : ℕ) → PartAt (channel-list (a ∷ [])) m p next → Single m p next a
+  pub single-out : (a : ℕ) → FieldsAt (channel-list (a ∷ [])) m p next → Single m p next a
   single-out a x =
       let (r, k, y) = head-out (val 12 a ∷ val 4 15 ∷ []) [] m p 2 refl (omega arith) h next x in
       let s : be 0 (take 2 (drop p m)) < 65536 = be-small m p 2 h r in
@@ -64,7 +60,7 @@ module _ (m : List ℕ) (p next : ℕ) (h : Bytes m) where
       record { room = r; first = omega (arith, s, k .0); fill = omega (arith, s, k .1 .0); end = omega (arith, y .ends) }
 
 pub single-in : (m : List ℕ) (p : ℕ) → Bytes m → p + 2 ≤ length m → be 0 (take 2 (drop p m)) % 16 ≡ 15
-    → PartAt (channel-list (be 0 (take 2 (drop p m)) / 16 ∷ [])) m p (p + 2)
+    → FieldsAt (channel-list (be 0 (take 2 (drop p m)) / 16 ∷ [])) m p (p + 2)
 single-in m p h r f =
     let s : be 0 (take 2 (drop p m)) < 65536 = be-small m p 2 h r in
     head-in (val 12 (be 0 (take 2 (drop p m)) / 16) ∷ val 4 15 ∷ []) [] m p 2 refl (omega arith) h (p + 2) r
@@ -73,7 +69,7 @@ single-in m p h r f =
 module _ (m : List ℕ) (at count p left : ℕ) (h : Bytes m) (w : ChannelsPassed m at count p left) where
   -- what is left of a whole list, in range
   rest-of : (es : List ℕ) (next : ℕ) → Stand channel-list InChannel m at count next es
-      → (rest : List ℕ) × (length rest ≡ left) × All InChannel rest × PartAt (channel-list rest) m p next
+      → (rest : List ℕ) × (length rest ≡ left) × All InChannel rest × FieldsAt (channel-list rest) m p next
   rest-of es next s =
       let (rest, e, y) = w .walked .on es next (s .counted) (s .stands) in (
         rest,
@@ -87,7 +83,7 @@ module _ (m : List ℕ) (at count p left : ℕ) (h : Bytes m) (w : ChannelsPasse
       → ChannelsAt m at count Stopped
   no-pair l never es next s = let (rest, n, i, y) = rest-of es next s in by rest n i y
     where
-      by : (rest : List ℕ) → length rest ≡ left → All InChannel rest → PartAt (channel-list rest) m p next → ⊥
+      by : (rest : List ℕ) → length rest ≡ left → All InChannel rest → FieldsAt (channel-list rest) m p next → ⊥
       by [] n i y = omega arith
       by (a ∷ []) n i y = omega arith
       by (a ∷ b ∷ rest) n i y =
@@ -107,8 +103,8 @@ module _ (m : List ℕ) (at count p left : ℕ) (h : Bytes m) (w : ChannelsPasse
       two : List ℕ
       two = be 0 (take 3 (drop p m)) / 4096 ∷ be 0 (take 3 (drop p m)) % 4096 ∷ []
 
-      on : (es : List ℕ) (next : ℕ) → length (w .done ++ es) ≡ count → PartAt (channel-list es) m p next
-          → (rest : List ℕ) × (es ≡ two ++ rest) × PartAt (channel-list rest) m (p + 3) next
+      on : (es : List ℕ) (next : ℕ) → length (w .done ++ es) ≡ count → FieldsAt (channel-list es) m p next
+          → (rest : List ℕ) × (es ≡ two ++ rest) × FieldsAt (channel-list rest) m (p + 3) next
       on [] next n x = absurd (omega (arith, w .counted, length-append (w .done) []))
       on (a ∷ []) next n x = absurd (omega (arith, w .counted, length-append (w .done) (a ∷ [])))
       on (a ∷ b ∷ rest) next n x =
@@ -122,7 +118,7 @@ module _ (m : List ℕ) (at count p left : ℕ) (h : Bytes m) (w : ChannelsPasse
     record {
       counted = omega (arith, w .counted);
       in-range = w .in-range;
-      stands = subst (λ (l : List ℕ). PartAt (channel-list l) m at p) (append-nil (w .done)) (w .walked .back [] p (nothing m p));
+      stands = subst (λ (l : List ℕ). FieldsAt (channel-list l) m at p) (append-nil (w .done)) (w .walked .back [] p (nothing m p));
     },
   )
 
@@ -130,7 +126,7 @@ module _ (m : List ℕ) (at count p left : ℕ) (h : Bytes m) (w : ChannelsPasse
   pub no-last : left ≡ 1 → (p + 2 ≤ length m → be 0 (take 2 (drop p m)) % 16 ≡ 15 → InChannel (be 0 (take 2 (drop p m)) / 16) → ⊥) → ChannelsAt m at count Stopped
   no-last l never es next s = let (rest, n, i, y) = rest-of es next s in by rest n i y
     where
-      by : (rest : List ℕ) → length rest ≡ left → All InChannel rest → PartAt (channel-list rest) m p next → ⊥
+      by : (rest : List ℕ) → length rest ≡ left → All InChannel rest → FieldsAt (channel-list rest) m p next → ⊥
       by [] n i y = omega arith
       by (a ∷ []) n i y = let z = single-out m p next h a y in never (z .room) (z .fill) (subst InChannel (z .first) (i .0))
       by (a ∷ b ∷ rest) n i y = omega arith

@@ -1,20 +1,17 @@
 -- Entries at a place: a number and a text, or a byte and a text. Assumes nothing.
-use Prim.Native.Nat.{ℕ, zero, suc, _+_, _*_, _/_, _%_, _^_, _≤_, _<_}
-use mathlib.Core.Path.{_≡_, refl, sym, ap, _∙_, subst}
-use mathlib.Core.List.{List, [], _∷_, _++_}
-use native.Mathlib.Nat.{mod-eq-of-lt}
-use native.Mathlib.Omega.{arith}
-use lib.ListN.{length, drop, take}
+use Rattle.lists.proofs.Kit.{ℕ, zero, suc, _+_, _*_, _/_, _%_, _^_, _≤_, _<_, _≡_, refl, sym, ap, _∙_, subst, subst⁻¹, List, [], _∷_, _++_, mod-eq-of-lt, arith, length, drop, take}
 use Rattle.lists.specs.Bytes.{Bytes}
 use Rattle.writing.specs.Fields.{Field, val, res, widths}
-use Rattle.writing.specs.Ranges.{TextLimits, InContact, InNumber}
-use Rattle.writing.specs.Settings.{Coding, Contact, Entry, unicode16}
+use Rattle.writing.specs.Ranges.{TextLimits, text-limits, InContact, InNumber}
+use Rattle.writing.specs.declared.Coding.{Coding}
+use Rattle.writing.specs.Settings.{Contact, Entry}
 use Rattle.writing.specs.Writing.{text, number, contact, quick-text, status-text}
-use Rattle.writing.proofs.Unique.{number-ends, text-ends}
-use Rattle.writing.proofs.Whole.{number-whole, entry-whole}
-use Rattle.read_fields.specs.Places.{PartAt, be}
-use Rattle.read_fields.specs.Parts.{TextIs, TextAt, NumberIs, NumberAt}
-use Rattle.read_fields.specs.Entries.{ContactIs, EntryIs, ContactAt, EntryAt}
+use Rattle.writing.proofs.Ends.{Ends}
+use Rattle.writing.proofs.Unique.{number-ends, text-ends, contact-ends, quick-ends, status-ends}
+use Rattle.writing.proofs.Whole.{number-whole, entry-whole, contact-whole}
+use Rattle.read_fields.specs.Places.{FieldsAt, be}
+use Rattle.read_fields.specs.TextsAndNumbers.{TextIs, TextAt, NumberIs, NumberAt}
+use Rattle.read_fields.specs.Entries.{ContactIs, EntryIs, ContactAt, EntryAt, EntryOf, form-of, range-of, PassAt}
 use Rattle.read_fields.specs.declared.numbers.NumberPlace.{NumberPlace}
 use Rattle.read_fields.specs.declared.numbers.NumberRead.{NumberRead}
 use Rattle.read_fields.specs.declared.numbers.NumberRead.the-variants.{Number as ANumber, NoNumber}
@@ -22,18 +19,22 @@ use Rattle.read_fields.specs.declared.texts.TextPlace.{TextPlace}
 use Rattle.read_fields.specs.declared.texts.TextRead.{TextRead}
 use Rattle.read_fields.specs.declared.texts.TextRead.the-variants.{Text as AText, NoText}
 use Rattle.read_fields.specs.declared.entries.ContactRead.the-variants.{Contact as AContact, NoContact}
+use Rattle.read_fields.specs.declared.entries.Walk.{Walk}
+use Rattle.read_fields.specs.declared.entries.Listed.{Listed}
+use Rattle.read_fields.specs.declared.entries.Listed.the-variants.{Contacts, QuickTexts, StatusTexts}
 use Rattle.read_fields.specs.declared.entries.EntryPlace.{EntryPlace}
 use Rattle.read_fields.specs.declared.entries.EntryRead.the-variants.{Entry as AnEntry, NoEntry}
 use Rattle.read_fields.proofs.Heads.{Cut, head-in, head-out}
 use Rattle.read_fields.proofs.Parts.{part-join, part-split}
+use Rattle.read_fields.proofs.TextWalk.{text-read}
 use Rattle.read_fields.proofs.Walk.{one-part}
 
 -- ---- line contacts
 
 module _ (c : Coding) (k : TextLimits) (m : List ℕ) (at : ℕ) where
   -- a contact is a number and then a text
-  contact-parts : (e : Contact) (next : ℕ) → PartAt (contact c e) m at next
-      → (q : ℕ) × PartAt (number (e .number)) m at q × PartAt (text c (e .text)) m q next
+  contact-parts : (e : Contact) (next : ℕ) → FieldsAt (contact c e) m at next
+      → (q : ℕ) × FieldsAt (number (e .number)) m at q × FieldsAt (text c (e .text)) m q next
   contact-parts e next x =
       let (n, w) = number-whole (e .number) in
       let (a, b) = part-split (number (e .number)) (text c (e .text)) m at n next w x in
@@ -51,21 +52,20 @@ module _ (c : Coding) (k : TextLimits) (m : List ℕ) (at : ℕ) where
     no-contact-text t d x next i y =
         let (ds, s, j, is) = subst (NumberAt m at) e n in
         let (q′, a, b) = contact-parts x next y in
-        let z : PartAt (number ds) m at q = subst (λ (z : ℕ). PartAt (number ds) m z q) s (is .stands) in
+        let z : FieldsAt (number ds) m at q = subst (λ (z : ℕ). FieldsAt (number ds) m z q) s (is .stands) in
         let same : q ≡ q′ = one-part number number-ends ds (x .number) m at q q′ z a .1 in
-        subst (TextAt c m q (k .short)) d t (x .text) next (i .1) (subst (λ (z : ℕ). PartAt (text c (x .text)) m z next) (sym same) b)
+        subst (TextAt c m q (k .short)) d t (x .text) next (i .1) (subst (λ (z : ℕ). FieldsAt (text c (x .text)) m z next) (sym same) b)
 
     -- the contact where both do
     pub the-contact : {t : TextRead} (u : TextPlace) (next : ℕ) → TextAt c m q (k .short) t → t ≡ AText u next
         → ContactAt c k m at (AContact (record { number = p; text = u }) next)
     the-contact u next t d =
         let (ds, s, j, is) = subst (NumberAt m at) e n in
-        let (us, z, l, tis) = subst (TextAt c m q (k .short)) d t in (
+        let (us, l, tis, there) = text-read c m q (k .short) u next t d in (
           record { number = ds; text = us },
           (j, l),
           record { middle = q; end = next; number = is; text = tis },
-          part-join (number ds) (text c us) m at q next (subst (λ (z : ℕ). PartAt (number ds) m z q) s (is .stands))
-              (subst (λ (z : ℕ). PartAt (text c us) m z next) z (tis .stands)),
+          part-join (number ds) (text c us) m at q next (subst (λ (z : ℕ). FieldsAt (number ds) m z q) s (is .stands)) there,
         )
 
 -- ---- an index or a code in one byte, and a text
@@ -85,55 +85,69 @@ pub status-byte : OneByte (λ i. val 8 i ∷ []) (λ N. N % 256)
 status-byte = record { wide = λ i. refl; says = λ i N c. omega (arith, c .0); said = λ N. (omega arith, tt) }
 
 -- a quick text is whole bytes, and so is a status text
-pub quick-whole : (e : Entry) → (n : ℕ) × (widths (quick-text unicode16 e) ≡ 8 * n)
-quick-whole e = entry-whole unicode16 (res 2 ∷ val 6 (e .index) ∷ []) refl (e .text)
+pub quick-whole : (c : Coding) (e : Entry) → (n : ℕ) × (widths (quick-text c e) ≡ 8 * n)
+quick-whole c e = entry-whole c (res 2 ∷ val 6 (e .index) ∷ []) refl (e .text)
 
-pub status-whole : (e : Entry) → (n : ℕ) × (widths (status-text unicode16 e) ≡ 8 * n)
-status-whole e = entry-whole unicode16 (val 8 (e .index) ∷ []) refl (e .text)
+pub status-whole : (c : Coding) (e : Entry) → (n : ℕ) × (widths (status-text c e) ≡ 8 * n)
+status-whole c e = entry-whole c (val 8 (e .index) ∷ []) refl (e .text)
+
+-- entries of every list say where they end, and are whole bytes
+pub list-ends : (l : Listed) (c : Coding) → Ends (form-of l c)
+list-ends Contacts c = contact-ends c
+list-ends (QuickTexts least) c = quick-ends c
+list-ends StatusTexts c = status-ends c
+
+pub list-whole : (l : Listed) (c : Coding) (e : EntryOf l) → (n : ℕ) × (widths (form-of l c e) ≡ 8 * n)
+list-whole Contacts c e = contact-whole c e
+list-whole (QuickTexts least) c e = quick-whole c e
+list-whole StatusTexts c e = status-whole c e
+
+-- what is passed of a list is passed of the same list
+pub by-list : {l list : Listed} (c : Coding) (m : List ℕ) (at : ℕ) (w : Walk) → l ≡ list
+    → PassAt (form-of list c) (range-of list text-limits) m at w → PassAt (form-of l c) (range-of l text-limits) m at w
+by-list c m at w e z = subst⁻¹ (λ (x : Listed). PassAt (form-of x c) (range-of x text-limits) m at w) e z
 
 module _ (head : ℕ → List Field) (index : ℕ → ℕ) (one : OneByte head index) (c : Coding) (In : Entry → Type 0) (m : List ℕ) (at : ℕ) (h : Bytes m) where
   abbrev form : Entry → List Field
   form e = head (e .index) ++ text c (e .text)
 
   -- an entry is a byte and then a text
-  entry-parts : (e : Entry) (next : ℕ) → PartAt (form e) m at next
-      → (at + 1 ≤ length m) × (e .index ≡ index (be 0 (take 1 (drop at m)))) × PartAt (text c (e .text)) m (at + 1) next
+  entry-parts : (e : Entry) (next : ℕ) → FieldsAt (form e) m at next
+      → (at + 1 ≤ length m) × (e .index ≡ index (be 0 (take 1 (drop at m)))) × FieldsAt (text c (e .text)) m (at + 1) next
   entry-parts e next x =
       let (r, k, y) = head-out (head (e .index)) (text c (e .text)) m at 1 (one .wide (e .index)) (omega arith) h next x in
       (r, one .says (e .index) _ k, y)
 
   -- none where no byte is left
-  pub no-byte : (at + 1 ≤ length m → ⊥) → EntryAt c form In m at NoEntry
+  pub no-byte : (at + 1 ≤ length m → ⊥) → EntryAt form In m at NoEntry
   no-byte never e next i x = never (entry-parts e next x .0)
 
   module _ {N : ℕ} (byte : N ≡ be 0 (take 1 (drop at m))) where
     -- none where the index is out of range
-    pub no-index : ((e : Entry) → In e → e .index ≡ index N → ⊥) → EntryAt c form In m at NoEntry
+    pub no-index : ((e : Entry) → In e → e .index ≡ index N → ⊥) → EntryAt form In m at NoEntry
     no-index never e next i x = never e i (entry-parts e next x .1 ∙ ap index (sym byte))
 
     module _ (limit : ℕ) (short : (e : Entry) → In e → length (e .text) ≤ limit) where
       -- none where no text stands
-      pub no-entry-text : {t : TextRead} → TextAt c m (at + 1) limit t → t ≡ NoText → EntryAt c form In m at NoEntry
+      pub no-entry-text : {t : TextRead} → TextAt c m (at + 1) limit t → t ≡ NoText → EntryAt form In m at NoEntry
       no-entry-text t d e next i x = subst (TextAt c m (at + 1) limit) d t (e .text) next (short e i) (entry-parts e next x .2)
 
       module _ {t : TextRead} (u : TextPlace) (next : ℕ) (at-text : TextAt c m (at + 1) limit t) (d : t ≡ AText u next) where
         -- none where the text that stands is out of range
-        pub no-such-text : ((e : Entry) → In e → length (e .text) ≡ u .units → ⊥) → EntryAt c form In m at NoEntry
+        pub no-such-text : ((e : Entry) → In e → length (e .text) ≡ u .units → ⊥) → EntryAt form In m at NoEntry
         no-such-text never e after i x =
-            let (us, z, l, tis) = subst (TextAt c m (at + 1) limit) d at-text in
-            let y : PartAt (text c us) m (at + 1) next = subst (λ (z : ℕ). PartAt (text c us) m z next) z (tis .stands) in
+            let (us, l, tis, y) = text-read c m (at + 1) limit u next at-text d in
             let same : us ≡ e .text = one-part (text c) (text-ends c) us (e .text) m (at + 1) next after y (entry-parts e after x .2) .0 in
             never e i (sym (ap length same) ∙ tis .units)
 
         -- the entry where index and text are in range
         pub the-entry : (i : ℕ) → i ≡ index N → at + 1 ≤ length m → ((us : List ℕ) → length us ≤ limit → length us ≡ u .units → In (record { index = i; text = us }))
-            → EntryAt c form In m at (AnEntry (record { index = i; text = u }) next)
+            → EntryAt form In m at (AnEntry (record { index = i; text = u }) next)
         the-entry i e room range =
-            let (us, z, l, tis) = subst (TextAt c m (at + 1) limit) d at-text in (
+            let (us, l, tis, y) = text-read c m (at + 1) limit u next at-text d in (
               record { index = i; text = us },
               range us l (tis .units),
               record { index = refl; end = next; text = tis },
               head-in (head i) (text c us) m at 1 (one .wide i) (omega arith) h next room
-                  (subst (Cut (head i)) byte (subst (λ (j : ℕ). Cut (head j) N) (sym e) (one .said N)))
-                  (subst (λ (z : ℕ). PartAt (text c us) m z next) z (tis .stands)),
+                  (subst (Cut (head i)) byte (subst (λ (j : ℕ). Cut (head j) N) (sym e) (one .said N))) y,
             )

@@ -1,20 +1,15 @@
 -- Hash values at a place: bytes as they stand, as many as the code says. Assumes nothing.
-use Prim.Native.Nat.{ℕ, suc, _+_, _-_, _≤_, _<_}
-use mathlib.Core.Path.{_≡_, refl, sym, ap, ap₂, _∙_, subst, subst⁻¹}
-use mathlib.Core.Logic.{_≢_}
-use mathlib.Core.List.{List, [], _∷_, _++_, map, nil≢cons}
-use native.Mathlib.Omega.{arith}
-use lib.ListN.{length, drop, take, length-append, length-drop, take-append-drop}
-use lib.Seq.{length-take-le, take-at}
+use Rattle.lists.proofs.Kit.{ℕ, suc, _+_, _-_, _≤_, _<_, _≡_, refl, sym, ap, ap₂, _∙_, subst, subst⁻¹, _≢_, List, [], _∷_, _++_, map, nil≢cons, arith, length, drop, take, length-append, length-drop, take-append-drop, length-take-le, take-at}
 use Rattle.lists.specs.Bytes.{Bytes}
 use Rattle.lists.proofs.Seqs.{cut}
 use Rattle.writing.specs.Fields.{bits, bitsOf, val, Shows}
 use Rattle.writing.specs.Ranges.{HashSize, no-hash, hash-4, hash-10}
 use Rattle.writing.proofs.Bits.{bits-val}
-use Rattle.read_fields.specs.Places.{PartAt}
+use Rattle.read_fields.specs.Places.{FieldsAt}
 use Rattle.read_fields.specs.Hashes.{HashAt, SizeOf}
 use Rattle.read_fields.specs.declared.hashes.HashRead.the-variants.{Hash as AHash, NoHash}
 use Rattle.read_fields.proofs.Parts.{bytes-left, bytes-at}
+pub use Rattle.writing.proofs.Lengths.{small-size}
 
 -- ---- the size by the code
 
@@ -29,12 +24,6 @@ pub small-code : {code a : ℕ} → HashSize code a → code ≤ 2
 small-code no-hash = omega arith
 small-code hash-4 = omega arith
 small-code hash-10 = omega arith
-
--- the size is at most 10
-pub small-size : {code a : ℕ} → HashSize code a → a ≤ 10
-small-size no-hash = omega arith
-small-size hash-4 = omega arith
-small-size hash-10 = omega arith
 
 -- code 1 has 4 bytes
 pub size-4 : {code : ℕ} → code ≡ 1 → SizeOf code 4
@@ -72,7 +61,7 @@ shown-bytes (b ∷ v) (y ∷ x) h s =
 
 module _ (m : List ℕ) (at : ℕ) (h : Bytes m) where
   -- bytes that stand at a place are those of the message, and end as many further on
-  pub bytes-out : (v : List ℕ) (next : ℕ) → PartAt (map (val 8) v) m at next
+  pub bytes-out : (v : List ℕ) (next : ℕ) → FieldsAt (map (val 8) v) m at next
       → (v ≡ take (length v) (drop at m)) × (next ≡ at + length v) × (length v ≤ length m - at)
   bytes-out v next p =
       let x : List ℕ = p .bytes in
@@ -85,7 +74,7 @@ module _ (m : List ℕ) (at : ℕ) (h : Bytes m) where
       )
 
   -- so many bytes of the message stand at a place, where it has them
-  pub bytes-in : (k : ℕ) → k ≤ length m - at → PartAt (map (val 8) (take k (drop at m))) m at (at + k)
+  pub bytes-in : (k : ℕ) → k ≤ length m - at → FieldsAt (map (val 8) (take k (drop at m))) m at (at + k)
   bytes-in k r =
       let l : List ℕ = drop at m in
       let x : List ℕ = take k l in

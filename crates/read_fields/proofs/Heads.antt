@@ -1,24 +1,16 @@
 -- Fields of fixed width at a place of a message: one number, big-endian, of which each field is a cut. Assumes nothing.
-use Prim.Native.Nat.{ℕ, suc, _+_, _-_, _*_, _/_, _%_, _^_, _≤_, _<_}
-use mathlib.Core.Path.{_≡_, refl, sym, ap, ap₂, _∙_, subst, subst⁻¹}
-use mathlib.Core.List.{List, [], _∷_, _++_, append-assoc, append-nil}
-use native.Mathlib.Nat.{mod-eq-of-lt, add-zero, zero-add, lt-of-lt-of-le}
-use native.Mathlib.Numerals.{add-one}
-use native.Mathlib.Omega.{arith}
-use lib.ListN.{length, getD, drop, take, length-append, length-drop, take-append-drop}
-use lib.Seq.{length-take-le, take-at, take-suc, getD-drop}
-use lib.Pow.{high, low, pow-add, pow-mono}
+use Rattle.lists.proofs.Kit.{ℕ, suc, _+_, _-_, _*_, _/_, _%_, _^_, _≤_, _<_, _≡_, refl, sym, ap, ap₂, _∙_, subst, subst⁻¹, List, [], _∷_, _++_, append-assoc, append-nil, mod-eq-of-lt, add-zero, zero-add, lt-of-lt-of-le, add-one, arith, length, getD, drop, take, length-append, length-drop, take-append-drop, length-take-le, take-at, take-suc, getD-drop, high, low, pow-add, pow-mono}
 use lib.Arith.{digits-lt}
 use Rattle.lists.specs.Bytes.{Bytes}
-use Rattle.writing.specs.Fields.{bits, bitsOf, Field, width, Holds, Shows, widths}
+use Rattle.writing.specs.Fields.{bits, bitsOf, Field, width, MayHave, Shows, widths}
 use Rattle.writing.proofs.Bits.{bits-split, bits-cong, peel, put}
-use Rattle.read_fields.specs.Places.{PartAt, be}
+use Rattle.read_fields.specs.Places.{FieldsAt, be}
 use Rattle.read_fields.proofs.Parts.{bytes-left, bytes-at, part-join, part-split}
 
 -- each field holds its cut of N
 abbrev pub Cut : List Field → ℕ → Type 0
 Cut [] N = Unit {0}
-Cut (f ∷ fs) N = Holds f (N / 2 ^ widths fs % 2 ^ width f) × Cut fs N
+Cut (f ∷ fs) N = MayHave f (N / 2 ^ widths fs % 2 ^ width f) × Cut fs N
 
 -- fields that are written as one number are its cuts, and the other way round
 pub cut-out : (fs : List Field) (N : ℕ) → Shows fs (bits (widths fs) N ++ []) → Cut fs N
@@ -44,8 +36,8 @@ be-whole : (l : List ℕ) (k : ℕ) → Bytes l → k ≡ 8 * length l → bits 
 be-whole l k h e = ap (λ i. bits i (be 0 l)) (e ∙ sym (zero-add (8 * length l))) ∙ be-bits l 0 0 h
 
 module _ (fs gs : List Field) (m : List ℕ) (from k : ℕ) (w : widths fs ≡ 8 * k) (pos : 0 < k) (h : Bytes m) where
-  pub head-out : (next : ℕ) → PartAt (fs ++ gs) m from next
-      → (from + k ≤ length m) × Cut fs (be 0 (take k (drop from m))) × PartAt gs m (from + k) next
+  pub head-out : (next : ℕ) → FieldsAt (fs ++ gs) m from next
+      → (from + k ≤ length m) × Cut fs (be 0 (take k (drop from m))) × FieldsAt gs m (from + k) next
   head-out next p =
       let (q, r) = part-split fs gs m from k next w p in
       let x : List ℕ = q .bytes in
@@ -59,7 +51,7 @@ module _ (fs gs : List Field) (m : List ℕ) (from k : ℕ) (w : widths fs ≡ 8
         r,
       )
 
-  pub head-in : (next : ℕ) → from + k ≤ length m → Cut fs (be 0 (take k (drop from m))) → PartAt gs m (from + k) next → PartAt (fs ++ gs) m from next
+  pub head-in : (next : ℕ) → from + k ≤ length m → Cut fs (be 0 (take k (drop from m))) → FieldsAt gs m (from + k) next → FieldsAt (fs ++ gs) m from next
   head-in next b c q =
       let l : List ℕ = drop from m in
       let x : List ℕ = take k l in

@@ -1,16 +1,10 @@
 -- Fields that stand at a place of a message, taken apart and put together at whole bytes. Assumes nothing.
-use Prim.Native.Nat.{ℕ, zero, suc, _+_, _-_, _*_, _<_}
-use mathlib.Core.Path.{_≡_, refl, sym, ap, _∙_, subst, subst⁻¹}
-use mathlib.Core.List.{List, [], _∷_, _++_, append-assoc, append-nil}
-use native.Mathlib.Nat.{add-zero}
-use native.Mathlib.Omega.{arith}
-use lib.ListN.{length, getD, drop, take, length-append, length-drop, take-append-drop}
-use lib.Seq.{length-take-le, drop-drop, drop-append-seam, getD-drop}
+use Rattle.lists.proofs.Kit.{ℕ, zero, suc, _+_, _-_, _*_, _<_, _≡_, refl, sym, ap, _∙_, subst, subst⁻¹, List, [], _∷_, _++_, append-assoc, append-nil, add-zero, arith, length, getD, drop, take, length-append, length-drop, take-append-drop, length-take-le, drop-drop, drop-append-seam, getD-drop}
 use Rattle.lists.specs.Bytes.{Bytes}
 use Rattle.lists.proofs.Seqs.{cut}
 use Rattle.writing.specs.Fields.{bitsOf, Field, Shows, widths}
 use Rattle.writing.proofs.Bits.{bitsOf-append, length-bitsOf, shows-length, shows-join, shows-split}
-use Rattle.read_fields.specs.Places.{PartAt}
+use Rattle.read_fields.specs.Places.{FieldsAt}
 
 -- the first of two lists of bytes is bytes
 pub bytes-left : (a b : List ℕ) → Bytes (a ++ b) → Bytes a
@@ -23,12 +17,12 @@ pub bytes-at : (m : List ℕ) (from : ℕ) → Bytes m → (l : List ℕ) → dr
 bytes-at m from h l e i = subst (_< 256) (sym (getD-drop from m i 0) ∙ ap (λ (x : List ℕ). getD x i 0) e) (h (from + i))
 
 -- nothing more
-pub nothing : (m : List ℕ) (from : ℕ) → PartAt [] m from from
+pub nothing : (m : List ℕ) (from : ℕ) → FieldsAt [] m from from
 nothing m from = record { bytes = []; rest = drop from m; split = refl; ends = sym (add-zero from); written = refl }
 
 -- one part after the other, and two parts at whole bytes
 module _ (fs gs : List Field) (m : List ℕ) (from : ℕ) where
-  pub part-join : (mid next : ℕ) → PartAt fs m from mid → PartAt gs m mid next → PartAt (fs ++ gs) m from next
+  pub part-join : (mid next : ℕ) → FieldsAt fs m from mid → FieldsAt gs m mid next → FieldsAt (fs ++ gs) m from next
   part-join mid next p q =
       let e : p .rest ≡ q .bytes ++ q .rest
       = sym (drop-append-seam (p .bytes) (p .rest)) ∙ ap (drop (length (p .bytes))) (sym (p .split)) ∙ drop-drop (length (p .bytes)) from m
@@ -41,7 +35,7 @@ module _ (fs gs : List Field) (m : List ℕ) (from : ℕ) where
         written = subst⁻¹ (Shows (fs ++ gs)) (bitsOf-append (p .bytes) (q .bytes)) (shows-join fs gs _ _ (p .written) (q .written));
       }
 
-  pub part-split : (k next : ℕ) → widths fs ≡ 8 * k → PartAt (fs ++ gs) m from next → PartAt fs m from (from + k) × PartAt gs m (from + k) next
+  pub part-split : (k next : ℕ) → widths fs ≡ 8 * k → FieldsAt (fs ++ gs) m from next → FieldsAt fs m from (from + k) × FieldsAt gs m (from + k) next
   part-split k next w p =
       let (a, b, e, s, r) = shows-split fs gs (bitsOf (p .bytes)) (p .written) in
       let la : length a ≡ 8 * k = shows-length fs a s ∙ w in

@@ -6,54 +6,57 @@ use mathlib.Core.Bool.{Bool, true, false}
 use lib.ListN.{length}
 use Rattle.lists.specs.Every.{All}
 use Rattle.writing.specs.Fields.{Field, val, each}
-use Rattle.writing.specs.Settings.{Coding, Contact, Entry}
+use Rattle.writing.specs.declared.Coding.{Coding}
+use Rattle.writing.specs.Settings.{Contact, Entry}
 use Rattle.writing.specs.Writing.{contact, quick-text, status-text, fill}
 use Rattle.writing.specs.Ranges.{TextLimits, InContact, InStatus, InChannel}
-use Rattle.read_fields.specs.Places.{PartAt}
-use Rattle.read_fields.specs.Parts.{TextIs, NumberIs}
+use Rattle.read_fields.specs.Places.{FieldsAt}
+use Rattle.read_fields.specs.TextsAndNumbers.{TextIs, NumberIs}
 use Rattle.read_fields.specs.declared.entries.ContactPlace.{ContactPlace}
 use Rattle.read_fields.specs.declared.entries.ContactRead.{ContactRead}
 use Rattle.read_fields.specs.declared.entries.ContactRead.the-variants.{Contact as AContact, NoContact}
 use Rattle.read_fields.specs.declared.entries.EntryPlace.{EntryPlace}
 use Rattle.read_fields.specs.declared.entries.EntryRead.{EntryRead}
 use Rattle.read_fields.specs.declared.entries.EntryRead.the-variants.{Entry as AnEntry, NoEntry}
+use Rattle.read_fields.specs.declared.entries.Listed.{Listed}
+use Rattle.read_fields.specs.declared.entries.Listed.the-variants.{Contacts, QuickTexts, StatusTexts}
 use Rattle.read_fields.specs.declared.entries.Walk.{Walk}
 use Rattle.read_fields.specs.declared.entries.Walk.the-variants.{To, Stopped}
 
 -- ---- one entry
 
 -- the contact's number and text stand at these places
-pub record ContactIs (c : Coding) (m : List ℕ) (p : ContactPlace) (e : Contact) : Type 0 where
+pub record ContactIs (m : List ℕ) (p : ContactPlace) (e : Contact) : Type 0 where
   pub middle : ℕ
   pub end : ℕ
   pub number : NumberIs m (p .number) (e .number) middle
-  pub text : TextIs c m (p .text) (e .text) end
+  pub text : TextIs m (p .text) (e .text) end
 
 -- the entry has this index, and its text stands at this place
-pub record EntryIs (c : Coding) (m : List ℕ) (p : EntryPlace) (e : Entry) : Type 0 where
+pub record EntryIs (m : List ℕ) (p : EntryPlace) (e : Entry) : Type 0 where
   pub index : e .index ≡ p .index
   pub end : ℕ
-  pub text : TextIs c m (p .text) (e .text) end
+  pub text : TextIs m (p .text) (e .text) end
 
 -- a contact in range stands at `at`, or none does
 abbrev pub ContactAt : Coding → TextLimits → List ℕ → ℕ → ContactRead → Type 0
-ContactAt c k m at (AContact p next) = (e : Contact) × InContact k e × ContactIs c m p e × PartAt (contact c e) m at next
-ContactAt c k m at NoContact = (e : Contact) (next : ℕ) → InContact k e → PartAt (contact c e) m at next → ⊥
+ContactAt c k m at (AContact p next) = (e : Contact) × InContact k e × ContactIs m p e × FieldsAt (contact c e) m at next
+ContactAt c k m at NoContact = (e : Contact) (next : ℕ) → InContact k e → FieldsAt (contact c e) m at next → ⊥
 
 -- an entry of this form and range stands at `at`, or none does
-abbrev pub EntryAt : Coding → (Entry → List Field) → (Entry → Type 0) → List ℕ → ℕ → EntryRead → Type 0
-EntryAt c form In m at (AnEntry p next) = (e : Entry) × In e × EntryIs c m p e × PartAt (form e) m at next
-EntryAt c form In m at NoEntry = (e : Entry) (next : ℕ) → In e → PartAt (form e) m at next → ⊥
+abbrev pub EntryAt : (Entry → List Field) → (Entry → Type 0) → List ℕ → ℕ → EntryRead → Type 0
+EntryAt form In m at (AnEntry p next) = (e : Entry) × In e × EntryIs m p e × FieldsAt (form e) m at next
+EntryAt form In m at NoEntry = (e : Entry) (next : ℕ) → In e → FieldsAt (form e) m at next → ⊥
 
 -- a quick text of at least so many units: 1, or 0 in a delete
 abbrev pub QuickFrom : TextLimits → ℕ → Entry → Type 0
 QuickFrom k least e = (least ≤ length (e .text)) × (length (e .text) ≤ k .quick)
 
 abbrev pub QuickAt : Coding → TextLimits → ℕ → List ℕ → ℕ → EntryRead → Type 0
-QuickAt c k least = EntryAt c (quick-text c) (QuickFrom k least)
+QuickAt c k least = EntryAt (quick-text c) (QuickFrom k least)
 
 abbrev pub StatusAt : Coding → TextLimits → List ℕ → ℕ → EntryRead → Type 0
-StatusAt c k = EntryAt c (status-text c) (InStatus k)
+StatusAt c k = EntryAt (status-text c) (InStatus k)
 
 -- ---- as many as were counted
 
@@ -61,21 +64,36 @@ StatusAt c k = EntryAt c (status-text c) (InStatus k)
 pub record Stand {A : Type 0} (form : List A → List Field) (In : A → Type 0) (m : List ℕ) (at count next : ℕ) (es : List A) : Type 0 where
   pub counted : length es ≡ count
   pub in-range : All In es
-  pub stands : PartAt (form es) m at next
+  pub stands : FieldsAt (form es) m at next
 
 -- they stand there, or none do
 abbrev pub WalkAt : {A : Type 0} → (List A → List Field) → (A → Type 0) → List ℕ → ℕ → ℕ → Walk → Type 0
 WalkAt {A} form In m at count (To next) = (es : List A) × Stand form In m at count next es
 WalkAt {A} form In m at count Stopped = (es : List A) (next : ℕ) → Stand form In m at count next es → ⊥
 
-abbrev pub ContactsAt : Coding → TextLimits → List ℕ → ℕ → ℕ → Walk → Type 0
-ContactsAt c k = WalkAt (each (contact c)) (InContact k)
+-- the entries of a list, how they are written, and their range
+abbrev pub EntryOf : Listed → Type 0
+EntryOf Contacts = Contact
+EntryOf (QuickTexts least) = Entry
+EntryOf StatusTexts = Entry
 
-abbrev pub QuicksAt : Coding → TextLimits → ℕ → List ℕ → ℕ → ℕ → Walk → Type 0
-QuicksAt c k least = WalkAt (each (quick-text c)) (QuickFrom k least)
+abbrev pub form-of : (l : Listed) → Coding → EntryOf l → List Field
+form-of Contacts c = contact c
+form-of (QuickTexts least) c = quick-text c
+form-of StatusTexts c = status-text c
 
-abbrev pub StatusesAt : Coding → TextLimits → List ℕ → ℕ → ℕ → Walk → Type 0
-StatusesAt c k = WalkAt (each (status-text c)) (InStatus k)
+abbrev pub range-of : (l : Listed) → TextLimits → EntryOf l → Type 0
+range-of Contacts k = InContact k
+range-of (QuickTexts least) k = QuickFrom k least
+range-of StatusTexts k = InStatus k
+
+abbrev pub EntriesAt : Listed → Coding → TextLimits → List ℕ → ℕ → ℕ → Walk → Type 0
+EntriesAt l c k = WalkAt (each (form-of l c)) (range-of l k)
+
+-- one in range stands at `at`, up to a place, or none does
+abbrev pub PassAt : {A : Type 0} → (A → List Field) → (A → Type 0) → List ℕ → ℕ → Walk → Type 0
+PassAt {A} form In m at (To next) = (a : A) × In a × FieldsAt (form a) m at next
+PassAt {A} form In m at Stopped = (a : A) (next : ℕ) → In a → FieldsAt (form a) m at next → ⊥
 
 -- "each 12 bits; 4 bits 1111 if Count is odd"
 abbrev pub channel-list : List ℕ → List Field

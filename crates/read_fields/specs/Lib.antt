@@ -1,4 +1,4 @@
 pub mod Entries
 pub mod Hashes
-pub mod Parts
+pub mod TextsAndNumbers
 pub mod Places

@@ -4,11 +4,12 @@ use mathlib.Core.Path.{_≡_}
 use mathlib.Core.List.{List, [], _∷_, _++_}
 use lib.ListN.{length, drop}
 use Rattle.writing.specs.Fields.{bitsOf, Field, Shows}
-use Rattle.writing.specs.Settings.{Coding, Setting}
+use Rattle.writing.specs.declared.Coding.{Coding}
+use Rattle.writing.specs.Settings.{Setting}
 use Rattle.writing.specs.Writing.{fields}
 
 -- the fields are written in m from place `from`, and end before place `next`
-pub record PartAt (fs : List Field) (m : List ℕ) (from next : ℕ) : Type 0 where
+pub record FieldsAt (fs : List Field) (m : List ℕ) (from next : ℕ) : Type 0 where
   pub bytes : List ℕ
   pub rest : List ℕ
   pub split : drop from m ≡ bytes ++ rest
@@ -17,7 +18,7 @@ pub record PartAt (fs : List Field) (m : List ℕ) (from next : ℕ) : Type 0 wh
 
 -- the setting is written in m from place `from`, and ends before place `next`
 abbrev pub StandsAt : Coding → List ℕ → ℕ → ℕ → Setting → Type 0
-StandsAt c m from next s = PartAt (fields c s) m from next
+StandsAt c m from next s = FieldsAt (fields c s) m from next
 
 -- the number that bytes make behind n, highest first
 abbrev pub be : ℕ → List ℕ → ℕ

@@ -7,7 +7,7 @@ ghost use mathlib.Core.List.{List};
 ghost use Prim.Native.Nat.{ℕ, _<_};
 ghost use lib.ListN.{length, getD};
 ghost use Rattle.read_fields.specs.Entries.{ChannelsAt, OutOfRange, channel-list};
-ghost use Rattle.read_fields.specs.Places.{PartAt};
+ghost use Rattle.read_fields.specs.Places.{FieldsAt};
 
 // As many channels as were counted, all in range, and 1111 after an odd last one.
 pub fn walk_channels(m: &[u8], at: usize, count: usize) -> Walk
@@ -56,7 +56,7 @@ fn out_of_range(n: u64) -> bool
 
 // The channel in place i of a list that stands from start.
 pub fn channel_at(m: &[u8], start: usize, i: usize) -> u16
-    ensures { λ r. ⌜ ((es : List ℕ) (next : ℕ) → PartAt (channel-list es) (now (m .entry)) start next → i < length es → r ≡ getD es i 0) ⌝ }
+    ensures { λ r. ⌜ ((es : List ℕ) (next : ℕ) → FieldsAt (channel-list es) (now (m .entry)) start next → i < length es → r ≡ getD es i 0) ⌝ }
 {
     let pairs = i / 2;
     if remaining(m, start) / 3 < pairs {

@@ -7,9 +7,9 @@ use super::numbers::read_number;
 use super::texts::TextPlace;
 use super::texts::TextRead;
 use super::texts::read_text;
-ghost use Rattle.read_fields.specs.Entries.{ContactAt, QuickAt, StatusAt, ContactsAt, QuicksAt, StatusesAt};
+use writing::Coding;
+ghost use Rattle.read_fields.specs.Entries.{ContactAt, QuickAt, StatusAt, form-of, range-of, PassAt, EntriesAt};
 ghost use Rattle.writing.specs.Ranges.{text-limits};
-ghost use Rattle.writing.specs.Settings.{unicode16};
 
 pub struct ContactPlace {
     pub number: NumberPlace,
@@ -32,6 +32,13 @@ pub enum EntryRead {
     NoEntry,
 }
 
+// Which entries a list has: line contacts, quick texts of at least so many units, or status texts.
+pub enum Listed {
+    Contacts,
+    QuickTexts(usize),
+    StatusTexts,
+}
+
 // As many entries as were counted, and the place after them.
 pub enum Walk {
     To(usize),
@@ -43,14 +50,14 @@ const SHORT: usize = 16;
 
 const QUICK: usize = 23;
 
-pub fn read_contact(m: &[u8], at: usize) -> ContactRead
-    ensures { λ r. ⌜ ContactAt unicode16 text-limits (now (m .entry)) at r ⌝ }
+pub fn read_contact(m: &[u8], at: usize, coding: Coding) -> ContactRead
+    ensures { λ r. ⌜ ContactAt coding text-limits (now (m .entry)) at r ⌝ }
 {
     let digits = read_number(m, at);
     let NumberRead::Number(number, p) = digits else {
         return ContactRead::NoContact;
     };
-    let units = read_text(m, p, SHORT);
+    let units = read_text(m, p, SHORT, coding);
     let TextRead::Text(text, next) = units else {
         return ContactRead::NoContact;
     };
@@ -58,14 +65,14 @@ pub fn read_contact(m: &[u8], at: usize) -> ContactRead
 }
 
 // A quick text of at least so many units: 1, or 0 in a delete.
-pub fn read_quick(m: &[u8], at: usize, least: usize) -> EntryRead
-    ensures { λ r. ⌜ QuickAt unicode16 text-limits least (now (m .entry)) at r ⌝ }
+pub fn read_quick(m: &[u8], at: usize, least: usize, coding: Coding) -> EntryRead
+    ensures { λ r. ⌜ QuickAt coding text-limits least (now (m .entry)) at r ⌝ }
 {
     if remaining(m, at) < 1 {
         return EntryRead::NoEntry;
     }
     let index = (number(m, at, 1) % 64) as u8;
-    let units = read_text(m, at + 1, QUICK);
+    let units = read_text(m, at + 1, QUICK, coding);
     let TextRead::Text(text, next) = units else {
         return EntryRead::NoEntry;
     };
@@ -75,8 +82,8 @@ pub fn read_quick(m: &[u8], at: usize, least: usize) -> EntryRead
     EntryRead::Entry(EntryPlace { index, text }, next)
 }
 
-pub fn read_status(m: &[u8], at: usize) -> EntryRead
-    ensures { λ r. ⌜ StatusAt unicode16 text-limits (now (m .entry)) at r ⌝ }
+pub fn read_status(m: &[u8], at: usize, coding: Coding) -> EntryRead
+    ensures { λ r. ⌜ StatusAt coding text-limits (now (m .entry)) at r ⌝ }
 {
     if remaining(m, at) < 1 {
         return EntryRead::NoEntry;
@@ -88,53 +95,50 @@ pub fn read_status(m: &[u8], at: usize) -> EntryRead
     if 127 < code {
         return EntryRead::NoEntry;
     }
-    let units = read_text(m, at + 1, SHORT);
+    let units = read_text(m, at + 1, SHORT, coding);
     let TextRead::Text(text, next) = units else {
         return EntryRead::NoEntry;
     };
     EntryRead::Entry(EntryPlace { index: code, text }, next)
 }
 
-pub fn walk_contacts(m: &[u8], at: usize, count: usize) -> Walk
-    ensures { λ r. ⌜ ContactsAt unicode16 text-limits (now (m .entry)) at count r ⌝ }
+// The place after the entry that stands at a place.
+fn pass_entry(m: &[u8], at: usize, list: Listed, coding: Coding) -> Walk
+    ensures { λ r. ⌜ PassAt (form-of list coding) (range-of list text-limits) (now (m .entry)) at r ⌝ }
 {
-    let mut p = at;
-    let mut left = count;
-    while 0 < left {
-        let here = read_contact(m, p);
-        let ContactRead::Contact(_, next) = here else {
-            return Walk::Stopped;
-        };
-        p = next;
-        left -= 1;
+    match list {
+        Listed::Contacts => {
+            let here = read_contact(m, at, coding);
+            let ContactRead::Contact(_, next) = here else {
+                return Walk::Stopped;
+            };
+            Walk::To(next)
+        }
+        Listed::QuickTexts(least) => {
+            let here = read_quick(m, at, least, coding);
+            let EntryRead::Entry(_, next) = here else {
+                return Walk::Stopped;
+            };
+            Walk::To(next)
+        }
+        Listed::StatusTexts => {
+            let here = read_status(m, at, coding);
+            let EntryRead::Entry(_, next) = here else {
+                return Walk::Stopped;
+            };
+            Walk::To(next)
+        }
     }
-    Walk::To(p)
 }
 
-pub fn walk_quick(m: &[u8], at: usize, count: usize, least: usize) -> Walk
-    ensures { λ r. ⌜ QuicksAt unicode16 text-limits least (now (m .entry)) at count r ⌝ }
+pub fn walk_entries(m: &[u8], at: usize, count: usize, list: Listed, coding: Coding) -> Walk
+    ensures { λ r. ⌜ EntriesAt list coding text-limits (now (m .entry)) at count r ⌝ }
 {
     let mut p = at;
     let mut left = count;
     while 0 < left {
-        let here = read_quick(m, p, least);
-        let EntryRead::Entry(_, next) = here else {
-            return Walk::Stopped;
-        };
-        p = next;
-        left -= 1;
-    }
-    Walk::To(p)
-}
-
-pub fn walk_status(m: &[u8], at: usize, count: usize) -> Walk
-    ensures { λ r. ⌜ StatusesAt unicode16 text-limits (now (m .entry)) at count r ⌝ }
-{
-    let mut p = at;
-    let mut left = count;
-    while 0 < left {
-        let here = read_status(m, p);
-        let EntryRead::Entry(_, next) = here else {
+        let passed = pass_entry(m, p, list, coding);
+        let Walk::To(next) = passed else {
             return Walk::Stopped;
         };
         p = next;

@@ -1,7 +1,7 @@
 // Line numbers at a place of a message: digits of half a byte.
 use super::bytes::number;
 use super::bytes::remaining;
-ghost use Rattle.read_fields.specs.Parts.{NumberAt, DigitsAre, EndedAt};
+ghost use Rattle.read_fields.specs.TextsAndNumbers.{NumberAt, DigitsAre, EndedAt};
 
 // The digits before the end mark.
 pub struct NumberPlace {

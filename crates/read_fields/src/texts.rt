@@ -1,13 +1,14 @@
 // Texts at a place of a message. Of the readers, only this file knows how units are coded.
 use super::bytes::number;
 use super::bytes::remaining;
-ghost use Rattle.read_fields.specs.Parts.{TextAt};
-ghost use Rattle.writing.specs.Settings.{unicode16};
+use writing::Coding;
+ghost use Rattle.read_fields.specs.TextsAndNumbers.{TextAt};
 
-// The units before the end unit.
+// The units before the end unit, and the coding that they were read under.
 pub struct TextPlace {
     pub start: usize,
     pub units: usize,
+    pub coding: Coding,
 }
 
 pub enum TextRead {
@@ -16,8 +17,8 @@ pub enum TextRead {
 }
 
 // The text of at most limit units at a place, and the place after its end unit.
-pub fn read_text(m: &[u8], at: usize, limit: usize) -> TextRead
-    ensures { λ r. ⌜ TextAt unicode16 (now (m .entry)) at limit r ⌝ }
+pub fn read_text(m: &[u8], at: usize, limit: usize, coding: Coding) -> TextRead
+    ensures { λ r. ⌜ TextAt coding (now (m .entry)) at limit r ⌝ }
 {
     let mut p = at;
     let mut units: usize = 0;
@@ -26,7 +27,14 @@ pub fn read_text(m: &[u8], at: usize, limit: usize) -> TextRead
             return TextRead::NoText;
         }
         if number(m, p, 2) == 0 {
-            return TextRead::Text(TextPlace { start: at, units }, p + 2);
+            return TextRead::Text(
+                TextPlace {
+                    start: at,
+                    units,
+                    coding,
+                },
+                p + 2,
+            );
         }
         units += 1;
         p += 2;

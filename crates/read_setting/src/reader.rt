@@ -11,14 +11,15 @@ use read_bodies::slot_bodies::read_group;
 use read_bodies::slot_bodies::read_individual;
 use read_fields::bytes::number;
 use read_fields::bytes::remaining;
-use settings::rows::Row;
-use settings::rows::RowRead;
-use settings::rows::row_of;
 use settings::settings::BodyRead;
 use settings::settings::Setting;
-ghost use Rattle.settings.specs.Rows.{RowIs};
-ghost use Rattle.settings.specs.Settings.{BodyAt};
-ghost use Rattle.read_setting.specs.Settings.{SettingAt};
+use settings::type_table::Bounds;
+use settings::type_table::BoundsRead;
+use settings::type_table::bounds_of;
+use writing::Coding;
+ghost use Rattle.settings.specs.TypeTable.{BoundsAre};
+ghost use Rattle.settings.specs.Meant.{BodyAt};
+ghost use Rattle.read_setting.specs.SettingAt.{SettingAt};
 ghost use Rattle.writing.specs.declared.Kind.{Kind};
 
 // The setting with the place after it; no type byte (4); a type not among the ten (3); a bad field or length (4).
@@ -30,35 +31,35 @@ pub enum SettingRead {
 }
 
 // The fields after DataLength, by the type of the row.
-fn read_body(m: &[u8], p: usize, left: usize, row: Row) -> BodyRead
-    ensures { λ r. ⌜ ((k : Kind) → RowIs k row → BodyAt k left (now (m .entry)) p r) ⌝ }
+fn read_body(m: &[u8], p: usize, left: usize, row: Bounds, coding: Coding) -> BodyRead
+    ensures { λ r. ⌜ ((k : Kind) → BoundsAre k row → BodyAt coding k left (now (m .entry)) p r) ⌝ }
 {
     let type_byte = row.type_byte;
     let operations = row.operations;
     match type_byte {
-        0xCA => read_lines(m, p, operations),
+        0xCA => read_lines(m, p, operations, coding),
         0xCB => read_key(m, p),
-        0xCC => read_quick_texts(m, p, operations),
+        0xCC => read_quick_texts(m, p, operations, coding),
         0xCD => read_home(m, p),
-        0xCE => read_channels(m, p, operations),
+        0xCE => read_channels(m, p, operations, coding),
         0xCF => read_system(m, p),
-        0xD0 => read_status_texts(m, p, operations),
-        0xD1 => read_group(m, p, operations),
-        0xD2 => read_individual(m, p, operations),
+        0xD0 => read_status_texts(m, p, operations, coding),
+        0xD1 => read_group(m, p, operations, coding),
+        0xD2 => read_individual(m, p, operations, coding),
         0xFF => read_last(m, p, left),
         _ => BodyRead::NoBody,
     }
 }
 
 // The setting at a place, where so many settings are still counted after it.
-pub fn read_setting(m: &[u8], at: usize, left: usize) -> SettingRead
-    ensures { λ r. ⌜ SettingAt left (now (m .entry)) at r ⌝ }
+pub fn read_setting(m: &[u8], at: usize, left: usize, coding: Coding) -> SettingRead
+    ensures { λ r. ⌜ SettingAt coding left (now (m .entry)) at r ⌝ }
 {
     if remaining(m, at) < 1 {
         return SettingRead::Missing;
     }
-    let found = row_of(m[at]);
-    let RowRead::Found(row) = found else {
+    let found = bounds_of(m[at]);
+    let BoundsRead::Found(row) = found else {
         return SettingRead::Unknown;
     };
     if remaining(m, at) < 3 {
@@ -73,7 +74,7 @@ pub fn read_setting(m: &[u8], at: usize, left: usize) -> SettingRead
     if (most as u64) < stated {
         return SettingRead::Field;
     }
-    let fields = read_body(m, at + 3, left, row);
+    let fields = read_body(m, at + 3, left, row, coding);
     let BodyRead::Body(setting, next) = fields else {
         return SettingRead::Field;
     };

@@ -1,10 +1,5 @@
 -- Runs one after another: over any settings, tables and writing. Assumes nothing.
-use Prim.Native.Nat.{ℕ, _+_}
-use mathlib.Core.Path.{_≡_, ap, _∙_, subst}
-use mathlib.Core.List.{List, _++_, append-assoc}
-use mathlib.Core.Option.{Option}
-use native.Mathlib.Omega.{arith}
-use lib.ListN.{length}
+use Rattle.lists.proofs.Kit.{ℕ, _+_, _≡_, ap, _∙_, subst, List, _++_, append-assoc, Option, arith, length}
 use Rattle.lists.specs.Every.{All}
 use Rattle.requests.specs.Judge as Judge
 use Rattle.requests.specs.Judge.{done, step}

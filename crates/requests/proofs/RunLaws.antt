@@ -1,17 +1,11 @@
 -- Settings taken in turn: one more at the end, and what is at fault where the next should stand. Assumes nothing.
-use Prim.Native.Nat.{ℕ, suc, _+_, _<_}
-use mathlib.Core.Path.{_≡_, refl, sym, ap, _∙_, subst}
-use mathlib.Core.List.{List, [], _∷_, _++_}
-use mathlib.Core.Option.{Option, none, some}
-use native.Mathlib.Omega.{arith}
-use lib.ListN.{length, drop, drop-of-length-le}
-use lib.Seq.{drop-cons, drop-drop, drop-at}
+use Rattle.lists.proofs.Kit.{ℕ, suc, _+_, _<_, _≡_, refl, sym, ap, _∙_, subst, List, [], _∷_, _++_, Option, none, some, arith, length, drop, drop-of-length-le, drop-cons, drop-drop, drop-at}
 use Rattle.lists.specs.Bytes.{Bytes}
 use Rattle.lists.proofs.Bytes.{bytes-drop}
 use Rattle.writing.specs.Ranges.{text-limits, InRange}
 use Rattle.writing.specs.Settings.{Setting, unicode16, lines, key, quick-texts, home, channels, system, status-texts, group, individual, last}
 use Rattle.read_fields.specs.Places.{StandsAt}
-use Rattle.read_setting.specs.Settings.{SettingAt}
+use Rattle.read_setting.specs.SettingAt.{SettingAt}
 use Rattle.read_setting.specs.declared.reader.SettingRead.the-variants.{Missing, Unknown, Field as BadField}
 use Rattle.read_fields.proofs.Parts.{bytes-left}
 use Rattle.tables.specs.declared.limits.Limits.{Limits}
@@ -67,16 +61,16 @@ module _ (lim : Limits) where
     stands-at s w r e (x, _) = record { bytes = w; rest = r; split = e; ends = refl; written = x }
 
     -- no byte is left: 4
-    pub at-end : SettingAt left m p Missing → Fault lim left u (drop p m) 4
+    pub at-end : SettingAt unicode16 left m p Missing → Fault lim left u (drop p m) 4
     at-end h = subst (λ (l : List ℕ). Fault lim left u l 4) (sym (drop-of-length-le m h)) missing
 
     -- the type is none of the ten: 3
-    pub at-unknown : SettingAt left m p Unknown → Fault lim left u (drop p m) 3
+    pub at-unknown : SettingAt unicode16 left m p Unknown → Fault lim left u (drop p m) 3
     at-unknown (h, never) =
         subst (λ (l : List ℕ). Fault lim left u l 3) (sym (drop-cons m p 0 h)) (unknown (λ k. never (k .0) (k .1)))
 
     -- no setting in range is written there: 4
-    pub at-field : SettingAt left m p BadField → Fault lim left u (drop p m) 4
+    pub at-field : SettingAt unicode16 left m p BadField → Fault lim left u (drop p m) 4
     at-field (h, k, e, never) =
         subst (λ (l : List ℕ). Fault lim left u l 4) (sym (drop-cons m p 0 h))
         (field (k, e) (λ s w r q x i. never s (p + length w) i (stands-at s w r (drop-cons m p 0 h ∙ q) x)))

@@ -1,14 +1,7 @@
 -- One setting of a request after another, as the code takes them on its working copy. Assumes nothing.
-use Prim.Native.Nat.{ℕ, suc, _+_, _-_, _≤_, _<_}
-use mathlib.Core.Path.{_≡_, refl, sym, ap, _∙_, subst}
-use mathlib.Core.List.{List, [], _∷_, _++_}
-use mathlib.Core.Bool.{Bool, true, false}
-use mathlib.Core.Option.{Option, none}
-use native.Mathlib.Omega.{arith}
+use Rattle.lists.proofs.Kit.{ℕ, suc, _+_, _-_, _≤_, _<_, _≡_, refl, sym, ap, _∙_, subst, List, [], _∷_, _++_, Bool, true, false, Option, none, arith, length, drop, length-append, length-drop, drop-of-length-le, drop-cons}
 use denote.Enum.Declared.{tagOf}
 use types.Run.{OneOf, miss}
-use lib.ListN.{length, drop, length-append, length-drop, drop-of-length-le}
-use lib.Seq.{drop-cons}
 use Rattle.lists.specs.Bytes.{Bytes}
 use Rattle.writing.specs.declared.LastFlags.{LastFlags}
 use Rattle.writing.specs.declared.Result.the-variants.{NoRoom}
@@ -22,9 +15,9 @@ use Rattle.settings.specs.declared.settings.Setting.{Setting as Read}
 use Rattle.settings.proofs.settings.Setting.{the-type}
 use Rattle.settings.specs.declared.settings.Setting.the-variants.{Lines, Key, QuickTexts, Home, Channels, System, StatusTexts, Group, Individual, Last}
 use Rattle.read_fields.specs.Places.{StandsAt}
-use Rattle.read_setting.specs.Settings.{SettingAt}
+use Rattle.read_setting.specs.SettingAt.{SettingAt}
 use Rattle.tables.specs.declared.limits.Limits.{Limits}
-use Rattle.tables.specs.Store.{Holds, Applied}
+use Rattle.tables.specs.Store.{Works, Applied}
 use Rattle.tables.specs.Tables.{Tables}
 use Rattle.requests.specs.declared.run.Step.the-variants.{Next, Fault as StepFault}
 use Rattle.requests.specs.Judge.{done, taken, over, fault, refused}
@@ -68,13 +61,13 @@ module _ (lim : Limits) (m : List ℕ) where
     fits : (x : Setting) (next : ℕ) → StandsAt unicode16 m at next x → Fits unicode16 x
     fits x next y = has-writing unicode16 x (y .bytes) (y .written)
 
-    pub step-taken : (r : Read) (next : ℕ) (f : LastFlags) (k : Bool) → SettingAt left m at (Taken r next) → FlagsAre r f
+    pub step-taken : (r : Read) (next : ℕ) (f : LastFlags) (k : Bool) → SettingAt unicode16 left m at (Taken r next) → FlagsAre r f
         → Applied lim m r s t k → k ≡ true → StepIs lim left m at s t (Next next f)
     step-taken r next f k (x, means, i, stands) g a e was roomy holds =
         let (u, q, h) = a was x left roomy holds means i (fits x next stands) .room e in
         record { setting = x; tables = u; range = i; stands = stands; applied = q; holds = h; flags = g m x means }
 
-    pub step-full : (r : Read) (next : ℕ) (k : Bool) → SettingAt left m at (Taken r next)
+    pub step-full : (r : Read) (next : ℕ) (k : Bool) → SettingAt unicode16 left m at (Taken r next)
         → Applied lim m r s t k → k ≡ false → StepIs lim left m at s t (StepFault NoRoom)
     step-full r next k (x, means, i, stands) a e was roomy holds =
         at-full lim m b left was at x next (stands-within x next stands) i stands (a was x left roomy holds means i (fits x next stands) .full e)
@@ -88,10 +81,10 @@ module _ (lim : Limits) (m : List ℕ) where
       pub tables : Tables
       pub counted : length settings ≡ n
       pub runs : Runs lim count was (drop at m) settings tables (drop p m)
-      pub holds : Holds lim tables work
+      pub holds : Works lim tables work
       pub flags : f ≡ last-item settings .flags
 
-    pub along-start : (work : List ℕ) → Holds lim was work → Along work at 0 (last-item [] .flags)
+    pub along-start : (work : List ℕ) → Works lim was work → Along work at 0 (last-item [] .flags)
     along-start work h = record { settings = []; tables = was; counted = refl; runs = done; holds = h; flags = refl }
 
     module _ (work : List ℕ) (p n : ℕ) (f : LastFlags) (l : Along work p n f) where

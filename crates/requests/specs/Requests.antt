@@ -12,7 +12,9 @@ use Rattle.writing.specs.Settings.{Setting, Hash, unicode16, lines, key, quick-
 use Rattle.writing.specs.Writing.{Written, type-byte}
 use Rattle.tables.specs.declared.limits.Limits.{Limits}
 use Rattle.tables.specs.Apply.{apply}
-use Rattle.tables.specs.Tables.{Tables, no-hash, with-hash}
+use Rattle.tables.specs.Tables.{Tables, no-hash}
+use Rattle.writing.specs.declared.Kind.the-variants.{Last}
+use Rattle.tables.specs.Owns.{put-own}
 use Rattle.requests.specs.Judge as Judge
 use Rattle.requests.specs.Judge.{Outcome}
 
@@ -28,19 +30,19 @@ Known b = (k : Kind) × (type-byte k ≡ b)
 
 -- these settings stand at the start of the bytes, in range and with room in turn
 abbrev pub Runs : Limits → ℕ → Tables → List ℕ → List Setting → Tables → List ℕ → Type 0
-Runs m = Judge.Runs Setting Tables WrittenIn (InRange text-limits) (apply m) Known
+Runs lim = Judge.Runs Setting Tables WrittenIn (InRange text-limits) (apply lim) Known
 
 -- what is at fault where the next setting should stand
 abbrev pub Fault : Limits → ℕ → Tables → List ℕ → ℕ → Type 0
-Fault m = Judge.Fault Setting Tables WrittenIn (InRange text-limits) (apply m) Known
+Fault lim = Judge.Fault Setting Tables WrittenIn (InRange text-limits) (apply lim) Known
 
 -- what a request of so many settings in these bytes comes to, from these tables
 abbrev pub Judged : Limits → ℕ → Tables → List ℕ → Outcome Setting Tables → Type 0
-Judged m = Judge.Judged Setting Tables WrittenIn (InRange text-limits) (apply m) Known
+Judged lim = Judge.Judged Setting Tables WrittenIn (InRange text-limits) (apply lim) Known
 
 -- "After each taken request the hash kept is that request's own; with code 0 or no FF, none"
 abbrev pub forget : Tables → Tables
-forget t = with-hash t no-hash
+forget t = put-own Last t no-hash
 
 -- ---- FF, the last item
 

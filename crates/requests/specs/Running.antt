@@ -10,11 +10,11 @@ use Rattle.writing.specs.Ranges.{text-limits, InRange}
 use Rattle.writing.specs.Settings.{Setting, unicode16}
 use Rattle.settings.specs.declared.settings.Setting.{Setting as Read}
 use Rattle.read_fields.specs.Places.{StandsAt}
-use Rattle.settings.specs.Settings.{Meant}
+use Rattle.settings.specs.Meant.{Meant}
 use Rattle.tables.specs.declared.limits.Limits.{Limits}
 use Rattle.tables.specs.Apply.{apply}
 use Rattle.tables.specs.Layout.{Roomy}
-use Rattle.tables.specs.Store.{Holds}
+use Rattle.tables.specs.Store.{Works}
 use Rattle.tables.specs.Tables.{Tables}
 use Rattle.requests.specs.declared.run.Step.{Step}
 use Rattle.requests.specs.declared.run.Step.the-variants.{Next, Fault as StepFault}
@@ -34,24 +34,24 @@ pub record Stepped (lim : Limits) (left : ℕ) (m : List ℕ) (at next : ℕ) (w
   pub range : InRange text-limits left setting
   pub stands : StandsAt unicode16 m at next setting
   pub applied : apply lim setting was ≡ some tables
-  pub holds : Holds lim tables after
+  pub holds : Works lim tables after
   pub flags : f ≡ or-else (item-of setting) (last-item []) .flags
 
 -- what taking the setting at a place answers, on a copy that was s and becomes t
 abbrev pub StepIs : Limits → ℕ → List ℕ → ℕ → List ℕ → List ℕ → Step → Type 0
-StepIs lim left m at s t (Next next f) = (was : Tables) → Roomy lim → Holds lim was s → Stepped lim left m at next was t f
-StepIs lim left m at s t (StepFault result) = (was : Tables) → Roomy lim → Holds lim was s → Fault lim left was (drop at m) (result-number result)
+StepIs lim left m at s t (Next next f) = (was : Tables) → Roomy lim → Works lim was s → Stepped lim left m at next was t f
+StepIs lim left m at s t (StepFault result) = (was : Tables) → Roomy lim → Works lim was s → Fault lim left was (drop at m) (result-number result)
 
 -- all settings counted were taken, and no byte is left
 pub record Ran (lim : Limits) (count : ℕ) (m : List ℕ) (at : ℕ) (was : Tables) (after : List ℕ) (f : LastFlags) : Type 0 where
   pub settings : List Setting
   pub tables : Tables
   pub judged : Judged lim count was (drop at m) (kept settings tables)
-  pub holds : Holds lim tables after
+  pub holds : Works lim tables after
   pub flags : f ≡ last-item settings .flags
 
 -- what taking the settings from a place on answers, on a copy that was s and becomes t
 abbrev pub RunIs : Limits → ℕ → List ℕ → ℕ → List ℕ → List ℕ → Run → Type 0
-RunIs lim count m at s t (Good f) = (was : Tables) → Roomy lim → Holds lim was s → Ran lim count m at was t f
+RunIs lim count m at s t (Good f) = (was : Tables) → Roomy lim → Works lim was s → Ran lim count m at was t f
 RunIs lim count m at s t (RunFault result failed) =
-    (was : Tables) → Roomy lim → Holds lim was s → Judged lim count was (drop at m) (refused (result-number result) failed)
+    (was : Tables) → Roomy lim → Works lim was s → Judged lim count was (drop at m) (refused (result-number result) failed)

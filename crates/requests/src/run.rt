@@ -4,6 +4,7 @@ use read_setting::reader::read_setting;
 use settings::settings::Setting;
 use store_apply::store::apply;
 use tables::limits::Limits;
+use writing::Coding;
 use writing::LastFlags;
 use writing::Result;
 ghost use Rattle.requests.specs.Running.{FlagsAre, StepIs, RunIs};
@@ -37,7 +38,7 @@ fn flags_of(setting: Setting) -> LastFlags
 fn take_setting(work: &mut [u8], limits: Limits, m: &[u8], at: usize, left: usize) -> Step
     ensures { λ r. ⌜ StepIs limits left (now (m .entry)) at (now (work .entry)) (now (work .exit)) r ⌝ }
 {
-    let read = read_setting(m, at, left);
+    let read = read_setting(m, at, left, Coding::Unicode16);
     match read {
         SettingRead::Taken(setting, next) => {
             let flags = flags_of(setting);

@@ -1,11 +1,5 @@
 -- EXPORTED BYTES: what exporting a part leaves at the start of its buffer is that part's request, and nothing else is allowed. Assumes nothing.
-use Prim.Native.Nat.{ℕ, _≤_}
-use mathlib.Core.Path.{_≡_, sym, ap, _∙_}
-use mathlib.Core.Logic.{inl, inr}
-use mathlib.Core.List.{List}
-use native.Mathlib.Omega.{arith}
-use lib.ListN.{length, take, drop}
-use lib.Seq.{take-append-seam}
+use Rattle.lists.proofs.Kit.{ℕ, _≤_, _≡_, sym, ap, _∙_, inl, inr, List, arith, length, take, drop, take-append-seam}
 use Rattle.lists.specs.Ladder.{Answers}
 use Rattle.tables.specs.declared.limits.Limits.{Limits}
 use Rattle.tables.specs.Layout.{Roomy}
@@ -15,25 +9,25 @@ use Rattle.tables.proofs.LayoutLaws.{holds-store, layout-one}
 use Rattle.export.specs.declared.parts.Part.{Part}
 use Rattle.export.specs.Exported.{part-number, exported, request-bytes}
 use Rattle.export.proofs.Determined.{one-part}
-use Rattle.export.specs.Exporting.{After, writes, Exports, exporting}
+use Rattle.export.specs.Exporting.{AfterExport, writes, exporting}
 
-module _ (m : Limits) (part : ℕ) (store buffer : List ℕ) where
-  -- the foot of exporting allows one outcome
-  pub exports-one : (t : Tables) (p : Part) → Holds m t store → part-number p ≡ part → (a : After) → Exports m part store buffer a
-      → a ≡ writes m part store buffer (request-bytes (exported p t))
-  exports-one t p holds n a x =
-      let e : x .tables ≡ t = layout-one m (x .tables) t (x .holds .0) (holds .0) (sym (x .holds .1) ∙ holds .1) in
+module _ (lim : Limits) (part : ℕ) (store buffer : List ℕ) where
+  -- from a store, into a buffer of a message's size, the part is written
+  pub written-one : (t : Tables) (p : Part) → Roomy lim → Holds lim t store → part-number p ≡ part → lim .message ≤ length buffer
+      → (a : AfterExport) → Answers (exporting lim part store buffer) a → a ≡ writes lim part store buffer (request-bytes (exported p t))
+  written-one t p room holds n size a (inl h) = absurd (omega (arith, h .0))
+  written-one t p room holds n size a (inr (_, inl h)) = absurd (h .0 (holds-store lim t store room holds))
+  written-one t p room holds n size a (inr (_, inr (_, inl h))) = absurd (h .0 p n)
+  written-one t p room holds n size a (inr (_, inr (_, inr (_, x)))) =
+      let e : x .tables ≡ t = layout-one lim (x .tables) t (x .holds .0) (holds .0) (sym (x .holds .1) ∙ holds .1) in
       let w : x .which ≡ p = one-part (x .which) p (x .numbered ∙ sym n) in
-      x .after ∙ (λ i. writes m part store buffer (request-bytes (exported (w i) (e i))))
+      x .after ∙ (λ i. writes lim part store buffer (request-bytes (exported (w i) (e i))))
 
   -- EXPORTED BYTES: from a store, into a buffer of a message's size, a part's number gives its request
-  pub exported-bytes : (t : Tables) (p : Part) → Roomy m → Holds m t store → part-number p ≡ part → m .message ≤ length buffer
-      → (a : After) → Answers (exporting m part store buffer) a
+  pub exported-bytes : (t : Tables) (p : Part) → Roomy lim → Holds lim t store → part-number p ≡ part → lim .message ≤ length buffer
+      → (a : AfterExport) → Answers (exporting lim part store buffer) a
       → (a .answer .number ≡ 0) × (take (a .answer .request-length) (a .buffer) ≡ request-bytes (exported p t))
-  exported-bytes t p room holds n size a (inl h) = absurd (omega (arith, h .0))
-  exported-bytes t p room holds n size a (inr (_, inl h)) = absurd (h .0 (holds-store m t store room holds))
-  exported-bytes t p room holds n size a (inr (_, inr (_, inl h))) = absurd (h .0 p n)
-  exported-bytes t p room holds n size a (inr (_, inr (_, inr (_, x)))) =
+  exported-bytes t p room holds n size a h =
       let bytes : List ℕ = request-bytes (exported p t) in
-      let e : a ≡ writes m part store buffer bytes = exports-one t p holds n a x in
-      (ap (λ (y : After). y .answer .number) e, ap (λ (y : After). take (y .answer .request-length) (y .buffer)) e ∙ take-append-seam bytes (drop (length bytes) buffer))
+      let e : a ≡ writes lim part store buffer bytes = written-one t p room holds n size a h in
+      (ap (λ (y : AfterExport). y .answer .number) e, ap (λ (y : AfterExport). take (y .answer .request-length) (y .buffer)) e ∙ take-append-seam bytes (drop (length bytes) buffer))

@@ -1,10 +1,5 @@
 -- FITTING: every exported setting has a writing and is in range; how many there are, and how many bytes they take. Assumes nothing.
-use Prim.Native.Nat.{ℕ, zero, suc, _+_, _*_, _≤_, _<_}
-use mathlib.Core.Path.{_≡_, refl, ap, subst⁻¹}
-use mathlib.Core.List.{List, [], _∷_, map}
-use mathlib.Core.Option.{Option, none, some}
-use native.Mathlib.Omega.{arith}
-use lib.ListN.{length, take, drop, length-append, length-take, length-drop, length-map, take-append-drop}
+use Rattle.lists.proofs.Kit.{ℕ, zero, suc, _+_, _*_, _≤_, _<_, _≡_, refl, ap, subst⁻¹, List, [], _∷_, map, Option, none, some, arith, length, take, drop, length-append, length-take, length-drop, length-map, take-append-drop}
 use Rattle.lists.specs.Every.{All}
 use Rattle.lists.proofs.Every.{all-map, all-right, all-take}
 use Rattle.slots.specs.Slots.{Present}
@@ -21,10 +16,12 @@ use Rattle.export.specs.declared.parts.Part.{Part}
 use Rattle.export.specs.declared.parts.Part.the-variants.{Lines, Fixed, QuickTexts, Channels, StatusTexts, Groups, Individuals}
 use Rattle.export_write.specs.LineSettings.{line-add}
 use Rattle.export_write.specs.EntrySettings.{entries, quick-add, no-group-flags, no-individual-flags, slots}
+use Rattle.tables.specs.declared.members.Members.the-variants.{OfGroups, OfIndividuals}
+use Rattle.export_write.proofs.TextLists.{entries-few}
 use Rattle.export.specs.Exported.{exported}
 use Rattle.export.specs.Exportable.{Exportable}
 use Rattle.restore.specs.Restored.{longest-settings}
-use Rattle.restore.proofs.Readable.{Readable, QuickEntry, StatusEntry, lines-readable, line-readable, key-readable, home-readable, system-readable, quick-replace-readable, quick-add-readable, status-readable, channels-readable, group-readable, no-group-readable, individual-readable, no-individual-readable}
+use Rattle.restore.proofs.Readable.{Readable, EntryIn, QuickEntry, StatusEntry, lines-readable, line-readable, key-readable, home-readable, system-readable, quick-replace-readable, quick-add-readable, status-readable, channels-readable, member-readable}
 
 -- ---- settings one after the other
 
@@ -58,18 +55,11 @@ at-most h p = record { fits = p .fits; ranged = p .ranged; no-last = p .no-last;
 
 -- ---- the entries of a table of texts
 
--- no more than places
-pub entries-few : (i : ℕ) (l : List (Option Text)) → length (entries i l) ≤ length l
-entries-few i [] = omega arith
-entries-few i (none ∷ l) = omega (arith, entries-few (suc i) l)
-entries-few i (some us ∷ l) = omega (arith, entries-few (suc i) l)
-
 -- each has the index of its place, and its text
-module _ (P : Text → Type 0) (Q : Entry → Type 0) (low high : ℕ) (make : (i : ℕ) (us : Text) → low ≤ i → i < high → P us → Q (record { index = i; text = us })) where
-  entries-each : (i : ℕ) (l : List (Option Text)) → low ≤ i → i + length l ≤ high → All (Present P) l → All Q (entries i l)
-  entries-each i [] a b p = tt
-  entries-each i (none ∷ l) a b p = entries-each (suc i) l (omega arith) (omega arith) (p .1)
-  entries-each i (some us ∷ l) a b p = (make i us a (omega arith) (p .0), entries-each (suc i) l (omega arith) (omega arith) (p .1))
+entries-each : (P : Text → Type 0) (from below i : ℕ) (l : List (Option Text)) → from ≤ i → i + length l ≤ below → All (Present P) l → All (EntryIn P from below) (entries i l)
+entries-each P from below i [] a b p = tt
+entries-each P from below i (none ∷ l) a b p = entries-each P from below (suc i) l (omega arith) (omega arith) (p .1)
+entries-each P from below i (some us ∷ l) a b p = (record { low = a; high = omega arith; text = p .0 }, entries-each P from below (suc i) l (omega arith) (omega arith) (p .1))
 
 -- ---- the settings of a table of slots
 
@@ -91,17 +81,15 @@ module _ {F A : Type 0} (setting : Operation → F → Slot A → Setting) (f : 
 
 -- ---- the parts
 
-module _ (m : Limits) (x : Exportable m) (t : Tables) (ok : Allowed m t) where
+module _ (lim : Limits) (x : Exportable lim) (t : Tables) (ok : Allowed lim t) where
   quick-entries : All QuickEntry (entries 0 (t .quick))
-  quick-entries =
-      entries-each QuickOk QuickEntry 0 64 (λ i us a b p. record { index = b; text = p }) 0 (t .quick) (omega arith) (omega (arith, ok .quick .0)) (ok .quick .1)
+  quick-entries = entries-each QuickOk 0 64 0 (t .quick) (omega arith) (omega (arith, ok .quick .0)) (ok .quick .1)
 
   status-entries : All StatusEntry (entries 32 (t .status))
-  status-entries =
-      entries-each StatusOk StatusEntry 32 128 (λ i us a b p. record { low = a; high = b; text = p }) 32 (t .status) (omega arith) (omega (arith, ok .status .0)) (ok .status .1)
+  status-entries = entries-each StatusOk 32 128 32 (t .status) (omega arith) (omega (arith, ok .status .0)) (ok .status .1)
 
   -- READABLE: every exported setting has a writing and is in range, none is an FF, and their bytes have a limit
-  pub exported-readable : (p : Part) → AllReadable (longest-settings m p) (exported p t)
+  pub exported-readable : (p : Part) → AllReadable (longest-settings lim p) (exported p t)
   exported-readable Lines =
       before _ _ lines-readable (of-each 49 (map line-add (t .lines)) (all-map LineOk (Readable 49) line-add line-readable (t .lines) (ok .lines .1)))
       (omega (arith, ok .lines .0, length-map (t .lines) line-add))
@@ -123,10 +111,10 @@ module _ (m : Limits) (x : Exportable m) (t : Tables) (ok : Allowed m t) where
       before _ _ (status-readable (entries 32 (t .status)) (omega arith) status-entries) (none-left 0) (omega arith)
   exported-readable Groups =
       at-most (omega (arith, slots-count group no-group-flags (record { 0 = 0 }) 0 (t .groups), ok .groups .0))
-      (of-each 42 (exported Groups t) (slots-each group no-group-flags (record { 0 = 0 }) GroupOk (Readable 42) group-readable no-group-readable 0 (t .groups) (omega (arith, ok .groups .0)) (ok .groups .1)))
+      (of-each 42 (exported Groups t) (slots-each group no-group-flags (record { 0 = 0 }) GroupOk (Readable 42) (λ i h g p. member-readable OfGroups i h (some g) p) (λ i h. member-readable OfGroups i h none tt) 0 (t .groups) (omega (arith, ok .groups .0)) (ok .groups .1)))
   exported-readable Individuals =
       at-most (omega (arith, slots-count individual no-individual-flags (record { 0 = 0 }) 0 (t .individuals), ok .individuals .0))
-      (of-each 42 (exported Individuals t) (slots-each individual no-individual-flags (record { 0 = 0 }) IndividualOk (Readable 42) individual-readable no-individual-readable 0 (t .individuals) (omega (arith, ok .individuals .0)) (ok .individuals .1)))
+      (of-each 42 (exported Individuals t) (slots-each individual no-individual-flags (record { 0 = 0 }) IndividualOk (Readable 42) (λ i h g p. member-readable OfIndividuals i h (some g) p) (λ i h. member-readable OfIndividuals i h none tt) 0 (t .individuals) (omega (arith, ok .individuals .0)) (ok .individuals .1)))
 
   -- COUNTED: "1 to 255" settings
   pub exported-count : (p : Part) → (1 ≤ length (exported p t)) × (length (exported p t) ≤ 255)

@@ -1,11 +1,5 @@
 -- PART RUNS: an exported part's settings, taken in turn, leave the part's tables as they were exported, whatever was there. Assumes nothing.
-use Prim.Native.Nat.{ℕ, suc, _+_, _-_, _≤_}
-use mathlib.Core.Path.{_≡_, refl, sym, ap, _∙_, subst}
-use mathlib.Core.List.{List, [], _∷_, _++_, map, append-nil}
-use mathlib.Core.Option.{Option, none, some}
-use native.Mathlib.Omega.{arith}
-use lib.ListN.{length, set, take, drop, replicate, length-append, take-append-drop}
-use lib.Seq.{append-snoc, set-at, getD-at}
+use Rattle.lists.proofs.Kit.{ℕ, suc, _+_, _-_, _≤_, _≡_, refl, sym, ap, _∙_, subst, List, [], _∷_, _++_, map, append-nil, Option, none, some, arith, length, set, take, drop, replicate, length-append, take-append-drop, append-snoc, set-at, getD-at}
 use Rattle.lists.proofs.Bytes.{all-bytes}
 use Rattle.lists.specs.Every.{All}
 use Rattle.writing.specs.declared.Operation.{Operation}
@@ -18,7 +12,9 @@ use Rattle.writing.proofs.CanonicalLaws.{canonical-written, plain-bytes}
 use Rattle.tables.specs.declared.limits.Limits.{Limits}
 use Rattle.tables.specs.Allowed.{Allowed, Distinct}
 use Rattle.tables.specs.Apply.{and-then, in-turn, with-room, quick-step, status-step, channel-step, slot-after, apply}
-use Rattle.tables.specs.Tables.{Line, Member, Tables, with-lines, with-quick, with-groups, with-individuals, with-status, with-channels}
+use Rattle.tables.specs.Tables.{Line, Member, Tables}
+use Rattle.writing.specs.declared.Kind.the-variants as K
+use Rattle.tables.specs.Owns.{put-own}
 use Rattle.tables.proofs.Sentences.{line-add-new, others-without, channel-add, quick-add-free}
 use Rattle.requests.specs.Judge.{done, step}
 use Rattle.requests.specs.Requests.{Runs}
@@ -48,14 +44,14 @@ turn-append {T = T} next (x ∷ a) b t = go (next x t) (turn-append next a b)
     go (some u) h = h u
 
 -- settings that fit, are in range and have room in turn run to their end
-pub turn-runs : (m : Limits) (ss : List Setting) (u v : Tables) → All (Fits unicode16) ss → All (λ s. (left : ℕ) → InRange text-limits left s) ss
-    → in-turn (apply m) ss u ≡ some v → Runs m (length ss) u (canonical-all unicode16 ss) ss v []
-turn-runs m [] u v f r e = subst (λ (w : Tables). Runs m 0 u [] [] w []) (cc) done
-turn-runs m (s ∷ ss) u v f r e = go (apply m s u) refl e (λ w. turn-runs m ss w v (f .1) (r .1))
+pub turn-runs : (lim : Limits) (ss : List Setting) (u v : Tables) → All (Fits unicode16) ss → All (λ s. (left : ℕ) → InRange text-limits left s) ss
+    → in-turn (apply lim) ss u ≡ some v → Runs lim (length ss) u (canonical-all unicode16 ss) ss v []
+turn-runs lim [] u v f r e = subst (λ (w : Tables). Runs lim 0 u [] [] w []) (cc) done
+turn-runs lim (s ∷ ss) u v f r e = go (apply lim s u) refl e (λ w. turn-runs lim ss w v (f .1) (r .1))
   where
-    go : (o : Option Tables) → apply m s u ≡ o → and-then o (in-turn (apply m) ss) ≡ some v
-        → ((w : Tables) → in-turn (apply m) ss w ≡ some v → Runs m (length ss) w (canonical-all unicode16 ss) ss v [])
-        → Runs m (suc (length ss)) u (canonical-all unicode16 (s ∷ ss)) (s ∷ ss) v []
+    go : (o : Option Tables) → apply lim s u ≡ o → and-then o (in-turn (apply lim) ss) ≡ some v
+        → ((w : Tables) → in-turn (apply lim) ss w ≡ some v → Runs lim (length ss) w (canonical-all unicode16 ss) ss v [])
+        → Runs lim (suc (length ss)) u (canonical-all unicode16 (s ∷ ss)) (s ∷ ss) v []
     go none d h more = let z : _≡_ {A = ℕ} 0 1 = cc in absurd (omega arith)
     go (some w) d h more =
         step {w = canonical unicode16 s} {s = s} refl (canonical-written unicode16 s (f .0), all-bytes (canonical unicode16 s) (plain-bytes (fields unicode16 s))) (r .0 (length ss)) d (more w h)
@@ -63,15 +59,15 @@ turn-runs m (s ∷ ss) u v f r e = go (apply m s u) refl e (λ w. turn-runs m ss
 -- ---- line contacts
 
 -- each line is new, so it goes to the end
-lines-turn : (m : Limits) (u : Tables) (before after : List Line) → Distinct (before ++ after) → length before + length after ≤ m .lines
-    → in-turn (apply m) (map line-add after) (with-lines u before) ≡ some (with-lines u (before ++ after))
-lines-turn m u before [] d h = ap (λ ls. some (with-lines u ls)) (sym (append-nil before))
-lines-turn m u before (l ∷ after) d h =
-    let e : apply m (line-add l) (with-lines u before) ≡ some (with-lines u (before ++ (l ∷ [])))
-    = ap (λ o. with-room (with-lines u) (and-then o some)) (line-add-new (m .lines) (l .flags) (record { number = l .number; text = l .text }) before (others-without before l after d .0) (omega arith)) in
-    then-turn (apply m) (line-add l) (map line-add after) (with-lines u before) (with-lines u (before ++ (l ∷ []))) e
-    ∙ lines-turn m u (before ++ (l ∷ [])) after (subst Distinct (sym (append-snoc before l after)) d) (omega (arith, length-append before (l ∷ [])))
-    ∙ ap (λ ls. some (with-lines u ls)) (append-snoc before l after)
+lines-turn : (lim : Limits) (u : Tables) (before after : List Line) → Distinct (before ++ after) → length before + length after ≤ lim .lines
+    → in-turn (apply lim) (map line-add after) (put-own K.Lines u before) ≡ some (put-own K.Lines u (before ++ after))
+lines-turn lim u before [] d h = ap (λ ls. some (put-own K.Lines u ls)) (sym (append-nil before))
+lines-turn lim u before (l ∷ after) d h =
+    let e : apply lim (line-add l) (put-own K.Lines u before) ≡ some (put-own K.Lines u (before ++ (l ∷ [])))
+    = ap (λ o. with-room (put-own K.Lines u) (and-then o some)) (line-add-new (lim .lines) (l .flags) (record { number = l .number; text = l .text }) before (others-without before l after d .0) (omega arith)) in
+    then-turn (apply lim) (line-add l) (map line-add after) (put-own K.Lines u before) (put-own K.Lines u (before ++ (l ∷ []))) e
+    ∙ lines-turn lim u (before ++ (l ∷ [])) after (subst Distinct (sym (append-snoc before l after)) d) (omega (arith, length-append before (l ∷ [])))
+    ∙ ap (λ ls. some (put-own K.Lines u ls)) (append-snoc before l after)
 
 -- ---- texts
 
@@ -91,6 +87,10 @@ module _ (next : Entry → List (Option Text) → Option (List (Option Text))) (
       ∙ texts-turn (before ++ (some us ∷ [])) l (suc i) (omega (arith, length-append before (some us ∷ [])))
       ∙ ap some (append-snoc before (some us) l)
 
+  -- all of them, into an empty table
+  texts-full : (l : List (Option Text)) (n : ℕ) → length l ≡ n → in-turn next (entries base l) (replicate n none) ≡ some l
+  texts-full l n h = ap (λ k. in-turn next (entries base l) (replicate k none)) (sym h) ∙ texts-turn [] l base (omega arith)
+
 -- quick texts: an empty table has the empty place
 quick-puts : (e : Entry) (before after : List (Option Text)) → e .index ≡ 0 + length before
     → quick-step Add e (before ++ none ∷ after) ≡ some (before ++ some (e .text) ∷ after)
@@ -98,28 +98,21 @@ quick-puts e before after h =
     let n : length before ≡ e .index = omega arith in
     quick-add-free e (before ++ none ∷ after) (getD-at before none after none (e .index) n) ∙ ap some (set-at before none after (some (e .text)) (e .index) n)
 
--- all entries at once
-quick-full : (q : List (Option Text)) → length q ≡ 64 → in-turn (quick-step Add) (entries 0 q) (replicate 64 none) ≡ some q
-quick-full q h = ap (λ n. in-turn (quick-step Add) (entries 0 q) (replicate n none)) (sym h) ∙ texts-turn (quick-step Add) 0 quick-puts [] q 0 (omega arith)
-
 -- settings of one add each do as one setting of them all
-quick-adds : (m : Limits) (u : Tables) (es : List Entry) (q : List (Option Text))
-    → in-turn (apply m) (map quick-add es) (with-quick u q) ≡ with-room (with-quick u) (in-turn (quick-step Add) es q)
-quick-adds m u [] q = refl
-quick-adds m u (e ∷ es) q = quick-adds m u es _
+quick-adds : (lim : Limits) (u : Tables) (es : List Entry) (q : List (Option Text))
+    → in-turn (apply lim) (map quick-add es) (put-own K.QuickTexts u q) ≡ with-room (put-own K.QuickTexts u) (in-turn (quick-step Add) es q)
+quick-adds lim u [] q = refl
+quick-adds lim u (e ∷ es) q = quick-adds lim u es _
 
-quick-cut : (m : Limits) (u : Tables) (es : List Entry) (o : Option (List (Option Text)))
-    → and-then (with-room (with-quick u) o) (in-turn (apply m) (map quick-add es)) ≡ with-room (with-quick u) (and-then o (in-turn (quick-step Add) es))
-quick-cut m u es none = refl
-quick-cut m u es (some q) = quick-adds m u es q
+quick-cut : (lim : Limits) (u : Tables) (es : List Entry) (o : Option (List (Option Text)))
+    → and-then (with-room (put-own K.QuickTexts u) o) (in-turn (apply lim) (map quick-add es)) ≡ with-room (put-own K.QuickTexts u) (and-then o (in-turn (quick-step Add) es))
+quick-cut lim u es none = refl
+quick-cut lim u es (some q) = quick-adds lim u es q
 
 -- status texts: code 32 has the first place
 status-puts : (e : Entry) (before after : List (Option Text)) → e .index ≡ 32 + length before
     → status-step Add e (before ++ none ∷ after) ≡ some (before ++ some (e .text) ∷ after)
 status-puts e before after h = ap some (set-at before none after (some (e .text)) (e .index - 32) (omega arith))
-
-status-full : (l : List (Option Text)) → length l ≡ 96 → in-turn (status-step Add) (entries 32 l) (replicate 96 none) ≡ some l
-status-full l h = ap (λ n. in-turn (status-step Add) (entries 32 l) (replicate n none)) (sym h) ∙ texts-turn (status-step Add) 32 status-puts [] l 32 (omega arith)
 
 -- ---- channels
 
@@ -134,22 +127,22 @@ channels-turn room before (n ∷ after) h =
 -- ---- slots
 
 -- settings of slots, which put what they say into the place of their index, fill a table of as many places
-module _ {F A : Type 0} (m : Limits) (setting : Operation → F → Slot A → Setting) (f : F) (a : A) (with-it : List (Option (Member F A)) → Tables)
+module _ {F A : Type 0} (lim : Limits) (setting : Operation → F → Slot A → Setting) (f : F) (a : A) (with-it : List (Option (Member F A)) → Tables)
     (puts : (o : Operation) (g : F) (s : Slot A) (q : List (Option (Member F A)))
-    → apply m (setting o g s) (with-it q) ≡ some (with-it (set q (s .index) (slot-after o (record { flags = g; address = s .address; text = s .text })))))
+    → apply lim (setting o g s) (with-it q) ≡ some (with-it (set q (s .index) (slot-after o (record { flags = g; address = s .address; text = s .text })))))
   where
     -- one setting puts x into its place, the others fill the rest
     slot-then : (o : Operation) (g : F) (s : Slot A) (x : Option (Member F A)) → slot-after o (record { flags = g; address = s .address; text = s .text }) ≡ x
         → (before : List (Option (Member F A))) (y : Option (Member F A)) (rest l : List (Option (Member F A))) (ss : List Setting) → length before ≡ s .index
-        → in-turn (apply m) ss (with-it ((before ++ (x ∷ [])) ++ rest)) ≡ some (with-it ((before ++ (x ∷ [])) ++ l))
-        → in-turn (apply m) (setting o g s ∷ ss) (with-it (before ++ y ∷ rest)) ≡ some (with-it (before ++ x ∷ l))
+        → in-turn (apply lim) ss (with-it ((before ++ (x ∷ [])) ++ rest)) ≡ some (with-it ((before ++ (x ∷ [])) ++ l))
+        → in-turn (apply lim) (setting o g s ∷ ss) (with-it (before ++ y ∷ rest)) ≡ some (with-it (before ++ x ∷ l))
     slot-then o g s x d before y rest l ss e more =
-        then-turn (apply m) (setting o g s) ss (with-it (before ++ y ∷ rest)) (with-it (before ++ x ∷ rest))
+        then-turn (apply lim) (setting o g s) ss (with-it (before ++ y ∷ rest)) (with-it (before ++ x ∷ rest))
         (puts o g s (before ++ y ∷ rest) ∙ ap (λ z. some (with-it (set (before ++ y ∷ rest) (s .index) z))) d ∙ ap (λ q. some (with-it q)) (set-at before y rest x (s .index) e))
-        ∙ ap (λ q. in-turn (apply m) ss (with-it q)) (sym (append-snoc before x rest)) ∙ more ∙ ap (λ q. some (with-it q)) (append-snoc before x l)
+        ∙ ap (λ q. in-turn (apply lim) ss (with-it q)) (sym (append-snoc before x rest)) ∙ more ∙ ap (λ q. some (with-it q)) (append-snoc before x l)
 
     slots-turn : (before rest l : List (Option (Member F A))) (i : ℕ) → length before ≡ i → length rest ≡ length l
-        → in-turn (apply m) (slots setting f a i l) (with-it (before ++ rest)) ≡ some (with-it (before ++ l))
+        → in-turn (apply lim) (slots setting f a i l) (with-it (before ++ rest)) ≡ some (with-it (before ++ l))
     slots-turn before [] [] i e h = refl
     slots-turn before [] (x ∷ l) i e h = absurd (omega arith)
     slots-turn before (y ∷ rest) [] i e h = absurd (omega arith)
@@ -162,27 +155,27 @@ module _ {F A : Type 0} (m : Limits) (setting : Operation → F → Slot A → S
 
 -- ---- the parts
 
-module _ (m : Limits) (t u : Tables) (ok : Allowed m t) (old : Allowed m u) where
+module _ (lim : Limits) (t u : Tables) (ok : Allowed lim t) (old : Allowed lim u) where
   -- the settings of a part, in turn, have room and leave the part's tables as t has them
-  pub part-turn : (p : Part) → in-turn (apply m) (exported p t) u ≡ some (with-part p t u)
-  part-turn Lines = lines-turn m u [] (t .lines) (ok .distinct) (omega (arith, ok .lines .0))
+  pub part-turn : (p : Part) → in-turn (apply lim) (exported p t) u ≡ some (with-part p t u)
+  part-turn Lines = lines-turn lim u [] (t .lines) (ok .distinct) (omega (arith, ok .lines .0))
   part-turn Fixed = refl
   part-turn QuickTexts =
       let es : List Entry = entries 0 (t .quick) in
-      quick-cut m u (drop 63 es) (in-turn (quick-step Add) (take 63 es) (replicate 64 none))
-      ∙ ap (with-room (with-quick u))
+      quick-cut lim u (drop 63 es) (in-turn (quick-step Add) (take 63 es) (replicate 64 none))
+      ∙ ap (with-room (put-own K.QuickTexts u))
       (sym (turn-append (quick-step Add) (take 63 es) (drop 63 es) (replicate 64 none))
-      ∙ ap (λ l. in-turn (quick-step Add) l (replicate 64 none)) (take-append-drop 63 es) ∙ quick-full (t .quick) (ok .quick .0))
-  part-turn Channels = ap (λ o. and-then (with-room (with-channels u) o) some) (channels-turn (m .channels) [] (t .channels) (omega (arith, ok .channels .0)))
-  part-turn StatusTexts = ap (λ o. and-then (with-room (with-status u) o) some) (status-full (t .status) (ok .status .0))
+      ∙ ap (λ l. in-turn (quick-step Add) l (replicate 64 none)) (take-append-drop 63 es) ∙ texts-full (quick-step Add) 0 quick-puts (t .quick) 64 (ok .quick .0))
+  part-turn Channels = ap (λ o. and-then (with-room (put-own K.Channels u) o) some) (channels-turn (lim .channels) [] (t .channels) (omega (arith, ok .channels .0)))
+  part-turn StatusTexts = ap (λ o. and-then (with-room (put-own K.StatusTexts u) o) some) (texts-full (status-step Add) 32 status-puts (t .status) 96 (ok .status .0))
   part-turn Groups =
-      slots-turn m group no-group-flags (record { 0 = 0 }) (with-groups u) (λ o g s q. refl) [] (u .groups) (t .groups) 0 refl (old .groups .0 ∙ sym (ok .groups .0))
+      slots-turn lim group no-group-flags (record { 0 = 0 }) (put-own K.Group u) (λ o g s q. refl) [] (u .groups) (t .groups) 0 refl (old .groups .0 ∙ sym (ok .groups .0))
   part-turn Individuals =
-      slots-turn m individual no-individual-flags (record { 0 = 0 }) (with-individuals u) (λ o g s q. refl) [] (u .individuals) (t .individuals) 0 refl
+      slots-turn lim individual no-individual-flags (record { 0 = 0 }) (put-own K.Individual u) (λ o g s q. refl) [] (u .individuals) (t .individuals) 0 refl
       (old .individuals .0 ∙ sym (ok .individuals .0))
 
   -- PART RUNS: so they run to their end over their canonical writing
-  pub part-runs : Exportable m → (p : Part) → Runs m (length (exported p t)) u (canonical-all unicode16 (exported p t)) (exported p t) (with-part p t u) []
+  pub part-runs : Exportable lim → (p : Part) → Runs lim (length (exported p t)) u (canonical-all unicode16 (exported p t)) (exported p t) (with-part p t u) []
   part-runs x p =
-      let r : AllReadable _ (exported p t) = exported-readable m x t ok p in
-      turn-runs m (exported p t) u (with-part p t u) (r .fits) (r .ranged) (part-turn p)
+      let r : AllReadable _ (exported p t) = exported-readable lim x t ok p in
+      turn-runs lim (exported p t) u (with-part p t u) (r .fits) (r .ranged) (part-turn p)

@@ -1,10 +1,5 @@
 -- RESTORED: the seven exported requests, taken by any other set, give it the same tables. Assumes nothing.
-use Prim.Native.Nat.{ℕ, _≤_}
-use mathlib.Core.Path.{_≡_, refl, sym, ap, _∙_}
-use mathlib.Core.Bool.{false}
-use mathlib.Core.List.{List, [], _∷_}
-use mathlib.Core.Option.{Option, none}
-use lib.ListN.{length}
+use Rattle.lists.proofs.Kit.{ℕ, _≤_, _≡_, refl, sym, ap, _∙_, false, List, [], _∷_, Option, none, length}
 use Rattle.lists.specs.Every.{All}
 use Rattle.lists.specs.Ladder.{Answers}
 use Rattle.writing.specs.Canonical.{canonical-all}
@@ -13,19 +8,21 @@ use Rattle.tables.specs.declared.limits.Limits.{Limits}
 use Rattle.tables.specs.Allowed.{Allowed}
 use Rattle.tables.specs.Layout.{layout, Roomy}
 use Rattle.tables.specs.Store.{Holds}
-use Rattle.tables.specs.Tables.{Tables, no-hash, with-key, with-home}
+use Rattle.tables.specs.Tables.{Tables, no-hash}
+use Rattle.writing.specs.declared.Kind.the-variants.{Key, Home}
+use Rattle.tables.specs.Owns.{put-own}
 use Rattle.tables.proofs.AllowedLaws.{key-allowed, home-allowed, system-allowed, quick-allowed, status-allowed, groups-allowed, individuals-allowed, channels-allowed, lines-allowed, forget-allowed}
 use Rattle.tables.proofs.LayoutLaws.{holds-store, layout-one}
 use Rattle.requests.specs.Judge.{kept, taken as all-taken}
 use Rattle.requests.specs.Requests.{forget, item-of, or-else, LastItem, last-item}
-use Rattle.station.specs.Taking.{After, replies, settled, AsRequest, taken}
+use Rattle.station.specs.Taking.{AfterTaking, replies, settled, AsRequest, taken}
 use Rattle.laws_taking.proofs.Determined.{outcome-determined}
 use Rattle.station.proofs.TakeLaws.{request-answers}
 use Rattle.export.specs.declared.parts.Part.{Part}
 use Rattle.export.specs.declared.parts.Part.the-variants.{Lines, Fixed, QuickTexts, Channels, StatusTexts, Groups, Individuals}
-use Rattle.export.specs.Exported.{exported, request-bytes}
+use Rattle.export.specs.Exported.{seven, exported, request-bytes}
 use Rattle.export.specs.Exportable.{Exportable}
-use Rattle.restore.specs.Restored.{with-part, SameTables, seven, requests, TakenInTurn}
+use Rattle.restore.specs.Restored.{with-part, SameTables, requests, TakenInTurn}
 use Rattle.restore.proofs.Fitting.{exported-readable}
 use Rattle.restore.proofs.PartRuns.{part-runs}
 use Rattle.restore.proofs.Requests.{exported-is, exported-in-size}
@@ -48,85 +45,85 @@ part-hash Groups t u = refl
 part-hash Individuals t u = refl
 
 -- a part of allowed tables makes allowed tables
-part-allowed : (m : Limits) (p : Part) (t u : Tables) → Allowed m t → Allowed m u → Allowed m (with-part p t u)
-part-allowed m Lines t u ok old = lines-allowed m u old (t .lines) (ok .lines, ok .distinct)
-part-allowed m Fixed t u ok old =
-    let a : Allowed m (with-key u (t .key)) = key-allowed m u old (t .key) (ok .key) in
-    let b : Allowed m (with-home (with-key u (t .key)) (t .home)) = home-allowed m _ a (t .home) (ok .home) in
-    system-allowed m _ b (t .system) (ok .system)
-part-allowed m QuickTexts t u ok old = quick-allowed m u old (t .quick) (ok .quick)
-part-allowed m Channels t u ok old = channels-allowed m u old (t .channels) (ok .channels)
-part-allowed m StatusTexts t u ok old = status-allowed m u old (t .status) (ok .status)
-part-allowed m Groups t u ok old = groups-allowed m u old (t .groups) (ok .groups)
-part-allowed m Individuals t u ok old = individuals-allowed m u old (t .individuals) (ok .individuals)
+part-allowed : (lim : Limits) (p : Part) (t u : Tables) → Allowed lim t → Allowed lim u → Allowed lim (with-part p t u)
+part-allowed lim Lines t u ok old = lines-allowed lim u old (t .lines) (ok .lines, ok .distinct)
+part-allowed lim Fixed t u ok old =
+    let a : Allowed lim (put-own Key u (t .key)) = key-allowed lim u old (t .key) (ok .key) in
+    let b : Allowed lim (put-own Home (put-own Key u (t .key)) (t .home)) = home-allowed lim _ a (t .home) (ok .home) in
+    system-allowed lim _ b (t .system) (ok .system)
+part-allowed lim QuickTexts t u ok old = quick-allowed lim u old (t .quick) (ok .quick)
+part-allowed lim Channels t u ok old = channels-allowed lim u old (t .channels) (ok .channels)
+part-allowed lim StatusTexts t u ok old = status-allowed lim u old (t .status) (ok .status)
+part-allowed lim Groups t u ok old = groups-allowed lim u old (t .groups) (ok .groups)
+part-allowed lim Individuals t u ok old = individuals-allowed lim u old (t .individuals) (ok .individuals)
 
 -- what taking these parts of t in turn makes of the tables u: each request forgets the hash kept before
 abbrev pub with-parts : Tables → List Part → Tables → Tables
 with-parts t [] u = u
 with-parts t (p ∷ ps) u = with-parts t ps (with-part p t (forget u))
 
-module _ (m : Limits) (x : Exportable m) (room : Roomy m) (t : Tables) (ok : Allowed m t) where
-  module _ (u : Tables) (store : List ℕ) (holds : Holds m u store) (reply : List ℕ) (long : 20 ≤ length reply) (p : Part) where
+module _ (lim : Limits) (x : Exportable lim) (room : Roomy lim) (t : Tables) (ok : Allowed lim t) where
+  module _ (u : Tables) (store : List ℕ) (holds : Holds lim u store) (reply : List ℕ) (long : 20 ≤ length reply) (p : Part) where
     -- what taking the part's request leaves
-    abbrev pub after-part : After
-    after-part = replies m (request-bytes (exported p t)) store reply 0 0 false false no-hash (layout m (with-part p t (forget u)))
+    abbrev pub after-part : AfterTaking
+    after-part = replies lim (request-bytes (exported p t)) store reply 0 0 false false no-hash (layout lim (with-part p t (forget u)))
 
     -- it is what the settings come to
-    settled-part : after-part ≡ settled m (request-bytes (exported p t)) store reply (kept (exported p t) (with-part p t (forget u)))
+    settled-part : after-part ≡ settled lim (request-bytes (exported p t)) store reply (kept (exported p t) (with-part p t (forget u)))
     settled-part =
-        let f : last-item (exported p t) ≡ last-item [] = no-flags (exported p t) (exported-readable m x t ok p .no-last) in
+        let f : last-item (exported p t) ≡ last-item [] = no-flags (exported p t) (exported-readable lim x t ok p .no-last) in
         let h : with-part p t (forget u) .hash ≡ no-hash = part-hash p t (forget u) in
-        sym (λ i. replies m (request-bytes (exported p t)) store reply 0 0 (f i .flags .reply) (f i .flags .reboot) (h i) (layout m (with-part p t (forget u))))
+        sym (λ i. replies lim (request-bytes (exported p t)) store reply 0 0 (f i .flags .reply) (f i .flags .reboot) (h i) (layout lim (with-part p t (forget u))))
 
     -- the part's request comes to it
-    part-request : AsRequest m (request-bytes (exported p t)) store reply u after-part
+    part-request : AsRequest lim (request-bytes (exported p t)) store reply u after-part
     part-request = (
       length (exported p t),
       canonical-all unicode16 (exported p t),
-      exported-is m x t ok p,
+      exported-is lim x t ok p,
       kept (exported p t) (with-part p t (forget u)),
-      all-taken refl (part-runs m t (forget u) ok (forget-allowed m u (holds .0)) x p),
+      all-taken refl (part-runs lim t (forget u) ok (forget-allowed lim u (holds .0)) x p),
       settled-part,
     )
 
     -- the contract of taking allows it
-    pub part-answers : Answers (taken m (request-bytes (exported p t)) store reply) after-part
+    pub part-answers : Answers (taken lim (request-bytes (exported p t)) store reply) after-part
     part-answers =
-        request-answers m (request-bytes (exported p t)) store reply after-part long (holds-store m u store room holds) u holds (exported-in-size m x t ok p) part-request
+        request-answers lim (request-bytes (exported p t)) store reply after-part long (holds-store lim u store room holds) u holds (exported-in-size lim x t ok p) part-request
 
     -- and nothing else
-    pub part-taken : (a : After) → Answers (taken m (request-bytes (exported p t)) store reply) a → a ≡ after-part
-    part-taken a h = outcome-determined m (request-bytes (exported p t)) store reply a after-part h part-answers
+    pub part-taken : (a : AfterTaking) → Answers (taken lim (request-bytes (exported p t)) store reply) a → a ≡ after-part
+    part-taken a h = outcome-determined lim (request-bytes (exported p t)) store reply a after-part h part-answers
 
     -- EXPORTED TAKEN: the request is taken, asks for no reply, and leaves the set's tables with those of the part
-    pub exported-taken : (a : After) → Answers (taken m (request-bytes (exported p t)) store reply) a
-        → (a .answer .number ≡ 0) × (a .answer .send ≡ false) × (a .store ≡ layout m (with-part p t (forget u)))
+    pub exported-taken : (a : AfterTaking) → Answers (taken lim (request-bytes (exported p t)) store reply) a
+        → (a .answer .number ≡ 0) × (a .answer .send ≡ false) × (a .store ≡ layout lim (with-part p t (forget u)))
     exported-taken a h =
         let e : a ≡ after-part = part-taken a h in
-        (ap (λ (y : After). y .answer .number) e, ap (λ (y : After). y .answer .send) e, ap (λ (y : After). y .store) e)
+        (ap (λ (y : AfterTaking). y .answer .number) e, ap (λ (y : AfterTaking). y .answer .send) e, ap (λ (y : AfterTaking). y .store) e)
 
   -- ---- parts in turn
 
   -- the store after each part holds the tables so far
-  pub after-holds : (u : Tables) (store after : List ℕ) → Holds m u store → (p : Part) → after ≡ layout m (with-part p t (forget u)) → Holds m (with-part p t (forget u)) after
-  after-holds u store after holds p e = (part-allowed m p t (forget u) ok (forget-allowed m u (holds .0)), e)
+  pub after-holds : (u : Tables) (store after : List ℕ) → Holds lim u store → (p : Part) → after ≡ layout lim (with-part p t (forget u)) → Holds lim (with-part p t (forget u)) after
+  after-holds u store after holds p e = (part-allowed lim p t (forget u) ok (forget-allowed lim u (holds .0)), e)
 
-  parts-taken : (ps : List Part) (u : Tables) (store after : List ℕ) → Holds m u store → TakenInTurn m (requests t ps) store after → after ≡ layout m (with-parts t ps u)
+  parts-taken : (ps : List Part) (u : Tables) (store after : List ℕ) → Holds lim u store → TakenInTurn lim (requests t ps) store after → after ≡ layout lim (with-parts t ps u)
   parts-taken [] u store after holds h = h ∙ holds .1
   parts-taken (p ∷ ps) u store after holds (reply, a, long, h, more) =
       parts-taken ps (with-part p t (forget u)) (a .store) after (after-holds u store (a .store) holds p (exported-taken u store holds reply long p a h .2)) more
 
   -- RESTORED: the seven requests in turn leave the store of the same tables, the kept hash aside, whatever the set held
-  pub restored : (u : Tables) (store after : List ℕ) → Holds m u store → TakenInTurn m (requests t seven) store after → after ≡ layout m (forget t)
+  pub restored : (u : Tables) (store after : List ℕ) → Holds lim u store → TakenInTurn lim (requests t seven) store after → after ≡ layout lim (forget t)
   restored u store after holds h = parts-taken seven u store after holds h
 
   -- SAME TABLES: so any tables that the last store holds are the same
-  pub same-tables : (u v : Tables) (store after : List ℕ) → Holds m u store → TakenInTurn m (requests t seven) store after → Holds m v after → SameTables v t
+  pub same-tables : (u v : Tables) (store after : List ℕ) → Holds lim u store → TakenInTurn lim (requests t seven) store after → Holds lim v after → SameTables v t
   same-tables u v store after holds h now =
-      ap forget (layout-one m v (forget t) (now .0) (forget-allowed m t ok) (sym (now .1) ∙ restored u store after holds h))
+      ap forget (layout-one lim v (forget t) (now .0) (forget-allowed lim t ok) (sym (now .1) ∙ restored u store after holds h))
 
   -- and they can be taken in turn, with any reply buffer that is long enough
-  parts-takable : (reply : List ℕ) → 20 ≤ length reply → (ps : List Part) (u : Tables) (store : List ℕ) → Holds m u store → TakenInTurn m (requests t ps) store (layout m (with-parts t ps u))
+  parts-takable : (reply : List ℕ) → 20 ≤ length reply → (ps : List Part) (u : Tables) (store : List ℕ) → Holds lim u store → TakenInTurn lim (requests t ps) store (layout lim (with-parts t ps u))
   parts-takable reply long [] u store holds = sym (holds .1)
   parts-takable reply long (p ∷ ps) u store holds = (
     reply,
@@ -137,5 +134,5 @@ module _ (m : Limits) (x : Exportable m) (room : Roomy m) (t : Tables) (ok : All
   )
 
   -- RESTORABLE: what RESTORED speaks of comes to pass
-  pub restorable : (reply : List ℕ) → 20 ≤ length reply → (u : Tables) (store : List ℕ) → Holds m u store → TakenInTurn m (requests t seven) store (layout m (forget t))
+  pub restorable : (reply : List ℕ) → 20 ≤ length reply → (u : Tables) (store : List ℕ) → Holds lim u store → TakenInTurn lim (requests t seven) store (layout lim (forget t))
   restorable reply long u store holds = parts-takable reply long seven u store holds

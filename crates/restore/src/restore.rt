@@ -1,11 +1,16 @@
-// Restores one set's tables in another, by the seven requests that it is exported as.
-use export::exporting::export;
+// Restores one set's tables in another, by the requests that it is exported as.
+use export::exporting::export_in;
 use export::parts::Export;
-use station::handheld::take;
+use export::parts::PARTS;
+use station::take::take_for;
 use store_check::checks::is_store;
 use tables::limits::HANDHELD;
+use tables::limits::Limits;
+ghost use mathlib.Core.Path.{_≡_};
+ghost use lib.ListN.{length};
 ghost use Rattle.lists.specs.Ladder.{Answers};
 ghost use Rattle.tables.specs.Limits.{handheld};
+ghost use Rattle.export.specs.Exportable.{Exportable};
 ghost use Rattle.restore.specs.Restoring.{number, restoring, Moved, AllMoved};
 
 pub enum Restored {
@@ -16,43 +21,73 @@ pub enum Restored {
 }
 
 // Exports a part of one set and has the other take it.
-fn move_part(part: u32, from: &[u8], to: &mut [u8], buffer: &mut [u8], reply: &mut [u8])
-    ensures { λ _. ⌜ Moved part (now (from .entry)) (now (to .entry)) (now (to .exit)) (now (buffer .entry)) (now (buffer .exit)) (now (reply .entry)) (now (reply .exit)) ⌝ }
+fn move_part(
+    part: u32,
+    from: &[u8],
+    to: &mut [u8],
+    buffer: &mut [u8],
+    reply: &mut [u8],
+    limits: Limits,
+    work: &mut [u8],
+)
+    ensures { λ _. ⌜ Moved limits part (now (from .entry)) (now (to .entry)) (now (to .exit)) (now (buffer .entry)) (now (buffer .exit)) (now (reply .entry)) (now (reply .exit)) (now (work .entry)) ⌝ }
 {
-    let written = export(part, from, buffer);
+    let written = export_in(part, from, buffer, limits);
     let Export::Written(length) = written else {
         return;
     };
-    take(&buffer[0..length], to, reply);
+    take_for(&buffer[0..length], to, reply, limits, work);
 }
 
-// The seven parts in order.
-fn move_parts(from: &[u8], to: &mut [u8], buffer: &mut [u8], reply: &mut [u8])
-    ensures { λ _. ⌜ AllMoved (now (from .entry)) (now (to .entry)) (now (to .exit)) (now (buffer .entry)) (now (buffer .exit)) (now (reply .entry)) (now (reply .exit)) ⌝ }
+// All parts in order.
+fn move_parts(
+    from: &[u8],
+    to: &mut [u8],
+    buffer: &mut [u8],
+    reply: &mut [u8],
+    limits: Limits,
+    work: &mut [u8],
+)
+    ensures { λ _. ⌜ AllMoved limits (now (from .entry)) (now (to .entry)) (now (to .exit)) (now (buffer .entry)) (now (buffer .exit)) (now (reply .entry)) (now (reply .exit)) (now (work .entry)) ⌝ }
 {
-    let mut part = 1;
-    while part <= 7 {
-        move_part(part, from, to, buffer, reply);
-        part += 1;
+    let mut done = 0;
+    while done < PARTS {
+        move_part(done + 1, from, to, buffer, reply, limits, work);
+        done += 1;
     }
 }
 
-// The other store's tables become those of the first, the kept hash aside. The buffer has 4,096 bytes, the reply buffer 20.
-pub fn restore(from: &[u8], to: &mut [u8], buffer: &mut [u8], reply: &mut [u8]) -> Restored
-    ensures { λ r. ⌜ Answers (restoring handheld (now (from .entry)) (now (to .entry)) (now (buffer .entry)) (now (reply .entry))) (record { answer = number r; to = now (to .exit); buffer = now (buffer .exit); reply = now (reply .exit) }) ⌝ }
+// The other store's tables become those of the first, the kept hash aside, for sets with these limits; as many bytes as a store has are lent to work in.
+pub fn restore_in(
+    from: &[u8],
+    to: &mut [u8],
+    buffer: &mut [u8],
+    reply: &mut [u8],
+    limits: Limits,
+    work: &mut [u8],
+) -> Restored
+    ensures { λ r. ⌜ (Exportable limits → length (now (work .entry)) ≡ limits .size → Answers (restoring limits (now (from .entry)) (now (to .entry)) (now (buffer .entry)) (now (reply .entry))) (record { answer = number r; to = now (to .exit); buffer = now (buffer .exit); reply = now (reply .exit) })) ⌝ }
 {
     if reply.len() < 20 {
         return Restored::ReplyBuffer;
     }
-    if !is_store(to, HANDHELD) {
+    if !is_store(to, limits) {
         return Restored::NotAStore;
     }
-    if buffer.len() < HANDHELD.message {
+    if buffer.len() < limits.message {
         return Restored::Buffer;
     }
-    if !is_store(from, HANDHELD) {
+    if !is_store(from, limits) {
         return Restored::NotAStore;
     }
-    move_parts(from, to, buffer, reply);
+    move_parts(from, to, buffer, reply, limits, work);
     Restored::Same
+}
+
+// The same for hand-helds. The buffer has 4,096 bytes, the reply buffer 20.
+pub fn restore(from: &[u8], to: &mut [u8], buffer: &mut [u8], reply: &mut [u8]) -> Restored
+    ensures { λ r. ⌜ Answers (restoring handheld (now (from .entry)) (now (to .entry)) (now (buffer .entry)) (now (reply .entry))) (record { answer = number r; to = now (to .exit); buffer = now (buffer .exit); reply = now (reply .exit) }) ⌝ }
+{
+    let mut work = [0u8; 12288];
+    restore_in(from, to, buffer, reply, HANDHELD, &mut work)
 }

@@ -1,21 +1,9 @@
 -- From what was found in a row to the answer of the calls. Assumes nothing.
-use Prim.Native.Nat.{ℕ, _*_, _≤_}
-use mathlib.Core.Path.{_≡_, refl, sym, ap, ap₂, _∙_, subst}
-use mathlib.Core.Logic.{inl, inr}
-use mathlib.Core.Bool.{Bool, true, false}
-use mathlib.Core.List.{List, [], map}
-use mathlib.Core.Option.{some}
-use native.Mathlib.Omega.{arith}
-use borrow.Author.Tests.{ltb-true, ltb-false}
-use lib.Dec.{ltb}
-use lib.ListN.{length, take, drop, length-append}
+use Rattle.lists.proofs.Kit.{ℕ, _+_, _*_, _-_, _≤_, _≡_, refl, sym, ap, ap₂, _∙_, subst, inl, inr, List, [], map, some, arith, length, take, drop, length-append}
 use Rattle.lists.specs.Ladder.{Answers}
 use Rattle.plan.specs.declared.numbers.DialledAnswer.{DialledAnswer}
 use Rattle.plan.specs.declared.numbers.DialledAnswer.the-variants.{Dialled, OutsideKind}
-use Rattle.plan.specs.declared.numbers.GroupAddress.{GroupAddress}
-use Rattle.plan.specs.declared.numbers.IndividualAddress.{IndividualAddress}
 use Rattle.plan.specs.Answers.{Answer, Answered, has, none, Back, answer, dialled}
-use Rattle.plan.specs.Numbers.{Individual as IndividualPlan, Group as GroupPlan}
 use Rattle.slots.specs.Slots.{EntryOf}
 use Rattle.writing.specs.Ranges.{InNumber}
 use Rattle.writing.specs.Settings.{Text}
@@ -30,16 +18,16 @@ use Rattle.screen.specs.declared.names.Name.{Name}
 use Rattle.screen.specs.declared.names.Name.the-variants.{Refused, Text as TextAt, Digits, Group as GroupNumber, Individual as IndividualNumber}
 use Rattle.screen.specs.declared.rows.Row.{Row}
 use Rattle.screen.specs.Naming.{Named, naming}
-use Rattle.screen.specs.Rows.{Caption, line, group, individual, caption, text-of, ascii, AddressText, dialled as by-plan, outside, Display, Shows, stored, written, unit-bytes}
+use Rattle.screen.specs.Rows.{Caption, line, caption, text-of, ascii, AddressText, dialled as by-plan, outside, Display, Displays, stored, written, unit-bytes}
 use Rattle.screen.specs.declared.answers.Place.the-variants.{Store, Scratch}
 use Rattle.screen.specs.Steps.{Written, DigitsWritten, dialled-digits, Placed}
-use Rattle.screen.specs.Screen.{After, refusal, refused, leaves, shows, RowShown, showing}
+use Rattle.screen.specs.Screen.{AfterRow, refusal, refused, leaves, shows, RowShown, showing, numbering}
 use Rattle.screen.proofs.NumberLaws.{unit-length}
 
 -- what is shown has the number 0
-pub shown-number : (m : Limits) (scratch : List ℕ) (row : Row) (d : Display) → shows m scratch row d .number ≡ 0
-shown-number m scratch row (stored us) = refl
-shown-number m scratch row (written us) = refl
+pub shown-number : (lim : Limits) (scratch : List ℕ) (row : Row) (d : Display) → shows lim scratch row d .number ≡ 0
+shown-number lim scratch row (stored us) = refl
+shown-number lim scratch row (written us) = refl
 
 -- ---- the number of an address
 
@@ -53,8 +41,8 @@ address-text Plan OutsideKind x (none k e) = outside k refl
 -- ---- from what was found to the answer
 
 -- bytes are the store of one set of tables
-pub one-tables : (m : Limits) (s : List ℕ) (t u : Tables) → Holds m t s → Holds m u s → t ≡ u
-one-tables m s t u h k = layout-one m t u (h .0) (k .0) (sym (h .1) ∙ k .1)
+pub one-tables : (lim : Limits) (s : List ℕ) (t u : Tables) → Holds lim t s → Holds lim u s → t ≡ u
+one-tables lim s t u h k = layout-one lim t u (h .0) (k .0) (sym (h .1) ∙ k .1)
 
 -- the number of what was found
 abbrev name-number : Name → ℕ
@@ -64,47 +52,72 @@ name-number (Digits at) = 0
 name-number (GroupNumber a) = 0
 name-number (IndividualNumber a) = 0
 
-module _ (m : Limits) (s scratch : List ℕ) (row : Row) where
+-- a name that is not a refusal
+abbrev pub Kept : Name → Type 0
+Kept (Refused why) = ⊥
+Kept (TextAt at n) = Unit {0}
+Kept (Digits at) = Unit {0}
+Kept (GroupNumber a) = Unit {0}
+Kept (IndividualNumber a) = Unit {0}
+
+module _ (lim : Limits) (s scratch : List ℕ) (row : Row) where
   -- a row that is refused
-  pub refused-as : (why : Refusal) → Answers (naming m s (length scratch) row) (Refused why) → Answers (showing m s scratch row) (refused (refusal why) scratch)
+  pub refused-as : (why : Refusal) → Answers (naming lim s (length scratch) row) (Refused why) → Answers (showing lim s scratch row) (refused (refusal why) scratch)
   refused-as why (inl (h, e)) = inl (h, ap (λ x. refused (name-number x) scratch) e)
   refused-as why (inr (h, inl (k, e))) = inr (h, inl (k, ap (λ x. refused (name-number x) scratch) e))
   refused-as why (inr (h, inr (k, inl (l, e)))) = inr (h, inr (k, inl (l, ap (λ x. refused (name-number x) scratch) e)))
   refused-as ScratchSize (inr (h, inr (k, inr (l, (t, holds, y))))) = absurd y
   refused-as NotAStore (inr (h, inr (k, inr (l, (t, holds, y))))) = absurd y
   refused-as Absent (inr (h, inr (k, inr (l, (t, holds, y))))) =
-      absurd (l (λ u is. ap (λ v. caption v row) (one-tables m s u t is holds) ∙ y))
+      absurd (l (λ u is. ap (λ v. caption v row) (one-tables lim s u t is holds) ∙ y))
 
   -- what was found in a row that is not refused
   pub record InRow (x : Name) : Type 0 where
     pub big : 36 ≤ length scratch
     pub tables : Tables
-    pub holds : Holds m tables s
-    pub is : Named m s row (caption tables row) x
-    pub answers : (a : After) → RowShown m s scratch row a → Answers (showing m s scratch row) a
+    pub holds : Holds lim tables s
+    pub is : Named lim s row (caption tables row) x
+    pub answers : (a : AfterRow) → RowShown lim s scratch row a → Answers (showing lim s scratch row) a
 
-  -- a name that is not a refusal
-  abbrev pub Kept : Name → Type 0
-  Kept (Refused why) = ⊥
-  Kept (TextAt at n) = Unit {0}
-  Kept (Digits at) = Unit {0}
-  Kept (GroupNumber a) = Unit {0}
-  Kept (IndividualNumber a) = Unit {0}
-
-  pub in-row : (x : Name) → Kept x → Answers (naming m s (length scratch) row) x → InRow x
+  pub in-row : (x : Name) → Kept x → Answers (naming lim s (length scratch) row) x → InRow x
   in-row x n (inl (h, e)) = absurd (subst Kept e n)
   in-row x n (inr (h, inl (k, e))) = absurd (subst Kept e n)
   in-row x n (inr (h, inr (k, inl (l, e)))) = absurd (subst Kept e n)
   in-row x n (inr (h, inr (k, inr (l, (t, holds, y))))) =
-      record { big = go (ltb (length scratch) 36) refl; tables = t; holds = holds; is = y; answers = λ a z. inr (h, inr (k, inr (l, z))) }
-    where
-      go : (b : Bool) → ltb (length scratch) 36 ≡ b → 36 ≤ length scratch
-      go true e = absurd (h (ltb-true (length scratch) 36 e))
-      go false e = ltb-false (length scratch) 36 e
+      record { big = omega (arith, h); tables = t; holds = holds; is = y; answers = λ a z. inr (h, inr (k, inr (l, z))) }
+
+  -- ---- both calls
+
+  -- an answer is a refusal, or what is shown
+  pub shown-by : (X : AfterRow → Type 0) → ((why : Refusal) → X (refused (refusal why) scratch))
+      → ((a : AfterRow) (p : RowShown lim s scratch row a) → 36 ≤ length scratch → X (shows lim scratch row (p .display)))
+      → (a : AfterRow) → Answers (showing lim s scratch row) a → X a
+  shown-by X refuse there a (inl (l, e)) = subst X (sym e) (refuse ScratchSize)
+  shown-by X refuse there a (inr (l, inl (n, e))) = subst X (sym e) (refuse NotAStore)
+  shown-by X refuse there a (inr (l, inr (n, inl (k, e)))) = subst X (sym e) (refuse Absent)
+  shown-by X refuse there a (inr (l, inr (n, inr (k, p)))) = subst X (sym (p .after)) (there a p (omega (arith, l)))
+
+  -- they judge alike
+  pub number-same : (a : AfterRow) → Answers (showing lim s scratch row) a → Answers (numbering lim s scratch row) (a .number)
+  number-same a (inl (l, e)) = inl (l, ap (λ (x : AfterRow). x .number) e)
+  number-same a (inr (l, inl (n, e))) = inr (l, inl (n, ap (λ (x : AfterRow). x .number) e))
+  number-same a (inr (l, inr (n, inl (k, e)))) = inr (l, inr (n, inl (k, ap (λ (x : AfterRow). x .number) e)))
+  number-same a (inr (l, inr (n, inr (k, p)))) = inr (l, inr (n, inr (k, ap (λ (x : AfterRow). x .number) (p .after) ∙ shown-number lim scratch row (p .display))))
+
+-- ---- where what was found is placed
+
+-- 18 bytes from a place on
+eighteen : (s : List ℕ) (at : ℕ) → take (at + 18 - at) (drop at s) ≡ take 18 (drop at s)
+eighteen s at = let e : at + 18 - at ≡ 18 = omega arith in ap (λ n. take n (drop at s)) e
+
+module _ {lim : Limits} {s scratch : List ℕ} {row : Row} where
+  -- what was found, by its case
+  pub row-found : {x : Name} (case : Name) → Kept case → x ≡ case → Answers (naming lim s (length scratch) row) x → InRow lim s scratch row case
+  row-found case k e a = in-row lim s scratch row case k (subst (Answers (naming lim s (length scratch) row)) e a)
 
   -- a stored text
-  pub text-placed : (at n : ℕ) → InRow (TextAt at n) → Placed m s scratch scratch row (Store at n)
-  text-placed at n x =
+  pub text-placed : {at n : ℕ} → InRow lim s scratch row (TextAt at n) → Placed lim s scratch scratch row (Store at n)
+  text-placed {at} {n} x =
       let (c, there, shown, p, q, fits) = x .is in
       record {
         allowed = x .answers (leaves (Store at n) scratch) (record {
@@ -120,9 +133,9 @@ module _ (m : Limits) (s scratch : List ℕ) (row : Row) where
       }
 
   -- a number that was written
-  number-placed : (x : Name) (i : InRow x) (c : Caption) (us : Text) (after : List ℕ) (r : ℕ) → caption (i .tables) row ≡ some c → Shows c (written us)
-      → Written us scratch after r → Placed m s scratch after row (Scratch r)
-  number-placed x i c us after r e shown w = record {
+  number-placed : {x : Name} (i : InRow lim s scratch row x) (c : Caption) {us : Text} {after : List ℕ} {r : ℕ} → caption (i .tables) row ≡ some c → Displays c (written us)
+      → Written us scratch after r → Placed lim s scratch after row (Scratch r)
+  number-placed i c {us} {after} {r} e shown w = record {
     allowed = i .answers (leaves (Scratch r) after) (record {
       tables = i .tables;
       holds = i .holds;
@@ -136,24 +149,15 @@ module _ (m : Limits) (s scratch : List ℕ) (row : Row) where
   }
 
   -- a line's digits
-  pub digits-there : (at : ℕ) → InRow (Digits at) → EntryOf InNumber digit-bytes (take 18 (drop at s))
-  digits-there at x = let (ds, e, ok, b, fits) = x .is in record { entry = ds; holds = ok; bytes = b }
+  pub digits-kept : {at : ℕ} → InRow lim s scratch row (Digits at) → EntryOf InNumber digit-bytes (take (at + 18 - at) (drop at s))
+  digits-kept {at} x = let (ds, e, ok, b, fits) = x .is in record { entry = ds; holds = ok; bytes = eighteen s at ∙ b }
 
-  pub digits-placed : (at : ℕ) (after : List ℕ) (r : ℕ) → InRow (Digits at) → DigitsWritten (take 18 (drop at s)) scratch after r → Placed m s scratch after row (Scratch r)
-  digits-placed at after r x w =
+  pub digits-placed : {at : ℕ} {after : List ℕ} {r : ℕ} → InRow lim s scratch row (Digits at) → DigitsWritten (take (at + 18 - at) (drop at s)) scratch after r → Placed lim s scratch after row (Scratch r)
+  digits-placed {at} x w =
       let (ds, e, ok, b, fits) = x .is in
-      number-placed (Digits at) x (line [] ds) (map ascii ds) after r e (map ascii ds, refl, refl) (w ds ok b)
+      number-placed x (line [] ds) e (map ascii ds, refl, refl) (w ds ok (eighteen s at ∙ b))
 
-  -- a group's number, by the group plan
-  pub group-placed : (a : GroupAddress) (d : DialledAnswer) (after : List ℕ) (r : ℕ) → InRow (GroupNumber a) → Answered (Back GroupPlan) 21 (a .0) (answer (dialled d))
-      → Written (map ascii (dialled-digits d (a .0))) scratch after r → Placed m s scratch after row (Scratch r)
-  group-placed a d after r x p w =
-      let ns = map ascii (dialled-digits d (a .0)) in
-      number-placed (GroupNumber a) x (group [] a) ns after r (x .is) (ns, address-text GroupPlan d (a .0) p, refl) w
-
-  -- an individual's, by the individual plan
-  pub individual-placed : (a : IndividualAddress) (d : DialledAnswer) (after : List ℕ) (r : ℕ) → InRow (IndividualNumber a) → Answered (Back IndividualPlan) 21 (a .0) (answer (dialled d))
-      → Written (map ascii (dialled-digits d (a .0))) scratch after r → Placed m s scratch after row (Scratch r)
-  individual-placed a d after r x p w =
-      let ns = map ascii (dialled-digits d (a .0)) in
-      number-placed (IndividualNumber a) x (individual [] a) ns after r (x .is) (ns, address-text IndividualPlan d (a .0) p, refl) w
+  -- a group's or an individual's number, by its plan
+  pub address-placed : (Plan : ℕ → ℕ → Type 0) {x : Name} (i : InRow lim s scratch row x) (c : Caption) (d : DialledAnswer) (n : ℕ) {after : List ℕ} {r : ℕ} → caption (i .tables) row ≡ some c
+      → ((ns : Text) → AddressText Plan n ns → Displays c (written ns)) → Answered (Back Plan) 21 n (answer (dialled d)) → Written (map ascii (dialled-digits d n)) scratch after r → Placed lim s scratch after row (Scratch r)
+  address-placed Plan i c d n e shown p w = number-placed i c e (shown (map ascii (dialled-digits d n)) (address-text Plan d n p)) w

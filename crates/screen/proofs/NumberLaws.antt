@@ -1,16 +1,5 @@
 -- Digits written as units at the start of the scratch, from the last or from the first on. Assumes nothing.
-use Prim.Native.Nat.{ℕ, zero, suc, _+_, _*_, _-_, _/_, _%_, _≤_, _<_}
-use mathlib.Core.Path.{_≡_, refl, sym, ap, ap₂, _∙_, subst}
-use mathlib.Core.Logic.{_≢_}
-use mathlib.Core.Bool.{Bool, true, false}
-use mathlib.Core.List.{List, [], _∷_, _++_, map, map-append, append-assoc, append-nil}
-use native.Mathlib.Nat.{not-suc-le-zero, le-of-suc-le-suc}
-use native.Mathlib.Numerals.{add-one}
-use native.Mathlib.Omega.{arith}
-use borrow.Author.Tests.{lt-ltb, le-ltb, ltb-true, ltb-false}
-use lib.Dec.{ltb}
-use lib.ListN.{length, take, drop, getD, set, length-map, take-append-drop}
-use lib.Seq.{sets-eq, take-at, drop-at, take-suc, take-all, take-append-le, drop-drop, length-take-le, take-take}
+use Rattle.lists.proofs.Kit.{ℕ, zero, suc, _+_, _*_, _-_, _/_, _%_, _≤_, _<_, _≡_, refl, sym, ap, ap₂, _∙_, subst, _≢_, Bool, true, false, List, [], _∷_, _++_, map, map-append, append-assoc, append-nil, not-suc-le-zero, le-of-suc-le-suc, add-one, arith, lt-ltb, le-ltb, ltb-true, ltb, length, take, drop, getD, set, length-map, take-append-drop, sets-eq, take-at, drop-at, take-suc, take-all, take-append-le, drop-drop, length-take-le, take-take}
 use Rattle.lists.proofs.Every.{all-get, all-made}
 use Rattle.plan.specs.declared.numbers.DialledAnswer.{DialledAnswer}
 use Rattle.slots.specs.Slots.{flat, pad, u16}
@@ -136,21 +125,17 @@ module _ (kept s : List ℕ) (ds : Number) (ok : InNumber ds) (e : kept ≡ digi
 
   -- there is a digit where what is kept is not 0
   pub more-digits : (i k : ℕ) → i < 18 → k ≡ getD kept i 0 → k ≢ 0 → i < length ds
-  more-digits i k h f n = go (ltb i (length ds)) refl
+  more-digits i k h f n = omega (arith, no-past)
     where
-      go : (b : Bool) → ltb i (length ds) ≡ b → i < length ds
-      go true z = ltb-true i (length ds) z
-      go false z = absurd (n (f ∙ ap (λ l. getD l i 0) e ∙ kept-past 18 ds i (ltb-false i (length ds) z)))
+      no-past : length ds ≤ i → ⊥
+      no-past z = n (f ∙ ap (λ l. getD l i 0) e ∙ kept-past 18 ds i z)
 
   -- it is a decimal one
   pub kept-small : (i k : ℕ) → i < 18 → k ≡ getD kept i 0 → k ≤ 10
-  kept-small i k h f = go (ltb i (length ds)) refl
+  kept-small i k h f = omega (arith, no-more)
     where
-      go : (b : Bool) → ltb i (length ds) ≡ b → k ≤ 10
-      go true z =
-          let l : i < length ds = ltb-true i (length ds) z in
-          omega (arith, kept-here i h l, all-get (_≤ 9) ds i 0 (ok .2) l)
-      go false z = omega (arith, ap (λ l. getD l i 0) e ∙ kept-past 18 ds i (ltb-false i (length ds) z))
+      no-more : 10 < k → ⊥
+      no-more z = let l = more-digits i k h f (λ y. omega arith) in omega (arith, kept-here i h l, all-get (_≤ 9) ds i 0 (ok .2) l)
 
   module _ (t : List ℕ) (i : ℕ) (h : i ≤ 18) (g : DigitsSoFar kept s t i ds) where
     -- so many bytes
@@ -193,11 +178,10 @@ module _ (kept s : List ℕ) (ds : Number) (ok : InNumber ds) (e : kept ≡ digi
 
     -- the end was met
     pub so-far-stop : (k : ℕ) → i < 18 → k ≡ getD kept i 0 → k ≡ 0 → Written (map ascii ds) s t (2 * i)
-    so-far-stop k l f z = so-far-end (go (ltb i (length ds)) refl)
+    so-far-stop k l f z = so-far-end (omega (arith, no-digit))
       where
-        go : (b : Bool) → ltb i (length ds) ≡ b → length ds ≤ i
-        go true y = absurd (omega (arith, kept-here i l (ltb-true i (length ds) y)))
-        go false y = ltb-false i (length ds) y
+        no-digit : i < length ds → ⊥
+        no-digit y = omega (arith, kept-here i l y)
 
 -- ---- an address
 

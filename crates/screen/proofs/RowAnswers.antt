@@ -1,10 +1,5 @@
 -- The tests of a screen row in their order, after which what was found is the name. Assumes nothing.
-use Prim.Native.Nat.{ℕ, _≤_}
-use mathlib.Core.Path.{_≡_, refl, sym, _∙_}
-use mathlib.Core.Logic.{_⊎_, inl, inr}
-use mathlib.Core.List.{List}
-use mathlib.Core.Option.{some, Option·none-ne-some}
-use native.Mathlib.Omega.{arith}
+use Rattle.lists.proofs.Kit.{ℕ, _≤_, _≡_, refl, sym, _∙_, _⊎_, inl, inr, List, some, Option·none-ne-some, arith}
 use Rattle.lists.specs.Ladder.{Answers}
 use Rattle.tables.specs.declared.limits.Limits.{Limits}
 use Rattle.tables.specs.Store.{StoreOf, Holds}
@@ -17,31 +12,31 @@ use Rattle.screen.specs.Naming.{NameIs, Named, naming}
 use Rattle.screen.specs.Rows.{Caption, caption, NoRow}
 
 -- a store is that of some tables
-pub tables-of : (m : Limits) (s : List ℕ) → StoreOf m s → (t : Tables) × Holds m t s
-tables-of m s x = (x .store .tables, (x .store .allowed, x .store .bytes-are))
+pub tables-of : (lim : Limits) (s : List ℕ) → StoreOf lim s → (t : Tables) × Holds lim t s
+tables-of lim s x = (x .store .tables, (x .store .allowed, x .store .bytes-are))
 
-module _ (m : Limits) (s : List ℕ) (row : Row) where
+module _ (lim : Limits) (s : List ℕ) (row : Row) where
   -- a row that stands in some tables of the store is not absent
-  there : (t : Tables) → Holds m t s → (c : Caption) → caption t row ≡ some c → NoRow m s row → ⊥
+  there : (t : Tables) → Holds lim t s → (c : Caption) → caption t row ≡ some c → NoRow lim s row → ⊥
   there t h c e none-there = Option·none-ne-some c (sym (none-there t h) ∙ e)
 
   -- what was found in a store is the answer of the tests
-  pub name-answers : (room : ℕ) (r : Name) → 36 ≤ room → StoreOf m s → NameIs m s row r → Answers (naming m s room row) r
+  pub name-answers : (room : ℕ) (r : Name) → 36 ≤ room → StoreOf lim s → NameIs lim s row r → Answers (naming lim s room row) r
   name-answers room r big store is = inr (λ h. omega arith, inr (λ no. no store, by r is))
     where
       t : Tables
-      t = tables-of m s store .0
+      t = tables-of lim s store .0
 
-      holds : Holds m t s
-      holds = tables-of m s store .1
+      holds : Holds lim t s
+      holds = tables-of lim s store .1
 
       -- not absent
-      shown : (x : Name) (c : Caption) → caption t row ≡ some c → Named m s row (caption t row) x
-          → (NoRow m s row × (x ≡ Refused Absent)) ⊎ ((NoRow m s row → ⊥) × ((u : Tables) × Holds m u s × Named m s row (caption u row) x))
+      shown : (x : Name) (c : Caption) → caption t row ≡ some c → Named lim s row (caption t row) x
+          → (NoRow lim s row × (x ≡ Refused Absent)) ⊎ ((NoRow lim s row → ⊥) × ((u : Tables) × Holds lim u s × Named lim s row (caption u row) x))
       shown x c e y = inr (there t holds c e, (t, holds, y))
 
-      by : (x : Name) → NameIs m s row x
-          → (NoRow m s row × (x ≡ Refused Absent)) ⊎ ((NoRow m s row → ⊥) × ((u : Tables) × Holds m u s × Named m s row (caption u row) x))
+      by : (x : Name) → NameIs lim s row x
+          → (NoRow lim s row × (x ≡ Refused Absent)) ⊎ ((NoRow lim s row → ⊥) × ((u : Tables) × Holds lim u s × Named lim s row (caption u row) x))
       by (Refused ScratchSize) y = absurd (y t holds)
       by (Refused NotAStore) y = absurd (y t holds)
       by (Refused Absent) y = inl (y, refl)

@@ -1,7 +1,5 @@
 -- Which row plain numbers name. Assumes nothing.
-use Prim.Native.Nat.{ℕ}
-use mathlib.Core.Path.{_≡_, sym, ap}
-use borrow.Author.Tests.{ne-eqb}
+use Rattle.lists.proofs.Kit.{ℕ, _≡_, sym, ap, ne-eqb}
 use Rattle.screen.specs.declared.rows.Row.the-variants.{NoTable}
 use Rattle.screen.specs.Rows.{row-named}
 

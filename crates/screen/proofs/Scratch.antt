@@ -1,22 +1,14 @@
 -- "Scratch bytes not in a written number stay": and a number has at most 18 units. Assumes nothing.
-use Prim.Native.Nat.{ℕ, zero, suc, _+_, _*_, _-_, _/_, _%_, _≤_}
-use mathlib.Core.Path.{_≡_, refl, sym, ap, _∙_, subst}
-use mathlib.Core.Logic.{inl, inr}
-use mathlib.Core.Bool.{Bool, true, false}
-use mathlib.Core.List.{List, [], _∷_, _++_, map}
-use native.Mathlib.Omega.{arith}
-use borrow.Author.Tests.{ltb-true, ltb-false}
-use lib.Dec.{ltb}
-use lib.ListN.{length, drop, getD, length-append, length-drop, length-map}
-use lib.Seq.{getD-append-add, getD-drop}
+use Rattle.lists.proofs.Kit.{ℕ, zero, suc, _+_, _*_, _-_, _/_, _%_, _≤_, _≡_, refl, sym, ap, _∙_, subst, List, [], _∷_, _++_, map, arith, length, drop, getD, length-append, length-drop, length-map, getD-append-add, getD-drop}
 use Rattle.lists.specs.Ladder.{Answers}
 use Rattle.plan.specs.Numbers.{Individual as IndividualPlan, Group as GroupPlan}
 use Rattle.writing.specs.Settings.{Text}
 use Rattle.tables.specs.declared.limits.Limits.{Limits}
 use Rattle.screen.specs.declared.rows.Row.{Row}
-use Rattle.screen.specs.Rows.{Caption, text, line, group, individual, ascii, digits, AddressText, dialled, outside, Display, stored, written, Shows, unit-bytes}
+use Rattle.screen.specs.Rows.{Caption, text, line, group, individual, ascii, digits, AddressText, dialled, outside, Display, stored, written, Displays, unit-bytes}
+use Rattle.screen.proofs.AnswerLaws.{shown-by}
 use Rattle.screen.proofs.EntryLaws.{HeadIn}
-use Rattle.screen.specs.Screen.{After, Part, of-store, of-scratch, shows, RowShown, showing}
+use Rattle.screen.specs.Screen.{AfterRow, RowPart, of-store, of-scratch, shows, RowShown, showing}
 use Rattle.screen.proofs.NumberLaws.{unit-length}
 use Rattle.screen.proofs.Theorems.{not-written, number-of-empty, row-held}
 
@@ -33,7 +25,7 @@ address-short Plan a us (dialled n p e) = omega (arith, ap length e, length-map 
 address-short Plan a us (outside n e) = omega (arith, ap length e, length-map (digits 16 6 a) ascii, digits-many 16 6 a)
 
 -- or as many as a line's number has
-number-short : (store : List ℕ) (start : ℕ) (c : Caption) (us : Text) → HeadIn store start c → Shows c (written us) → length us ≤ 18
+number-short : (store : List ℕ) (start : ℕ) (c : Caption) (us : Text) → HeadIn store start c → Displays c (written us) → length us ≤ 18
 number-short store start (text vs) us h s = absurd (not-written (sym s))
 number-short store start (line vs ds) us h s = let (_, e) = number-of-empty (λ ns. ns ≡ map ascii ds) vs us s in omega (arith, ap length e, length-map ds ascii, h .0 .1)
 number-short store start (group vs a) us h s = address-short GroupPlan (a .0) us (number-of-empty (AddressText GroupPlan (a .0)) vs us s .1)
@@ -42,23 +34,23 @@ number-short store start (individual vs a) us h s = address-short IndividualPlan
 -- ---- the scratch afterwards
 
 -- how many bytes of the scratch a part takes
-abbrev pub in-scratch : Part → ℕ
+abbrev pub in-scratch : RowPart → ℕ
 in-scratch (of-store start bytes) = 0
 in-scratch (of-scratch bytes) = bytes
 
 -- as many bytes, and past the number the same
-abbrev pub Stays : List ℕ → After → Type 0
+abbrev pub Stays : List ℕ → AfterRow → Type 0
 Stays scratch a = (length (a .scratch) ≡ length scratch) × ((i : ℕ) → in-scratch (a .part) ≤ i → getD (a .scratch) i 0 ≡ getD scratch i 0)
 
-module _ (m : Limits) (store scratch : List ℕ) (row : Row) where
+module _ (lim : Limits) (store scratch : List ℕ) (row : Row) where
   -- a number that is shown has at most 18 units
-  pub written-short : (a : After) (p : RowShown m store scratch row a) (us : Text) → p .display ≡ written us → length us ≤ 18
+  pub written-short : (a : AfterRow) (p : RowShown lim store scratch row a) (us : Text) → p .display ≡ written us → length us ≤ 18
   written-short a p us e =
-      let (slot, c, d, at) = row-held m store row (p .tables) (p .row-is) (p .holds) (p .there) in
-      number-short store (slot .start) (p .row-is) us (subst (HeadIn store (slot .start)) d (c .head)) (subst (Shows (p .row-is)) e (p .shown))
+      let (slot, c, d, at) = row-held lim store row (p .tables) (p .row-is) (p .holds) (p .there) in
+      number-short store (slot .start) (p .row-is) us (subst (HeadIn store (slot .start)) d (c .head)) (subst (Displays (p .row-is)) e (p .shown))
 
   -- what is shown leaves them
-  display-stays : (d : Display) → 36 ≤ length scratch → ((us : Text) → d ≡ written us → length us ≤ 18) → Stays scratch (shows m scratch row d)
+  display-stays : (d : Display) → 36 ≤ length scratch → ((us : Text) → d ≡ written us → length us ≤ 18) → Stays scratch (shows lim scratch row d)
   display-stays (stored us) big short = (refl, λ i h. refl)
   display-stays (written us) big short =
       let l : length (unit-bytes us) ≡ 2 * length us = unit-length us in
@@ -72,12 +64,5 @@ module _ (m : Limits) (store scratch : List ℕ) (row : Row) where
       )
 
   -- SCRATCH STAYS: as many bytes, and those past a written number as they were
-  pub scratch-stays : (a : After) → Answers (showing m store scratch row) a → Stays scratch a
-  scratch-stays a (inl (l, e)) = subst (Stays scratch) (sym e) (refl, λ i h. refl)
-  scratch-stays a (inr (l, inl (n, e))) = subst (Stays scratch) (sym e) (refl, λ i h. refl)
-  scratch-stays a (inr (l, inr (n, inl (k, e)))) = subst (Stays scratch) (sym e) (refl, λ i h. refl)
-  scratch-stays a (inr (l, inr (n, inr (k, p)))) = subst (Stays scratch) (sym (p .after)) (display-stays (p .display) (go (ltb (length scratch) 36) refl) (written-short a p))
-    where
-      go : (b : Bool) → ltb (length scratch) 36 ≡ b → 36 ≤ length scratch
-      go true e = absurd (l (ltb-true (length scratch) 36 e))
-      go false e = ltb-false (length scratch) 36 e
+  pub scratch-stays : (a : AfterRow) → Answers (showing lim store scratch row) a → Stays scratch a
+  scratch-stays = shown-by lim store scratch row (Stays scratch) (λ why. (refl, λ i h. refl)) (λ a p big. display-stays (p .display) big (written-short a p))

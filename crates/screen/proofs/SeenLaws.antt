@@ -1,22 +1,11 @@
--- What a slot of the store shows of the tables: no entry, or an entry whose text stands behind its head. Assumes nothing.
-use Prim.Native.Nat.{ℕ, zero, suc, _+_, _*_, _-_, _≤_, _<_}
-use mathlib.Core.Path.{_≡_, refl, sym, ap, _∙_}
-use mathlib.Core.Bool.{true, false}
-use mathlib.Core.List.{List, [], _∷_, _++_, map}
-use mathlib.Core.Option.{Option, none, some}
-use native.Mathlib.Nat.{not-suc-le-zero, le-of-suc-le-suc, add-zero}
-use native.Mathlib.Omega.{arith}
-use borrow.Rule.Slice.PartMut.{midOf}
-use lib.ListN.{length, take, drop, getD}
-use lib.Seq.{take-take, take-nil, drop-drop, take-at, drop-at, take-all}
+-- Parts of the store, and where a text in one ends. Assumes nothing.
+use Rattle.lists.proofs.Kit.{ℕ, zero, suc, _+_, _*_, _≤_, _<_, _≡_, refl, sym, ap, _∙_, List, [], _∷_, _++_, map, none, some, not-suc-le-zero, le-of-suc-le-suc, arith, midOf, length, take, drop, getD, take-take, take-nil, drop-drop}
 use Rattle.lists.proofs.Every.{all-made}
-use Rattle.slots.specs.Slots.{pad, slot, front, u16, zeros?, bytesBefore, Placed, Found}
+use Rattle.slots.specs.Slots.{pad, front, u16, zeros?, bytesBefore, Found}
 use Rattle.slots.proofs.Numbers.{u16-shown}
-use Rattle.slots.proofs.Tables.{place-read, place-none, place-some}
 use Rattle.writing.specs.Settings.{Text}
 use Rattle.tables.specs.Allowed.{TextOk}
 use Rattle.tables.specs.Layout.{text-bytes}
-use Rattle.tables.proofs.TextCodes.{text-length}
 use Rattle.screen.specs.Rows.{unit-bytes}
 
 -- ---- parts of parts
@@ -32,14 +21,9 @@ take-part (x ∷ l) (suc n) (suc i) j h = take-part l n i j (omega arith)
 pub part-part : (s : List ℕ) (b n i j : ℕ) → i + j ≤ n → midOf i j (midOf b n s) ≡ midOf (b + i) j s
 part-part s b n i j h = take-part (drop b s) n i j h ∙ ap (take j) (drop-drop i b s)
 
--- what stands behind the head
-pub behind : (s x y : List ℕ) (b n h k : ℕ) → midOf b n s ≡ x ++ y → length x ≡ h → n ≡ h + k → length y ≡ k → midOf (b + h) k s ≡ y
-behind s x y b n h k e l w m =
-    sym (part-part s b n h k (omega arith)) ∙ ap (midOf h k) e ∙ ap (take k) (drop-at x y h l) ∙ take-all k y (omega arith)
-
--- and in front of it
-pub before : (s x y : List ℕ) (b n h : ℕ) → midOf b n s ≡ x ++ y → length x ≡ h → h ≤ n → midOf b h s ≡ x
-before s x y b n h e l w = ap (λ j. midOf j h s) (sym (add-zero b)) ∙ sym (part-part s b n 0 h (omega arith)) ∙ ap (midOf 0 h) e ∙ take-at x y h l
+-- and a part of what is known
+pub part-known : (s x : List ℕ) (b n i j : ℕ) → midOf b n s ≡ x → i + j ≤ n → midOf (b + i) j s ≡ midOf i j x
+part-known s x b n i j e h = sym (part-part s b n i j h) ∙ ap (midOf i j) e
 
 -- ---- a text's end
 
@@ -64,57 +48,6 @@ text-front zero (u ∷ us) h = absurd (not-suc-le-zero h)
 text-front (suc n) (u ∷ us) h =
     let e : 2 * suc (length us) ≡ suc (suc (2 * length us)) = omega arith in
     ap (λ k. take k (u16 u ++ text-bytes n us)) e ∙ ap (λ l. u16 u ++ l) (text-front n us (le-of-suc-le-suc h))
-
--- ---- an entry with a text
-
--- an entry's bytes are a head and its text
-pub record Texted {A : Type 0} (P : A → Type 0) (w h : ℕ) (f : A → List ℕ) (us : A → Text) : Type 0 where
-  pub units : ℕ
-  pub head : A → List ℕ
-  pub wide : w ≡ h + 2 * units
-  pub long : (a : A) → length (f a) ≡ w
-  pub head-long : (a : A) → length (head a) ≡ h
-  pub bytes : (a : A) → f a ≡ head a ++ text-bytes units (us a)
-  pub ok : (a : A) → P a → TextOk units (us a)
-  pub shown : (a : A) → P a → zeros? (f a) ≡ false
-
--- an entry that a slot from `start` on holds
-pub record Held {A : Type 0} (P : A → Type 0) (w h : ℕ) (f : A → List ℕ) (us : A → Text) (s : List ℕ) (start : ℕ) (o : Option A) : Type 0 where
-  pub entry : A
-  pub is : o ≡ some entry
-  pub ok : P entry
-  pub bytes : midOf start w s ≡ f entry
-  pub ends : (r : ℕ) → Found (0 < 2) zeros? 2 (midOf (start + h) (w - h) s) r → r ≡ 2 * length (us entry)
-  pub text-is : midOf (start + h) (2 * length (us entry)) s ≡ unit-bytes (us entry)
-
-module _ {A : Type 0} (P : A → Type 0) (w h : ℕ) (f : A → List ℕ) (us : A → Text) (k : Texted P w h f us) (n base : ℕ) (os : List (Option A)) (s : List ℕ) (p : Placed P w f n os (midOf base (n * w) s)) (i : ℕ) (l : i < n) (fits : i * w + w ≤ n * w) where
-  -- the slot, cut out of the store
-  slot-here : midOf (i * w) (i * w + w - i * w) (midOf base (n * w) s) ≡ midOf (base + i * w) w s
-  slot-here = let e : i * w + w - i * w ≡ w = omega arith in ap (λ j. midOf (i * w) j (midOf base (n * w) s)) e ∙ part-part s base (n * w) (i * w) w fits
-
-  -- zeros are no entry
-  pub slot-none : zeros? (midOf (base + i * w) w s) ≡ true → getD os i none ≡ none
-  slot-none z = place-none P w f (k .long) n os (midOf base (n * w) s) p i l (k .shown) (ap zeros? slot-here ∙ z)
-
-  -- what is not zeros is one
-  pub slot-some : zeros? (midOf (base + i * w) w s) ≡ false → Held P w h f us s (base + i * w) (getD os i none)
-  slot-some z =
-      let (a, e, q) = place-some P w f (k .long) n os (midOf base (n * w) s) p i l (ap zeros? slot-here ∙ z) in
-      let b : midOf (base + i * w) w s ≡ f a = sym slot-here ∙ place-read P w f (k .long) n os (midOf base (n * w) s) p i l ∙ ap (slot w f) e in
-      let d : w - h ≡ 2 * k .units = omega (arith, k .wide) in
-      let t : midOf (base + i * w + h) (w - h) s ≡ text-bytes (k .units) (us a)
-      = behind s (k .head a) (text-bytes (k .units) (us a)) (base + i * w) w h (w - h) (b ∙ k .bytes a) (k .head-long a) (omega (arith, k .wide)) (text-length (k .units) (us a) ∙ sym d) in
-      let o = k .ok a q in
-      record {
-        entry = a;
-        is = e;
-        ok = q;
-        bytes = b;
-        ends = λ r x. text-ends (k .units) (us a) (midOf (base + i * w + h) (w - h) s) r o t x;
-        text-is =
-            sym (take-take (2 * length (us a)) (w - h) (drop (base + i * w + h) s) (omega (arith, o .short)))
-            ∙ ap (take (2 * length (us a))) t ∙ text-front (k .units) (us a) (o .short);
-      }
 
 -- ---- entries from the front
 

@@ -1,13 +1,8 @@
 -- Where a row's slot stands, and that it lies in the store. Assumes nothing.
-use Prim.Native.Nat.{ℕ, suc, _+_, _*_, _-_, _/_, _%_, _≤_, _<_}
-use mathlib.Core.Path.{_≡_, sym, ap, _∙_, subst}
-use mathlib.Core.List.{List}
-use native.Mathlib.Nat.{mul-le-mul-right, suc-mul}
-use native.Mathlib.Omega.{arith}
-use lib.ListN.{getD}
+use Rattle.lists.proofs.Kit.{ℕ, suc, _+_, _*_, _-_, _/_, _%_, _≤_, _<_, _≡_, sym, ap, _∙_, subst, List, mul-le-mul-right, suc-mul, arith, getD}
 use Rattle.slots.specs.Slots.{u24}
 use Rattle.tables.specs.declared.limits.Limits.{Limits}
-use Rattle.tables.specs.Layout.{Roomy, part-start, line-width, status-at}
+use Rattle.tables.specs.Layout.{Roomy, region-start, line-width, status-at}
 use Rattle.screen.specs.declared.names.Slot.{Slot}
 use Rattle.screen.specs.declared.names.SlotPlace.{SlotPlace}
 use Rattle.screen.specs.declared.names.SlotPlace.the-variants.{At, Beyond}
@@ -17,22 +12,22 @@ use Rattle.screen.specs.Naming.{Slotted, SlotIs}
 
 -- slot n of a table ends before the table does
 pub slot-within : (n places w : ℕ) → n < places → n * w + w ≤ places * w
-slot-within n places w h = let m : suc n * w ≤ places * w = mul-le-mul-right w h in omega (arith, suc-mul n w)
+slot-within n places w h = let lim : suc n * w ≤ places * w = mul-le-mul-right w h in omega (arith, suc-mul n w)
 
 -- ---- the row by its case
 
 -- what is said of a case is said of the row
-pub slot-row : (m : Limits) {row case : Row} (r : SlotPlace) → row ≡ case → SlotIs m case r → SlotIs m row r
-slot-row m r e x = subst (λ (z : Row). SlotIs m z r) (sym e) x
+pub slot-row : (lim : Limits) {row case : Row} (r : SlotPlace) → row ≡ case → SlotIs lim case r → SlotIs lim row r
+slot-row lim r e x = subst (λ (z : Row). SlotIs lim z r) (sym e) x
 
 -- lines stand behind the channels
-pub slot-line : (m : Limits) (n base : ℕ) (r : SlotPlace) → base ≡ part-start m 9 → Slotted base (m .lines) n line-width 19 r → SlotIs m (Line n) r
-slot-line m n base r e x = subst (λ (b : ℕ). Slotted b (m .lines) n line-width 19 r) e x
+pub slot-line : (lim : Limits) (n base : ℕ) (r : SlotPlace) → base ≡ region-start lim 9 → Slotted base (lim .lines) n line-width 20 r → SlotIs lim (Line n) r
+slot-line lim n base r e x = subst (λ (b : ℕ). Slotted b (lim .lines) n line-width 20 r) e x
 
 -- status codes start at 32
-pub slot-status : (m : Limits) (n : ℕ) (r : SlotPlace) → 32 ≤ n → Slotted status-at 96 (n - 32) 33 1 r → SlotIs m (StatusText n) r
-slot-status m n (At s) h x = (h, x)
-slot-status m n Beyond h x = λ _. x
+pub slot-status : (lim : Limits) (n : ℕ) (r : SlotPlace) → 32 ≤ n → Slotted status-at 96 (n - 32) 33 1 r → SlotIs lim (StatusText n) r
+slot-status lim n (At s) h x = (h, x)
+slot-status lim n Beyond h x = λ _. x
 
 -- ---- a slot in the store
 
@@ -42,13 +37,13 @@ pub record SlotFits (s : Slot) (size : ℕ) : Type 0 where
   pub ends : s .text ≤ s .end
   pub inside : s .end ≤ size
 
-pub slot-fits : (m : Limits) (row : Row) (s : Slot) → Roomy m → SlotIs m row (At s) → SlotFits s (m .size)
-slot-fits m (Line n) s r x = record { text-in = omega (arith, x .1); ends = omega (arith, x .1); inside = omega (arith, x .1, r, slot-within n (m .lines) line-width (x .0)) }
-slot-fits m (QuickText n) s r x = record { text-in = omega (arith, x .1); ends = omega (arith, x .1); inside = omega (arith, x .1, r, x .0) }
-slot-fits m (StatusText n) s r x = record { text-in = omega (arith, x .1 .1); ends = omega (arith, x .1 .1); inside = omega (arith, x .1 .1, r, x .1 .0) }
-slot-fits m (Group n) s r x = record { text-in = omega (arith, x .1); ends = omega (arith, x .1); inside = omega (arith, x .1, r, x .0) }
-slot-fits m (Individual n) s r x = record { text-in = omega (arith, x .1); ends = omega (arith, x .1); inside = omega (arith, x .1, r, x .0) }
-slot-fits m NoTable s r x = absurd x
+pub slot-fits : (lim : Limits) (row : Row) (s : Slot) → Roomy lim → SlotIs lim row (At s) → SlotFits s (lim .size)
+slot-fits lim (Line n) s r x = record { text-in = omega (arith, x .1); ends = omega (arith, x .1); inside = omega (arith, x .1, r, slot-within n (lim .lines) line-width (x .0)) }
+slot-fits lim (QuickText n) s r x = record { text-in = omega (arith, x .1); ends = omega (arith, x .1); inside = omega (arith, x .1, r, x .0) }
+slot-fits lim (StatusText n) s r x = record { text-in = omega (arith, x .1 .1); ends = omega (arith, x .1 .1); inside = omega (arith, x .1 .1, r, x .1 .0) }
+slot-fits lim (Group n) s r x = record { text-in = omega (arith, x .1); ends = omega (arith, x .1); inside = omega (arith, x .1, r, x .0) }
+slot-fits lim (Individual n) s r x = record { text-in = omega (arith, x .1); ends = omega (arith, x .1); inside = omega (arith, x .1, r, x .0) }
+slot-fits lim NoTable s r x = absurd x
 
 -- ---- an address
 

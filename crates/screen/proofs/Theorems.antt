@@ -1,15 +1,6 @@
 -- What the screen's calls promise: the whole text of the row or its number, nothing else, and nothing touched on a refusal. Assumes nothing.
-use Prim.Native.Nat.{ℕ, _*_, _-_, _≤_}
-use mathlib.Core.Path.{_≡_, refl, sym, ap, _∙_, subst}
-use mathlib.Core.Logic.{_≢_, inl, inr}
-use mathlib.Core.Bool.{Bool, true, false}
-use mathlib.Core.List.{List, [], _∷_, map}
-use mathlib.Core.Option.{Option, none, some, Option·some-injective, Option·none-ne-some}
-use native.Mathlib.Omega.{arith}
-use borrow.Rule.Slice.PartMut.{midOf}
+use Rattle.lists.proofs.Kit.{ℕ, _*_, _-_, _≤_, _≡_, refl, sym, ap, _∙_, subst, _≢_, inl, inr, Bool, true, false, List, [], _∷_, map, Option, none, some, Option·some-injective, Option·none-ne-some, arith, midOf, length, take, drop, getD, take-at}
 use denote.Ref.{RefT}
-use lib.ListN.{length, take, drop, getD}
-use lib.Seq.{take-at}
 use Rattle.lists.specs.Ladder.{Answers}
 use Rattle.slots.specs.Slots.{zeros?}
 use Rattle.writing.specs.Settings.{Text}
@@ -21,12 +12,12 @@ use Rattle.screen.specs.declared.names.SlotPlace.the-variants.{At}
 use Rattle.screen.specs.declared.rows.Row.{Row}
 use Rattle.screen.specs.declared.rows.Row.the-variants.{Group, Individual}
 use Rattle.screen.specs.Naming.{SlotIs}
-use Rattle.screen.specs.Rows.{Caption, text, line, group, individual, caption, of, text-of, ascii, digits, GroupText, IndividualText, Display, stored, written, units, text-or, Shows, text-start, unit-bytes}
+use Rattle.screen.specs.Rows.{Caption, text, line, group, individual, caption, of, text-of, ascii, digits, GroupText, IndividualText, Display, stored, written, units, text-or, Displays, text-start, unit-bytes}
 use Rattle.screen.proofs.EntryLaws.{Captioned, row-seen, row-there}
 use Rattle.screen.proofs.NameLaws.{text-starts}
-use Rattle.screen.specs.Screen.{After, of-store, refused, shows, RowShown, showing, numbering, bytes-of, RowBytes, PartGiven}
-use Rattle.screen.proofs.AnswerLaws.{shown-number, one-tables}
-use Rattle.screen.proofs.Determined.{one-display}
+use Rattle.screen.specs.Screen.{AfterRow, of-store, refused, shows, RowShown, showing, numbering, bytes-of, RowBytes, PartGiven}
+use Rattle.screen.proofs.AnswerLaws.{shown-number, one-tables, shown-by, number-same}
+use Rattle.screen.proofs.Determined.{one-display, number-one}
 use Rattle.screen.proofs.NumberLaws.{unit-length}
 
 -- ---- the bytes of a part
@@ -36,7 +27,7 @@ pub not-written : {us ns : Text} → stored us ≡ written ns → ⊥
 not-written e = let z : _≡_ {A = ℕ} 0 1 = cc in omega arith
 
 -- a stored text is the row's
-pub stored-text : (c : Caption) (us : Text) → Shows c (stored us) → us ≡ text-of c
+pub stored-text : (c : Caption) (us : Text) → Displays c (stored us) → us ≡ text-of c
 stored-text (text vs) us e = ap units e
 stored-text (line [] ds) us (ns, p, e) = absurd (not-written e)
 stored-text (line (v ∷ vs) ds) us e = ap units e
@@ -45,24 +36,24 @@ stored-text (group (v ∷ vs) a) us e = ap units e
 stored-text (individual [] a) us (ns, p, e) = absurd (not-written e)
 stored-text (individual (v ∷ vs) a) us e = ap units e
 
-module _ (m : Limits) (store : List ℕ) (row : Row) where
+module _ (lim : Limits) (store : List ℕ) (row : Row) where
   -- a row that stands in the tables is held by its slot
-  pub row-held : (t : Tables) (c : Caption) → Holds m t store → caption t row ≡ some c
-      → (slot : Slot) × (k : Captioned store slot row (caption t row)) × (k .row-is ≡ c) × (slot .text ≡ text-start m row)
-  row-held t c h e = by (row-there m t (h .0) row c e)
+  pub row-held : (t : Tables) (c : Caption) → Holds lim t store → caption t row ≡ some c
+      → (slot : Slot) × (k : Captioned store slot row (caption t row)) × (k .row-is ≡ c) × (slot .text ≡ text-start lim row)
+  row-held t c h e = by (row-there lim t (h .0) row c e)
     where
-      by : (slot : Slot) × SlotIs m row (At slot) → (slot : Slot) × (k : Captioned store slot row (caption t row)) × (k .row-is ≡ c) × (slot .text ≡ text-start m row)
+      by : (slot : Slot) × SlotIs lim row (At slot) → (slot : Slot) × (k : Captioned store slot row (caption t row)) × (k .row-is ≡ c) × (slot .text ≡ text-start lim row)
       by (slot, x) = go (zeros? (midOf (slot .start) (slot .end - slot .start) store)) refl
         where
           go : (b : Bool) → zeros? (midOf (slot .start) (slot .end - slot .start) store) ≡ b
-              → (slot : Slot) × (k : Captioned store slot row (caption t row)) × (k .row-is ≡ c) × (slot .text ≡ text-start m row)
-          go true z = absurd (Option·none-ne-some c (sym (row-seen m t store row slot h x .gone z) ∙ e))
+              → (slot : Slot) × (k : Captioned store slot row (caption t row)) × (k .row-is ≡ c) × (slot .text ≡ text-start lim row)
+          go true z = absurd (Option·none-ne-some c (sym (row-seen lim t store row slot h x .gone z) ∙ e))
           go false z =
-              let k = row-seen m t store row slot h x .held z in
-              (slot, k, Option·some-injective (k .row-is) c (sym (k .there) ∙ e), text-starts m row slot x)
+              let k = row-seen lim t store row slot h x .held z in
+              (slot, k, Option·some-injective (k .row-is) c (sym (k .there) ∙ e), text-starts lim row slot x)
 
   -- TEXT STANDS: the row's text stands at its start, unit for unit
-  pub text-stands : (t : Tables) (c : Caption) → Holds m t store → caption t row ≡ some c → take (2 * length (text-of c)) (drop (text-start m row) store) ≡ unit-bytes (text-of c)
+  pub text-stands : (t : Tables) (c : Caption) → Holds lim t store → caption t row ≡ some c → take (2 * length (text-of c)) (drop (text-start lim row) store) ≡ unit-bytes (text-of c)
   text-stands t c h e =
       let (slot, k, d, at) = row-held t c h e in
       ap (λ i. take (2 * length (text-of c)) (drop i store)) (sym at)
@@ -70,63 +61,47 @@ module _ (m : Limits) (store : List ℕ) (row : Row) where
 
   module _ (scratch : List ℕ) where
     -- the part of what is shown has its units and nothing else
-    display-bytes : (t : Tables) (c : Caption) (d : Display) → Holds m t store → caption t row ≡ some c → Shows c d
-        → bytes-of (shows m scratch row d .part) store (shows m scratch row d .scratch) ≡ unit-bytes (units d)
+    display-bytes : (t : Tables) (c : Caption) (d : Display) → Holds lim t store → caption t row ≡ some c → Displays c d
+        → bytes-of (shows lim scratch row d .part) store (shows lim scratch row d .scratch) ≡ unit-bytes (units d)
     display-bytes t c (stored us) h e s =
         let u : us ≡ text-of c = stored-text c us s in
-        ap (λ v. take (2 * length v) (drop (text-start m row) store)) u ∙ text-stands t c h e ∙ ap unit-bytes (sym u)
+        ap (λ v. take (2 * length v) (drop (text-start lim row) store)) u ∙ text-stands t c h e ∙ ap unit-bytes (sym u)
     display-bytes t c (written us) h e s = take-at (unit-bytes us) (drop (2 * length us) scratch) (2 * length us) (unit-length us)
 
-    shown-bytes : (a : After) (p : RowShown m store scratch row a) → bytes-of (a .part) store (a .scratch) ≡ unit-bytes (units (p .display))
+    shown-bytes : (a : AfterRow) (p : RowShown lim store scratch row a) → bytes-of (a .part) store (a .scratch) ≡ unit-bytes (units (p .display))
     shown-bytes a p =
-        ap (λ (x : After). bytes-of (x .part) store (x .scratch)) (p .after) ∙ display-bytes (p .tables) (p .row-is) (p .display) (p .holds) (p .there) (p .shown)
+        ap (λ (x : AfterRow). bytes-of (x .part) store (x .scratch)) (p .after) ∙ display-bytes (p .tables) (p .row-is) (p .display) (p .holds) (p .there) (p .shown)
 
-    module _ (a : After) (x : Answers (showing m store scratch row) a) where
+    module _ (a : AfterRow) (x : Answers (showing lim store scratch row) a) where
       -- WHOLE TEXT: of a store of these tables, the row's text or number, and nothing of an absent row
-      pub whole-text : (t : Tables) → StoreOf m store → Holds m t store → 36 ≤ length scratch → RowBytes (caption t row) (bytes-of (a .part) store (a .scratch))
+      pub whole-text : (t : Tables) → StoreOf lim store → Holds lim t store → 36 ≤ length scratch → RowBytes (caption t row) (bytes-of (a .part) store (a .scratch))
       whole-text t s h big = by x
         where
-          by : Answers (showing m store scratch row) a → RowBytes (caption t row) (bytes-of (a .part) store (a .scratch))
+          by : Answers (showing lim store scratch row) a → RowBytes (caption t row) (bytes-of (a .part) store (a .scratch))
           by (inl (l, e)) = absurd (omega arith)
           by (inr (l, inl (n, e))) = absurd (n s)
           by (inr (l, inr (n, inl (k, e)))) =
-              subst (λ (o : Option Caption). RowBytes o (bytes-of (a .part) store (a .scratch))) (sym (k t h)) (ap (λ (y : After). bytes-of (y .part) store (y .scratch)) e)
+              subst (λ (o : Option Caption). RowBytes o (bytes-of (a .part) store (a .scratch))) (sym (k t h)) (ap (λ (y : AfterRow). bytes-of (y .part) store (y .scratch)) e)
           by (inr (l, inr (n, inr (k, p)))) =
-              let e : caption t row ≡ some (p .row-is) = ap (λ u. caption u row) (one-tables m store t (p .tables) h (p .holds)) ∙ p .there in
+              let e : caption t row ≡ some (p .row-is) = ap (λ u. caption u row) (one-tables lim store t (p .tables) h (p .holds)) ∙ p .there in
               subst (λ (o : Option Caption). RowBytes o (bytes-of (a .part) store (a .scratch))) (sym e) (p .display, p .shown, shown-bytes a p)
 
       -- NOTHING TOUCHED: on a refusal the part is empty and the scratch stays
       pub refused-untouched : a .number ≢ 0 → (a .part ≡ of-store 0 0) × (a .scratch ≡ scratch)
-      refused-untouched n = by x
-        where
-          by : Answers (showing m store scratch row) a → (a .part ≡ of-store 0 0) × (a .scratch ≡ scratch)
-          by (inl (l, e)) = (ap (λ (y : After). y .part) e, ap (λ (y : After). y .scratch) e)
-          by (inr (l, inl (k, e))) = (ap (λ (y : After). y .part) e, ap (λ (y : After). y .scratch) e)
-          by (inr (l, inr (k, inl (j, e)))) = (ap (λ (y : After). y .part) e, ap (λ (y : After). y .scratch) e)
-          by (inr (l, inr (k, inr (j, p)))) = absurd (n (ap (λ (y : After). y .number) (p .after) ∙ shown-number m scratch row (p .display)))
+      refused-untouched =
+          shown-by lim store scratch row (λ y. y .number ≢ 0 → (y .part ≡ of-store 0 0) × (y .scratch ≡ scratch)) (λ why n. (refl, refl))
+          (λ y p big n. absurd (n (shown-number lim scratch row (p .display)))) a x
 
       -- JUDGED ALIKE: both calls give one number
-      pub alike : (n : ℕ) → Answers (numbering m store scratch row) n → a .number ≡ n
-      alike n y = by x y
-        where
-          by : Answers (showing m store scratch row) a → Answers (numbering m store scratch row) n → a .number ≡ n
-          by (inl (l, e)) (inl (i, d)) = ap (λ (z : After). z .number) e ∙ sym d
-          by (inl (l, e)) (inr (i, d)) = absurd (i l)
-          by (inr (l, e)) (inl (i, d)) = absurd (l i)
-          by (inr (l, inl (k, e))) (inr (i, inl (j, d))) = ap (λ (z : After). z .number) e ∙ sym d
-          by (inr (l, inl (k, e))) (inr (i, inr (j, d))) = absurd (j k)
-          by (inr (l, inr (k, e))) (inr (i, inl (j, d))) = absurd (k j)
-          by (inr (l, inr (k, inl (q, e)))) (inr (i, inr (j, inl (r, d)))) = ap (λ (z : After). z .number) e ∙ sym d
-          by (inr (l, inr (k, inl (q, e)))) (inr (i, inr (j, inr (r, d)))) = absurd (r q)
-          by (inr (l, inr (k, inr (q, e)))) (inr (i, inr (j, inl (r, d)))) = absurd (q r)
-          by (inr (l, inr (k, inr (q, p)))) (inr (i, inr (j, inr (r, d)))) = ap (λ (z : After). z .number) (p .after) ∙ shown-number m scratch row (p .display) ∙ sym d
+      pub alike : (n : ℕ) → Answers (numbering lim store scratch row) n → a .number ≡ n
+      alike n y = number-one lim store scratch row (a .number) n (number-same lim store scratch row a x) y
 
 -- ---- equal stores
 
 -- EQUAL STORES: what is shown of a store does not depend on what the scratch held
-pub equal-stores : (m : Limits) (store x y : List ℕ) (row : Row) (a b : After) → 36 ≤ length x → 36 ≤ length y → Answers (showing m store x row) a → Answers (showing m store y row) b
+pub equal-stores : (lim : Limits) (store x y : List ℕ) (row : Row) (a b : AfterRow) → 36 ≤ length x → 36 ≤ length y → Answers (showing lim store x row) a → Answers (showing lim store y row) b
     → (a .number ≡ b .number) × (a .part ≡ b .part) × (bytes-of (a .part) store (a .scratch) ≡ bytes-of (b .part) store (b .scratch))
-equal-stores m store x y row a b big large = by
+equal-stores lim store x y row a b big large = by
   where
     Goal : Type 0
     Goal = (a .number ≡ b .number) × (a .part ≡ b .part) × (bytes-of (a .part) store (a .scratch) ≡ bytes-of (b .part) store (b .scratch))
@@ -134,17 +109,17 @@ equal-stores m store x y row a b big large = by
     -- both were refused with one number
     both : (n : ℕ) → a ≡ refused n x → b ≡ refused n y → Goal
     both n e d = (
-      ap (λ (z : After). z .number) e ∙ sym (ap (λ (z : After). z .number) d),
-      ap (λ (z : After). z .part) e ∙ sym (ap (λ (z : After). z .part) d),
-      ap (λ (z : After). bytes-of (z .part) store (z .scratch)) e ∙ sym (ap (λ (z : After). bytes-of (z .part) store (z .scratch)) d),
+      ap (λ (z : AfterRow). z .number) e ∙ sym (ap (λ (z : AfterRow). z .number) d),
+      ap (λ (z : AfterRow). z .part) e ∙ sym (ap (λ (z : AfterRow). z .part) d),
+      ap (λ (z : AfterRow). bytes-of (z .part) store (z .scratch)) e ∙ sym (ap (λ (z : AfterRow). bytes-of (z .part) store (z .scratch)) d),
     )
 
     -- a part does not depend on the scratch
-    part-of : (d : Display) → shows m x row d .part ≡ shows m y row d .part
+    part-of : (d : Display) → shows lim x row d .part ≡ shows lim y row d .part
     part-of (stored us) = refl
     part-of (written us) = refl
 
-    by : Answers (showing m store x row) a → Answers (showing m store y row) b → Goal
+    by : Answers (showing lim store x row) a → Answers (showing lim store y row) b → Goal
     by (inl (l, e)) q = absurd (omega arith)
     by (inr p) (inl (l, e)) = absurd (omega arith)
     by (inr (l, inl (n, e))) (inr (k, inl (j, d))) = both 11 e d
@@ -154,17 +129,17 @@ equal-stores m store x y row a b big large = by
     by (inr (l, inr (n, inl (i, e)))) (inr (k, inr (j, inr (h, d)))) = absurd (h i)
     by (inr (l, inr (n, inr (i, e)))) (inr (k, inr (j, inl (h, d)))) = absurd (i h)
     by (inr (l, inr (n, inr (i, p)))) (inr (k, inr (j, inr (h, q)))) =
-        let d : p .display ≡ q .display = one-display m store x row y a b p q in (
-          ap (λ (z : After). z .number) (p .after) ∙ shown-number m x row (p .display) ∙ sym (ap (λ (z : After). z .number) (q .after) ∙ shown-number m y row (q .display)),
-          ap (λ (z : After). z .part) (p .after) ∙ ap (λ z. shows m x row z .part) d ∙ part-of (q .display) ∙ sym (ap (λ (z : After). z .part) (q .after)),
-          shown-bytes m store row x a p ∙ ap (λ z. unit-bytes (units z)) d ∙ sym (shown-bytes m store row y b q),
+        let d : p .display ≡ q .display = one-display lim store x row y a b p q in (
+          ap (λ (z : AfterRow). z .number) (p .after) ∙ shown-number lim x row (p .display) ∙ sym (ap (λ (z : AfterRow). z .number) (q .after) ∙ shown-number lim y row (q .display)),
+          ap (λ (z : AfterRow). z .part) (p .after) ∙ ap (λ z. shows lim x row z .part) d ∙ part-of (q .display) ∙ sym (ap (λ (z : AfterRow). z .part) (q .after)),
+          shown-bytes lim store row x a p ∙ ap (λ z. unit-bytes (units z)) d ∙ sym (shown-bytes lim store row y b q),
         )
 
 -- EQUAL ROWS: the same of the parts that two calls gave
-pub equal-rows : (m : Limits) (row : Row) (s u x y r q : RefT (List ℕ)) → s .now ≡ u .now → 36 ≤ length (x .now) → 36 ≤ length (y .now) → PartGiven m s x row r → PartGiven m u y row q → r .now ≡ q .now
-equal-rows m row s u x y r q e big large g h =
-    let k = subst (λ (l : List ℕ). Answers (showing m l (y .now) row) (h .after)) (sym e) (h .allowed) in
-    g .bytes ∙ equal-stores m (s .now) (x .now) (y .now) row (g .after) (h .after) big large (g .allowed) k .2 ∙ ap (λ l. bytes-of (h .after .part) l (h .after .scratch)) e ∙ sym (h .bytes)
+pub equal-rows : (lim : Limits) (row : Row) (s u x y r q : RefT (List ℕ)) → s .now ≡ u .now → 36 ≤ length (x .now) → 36 ≤ length (y .now) → PartGiven lim s x row r → PartGiven lim u y row q → r .now ≡ q .now
+equal-rows lim row s u x y r q e big large g h =
+    let k = subst (λ (l : List ℕ). Answers (showing lim l (y .now) row) (h .after)) (sym e) (h .allowed) in
+    g .bytes ∙ equal-stores lim (s .now) (x .now) (y .now) row (g .after) (h .after) big large (g .allowed) k .2 ∙ ap (λ l. bytes-of (h .after .part) l (h .after .scratch)) e ∙ sym (h .bytes)
 
 -- ---- kinds
 
@@ -179,19 +154,19 @@ number-of-empty Number [] ns (vs, p, e) = (refl, subst Number (sym (ap units e))
 number-of-empty Number (u ∷ us) ns e = absurd (not-written (sym e))
 
 -- GROUP ROW: a group row shows the number of that slot's group address, by the group plan
-pub group-number : (t : Tables) (n : ℕ) (c : Caption) (us : Text) → caption t (Group n) ≡ some c → Shows c (written us)
+pub group-number : (t : Tables) (n : ℕ) (c : Caption) (us : Text) → caption t (Group n) ≡ some c → Displays c (written us)
     → (g : GroupMember) × (getD (t .groups) n none ≡ some g) × (g .text ≡ []) × GroupText (g .address) us
 group-number t n c us e s =
     let (g, is, d) = from-entry (λ x. group (x .text) (x .address)) (getD (t .groups) n none) e in
-    let (empty, p) = number-of-empty (GroupText (g .address)) (g .text) us (subst (λ (x : Caption). Shows x (written us)) d s) in
+    let (empty, p) = number-of-empty (GroupText (g .address)) (g .text) us (subst (λ (x : Caption). Displays x (written us)) d s) in
     (g, is, empty, p)
 
 -- INDIVIDUAL ROW: an individual row shows that slot's individual address, by the individual plan
-pub individual-number : (t : Tables) (n : ℕ) (c : Caption) (us : Text) → caption t (Individual n) ≡ some c → Shows c (written us)
+pub individual-number : (t : Tables) (n : ℕ) (c : Caption) (us : Text) → caption t (Individual n) ≡ some c → Displays c (written us)
     → (g : IndividualMember) × (getD (t .individuals) n none ≡ some g) × (g .text ≡ []) × IndividualText (g .address) us
 individual-number t n c us e s =
     let (g, is, d) = from-entry (λ x. individual (x .text) (x .address)) (getD (t .individuals) n none) e in
-    let (empty, p) = number-of-empty (IndividualText (g .address)) (g .text) us (subst (λ (x : Caption). Shows x (written us)) d s) in
+    let (empty, p) = number-of-empty (IndividualText (g .address)) (g .text) us (subst (λ (x : Caption). Displays x (written us)) d s) in
     (g, is, empty, p)
 
 -- ---- numbers as they are read

@@ -8,7 +8,7 @@ use Rattle.lists.specs.Ladder.{Ladder}
 use Rattle.writing.specs.Ranges.{InNumber}
 use Rattle.writing.specs.Settings.{Number}
 use Rattle.tables.specs.declared.limits.Limits.{Limits}
-use Rattle.tables.specs.Layout.{quick-width, status-width, member-width, line-width, digit-bytes, part-start}
+use Rattle.tables.specs.Layout.{quick-width, status-width, member-width, line-width, digit-bytes, region-start}
 use Rattle.tables.specs.Limits.{quick-places, status-places, slot-places}
 use Rattle.tables.specs.Store.{Holds}
 use Rattle.tables.specs.Tables.{Tables}
@@ -19,7 +19,7 @@ use Rattle.screen.specs.declared.names.SlotPlace.{SlotPlace}
 use Rattle.screen.specs.declared.names.SlotPlace.the-variants.{At, Beyond}
 use Rattle.screen.specs.declared.rows.Row.{Row}
 use Rattle.screen.specs.declared.rows.Row.the-variants.{Line, QuickText, StatusText, Group, Individual, NoTable}
-use Rattle.screen.specs.Rows.{Caption, line, group, individual, caption, text-of, Shows, stored, text-start, judged}
+use Rattle.screen.specs.Rows.{Caption, line, group, individual, caption, text-of, Displays, stored, text-start, judged}
 
 -- ---- slots
 
@@ -30,32 +30,32 @@ Slotted base places n w h Beyond = places ≤ n
 
 -- the row's slot
 abbrev pub SlotIs : Limits → Row → SlotPlace → Type 0
-SlotIs m (Line n) r = Slotted (part-start m 9) (m .lines) n line-width 19 r
-SlotIs m (QuickText n) r = Slotted (part-start m 4) quick-places n quick-width 0 r
-SlotIs m (StatusText n) (At s) = (32 ≤ n) × Slotted (part-start m 5) status-places (n - 32) status-width 1 (At s)
-SlotIs m (StatusText n) Beyond = 32 ≤ n → status-places ≤ n - 32
-SlotIs m (Group n) r = Slotted (part-start m 6) slot-places n member-width 4 r
-SlotIs m (Individual n) r = Slotted (part-start m 7) slot-places n member-width 4 r
-SlotIs m NoTable (At s) = ⊥
-SlotIs m NoTable Beyond = Unit {0}
+SlotIs lim (Line n) r = Slotted (region-start lim 9) (lim .lines) n line-width 20 r
+SlotIs lim (QuickText n) r = Slotted (region-start lim 4) quick-places n quick-width 0 r
+SlotIs lim (StatusText n) (At s) = (32 ≤ n) × Slotted (region-start lim 5) status-places (n - 32) status-width 1 (At s)
+SlotIs lim (StatusText n) Beyond = 32 ≤ n → status-places ≤ n - 32
+SlotIs lim (Group n) r = Slotted (region-start lim 6) slot-places n member-width 4 r
+SlotIs lim (Individual n) r = Slotted (region-start lim 7) slot-places n member-width 4 r
+SlotIs lim NoTable (At s) = ⊥
+SlotIs lim NoTable Beyond = Unit {0}
 
 -- ---- names
 
 -- what stands in a row of these bytes, and what was found there
 abbrev pub Named : Limits → List ℕ → Row → Option Caption → Name → Type 0
-Named m s row o (Refused ScratchSize) = ⊥
-Named m s row o (Refused NotAStore) = ⊥
-Named m s row o (Refused Absent) = o ≡ none
-Named m s row o (TextAt at n) =
-    (c : Caption) × (o ≡ some c) × Shows c (stored (text-of c)) × (at ≡ text-start m row) × (n ≡ 2 * length (text-of c)) × (at + n ≤ length s)
-Named m s row o (Digits at) = (ds : Number) × (o ≡ some (line [] ds)) × InNumber ds × (take 18 (drop at s) ≡ digit-bytes ds) × (at + 18 ≤ length s)
-Named m s row o (GroupNumber a) = o ≡ some (group [] a)
-Named m s row o (IndividualNumber a) = o ≡ some (individual [] a)
+Named lim s row o (Refused ScratchSize) = ⊥
+Named lim s row o (Refused NotAStore) = ⊥
+Named lim s row o (Refused Absent) = o ≡ none
+Named lim s row o (TextAt at n) =
+    (c : Caption) × (o ≡ some c) × Displays c (stored (text-of c)) × (at ≡ text-start lim row) × (n ≡ 2 * length (text-of c)) × (at + n ≤ length s)
+Named lim s row o (Digits at) = (ds : Number) × (o ≡ some (line [] ds)) × InNumber ds × (take 18 (drop at s) ≡ digit-bytes ds) × (at + 18 ≤ length s)
+Named lim s row o (GroupNumber a) = o ≡ some (group [] a)
+Named lim s row o (IndividualNumber a) = o ≡ some (individual [] a)
 
 -- for all tables that these bytes are the store of
 abbrev pub NameIs : Limits → List ℕ → Row → Name → Type 0
-NameIs m s row r = (t : Tables) → Holds m t s → Named m s row (caption t row) r
+NameIs lim s row r = (t : Tables) → Holds lim t s → Named lim s row (caption t row) r
 
 -- the tests of both calls, and then what was found
 abbrev pub naming : Limits → List ℕ → ℕ → Row → Ladder Name
-naming m store room row = judged m store room row Refused (λ r. (t : Tables) × Holds m t store × Named m store row (caption t row) r)
+naming lim store room row = judged lim store room row Refused (λ r. (t : Tables) × Holds lim t store × Named lim store row (caption t row) r)

@@ -13,7 +13,7 @@ use Rattle.plan.specs.Numbers.{Individual as IndividualPlan, Group as GroupPlan
 use Rattle.slots.specs.Slots.{flat, u16}
 use Rattle.writing.specs.Settings.{Text, Number}
 use Rattle.tables.specs.declared.limits.Limits.{Limits}
-use Rattle.tables.specs.Layout.{part-start, quick-width, status-width, member-width, line-width}
+use Rattle.tables.specs.Layout.{region-start, quick-width, status-width, member-width, line-width}
 use Rattle.tables.specs.Store.{StoreOf, Holds}
 use Rattle.tables.specs.Tables.{Tables}
 use Rattle.screen.specs.declared.rows.Refusal.{Refusal}
@@ -105,11 +105,11 @@ text-or [] Number d = (ns : Text) × Number ns × (d ≡ written ns)
 
 -- "the stored text's own part of the store, or the part of its scratch where the number was written, when a line, group or individual text is empty";
 -- "An empty status text is shown as an empty part"
-abbrev pub Shows : Caption → Display → Type 0
-Shows (text us) d = d ≡ stored us
-Shows (line us ds) d = text-or us (NumberText (line us ds)) d
-Shows (group us a) d = text-or us (NumberText (group us a)) d
-Shows (individual us a) d = text-or us (NumberText (individual us a)) d
+abbrev pub Displays : Caption → Display → Type 0
+Displays (text us) d = d ≡ stored us
+Displays (line us ds) d = text-or us (NumberText (line us ds)) d
+Displays (group us a) d = text-or us (NumberText (group us a)) d
+Displays (individual us a) d = text-or us (NumberText (individual us a)) d
 
 -- the units shown
 abbrev pub units : Display → Text
@@ -120,12 +120,12 @@ units (written us) = us
 
 -- the first byte of a row's text: the part's, the slots before it, and what its slot has before the text
 abbrev pub text-start : Limits → Row → ℕ
-text-start m (Line n) = part-start m 9 + n * line-width + 19
-text-start m (QuickText n) = part-start m 4 + n * quick-width
-text-start m (StatusText n) = part-start m 5 + (n - 32) * status-width + 1
-text-start m (Group n) = part-start m 6 + n * member-width + 4
-text-start m (Individual n) = part-start m 7 + n * member-width + 4
-text-start m NoTable = 0
+text-start lim (Line n) = region-start lim 9 + n * line-width + 20
+text-start lim (QuickText n) = region-start lim 4 + n * quick-width
+text-start lim (StatusText n) = region-start lim 5 + (n - 32) * status-width + 1
+text-start lim (Group n) = region-start lim 6 + n * member-width + 4
+text-start lim (Individual n) = region-start lim 7 + n * member-width + 4
+text-start lim NoTable = 0
 
 -- "Text units and digits (as ASCII codes) are 16 bits, high byte first, without the end unit"
 abbrev pub unit-bytes : Text → List ℕ
@@ -135,12 +135,12 @@ unit-bytes us = flat (map u16 us)
 
 -- no tables that this is the store of have the row
 abbrev pub NoRow : Limits → List ℕ → Row → Type 0
-NoRow m store row = (t : Tables) → Holds m t store → caption t row ≡ none
+NoRow lim store row = (t : Tables) → Holds lim t store → caption t row ≡ none
 
 -- "Screen: 15, 11, 17": the tests of both calls, by the scratch's size
 abbrev pub judged : {A : Type 0} → Limits → List ℕ → ℕ → Row → (Refusal → A) → (A → Type 0) → Ladder A
-judged m store room row refuse There =
+judged lim store room row refuse There =
     rung (room < 36) (refuse ScratchSize)
-    (rung (StoreOf m store → ⊥) (refuse NotAStore)
-    (rung (NoRow m store row) (refuse Absent)
+    (rung (StoreOf lim store → ⊥) (refuse NotAStore)
+    (rung (NoRow lim store row) (refuse Absent)
     (foot There)))

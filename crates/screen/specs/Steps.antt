@@ -42,8 +42,8 @@ PlaceFits store scratch (Scratch n) = n ≤ length scratch
 PlaceFits store scratch (NoPlace r) = Unit {0}
 
 -- the answer with a place, and the scratch afterwards
-pub record Placed (m : Limits) (store scratch after : List ℕ) (row : Row) (r : Place) : Type 0 where
-  pub allowed : Answers (showing m store scratch row) (leaves r after)
+pub record Placed (lim : Limits) (store scratch after : List ℕ) (row : Row) (r : Place) : Type 0 where
+  pub allowed : Answers (showing lim store scratch row) (leaves r after)
   pub fits : PlaceFits store after r
 
 -- the part of a place: which slice, where, and its bytes

@@ -10,6 +10,7 @@ use tables::limits::Limits;
 use tables::places::CHANNEL_SLOT;
 use tables::places::GROUPS;
 use tables::places::INDIVIDUALS;
+use tables::places::LINE_DIGITS;
 use tables::places::LINE_SLOT;
 use tables::places::LINE_TEXT;
 use tables::places::LISTS;
@@ -131,8 +132,9 @@ fn name_in(store: &[u8], row: Row, limits: Limits) -> Name
         return Name::Text(text, bytes);
     }
     let head = start + 1;
+    let digits = start + LINE_DIGITS;
     match row {
-        Row::Line(_) => Name::Digits(head),
+        Row::Line(_) => Name::Digits(digits),
         Row::Group(_) => Name::Group(GroupAddress(address_of(&store[head..text]))),
         Row::Individual(_) => Name::Individual(IndividualAddress(address_of(&store[head..text]))),
         _ => Name::Text(text, bytes),

@@ -1,2 +1,2 @@
 pub mod BodyLaws
-pub mod RowLaws
+pub mod TypeTableLaws

@@ -1,2 +1,2 @@
-pub mod Rows
-pub mod Settings
+pub mod TypeTable
+pub mod Meant

@@ -1,4 +1,3 @@
-// What a setting is once it was read, the table of the ten types, and what their readers share.
-pub mod addresses;
-pub mod rows;
+// What a setting is once it was read, and the table of the ten types.
 pub mod settings;
+pub mod type_table;

@@ -3,6 +3,7 @@ use plan::numbers::GroupAddress;
 use plan::numbers::IndividualAddress;
 use read_fields::hashes::HashPlace;
 use read_fields::texts::TextPlace;
+use writing::Coding;
 use writing::GroupFlags;
 use writing::HomeNumbers;
 use writing::IndividualFlags;
@@ -13,11 +14,12 @@ use writing::LineFlags;
 use writing::Operation;
 use writing::SystemCode;
 
-// So many entries, from start up to next.
+// So many entries, from start up to next, and the coding that they were read under.
 pub struct Entries {
     pub start: usize,
     pub count: usize,
     pub next: usize,
+    pub coding: Coding,
 }
 
 pub struct GroupPlace {

@@ -1,10 +1,5 @@
 -- Changes of a list, told by what stands before and after an entry: where it is found, put in its place, or taken out. Assumes nothing.
-use mathlib.Core.Path.{_≡_, refl, ap, _∙_}
-use mathlib.Core.Bool.{Bool, true, false, cond}
-use mathlib.Core.List.{List, [], _∷_, _++_}
-use Prim.Native.Nat.{suc, _<_}
-use native.Mathlib.Omega.{arith}
-use lib.ListN.{length, length-append}
+use Rattle.lists.proofs.Kit.{_≡_, refl, ap, _∙_, Bool, true, false, cond, List, [], _∷_, _++_, suc, _<_, arith, length, length-append}
 use Rattle.lists.specs.Every.{All}
 use Rattle.slots.specs.Slots.{unless, indexOf, putAt}
 use Rattle.slots.proofs.Tables.{unless-short}

@@ -1,12 +1,5 @@
 -- Equal bytes are equal tables: a slot's bytes tell the entry, and a table's bytes its entries. Assumes nothing.
-use mathlib.Core.Path.{_≡_, refl, sym, ap, ap₂, _∙_}
-use mathlib.Core.Logic.{_≢_}
-use mathlib.Core.Bool.{true≢false, false}
-use mathlib.Core.Option.{Option, none, some}
-use mathlib.Core.List.{List, [], _∷_, map}
-use Prim.Native.Nat.{ℕ, _≤_}
-use native.Mathlib.Omega.{arith}
-use lib.ListN.{length, length-map}
+use Rattle.lists.proofs.Kit.{_≡_, refl, sym, ap, ap₂, _∙_, _≢_, true≢false, false, Option, none, some, List, [], _∷_, map, ℕ, _≤_, arith, length, length-map}
 use Rattle.lists.specs.Every.{All}
 use Rattle.lists.proofs.Every.{all-made}
 use Rattle.lists.proofs.Seqs.{cut, map-one}

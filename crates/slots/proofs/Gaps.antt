@@ -1,12 +1,5 @@
 -- Taking a key out of slots, from the end: what is done so far, and what a turn does. Assumes nothing.
-use mathlib.Core.Path.{_≡_, refl, sym, ap, _∙_, subst}
-use mathlib.Core.Bool.{Bool, true, false}
-use mathlib.Core.List.{List, [], _∷_, _++_, append-nil, append-assoc}
-use Prim.Native.Nat.{ℕ, _+_, _-_, _≤_, _<_}
-use native.Mathlib.Omega.{arith}
-use borrow.Rule.Slice.PartMut.{putMid, midOf}
-use lib.ListN.{length, drop, take, replicate, length-append, length-drop, drop-of-length-le}
-use lib.Seq.{take-at, drop-at, take-all}
+use Rattle.lists.proofs.Kit.{_≡_, refl, sym, ap, _∙_, subst, Bool, true, false, List, [], _∷_, _++_, append-nil, append-assoc, ℕ, _+_, _-_, _≤_, _<_, arith, putMid, midOf, length, drop, take, replicate, length-append, length-drop, drop-of-length-le, take-at, drop-at, take-all}
 use Rattle.lists.proofs.Every.{all-left}
 use Rattle.slots.specs.Slots.{pad, flat, Slots, same?, hit, removed}
 use Rattle.slots.proofs.Pads.{pad-is}

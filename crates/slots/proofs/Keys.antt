@@ -1,15 +1,5 @@
 -- Entries of a list table that a search finds: where they stand, and what putting them and taking them out leaves. Assumes nothing.
-use mathlib.Core.Path.{_≡_, refl, sym, ap, _∙_, subst}
-use mathlib.Core.Bool.{Bool, true, false, _||_, cond, true≢false, or-true}
-use mathlib.Core.Option.{none, some}
-use mathlib.Core.List.{List, [], _∷_, _++_, map, map-append}
-use Prim.Native.Nat.{ℕ, zero, suc, _+_, _*_, _-_, _≤_, _<_}
-use native.Mathlib.Nat.{not-suc-le-zero, le-of-suc-le-suc, suc-mul, zero-mul, lt-of-mul-lt-mul-right, mul-le-mul-right}
-use native.Mathlib.Omega.{arith}
-use borrow.Author.Tests.{ltb-true, ltb-false}
-use borrow.Rule.Slice.PartMut.{putMid}
-use lib.Dec.{ltb}
-use lib.ListN.{length, drop, take, replicate}
+use Rattle.lists.proofs.Kit.{_≡_, refl, sym, ap, _∙_, subst, Bool, true, false, _||_, cond, true≢false, or-true, none, some, List, [], _∷_, _++_, map, map-append, ℕ, zero, suc, _+_, _*_, _-_, _≤_, _<_, not-suc-le-zero, le-of-suc-le-suc, suc-mul, zero-mul, lt-of-mul-lt-mul-right, mul-le-mul-right, arith, putMid, length, drop, take, replicate}
 use Rattle.lists.specs.Every.{All}
 use Rattle.lists.proofs.Every.{all-turn}
 use Rattle.lists.proofs.Bools.{is-false, or-rest}
@@ -48,13 +38,12 @@ module _ {A : Type 0} (P : A → Type 0) (w : ℕ) (f : A → List ℕ) (e : A �
 
   -- where none is left there is none
   sought-full : length s - r < w → n ≤ indexOf e ls
-  sought-full h = go (ltb (indexOf e ls) n) refl
+  sought-full h = omega (arith, no-room)
     where
-      go : (b : Bool) → ltb (indexOf e ls) n ≡ b → n ≤ indexOf e ls
-      go true t =
-          let m : suc (indexOf e ls) * w ≤ n * w = mul-le-mul-right w (ltb-true _ _ t) in
-          absurd (omega (arith, s-length, g .at, suc-mul (indexOf e ls) w))
-      go false t = ltb-false _ _ t
+      no-room : indexOf e ls < n → ⊥
+      no-room t =
+          let m : suc (indexOf e ls) * w ≤ n * w = mul-le-mul-right w t in
+          omega (arith, s-length, g .at, suc-mul (indexOf e ls) w)
 
   -- an entry's bytes there make the table with the entry in that place
   sought-put : (a : A) (y : List ℕ) → P a → w ≤ length s - r → y ≡ f a → Listed P w f n (putAt (indexOf e ls) a ls) (putMid r (r + w - r) s y)

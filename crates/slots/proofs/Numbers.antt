@@ -1,12 +1,5 @@
 -- Numbers as two and three bytes: the bytes tell the number, and every bytes are a number's. Assumes nothing.
-use mathlib.Core.Path.{_≡_, refl, sym, ap, ap₂, _∙_}
-use mathlib.Core.Logic.{_≢_}
-use mathlib.Core.Bool.{Bool, true, false, _&&_, true≢false}
-use mathlib.Core.List.{List, [], _∷_, head-eq-of-cons-eq, tail-eq-of-cons-eq}
-use Prim.Native.Nat.{ℕ, zero, suc, _+_, _*_, _<_, _/_, _%_}
-use native.Mathlib.Omega.{arith}
-use borrow.Author.Tests.{eqb-true, eqb-false}
-use lib.Dec.{eqb}
+use Rattle.lists.proofs.Kit.{_≡_, refl, sym, ap, ap₂, _∙_, _≢_, Bool, true, false, _&&_, true≢false, List, [], _∷_, head-eq-of-cons-eq, tail-eq-of-cons-eq, ℕ, zero, suc, _+_, _*_, _<_, _/_, _%_, arith, eqb-true, eqb-false, eqb}
 use Rattle.lists.proofs.Bools.{is-false, and-parts}
 use Rattle.lists.specs.Bytes.{Bytes}
 use Rattle.slots.specs.Slots.{u16, u24, zeros?, same?}
@@ -64,10 +57,6 @@ u24-one a b e =
     let p : a / 65536 ≡ b / 65536 = head-eq-of-cons-eq e in
     let q : a % 65536 ≡ b % 65536 = u16-one (a % 65536) (b % 65536) (tail-eq-of-cons-eq e) in
     omega arith
-
--- so they are a code
-pub u24-code : (P : ℕ → Type 0) → Code P 3 u24
-u24-code P = record { long = λ a. refl; one = λ a b p q e. u24-one a b e }
 
 -- a number that is not 0 is not zeros
 pub u24-shown : (a : ℕ) → a ≢ 0 → zeros? (u24 a) ≡ false

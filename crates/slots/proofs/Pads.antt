@@ -1,11 +1,5 @@
 -- Lists of a given length: cut off, or filled up. Assumes nothing.
-use mathlib.Core.Path.{_≡_, refl, sym, ap}
-use mathlib.Core.Logic.{_≢_}
-use mathlib.Core.List.{List, [], _∷_, _++_, head-eq-of-cons-eq, tail-eq-of-cons-eq}
-use Prim.Native.Nat.{ℕ, zero, suc, _+_, _-_, _≤_}
-use native.Mathlib.Nat.{not-suc-le-zero, le-of-suc-le-suc, zero-add, suc-add, zero-sub, sub-zero, suc-sub-suc}
-use native.Mathlib.Omega.{arith}
-use lib.ListN.{length, take, replicate}
+use Rattle.lists.proofs.Kit.{_≡_, refl, sym, ap, _≢_, List, [], _∷_, _++_, head-eq-of-cons-eq, tail-eq-of-cons-eq, ℕ, zero, suc, _+_, _-_, _≤_, not-suc-le-zero, le-of-suc-le-suc, zero-add, suc-add, zero-sub, sub-zero, suc-sub-suc, arith, length, take, replicate}
 use Rattle.lists.specs.Every.{All}
 use Rattle.slots.specs.Slots.{pad}
 

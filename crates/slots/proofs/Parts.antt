@@ -1,12 +1,5 @@
 -- Parts of bytes: one is read, or comes back changed, and the others stand. Assumes nothing.
-use mathlib.Core.Path.{_≡_, refl, sym, ap, ap₂, _∙_}
-use mathlib.Core.List.{List, [], _∷_, _++_, map, append-assoc, nil≢cons, cons≢nil, head-eq-of-cons-eq, tail-eq-of-cons-eq}
-use Prim.Native.Nat.{ℕ, zero, suc, _+_, _*_, _<_}
-use native.Mathlib.Nat.{zero-mul, suc-mul}
-use native.Mathlib.Omega.{arith}
-use borrow.Rule.Slice.PartMut.{putMid, midOf}
-use lib.ListN.{length, set, drop, take, getD, replicate, length-append, replicate-append-replicate}
-use lib.Seq.{take-at, drop-at, split-at, set-split}
+use Rattle.lists.proofs.Kit.{_≡_, refl, sym, ap, ap₂, _∙_, List, [], _∷_, _++_, map, append-assoc, nil≢cons, cons≢nil, head-eq-of-cons-eq, tail-eq-of-cons-eq, ℕ, zero, suc, _+_, _*_, _<_, zero-mul, suc-mul, arith, putMid, midOf, length, set, drop, take, getD, replicate, length-append, replicate-append-replicate, take-at, drop-at, split-at, set-split}
 use Rattle.lists.specs.Bytes.{Bytes}
 use Rattle.lists.proofs.Bytes.{bytes-append, bytes-zeros}
 use Rattle.lists.specs.Every.{All}

@@ -1,16 +1,5 @@
 -- Laws of bytes: what a loop over them has done so far, and what zero and equal bytes are. Assumes nothing.
-use mathlib.Core.Path.{_≡_, refl, sym, ap, ap₂, _∙_}
-use mathlib.Core.Bool.{Bool, true, false, _&&_, false≢true}
-use mathlib.Core.List.{List, [], _∷_, _++_, append-nil}
-use Prim.Native.Nat.{ℕ, zero, suc, _+_, _-_, _≤_, _<_, min}
-use native.Mathlib.Nat.{not-suc-le-zero, le-of-suc-le-suc}
-use native.Mathlib.Numerals.{add-one}
-use native.Mathlib.Omega.{arith}
-use borrow.Author.Tests.{eqb-true, eq-eqb, ltb-true, ltb-false}
-use borrow.Rule.Slice.PartMut.{putMid, midOf, postOf}
-use lib.Dec.{eqb, ltb}
-use lib.ListN.{length, set, drop, take, getD, replicate, length-append, length-drop, length-take, drop-of-length-le, take-append-drop}
-use lib.Seq.{drop-cons, drop-nil, take-all, take-at, length-take-le}
+use Rattle.lists.proofs.Kit.{_≡_, refl, sym, ap, ap₂, _∙_, Bool, true, false, _&&_, false≢true, List, [], _∷_, _++_, append-nil, ℕ, zero, suc, _+_, _-_, _≤_, _<_, min, not-suc-le-zero, le-of-suc-le-suc, add-one, arith, eqb-true, eq-eqb, ltb-true, ltb-false, putMid, midOf, postOf, eqb, ltb, length, set, drop, take, getD, replicate, length-append, length-drop, length-take, drop-of-length-le, take-append-drop, drop-cons, drop-nil, take-all, take-at, length-take-le}
 use Rattle.lists.proofs.Bools.{is-false, and-parts}
 use Rattle.slots.specs.Slots.{pad, zeros?, same?}
 use Rattle.slots.proofs.Pads.{pad-is}

@@ -1,14 +1,5 @@
 -- A search among slots, from the front: what is left to look at, and what a slot shows. Assumes nothing.
-use mathlib.Core.Path.{_≡_, sym, ap, _∙_, subst}
-use mathlib.Core.Bool.{Bool, true, false, not, true≢false}
-use mathlib.Core.Logic.{_↔_}
-use mathlib.Core.List.{List, [], _∷_, _++_}
-use Prim.Native.Nat.{ℕ, _+_, _-_, _≤_, _<_}
-use native.Mathlib.Omega.{arith}
-use borrow.Author.Tests.{not-true, not-false}
-use borrow.Rule.Slice.PartMut.{midOf}
-use lib.ListN.{length, drop, take, length-append, length-drop, take-append-drop}
-use lib.Seq.{take-at, drop-at, drop-drop, length-take-le, drop-append-le, take-append-le}
+use Rattle.lists.proofs.Kit.{_≡_, sym, ap, _∙_, subst, Bool, true, false, not, true≢false, _↔_, List, [], _∷_, _++_, ℕ, _+_, _-_, _≤_, _<_, arith, not-true, not-false, midOf, length, drop, take, length-append, length-drop, take-append-drop, take-at, drop-at, drop-drop, length-take-le, drop-append-le, take-append-le}
 use Rattle.slots.specs.Slots.{flat, Slots, bytesBefore, zeros?, same?, hit, fit, KeyAt}
 
 -- the slots that are left from `at` on, in a search for one that p says yes of

@@ -1,13 +1,5 @@
 -- Laws of tables of slots: their lengths, and what reading and changing a place does. Assumes nothing.
-use mathlib.Core.Path.{_≡_, refl, sym, ap, ap₂, _∙_}
-use mathlib.Core.Bool.{Bool, true, false, cond, true≢false}
-use mathlib.Core.Option.{Option, none, some}
-use mathlib.Core.List.{List, [], _∷_, _++_, map, map-map}
-use Prim.Native.Nat.{ℕ, zero, suc, _+_, _*_, _-_, _≤_, _<_}
-use native.Mathlib.Nat.{not-suc-le-zero, le-of-suc-le-suc, suc-mul, zero-mul, add-comm, mul-le-mul-right}
-use native.Mathlib.Omega.{arith}
-use borrow.Rule.Slice.PartMut.{putMid, midOf, mid-len}
-use lib.ListN.{length, set, take, drop, getD, replicate, length-set, length-map, length-replicate, replicate-append-replicate}
+use Rattle.lists.proofs.Kit.{_≡_, refl, sym, ap, ap₂, _∙_, Bool, true, false, cond, true≢false, Option, none, some, List, [], _∷_, _++_, map, map-map, ℕ, zero, suc, _+_, _*_, _-_, _≤_, _<_, not-suc-le-zero, le-of-suc-le-suc, suc-mul, zero-mul, add-comm, mul-le-mul-right, arith, putMid, midOf, mid-len, length, set, take, drop, getD, replicate, length-set, length-map, length-replicate, replicate-append-replicate}
 use Rattle.lists.specs.Bytes.{Bytes}
 use Rattle.lists.proofs.Bytes.{bytes-zeros}
 use Rattle.lists.specs.Every.{All}
@@ -112,10 +104,6 @@ module _ {A : Type 0} (P : A → Type 0) (w : ℕ) (f : A → List ℕ) (long : 
   place-written o y p q =
       let e : k * w + w - k * w ≡ w = omega arith in
       record { many = length-set os k o ∙ t .many; each = all-set (Present P) os k o p (t .each); bytes = rw (e, t .bytes, q) (place-put w f long os k o there) }
-
-  -- it is wiped
-  pub place-wiped : (y : List ℕ) → y ≡ replicate (length (midOf (k * w) (k * w + w - k * w) s)) 0 → Placed P w f n (set os k none) (putMid (k * w) (k * w + w - k * w) s y)
-  place-wiped y e = place-written none y tt (e ∙ ap (λ (i : ℕ). replicate i 0) (slot-wide s (k * w) w place-fits))
 
   -- zeros are no entry
   pub place-none : ((a : A) → P a → zeros? (f a) ≡ false) → zeros? (midOf (k * w) (k * w + w - k * w) s) ≡ true → getD os k none ≡ none

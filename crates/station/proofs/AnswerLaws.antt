@@ -1,9 +1,5 @@
 -- Document 01's number and values say which case of the answer it is. Assumes nothing.
-use Prim.Native.Nat.{ℕ}
-use mathlib.Core.Path.{_≡_, refl}
-use mathlib.Core.Bool.{Bool}
-use mathlib.Core.List.{[], _∷_}
-use lib.ListN.{getD}
+use Rattle.lists.proofs.Kit.{ℕ, _≡_, refl, Bool, [], _∷_, getD}
 use Rattle.lists.proofs.OneToOne.{decoded}
 use Rattle.writing.specs.declared.Result.{Result}
 use Rattle.writing.specs.declared.Result.the-variants.{Taken, OtherVersion, NoRoom, UnknownType, BadField, NoMatch}

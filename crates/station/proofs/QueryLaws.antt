@@ -1,12 +1,5 @@
 -- The hash of a result query and the one kept. Assumes nothing.
-use Prim.Native.Nat.{ℕ, zero, suc, _+_, _-_, _≤_, _<_}
-use mathlib.Core.Path.{_≡_, refl, sym, ap, _∙_, subst}
-use mathlib.Core.Logic.{_≢_}
-use mathlib.Core.Bool.{Bool, true, false, true≢false}
-use mathlib.Core.List.{List, [], _∷_, map}
-use native.Mathlib.Omega.{arith}
-use borrow.Rule.Slice.PartMut.{midOf}
-use lib.ListN.{length, getD, take, drop}
+use Rattle.lists.proofs.Kit.{ℕ, zero, suc, _+_, _-_, _≤_, _<_, _≡_, refl, sym, ap, _∙_, subst, _≢_, Bool, true, false, true≢false, List, [], _∷_, map, arith, midOf, length, getD, take, drop}
 use Rattle.lists.specs.Bytes.{Bytes}
 use Rattle.slots.specs.Slots.{same?}
 use Rattle.slots.proofs.Runs.{same-are, same-refl}
@@ -14,7 +7,7 @@ use Rattle.writing.specs.Fields.{val}
 use Rattle.writing.specs.Ranges.{HashSize}
 use Rattle.writing.specs.Settings.{Hash}
 use Rattle.read_fields.specs.Hashes.{SizeOf}
-use Rattle.read_fields.specs.Places.{PartAt}
+use Rattle.read_fields.specs.Places.{FieldsAt}
 use Rattle.read_fields.specs.declared.hashes.HashPlace.{HashPlace}
 use Rattle.read_fields.proofs.HashLaws.{bytes-out, one-size, small-code}
 use Rattle.tables.specs.Allowed.{HashOk}

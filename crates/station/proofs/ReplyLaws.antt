@@ -1,13 +1,7 @@
 -- The bytes of a reply, and that the code writes them. Assumes nothing.
-use Prim.Native.Nat.{ℕ, zero, suc, _+_, _-_, _*_, _/_, _%_, _^_, _≤_, _<_}
-use mathlib.Core.Path.{_≡_, refl, sym, ap, ap₂, _∙_, subst}
-use mathlib.Core.List.{List, [], _∷_, _++_, map, append-assoc}
-use native.Mathlib.Omega.{arith}
+use Rattle.lists.proofs.Kit.{ℕ, zero, suc, _+_, _-_, _*_, _/_, _%_, _^_, _≤_, _<_, _≡_, refl, sym, ap, ap₂, _∙_, subst, List, [], _∷_, _++_, map, append-assoc, arith, midOf, postOf, putMid, mid-len, length, getD, take, drop, replicate, length-append, length-drop, take-at, drop-at, take-all, drop-drop}
 use native.Mathlib.Decide.{decLe}
-use borrow.Rule.Slice.PartMut.{midOf, postOf, putMid, mid-len}
 use Rattle.slots.proofs.Runs.{copy-whole}
-use lib.ListN.{length, getD, take, drop, replicate, length-append, length-drop}
-use lib.Seq.{take-at, drop-at, take-all, drop-drop}
 use Rattle.lists.specs.Bytes.{Bytes}
 use Rattle.lists.proofs.Bytes.{all-bytes}
 use Rattle.lists.specs.Every.{All}

@@ -1,13 +1,9 @@
 -- The bytes of a reply are the standard's reply. Assumes nothing.
-use Prim.Native.Nat.{ℕ, _+_, _*_, _<_}
-use mathlib.Core.Path.{_≡_, refl, ap, _∙_, subst⁻¹}
-use mathlib.Core.List.{List, _++_, map}
-use native.Mathlib.Omega.{arith}
-use lib.ListN.{length}
+use Rattle.lists.proofs.Kit.{ℕ, _+_, _*_, _<_, _≡_, refl, ap, _∙_, subst⁻¹, List, _++_, map, arith, length}
 use Rattle.lists.specs.Every.{All}
 use Rattle.lists.proofs.Every.{all-map}
 use Rattle.writing.specs.Canonical.{plain, FitsField}
-use Rattle.writing.specs.Carrier.{start, carrier, reply, Reply}
+use Rattle.writing.specs.Carrier.{start-bytes, carrier, reply, Reply}
 use Rattle.writing.specs.Fields.{val, widths}
 use Rattle.writing.specs.Settings.{Hash}
 use Rattle.writing.proofs.Bits.{widths-map}
@@ -40,8 +36,8 @@ standard-bytes result failed h r f ok =
     let n : length ds ≡ 4 + v = plain-length (reply result failed h) (4 + v) w in
     let k = plain-carries 0 ds (omega arith) (omega (arith, small-size (ok .size))) in
     let t : 6 + v ≡ 2 + length ds = omega arith in
-    let e : reply-bytes result failed h ≡ start ++ plain (carrier (2 + length ds) 0) ++ ds
-    = ap (λ (l : List ℕ). start ++ l)
+    let e : reply-bytes result failed h ≡ start-bytes ++ plain (carrier (2 + length ds) 0) ++ ds
+    = ap (λ (l : List ℕ). start-bytes ++ l)
     (plain-append (carrier (6 + v) 0) (reply result failed h) 4 (4 + v) refl w fit ∙ ap (λ (i : ℕ). plain (carrier i 0) ++ ds) t) in
     subst⁻¹ (λ (bytes : List ℕ). (s : Reply result failed h bytes) × (s .carried .stated ≡ 2 + length (s .data-bytes))) e
     (record { data-bytes = ds; carried = k .0; written = plain-shows (reply result failed h) (4 + v) w fit; in-range = ok .size }, k .1)

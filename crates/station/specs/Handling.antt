@@ -20,16 +20,16 @@ use Rattle.station.specs.Taking.{leaves, turned-down, settled, AsQuery}
 -- a message that was turned down with this result and failed ID
 abbrev pub TurnedDown : Result → (failed : ℕ) → List ℕ → List ℕ → Answer → Type 0
 TurnedDown result failed reply after a =
-    (m : Limits) (message store : List ℕ) → leaves a store after ≡ turned-down m message store reply (result-number result) failed
+    (lim : Limits) (message store : List ℕ) → leaves a store after ≡ turned-down lim message store reply (result-number result) failed
 
 -- a result query that was answered
 abbrev pub Queried : List ℕ → HashPlace → List ℕ → List ℕ → List ℕ → Answer → Type 0
 Queried message place store reply after a =
-    (m : Limits) (t : Tables) → Holds m t store → MessageIs (m .message) message (AQuery place)
-    → AsQuery m message store reply t (leaves a store after)
+    (lim : Limits) (t : Tables) → Holds lim t store → MessageIs (lim .message) message (AQuery place)
+    → AsQuery lim message store reply t (leaves a store after)
 
 -- a request of so many settings from a place on that was judged
 abbrev pub Requested : Limits → List ℕ → (count at : ℕ) → List ℕ → List ℕ → List ℕ → List ℕ → Answer → Type 0
-Requested m message count at store store-after reply reply-after a =
-    (t : Tables) → Holds m t store
-    → (o : Outcome Setting Tables) × Judged m count (forget t) (drop at message) o × (leaves a store-after reply-after ≡ settled m message store reply o)
+Requested lim message count at store store-after reply reply-after a =
+    (t : Tables) → Holds lim t store
+    → (o : Outcome Setting Tables) × Judged lim count (forget t) (drop at message) o × (leaves a store-after reply-after ≡ settled lim message store reply o)

@@ -8,7 +8,7 @@ use lib.ListN.{length}
 use Rattle.writing.specs.Fields.{val}
 use Rattle.writing.specs.Ranges.{HashSize}
 use Rattle.writing.specs.Settings.{Hash}
-use Rattle.read_fields.specs.Places.{PartAt}
+use Rattle.read_fields.specs.Places.{FieldsAt}
 use Rattle.read_fields.specs.declared.hashes.HashPlace.{HashPlace}
 use Rattle.tables.specs.Allowed.{HashOk}
 use Rattle.tables.specs.Layout.{hash-bytes}
@@ -22,4 +22,4 @@ SameAs h k false = h .code ≢ 0 → h ≡ k → ⊥
 abbrev pub HashSame : List ℕ → HashPlace → List ℕ → Bool → Type 0
 HashSame m place hash r =
     (h k : Hash) → HashOk k → hash ≡ hash-bytes k → h .code ≡ place .code → HashSize (h .code) (length (h .value))
-    → PartAt (map (val 8) (h .value)) m (place .start) (length m) → SameAs h k r
+    → FieldsAt (map (val 8) (h .value)) m (place .start) (length m) → SameAs h k r

@@ -5,14 +5,14 @@ use mathlib.Core.List.{List, _++_}
 use lib.ListN.{length}
 use Rattle.slots.specs.Slots.{written-over}
 use Rattle.writing.specs.Canonical.{plain}
-use Rattle.writing.specs.Carrier.{start, carrier, reply}
+use Rattle.writing.specs.Carrier.{start-bytes, carrier, reply}
 use Rattle.writing.specs.Settings.{Hash}
 use Rattle.tables.specs.Allowed.{HashOk}
 use Rattle.tables.specs.Layout.{hash-bytes}
 
 -- "We write coding type 0000 and the true length", which counts two bytes of the carrier and the data
 abbrev pub reply-bytes : (result failed : ℕ) → Hash → List ℕ
-reply-bytes result failed h = start ++ plain (carrier (6 + length (h .value)) 0 ++ reply result failed h)
+reply-bytes result failed h = start-bytes ++ plain (carrier (6 + length (h .value)) 0 ++ reply result failed h)
 
 -- ---- an inner step: no promise cites this
 

@@ -22,22 +22,22 @@ use Rattle.station.specs.Replies.{reply-bytes}
 -- ---- what is left behind
 
 -- the answer, and the store and the reply buffer afterwards
-pub record After : Type 0 where
+pub record AfterTaking : Type 0 where
   pub answer : Said
   pub store : List ℕ
   pub reply : List ℕ
 
 -- an answer of the code, with the bytes that it left
-abbrev pub leaves : Answer → List ℕ → List ℕ → After
+abbrev pub leaves : Answer → List ℕ → List ℕ → AfterTaking
 leaves a store reply = record { answer = said a; store = store; reply = reply }
 
-module _ (m : Limits) (message store reply : List ℕ) where
+module _ (lim : Limits) (message store reply : List ℕ) where
   -- "10 to 17 touch no byte of any buffer"
-  abbrev pub stays : ℕ → After
+  abbrev pub stays : ℕ → AfterTaking
   stays n = record { answer = refused-with n; store = store; reply = reply }
 
   -- a reply that carries this hash
-  abbrev pub replies : (number failed : ℕ) → Bool → Bool → Hash → List ℕ → After
+  abbrev pub replies : (number failed : ℕ) → Bool → Bool → Hash → List ℕ → AfterTaking
   replies number failed send reboot h after = record {
     answer = record { number = number; failed = failed; send = send; reboot = reboot; reply-length = 10 + length (h .value) };
     store = after;
@@ -45,41 +45,41 @@ module _ (m : Limits) (message store reply : List ℕ) where
   }
 
   -- "1, 2, 3 and 4 carry code 0"; "Send: yes for 1 to 5"; "Reboot: FF's bit of a taken request"
-  abbrev pub turned-down : (number failed : ℕ) → After
+  abbrev pub turned-down : (number failed : ℕ) → AfterTaking
   turned-down number failed = replies number failed true false no-hash store
 
   -- a request: "for a taken request as FF's reply bit says"; "A reply carries the hash kept afterwards"
-  abbrev pub settled : Outcome Setting Tables → After
-  settled (kept l u) = replies 0 0 (last-item l .flags .reply) (last-item l .flags .reboot) (u .hash) (layout m u)
+  abbrev pub settled : Outcome Setting Tables → AfterTaking
+  settled (kept l u) = replies 0 0 (last-item l .flags .reply) (last-item l .flags .reboot) (u .hash) (layout lim u)
   settled (refused number failed) = turned-down number failed
 
   -- a result query: it matches the hash kept, or "code 0, nothing kept, or code or value differs"
-  abbrev pub Asked : Hash → Hash → After → Type 0
+  abbrev pub Asked : Hash → Hash → AfterTaking → Type 0
   Asked h k a =
       ((h .code ≢ 0) × (h ≡ k) × (a ≡ replies 0 0 true false k store))
       ⊎ ((h .code ≢ 0 → h ≡ k → ⊥) × (a ≡ replies 5 0 true false k store))
 
   -- a counted request: what its settings come to, from the tables of the store
-  abbrev pub AsRequest : Tables → After → Type 0
+  abbrev pub AsRequest : Tables → AfterTaking → Type 0
   AsRequest t a =
-      (count : ℕ) × (settings : List ℕ) × RequestOf count settings message × (o : Outcome Setting Tables) × Judged m count (forget t) settings o × (a ≡ settled o)
+      (count : ℕ) × (settings : List ℕ) × RequestOf count settings message × (o : Outcome Setting Tables) × Judged lim count (forget t) settings o × (a ≡ settled o)
 
   -- a result query: its hash and the one kept
-  abbrev pub AsQuery : Tables → After → Type 0
+  abbrev pub AsQuery : Tables → AfterTaking → Type 0
   AsQuery t a = (h : Hash) × Query h message × Asked h (t .hash) a
 
   -- a message to a store that none of the tests turns down
-  pub record Handled (a : After) : Type 0 where
+  pub record Handled (a : AfterTaking) : Type 0 where
     pub tables : Tables
-    pub holds : Holds m tables store
+    pub holds : Holds lim tables store
     pub comes-to : AsRequest tables a ⊎ AsQuery tables a
 
   -- "Order for a message: 10, 11, 12, 13, 14, 1; then ParamSum missing or 0, or coding type (4, failed ID 0)"; "A malformed query gives 4, ID 0"
-  abbrev pub taken : Ladder After
+  abbrev pub taken : Ladder AfterTaking
   taken =
       rung (length reply < 20) (stays 10)
-      (rung (StoreOf m store → ⊥) (stays 11)
-      (rung (InSize (m .message) message → ⊥) (stays 12)
+      (rung (StoreOf lim store → ⊥) (stays 11)
+      (rung (InSize (lim .message) message → ⊥) (stays 12)
       (rung (NothingCarried message) (stays 13)
       (rung (OtherType message) (stays 14)
       (rung (OtherVersion message) (turned-down 1 0)

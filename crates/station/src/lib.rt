@@ -3,4 +3,4 @@ pub mod answers;
 pub mod handheld;
 mod queries;
 pub mod replies;
-mod take;
+pub mod take;

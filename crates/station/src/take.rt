@@ -10,12 +10,13 @@ use read_carrier::carrier::read_message;
 use read_fields::hashes::HashPlace;
 use requests::run::Run;
 use requests::run::take_settings;
-use slots::bytes::copy;
 use store_check::checks::is_store;
 use store_places::fixed::clear_hash;
 use tables::limits::Limits;
 use tables::places::HASH;
 use tables::places::KEY;
+use tables::working::load;
+use tables::working::save;
 use writing::Result;
 ghost use Prim.Native.Nat.{_≤_};
 ghost use mathlib.Core.Path.{_≡_};
@@ -61,7 +62,7 @@ fn answer_query(m: &[u8], place: HashPlace, store: &[u8], reply: &mut [u8]) -> A
     })
 }
 
-// A request, judged and applied on a working copy that is copied back only when all is good.
+// A request, judged and applied on a working copy that is saved only when all is good.
 fn take_request(
     m: &[u8],
     count: u8,
@@ -74,13 +75,13 @@ fn take_request(
     requires { ⌜ (20 ≤ length (now reply)) × StoreOf limits (now store) × (length (now work) ≡ limits .size) ⌝ }
     ensures { λ r. ⌜ Requested limits (now (m .entry)) count at (now (store .entry)) (now (store .exit)) (now (reply .entry)) (now (reply .exit)) r ⌝ }
 {
-    copy(work, store);
+    load(work, store, limits);
     clear_hash(&mut work[HASH..KEY]);
     let run = take_settings(work, limits, m, at, count);
     match run {
         Run::Fault(result, failed) => turn_down(reply, result, failed),
         Run::Good(flags) => {
-            copy(store, work);
+            save(store, work, limits);
             let length = write_reply(reply, 0, 0, &store[HASH..KEY]);
             Answer::Replied(Reply {
                 result: Result::Taken,
@@ -121,4 +122,20 @@ pub(crate) fn take_in(
         Message::Query(place) => answer_query(m, place, store, reply),
         Message::Request(count, at) => take_request(m, count, at, store, reply, limits, work),
     }
+}
+
+// The same for any other crate: nothing is done where what is lent to work in has another size than a store.
+pub fn take_for(
+    m: &[u8],
+    store: &mut [u8],
+    reply: &mut [u8],
+    limits: Limits,
+    work: &mut [u8],
+) -> Answer
+    ensures { λ r. ⌜ (length (now (work .entry)) ≡ limits .size → Answers (taken limits (now (m .entry)) (now (store .entry)) (now (reply .entry))) (leaves r (now (store .exit)) (now (reply .exit)))) ⌝ }
+{
+    if work.len() != limits.size {
+        return Answer::Untouched(Refusal::NotAStore);
+    }
+    take_in(m, store, reply, limits, work)
 }

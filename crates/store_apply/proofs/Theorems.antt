@@ -8,25 +8,25 @@ use Rattle.writing.specs.Canonical.{Fits}
 use Rattle.writing.specs.Ranges.{text-limits, InRange}
 use Rattle.writing.specs.Settings.{Setting, unicode16}
 use Rattle.settings.specs.declared.settings.Setting.{Setting as Read}
-use Rattle.settings.specs.Settings.{Meant}
+use Rattle.settings.specs.Meant.{Meant}
 use Rattle.tables.specs.declared.limits.Limits.{Limits}
 use Rattle.tables.specs.Apply.{apply}
 use Rattle.tables.specs.Layout.{layout, Roomy}
 use Rattle.tables.specs.Changing.{Tried}
-use Rattle.tables.specs.Store.{Holds, Applied}
+use Rattle.tables.specs.Store.{Works, Applied}
 use Rattle.tables.specs.Tables.{Tables}
 
 -- two tries at one change: one answer, and where there was room one content
-tried-determined : (m : Limits) (o : Option Tables) (t u : List ℕ) (a b : Bool) → Tried (Holds m) o t a → Tried (Holds m) o u b → (a ≡ b) × (a ≡ true → t ≡ u)
-tried-determined m o t u true true p q =
+tried-determined : (lim : Limits) (o : Option Tables) (t u : List ℕ) (a b : Bool) → Tried (Works lim) o t a → Tried (Works lim) o u b → (a ≡ b) × (a ≡ true → t ≡ u)
+tried-determined lim o t u true true p q =
     let (x, e, h) = p .room refl in
     let (y, f, k) = q .room refl in
-    (refl, λ _. h .1 ∙ ap (layout m) (Option·some-injective x y (sym e ∙ f)) ∙ sym (k .1))
-tried-determined m o t u true false p q = absurd (Option·none-ne-some (p .room refl .0) (sym (q .full refl) ∙ p .room refl .1))
-tried-determined m o t u false true p q = absurd (Option·none-ne-some (q .room refl .0) (sym (p .full refl) ∙ q .room refl .1))
-tried-determined m o t u false false p q = (refl, λ e. absurd (true≢false (sym e)))
+    (refl, λ _. h .1 ∙ ap (layout lim) (Option·some-injective x y (sym e ∙ f)) ∙ sym (k .1))
+tried-determined lim o t u true false p q = absurd (Option·none-ne-some (p .room refl .0) (sym (q .full refl) ∙ p .room refl .1))
+tried-determined lim o t u false true p q = absurd (Option·none-ne-some (q .room refl .0) (sym (p .full refl) ∙ q .room refl .1))
+tried-determined lim o t u false false p q = (refl, λ e. absurd (true≢false (sym e)))
 
 -- APPLIED-DETERMINED: on a store, one answer, and where there was room one content
-pub applied-determined : (m : Limits) (msg : List ℕ) (r : Read) (s t u : List ℕ) (a b : Bool) (was : Tables) (set : Setting) (left : ℕ) → Roomy m → Holds m was s → Meant msg r set → InRange text-limits left set → Fits unicode16 set → Applied m msg r s t a → Applied m msg r s u b → (a ≡ b) × (a ≡ true → t ≡ u)
-applied-determined m msg r s t u a b was set left room is q i f x y =
-    tried-determined m (apply m set was) t u a b (x was set left room is q i f) (y was set left room is q i f)
+pub applied-determined : (lim : Limits) (msg : List ℕ) (r : Read) (s t u : List ℕ) (a b : Bool) (was : Tables) (set : Setting) (left : ℕ) → Roomy lim → Works lim was s → Meant msg r set → InRange text-limits left set → Fits unicode16 set → Applied lim msg r s t a → Applied lim msg r s u b → (a ≡ b) × (a ≡ true → t ≡ u)
+applied-determined lim msg r s t u a b was set left room is q i f x y =
+    tried-determined lim (apply lim set was) t u a b (x was set left room is q i f) (y was set left room is q i f)

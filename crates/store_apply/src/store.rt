@@ -1,4 +1,4 @@
-// The whole store: a setting that was read is applied to its part.
+// The whole store: a setting that was read is applied to its region.
 use settings::settings::Setting;
 use store_lists::channels::apply_channels;
 use store_lists::lines::apply_lines;
@@ -8,8 +8,8 @@ use store_places::fixed::put_key;
 use store_places::fixed::put_system;
 use store_places::members::apply_group;
 use store_places::members::apply_individual;
-use store_places::quick::apply_quick;
-use store_places::status::apply_status;
+use store_places::texts::TextTable;
+use store_places::texts::apply_texts;
 use tables::limits::Limits;
 use tables::limits::roomy;
 use tables::places::CHANNEL_SLOT;
@@ -23,18 +23,16 @@ use tables::places::LISTS;
 use tables::places::QUICK;
 use tables::places::STATUS;
 use tables::places::SYSTEM;
+ghost use mathlib.Core.Path.{_≡_};
+ghost use lib.ListN.{length};
+ghost use Rattle.tables.specs.Layout.{Roomy};
 ghost use Rattle.tables.specs.Store.{Applied};
 
-// Whether there was room. Bytes that are no store of these limits may be left as they were.
-pub fn apply(store: &mut [u8], limits: Limits, m: &[u8], setting: Setting) -> bool
+// Changes the region of a setting, in bytes that have all regions; whether there was room.
+fn apply_part(store: &mut [u8], limits: Limits, m: &[u8], setting: Setting) -> bool
+    requires { ⌜ Roomy limits × (length (now store) ≡ limits .size) ⌝ }
     ensures { λ r. ⌜ Applied limits (now (m .entry)) setting (now (store .entry)) (now (store .exit)) r ⌝ }
 {
-    if store.len() != limits.size {
-        return false;
-    }
-    if !roomy(limits) {
-        return false;
-    }
     let lines = LISTS + limits.channels * CHANNEL_SLOT;
     let end = lines + limits.lines * LINE_SLOT;
     match setting {
@@ -45,10 +43,14 @@ pub fn apply(store: &mut [u8], limits: Limits, m: &[u8], setting: Setting) -> bo
             return apply_channels(&mut store[LISTS..lines], m, op, list);
         }
         Setting::Key(target, flags) => put_key(&mut store[KEY..HOME], target, flags),
-        Setting::QuickTexts(op, list) => apply_quick(&mut store[QUICK..STATUS], m, op, list),
+        Setting::QuickTexts(op, list) => {
+            apply_texts(&mut store[QUICK..STATUS], m, TextTable::Quick, op, list)
+        }
         Setting::Home(numbers) => put_home(&mut store[HOME..SYSTEM], numbers),
         Setting::System(code) => put_system(&mut store[SYSTEM..QUICK], code),
-        Setting::StatusTexts(op, list) => apply_status(&mut store[STATUS..GROUPS], m, op, list),
+        Setting::StatusTexts(op, list) => {
+            apply_texts(&mut store[STATUS..GROUPS], m, TextTable::Status, op, list)
+        }
         Setting::Group(op, flags, slot) => apply_group(
             &mut store[GROUPS..INDIVIDUALS],
             m,
@@ -62,4 +64,17 @@ pub fn apply(store: &mut [u8], limits: Limits, m: &[u8], setting: Setting) -> bo
         Setting::Last(_, hash) => put_hash(&mut store[HASH..KEY], m, hash),
     }
     true
+}
+
+// Whether there was room. Bytes that are no store of these limits may be left as they were.
+pub fn apply(store: &mut [u8], limits: Limits, m: &[u8], setting: Setting) -> bool
+    ensures { λ r. ⌜ Applied limits (now (m .entry)) setting (now (store .entry)) (now (store .exit)) r ⌝ }
+{
+    if store.len() != limits.size {
+        return false;
+    }
+    if !roomy(limits) {
+        return false;
+    }
+    apply_part(store, limits, m, setting)
 }

@@ -1,12 +1,5 @@
 -- The bytes of entries one after the other, and entries seen as others. Assumes nothing.
-use mathlib.Core.Path.{_≡_, sym, ap, ap₂, _∙_, subst}
-use mathlib.Core.Logic.{_↔_}
-use mathlib.Core.List.{List, [], _∷_, _++_}
-use Prim.Native.Nat.{ℕ, _+_, _≤_, _<_}
-use native.Mathlib.Omega.{arith}
-use borrow.Rule.Slice.PartMut.{midOf}
-use lib.ListN.{length, take, drop, getD, length-drop, take-append-drop}
-use lib.Seq.{take-all, take-at, drop-at, drop-drop, drop-cons}
+use Rattle.lists.proofs.Kit.{_≡_, sym, ap, ap₂, _∙_, subst, _↔_, List, [], _∷_, _++_, ℕ, _+_, _≤_, _<_, arith, midOf, length, take, drop, getD, length-drop, take-append-drop, take-all, take-at, drop-at, drop-drop, drop-cons}
 use Rattle.slots.specs.Slots.{EntryOf}
 use Rattle.store_check.specs.Checks.{Both, joined}
 

@@ -1,29 +1,21 @@
 -- Lines of which no two have one number: each line's number is looked for behind it. Assumes nothing.
-use mathlib.Core.Path.{_≡_, refl, sym, ap, _∙_, subst}
-use mathlib.Core.Bool.{Bool, true, false, cond, true≢false}
-use mathlib.Core.Logic.{_↔_, _≢_}
-use mathlib.Core.List.{List, [], _∷_, _++_, map, append-assoc}
-use Prim.Native.Nat.{ℕ, suc, _+_, _*_, _-_, _≤_, _<_}
-use native.Mathlib.Nat.{mul-le-mul-right}
-use native.Mathlib.Omega.{arith}
-use borrow.Rule.Slice.PartMut.{midOf}
-use lib.ListN.{length, take, drop, length-drop, length-map, take-append-drop}
-use lib.Seq.{drop-drop, length-take-le, take-add, take-all, take-at}
+use Rattle.lists.proofs.Kit.{_≡_, refl, sym, ap, _∙_, subst, _↔_, _≢_, List, [], _∷_, _++_, map, append-assoc, ℕ, _+_, _*_, _-_, _≤_, _<_, mul-le-mul-right, arith, midOf, length, take, drop, length-drop, length-map, take-append-drop, drop-drop, length-take-le, take-add, take-all, take-at}
 use Rattle.lists.specs.Every.{All}
-use Rattle.lists.proofs.Every.{all-made, all-turn}
+use Rattle.lists.proofs.Every.{all-made}
 use Rattle.lists.proofs.Seqs.{cut}
-use Rattle.slots.specs.Slots.{flat, front, indexOf, pad, places, same?, zeros?, fit, Found, KeyAt, Listed}
+use Rattle.slots.specs.Slots.{flat, front, indexOf, pad, places, zeros?, fit, Found, KeyAt, Listed}
 use Rattle.slots.proofs.Keys.{key-at, found-known, used-at}
 use Rattle.slots.proofs.Pads.{pad-is}
 use Rattle.slots.proofs.Parts.{slots-length}
-use Rattle.slots.proofs.Runs.{same-not, same-refl}
+use Rattle.slots.proofs.Changes.{index-absent, index-end}
 use Rattle.slots.proofs.Tables.{front-bytes}
 use Rattle.writing.specs.Settings.{Number}
 use Rattle.tables.specs.Allowed.{LineOk, Distinct}
 use Rattle.tables.specs.Apply.{has-number}
-use Rattle.tables.specs.Layout.{digit-bytes, line-bytes, line-width}
+use Rattle.tables.specs.Layout.{digit-bytes, line-bytes, line-width, digits-at}
 use Rattle.tables.specs.Tables.{Line}
 use Rattle.tables.proofs.EntryCodes.{line-code, line-keyed, line-shown}
+use Rattle.tables.proofs.Sentences.{says-without, without-says}
 use Rattle.tables.proofs.TextCodes.{digits-length, digits-same, digits-shown}
 
 -- ---- entries that fill their places
@@ -50,30 +42,11 @@ module _ {A : Type 0} (P : A → Type 0) (w : ℕ) (f : A → List ℕ) (long : 
   full-listed : (ls : List A) (s : List ℕ) → All P ls → s ≡ flat (map f ls) → Listed P w f (length ls) ls s
   full-listed ls s p e = record { few = omega arith; each = p; bytes = e ∙ sym (full-bytes w f ls) }
 
--- ---- a search that ends behind the last entry
-
--- found nothing
-index-all : {A : Type 0} (p : A → Bool) (ls : List A) → indexOf p ls ≡ length ls → All (λ x. p x ≡ false) ls
-index-all p [] e = tt
-index-all {A} p (a ∷ ls) e = go (p a) refl e (index-all p ls)
-  where
-    go : (b : Bool) → p a ≡ b → cond b 0 (suc (indexOf p ls)) ≡ suc (length ls) → (indexOf p ls ≡ length ls → All (λ (x : A). p x ≡ false) ls) → (p a ≡ false) × All (λ (x : A). p x ≡ false) ls
-    go true q h r = absurd (omega arith)
-    go false q h r = (q, r (omega arith))
-
--- and where there is nothing it ends there
-all-index : {A : Type 0} (p : A → Bool) (ls : List A) → All (λ x. p x ≡ false) ls → indexOf p ls ≡ length ls
-all-index p [] h = refl
-all-index p (a ∷ ls) h = rw (h .0) (ap suc (all-index p ls (h .1)))
-
 -- ---- lines
 
 -- no line behind has the number where a search for it finds nothing
 none-has : (d : Number) (ls : List Line) → (indexOf (has-number d) ls ≡ length ls) ↔ All (λ x. x .number ≢ d) ls
-none-has d ls = (
-  λ e. all-turn (λ x. has-number d x ≡ false) (λ x. x .number ≢ d) (λ x h q. true≢false (sym (same-refl d) ∙ ap (λ (k : Number). same? k d) (sym q) ∙ h)) ls (index-all (has-number d) ls e),
-  λ h. all-index (has-number d) ls (all-turn (λ x. x .number ≢ d) (λ x. has-number d x ≡ false) (λ x q. same-not (x .number) d q) ls h),
-)
+none-has d ls = (λ e. says-without d ls (index-end (has-number d) ls e), λ h. index-absent (has-number d) ls (without-says d ls h))
 
 -- the lines from `at` on, which are distinct where all are
 pub record Behind (s : List ℕ) (at end : ℕ) (ls : List Line) : Type 0 where
@@ -131,26 +104,26 @@ module _ (s : List ℕ) (at end : ℕ) (ls : List Line) (fits : end ≤ length s
         (c .0, ap (take (end - (at + line-width))) (sym (drop-drop line-width at s)) ∙ c .1)
 
     -- its number
-    line-key : midOf (at + 1) (at + 1 + 18 - (at + 1)) s ≡ digit-bytes (next h .line .number)
+    line-key : midOf (at + digits-at) (at + digits-at + 18 - (at + digits-at)) s ≡ digit-bytes (next h .line .number)
     line-key =
         let l = next h .line in
-        let k : at + 1 + 18 - (at + 1) ≡ 18 = omega arith in
+        let k : at + digits-at + 18 - (at + digits-at) ≡ 18 = omega arith in
         let e : drop at s ≡ line-bytes l ++ drop line-width (drop at s) = sym (take-append-drop line-width (drop at s)) ∙ ap (λ (x : List ℕ). x ++ drop line-width (drop at s)) (line-cut .0) in
-        ap (λ (i : ℕ). take i (drop (at + 1) s)) k ∙ ap (take 18) (sym (drop-drop 1 at s) ∙ ap (drop 1) e ∙ append-assoc (digit-bytes (l .number)) _ (drop line-width (drop at s)))
+        ap (λ (i : ℕ). take i (drop (at + digits-at) s)) k ∙ ap (take 18) (sym (drop-drop digits-at at s) ∙ ap (drop digits-at) e ∙ append-assoc (digit-bytes (l .number)) _ (drop line-width (drop at s)))
         ∙ take-at (digit-bytes (l .number)) _ 18 (digits-length (l .number))
 
-    module _ (r : ℕ) (found : Found (KeyAt line-width 1 (midOf (at + 1) (at + 1 + 18 - (at + 1)) s) × (length (midOf (at + 1) (at + 1 + 18 - (at + 1)) s) ≡ 18)) (fit 1 (midOf (at + 1) (at + 1 + 18 - (at + 1)) s)) line-width (midOf (at + line-width) (end - (at + line-width)) s) r) where
+    module _ (r : ℕ) (found : Found (KeyAt line-width digits-at (midOf (at + digits-at) (at + digits-at + 18 - (at + digits-at)) s) × (length (midOf (at + digits-at) (at + digits-at + 18 - (at + digits-at)) s) ≡ 18)) (fit digits-at (midOf (at + digits-at) (at + digits-at + 18 - (at + digits-at)) s)) line-width (midOf (at + line-width) (end - (at + line-width)) s) r) where
       -- the search ends at the first line behind that has the number
       key-found : r ≡ indexOf (has-number (next h .line .number)) (next h .later) * line-width
       key-found =
           let n = next h in
           let d = n .line .number in
           let o = n .each .0 .number in
-          key-at LineOk line-width line-bytes 1 18 (λ l. digit-bytes (l .number)) line-keyed (digit-bytes d) (digits-length d) (digits-shown d (o .0)) (has-number d)
+          key-at LineOk line-width line-bytes digits-at 18 (λ l. digit-bytes (l .number)) line-keyed (digit-bytes d) (digits-length d) (digits-shown d (o .0)) (has-number d)
           (λ a p. digits-same (a .number) d (p .number .1) (o .1)) (length (n .later)) (n .later) (midOf (at + line-width) (end - (at + line-width)) s)
           (full-listed LineOk line-width line-bytes (line-code .long) (n .later) (midOf (at + line-width) (end - (at + line-width)) s) (n .each .1) (line-cut .1)) r
-          (subst (λ (k : List ℕ). Found (KeyAt line-width 1 k) (fit 1 k) line-width (midOf (at + line-width) (end - (at + line-width)) s) r) line-key
-          (found-known line-width 1 18 _ (midOf (at + line-width) (end - (at + line-width)) s) _ r (ap length line-key ∙ digits-length d) found))
+          (subst (λ (k : List ℕ). Found (KeyAt line-width digits-at k) (fit digits-at k) line-width (midOf (at + line-width) (end - (at + line-width)) s) r) line-key
+          (found-known line-width digits-at 18 _ (midOf (at + line-width) (end - (at + line-width)) s) _ r (ap length line-key ∙ digits-length d) found))
 
       -- at the end where none has it
       key-none : (r ≡ end - (at + line-width)) ↔ All (λ x. x .number ≢ next h .line .number) (next h .later)

@@ -1,26 +1,19 @@
 -- The entries of the tables: which bytes are theirs, field by field. Assumes nothing.
-use mathlib.Core.Path.{_≡_, refl, sym, ap, _∙_, subst}
-use mathlib.Core.Bool.{true, false, not, true≢false}
-use mathlib.Core.Logic.{_↔_, Iff·rfl, Iff·trans, Iff·and}
-use mathlib.Core.List.{List, [], _∷_, _++_, map}
-use Prim.Native.Nat.{ℕ, suc, _+_, _*_, _%_, _≤_, _<_}
-use native.Mathlib.Omega.{arith}
-use borrow.Rule.Slice.PartMut.{midOf}
-use lib.Dec.{eqb, leb}
-use lib.ListN.{length, take, drop, getD}
+use Rattle.lists.proofs.Kit.{_≡_, refl, sym, ap, _∙_, subst, true, false, not, true≢false, _↔_, Iff·rfl, Iff·trans, Iff·and, List, [], _∷_, _++_, map, ℕ, suc, _+_, _*_, _%_, _≤_, _<_, arith, midOf, eqb, leb, length, take, drop, getD, length-drop, drop-drop, getD-drop}
 use Rattle.lists.specs.Bytes.{Bytes}
 use Rattle.slots.specs.Slots.{zeros?, u16, u24, EntryOf}
 use Rattle.slots.proofs.Numbers.{u16-shown}
 use Rattle.slots.proofs.Pads.{pad-length}
 use Rattle.writing.specs.Ranges.{InNumber, InAddress, InChannel}
 use Rattle.writing.specs.Settings.{Text}
+use Rattle.writing.specs.Writing.{bit}
 use Rattle.tables.specs.Allowed.{TextOk, QuickOk, StatusOk, AddressOk, LineOk, GroupOk, IndividualOk}
 use Rattle.store_check.specs.Checks.{Both, joined}
-use Rattle.tables.specs.Layout.{text-bytes, quick-bytes, status-bytes, digit-bytes, line-flags, line-bytes, group-flags, group-bytes, individual-flags, individual-bytes, line-width}
+use Rattle.tables.specs.Layout.{text-bytes, quick-bytes, status-bytes, digit-bytes, line-bytes, digits-at, group-flags, group-bytes, individual-flags, individual-bytes, line-width}
 use Rattle.tables.specs.Tables.{Member}
 use Rattle.tables.proofs.AnswerLaws.{turned, leb-is, ne-is}
 use Rattle.store_check.proofs.CheckLaws.{entry-same, parts-are, last-is, byte-is}
-use Rattle.store_check.proofs.NumberChecks.{two-is, three-is, Flags, flags-are, line-flag, group-flag, individual-flag}
+use Rattle.store_check.proofs.NumberChecks.{two-is, three-is, Flags, flags-are, id-type, group-flag, individual-flag}
 
 -- ---- a byte of flags before an entry
 
@@ -145,19 +138,29 @@ individual-is =
 
 -- ---- line contacts
 
--- a line is flags, digits and a text
-pub line-is : (s : List ℕ) → length s ≡ line-width → ((getD s 0 0 < 32) × (EntryOf InNumber digit-bytes (midOf 1 18 s) × EntryOf (TextOk 16) (text-bytes 16) (midOf 19 32 s))) ↔ EntryOf LineOk line-bytes s
+-- a line is flags, IDtype, digits and a text
+pub line-is : (s : List ℕ) → length s ≡ line-width
+    → ((getD s 0 0 < 16) × ((getD s 1 0 < 2) × (EntryOf InNumber digit-bytes (midOf digits-at 18 s) × EntryOf (TextOk 16) (text-bytes 16) (midOf 20 32 s)))) ↔ EntryOf LineOk line-bytes s
 line-is s l =
     Iff·trans (Iff·and Iff·rfl
-    (Iff·trans (Iff·and Iff·rfl (last-is (TextOk 16) (text-bytes 16) 19 32 s (omega arith)))
-    (parts-are InNumber (TextOk 16) digit-bytes (text-bytes 16) 1 18 s (λ ds p. pad-length 0 18 (map suc ds)))))
-    (Iff·trans (byte-then _ line-flags _ line-flag (Both InNumber (TextOk 16)) (joined digit-bytes (text-bytes 16)) s (omega arith))
-    (entry-same (Both _ (Both InNumber (TextOk 16))) (joined (λ f. line-flags f ∷ []) (joined digit-bytes (text-bytes 16))) LineOk line-bytes
+    (Iff·trans (Iff·and (turn (getD-drop 1 s 0 0))
+    (Iff·trans (Iff·and Iff·rfl (last-is (TextOk 16) (text-bytes 16) 20 32 s (omega arith)))
+    (Iff·trans (parts-are InNumber (TextOk 16) digit-bytes (text-bytes 16) digits-at 18 s (λ ds p. pad-length 0 18 (map suc ds)))
+    (moved (sym (drop-drop 1 1 s))))))
+    (byte-then (λ b. Unit {0}) bit _ id-type (Both InNumber (TextOk 16)) (joined digit-bytes (text-bytes 16)) (drop 1 s) (omega (arith, length-drop 1 s)))))
+    (Iff·trans (byte-then _ individual-flags _ individual-flag (Both (λ b. Unit {0}) (Both InNumber (TextOk 16))) (joined (λ b. bit b ∷ []) (joined digit-bytes (text-bytes 16))) s (omega arith))
+    (entry-same (Both _ (Both (λ b. Unit {0}) (Both InNumber (TextOk 16)))) (joined (λ f. individual-flags f ∷ []) (joined (λ b. bit b ∷ []) (joined digit-bytes (text-bytes 16)))) LineOk line-bytes
     (record {
-      to = λ x. record { flags = x .0; number = x .1 .0; text = x .1 .1 };
-      back = λ m. (m .flags, (m .number, m .text));
-      good = λ x p. record { priority = p .0; number = p .1 .0; text = p .1 .1 };
-      back-good = λ m p. (p .priority, (p .number, p .text));
+      to = λ x. record { flags = record { encryption = x .0 .encryption; emergency = x .0 .emergency; priority = x .0 .priority; pabx = x .1 .0 }; number = x .1 .1 .0; text = x .1 .1 .1 };
+      back = λ m. (record { encryption = m .flags .encryption; emergency = m .flags .emergency; priority = m .flags .priority }, (m .flags .pabx, (m .number, m .text)));
+      good = λ x p. record { priority = p .0; number = p .1 .1 .0; text = p .1 .1 .1 };
+      back-good = λ m p. (p .priority, (tt, (p .number, p .text)));
       bytes = λ x p. refl;
       back-bytes = λ m p. refl;
     }) s))
+  where
+    turn : {a b : ℕ} → a ≡ b → (b < 2) ↔ (a < 2)
+    turn e = (λ h. subst (λ (n : ℕ). n < 2) (sym e) h, λ h. subst (λ (n : ℕ). n < 2) e h)
+
+    moved : {a b : List ℕ} → a ≡ b → EntryOf (Both InNumber (TextOk 16)) (joined digit-bytes (text-bytes 16)) a ↔ EntryOf (Both InNumber (TextOk 16)) (joined digit-bytes (text-bytes 16)) b
+    moved e = (subst (EntryOf (Both InNumber (TextOk 16)) (joined digit-bytes (text-bytes 16))) e, subst (EntryOf (Both InNumber (TextOk 16)) (joined digit-bytes (text-bytes 16))) (sym e))

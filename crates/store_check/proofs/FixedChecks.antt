@@ -1,14 +1,5 @@
--- The parts that are no tables: which bytes are a kept hash, an emergency key, home numbers and a system code. Assumes nothing.
-use mathlib.Core.Path.{_≡_, refl, sym, ap, ap₂, _∙_, subst}
-use mathlib.Core.Bool.{Bool, true, false, not}
-use mathlib.Core.Logic.{_↔_, _≢_, _⊎_, inl, inr, ⊎-elim, Iff·rfl, Iff·trans, Iff·and}
-use mathlib.Core.List.{List, [], _∷_, _++_, head-eq-of-cons-eq, tail-eq-of-cons-eq}
-use Prim.Native.Nat.{ℕ, suc, _+_, _*_, _-_, _/_, _%_, _≤_, _<_}
-use native.Mathlib.Omega.{arith}
-use borrow.Rule.Slice.PartMut.{midOf}
-use lib.Dec.{eqb, leb}
-use lib.ListN.{length, take, drop, getD, replicate, length-drop, take-append-drop}
-use lib.Seq.{take-all, drop-at, length-take-le}
+-- The regions that are no tables: which bytes are a kept hash, an emergency key, home numbers and a system code. Assumes nothing.
+use Rattle.lists.proofs.Kit.{_≡_, refl, sym, ap, ap₂, _∙_, subst, Bool, true, false, not, _↔_, _≢_, _⊎_, inl, inr, ⊎-elim, Iff·rfl, Iff·trans, Iff·and, List, [], _∷_, _++_, head-eq-of-cons-eq, tail-eq-of-cons-eq, ℕ, suc, _+_, _*_, _-_, _/_, _%_, _≤_, _<_, arith, midOf, eqb, leb, length, take, drop, getD, replicate, length-drop, take-append-drop, take-all, drop-at, length-take-le}
 use Rattle.lists.specs.Bytes.{Bytes}
 use Rattle.lists.proofs.Bytes.{bytes-all, bytes-take}
 use Rattle.slots.specs.Slots.{pad, zeros?, u16, u24, EntryOf}
@@ -19,6 +10,7 @@ use Rattle.writing.specs.declared.KeyTarget.the-variants.{Current, ToGroup, ToI
 use Rattle.writing.specs.declared.KeyFlags.{KeyFlags}
 use Rattle.writing.specs.Ranges.{HashSize, no-hash, hash-4, hash-10}
 use Rattle.writing.specs.Writing.{bit, current, to-group}
+use Rattle.read_fields.proofs.HashLaws.{one-size, small-code, small-size}
 use Rattle.tables.specs.Allowed.{AddressOk, TargetOk, HashOk, HomeOk, SystemOk}
 use Rattle.store_check.specs.Checks.{Both, joined, KeyOk, FixedOf}
 use Rattle.tables.specs.Layout.{hash-bytes, key-bytes, key-flags, key-address, home-bytes, system-bytes, hash-size, home-at, home-size, key-at, key-size, system-at, system-size}
@@ -47,85 +39,52 @@ pad-rest n xs h =
     ap (λ (l : List ℕ). zeros? (drop (length xs) l)) (pad-is 0 n xs ∙ ap (λ (l : List ℕ). l ++ replicate (n - length xs) 0) t)
     ∙ ap zeros? (drop-at xs (replicate (n - length xs) 0) (length xs) refl) ∙ zeros-all (n - length xs)
 
--- a code of which a value has k bytes, and no other number
-record SizeIs (code k : ℕ) : Type 0 where
-  size : HashSize code k
-  only : (m : ℕ) → HashSize code m → m ≡ k
-  few : k ≤ 10
-
 -- a code and ten bytes are a hash where those behind the value are zeros
-hash-tail : (x : ℕ) (v : List ℕ) (k : ℕ) → length v ≡ 10 → Bytes v → SizeIs x k → (zeros? (drop k v) ≡ true) ↔ EntryOf HashOk hash-bytes (x ∷ v)
+hash-tail : (x : ℕ) (v : List ℕ) (k : ℕ) → length v ≡ 10 → Bytes v → HashSize x k → (zeros? (drop k v) ≡ true) ↔ EntryOf HashOk hash-bytes (x ∷ v)
 hash-tail x v k l b q = (
   λ z.
-      let m : length (take k v) ≡ k = length-take-le k v (omega (arith, q .few)) in
+      let m : length (take k v) ≡ k = length-take-le k v (omega (arith, small-size q)) in
       record {
         entry = record { code = x; value = take k v };
-        holds = record { size = subst (HashSize x) (sym m) (q .size); bytes = bytes-all (take k v) (bytes-take k v b) };
-        bytes = ap (λ (w : List ℕ). x ∷ w) (pad-cut 10 k v l (q .few) z);
+        holds = record { size = subst (HashSize x) (sym m) q; bytes = bytes-all (take k v) (bytes-take k v b) };
+        bytes = ap (λ (w : List ℕ). x ∷ w) (pad-cut 10 k v l (small-size q) z);
       },
   λ e.
       let h = e .entry in
       let c : x ≡ h .code = head-eq-of-cons-eq (e .bytes) in
-      let m : length (h .value) ≡ k = q .only (length (h .value)) (subst (λ (i : ℕ). HashSize i (length (h .value))) (sym c) (e .holds .size)) in
-      ap (λ (i : ℕ). zeros? (drop i v)) (sym m) ∙ ap (λ (w : List ℕ). zeros? (drop (length (h .value)) w)) (tail-eq-of-cons-eq (e .bytes)) ∙ pad-rest 10 (h .value) (omega (arith, q .few)),
+      let m : length (h .value) ≡ k = one-size (subst (λ (i : ℕ). HashSize i (length (h .value))) (sym c) (e .holds .size)) q in
+      ap (λ (i : ℕ). zeros? (drop i v)) (sym m) ∙ ap (λ (w : List ℕ). zeros? (drop (length (h .value)) w)) (tail-eq-of-cons-eq (e .bytes)) ∙ pad-rest 10 (h .value) (omega (arith, small-size q)),
 )
-
--- "The hash value has 0 .. bytes for code 0"
-size-0 : SizeIs 0 0
-size-0 = record { size = no-hash; only = λ m h. go m h; few = omega arith }
-  where
-    go : (m : ℕ) → HashSize 0 m → m ≡ 0
-    go m no-hash = refl
-
--- 4 for code 1
-size-1 : SizeIs 1 4
-size-1 = record { size = hash-4; only = λ m h. go m h; few = omega arith }
-  where
-    go : (m : ℕ) → HashSize 1 m → m ≡ 4
-    go m hash-4 = refl
-
--- and 10 for code 2
-size-2 : SizeIs 2 10
-size-2 = record { size = hash-10; only = λ m h. go m h; few = omega arith }
-  where
-    go : (m : ℕ) → HashSize 2 m → m ≡ 10
-    go m hash-10 = refl
-
--- "other codes are out of range"
-no-code : (c m : ℕ) → HashSize c m → c ≤ 2
-no-code c m no-hash = omega arith
-no-code c m hash-4 = omega arith
-no-code c m hash-10 = omega arith
 
 module _ (s : List ℕ) (l : length s ≡ 11) (b : Bytes s) where
   -- eleven bytes whose first is a code are a hash where those behind its value are zeros
-  hash-at : (code k : ℕ) → SizeIs code k → getD s 0 0 ≡ code → (zeros? (midOf (suc k) (10 - k) s) ≡ true) ↔ EntryOf HashOk hash-bytes s
+  hash-at : (code k : ℕ) → HashSize code k → getD s 0 0 ≡ code → (zeros? (midOf (suc k) (10 - k) s) ≡ true) ↔ EntryOf HashOk hash-bytes s
   hash-at code k q e = go s l b e
     where
       go : (u : List ℕ) → length u ≡ 11 → Bytes u → getD u 0 0 ≡ code → (zeros? (midOf (suc k) (10 - k) u) ≡ true) ↔ EntryOf HashOk hash-bytes u
       go [] m c f = absurd (omega arith)
       go (x ∷ v) m c f =
-          let t = hash-tail x v k (omega arith) (λ i. c (suc i)) (subst (λ (i : ℕ). SizeIs i k) (sym f) q) in
-          let r : midOf (suc k) (10 - k) (x ∷ v) ≡ drop k v = rest-is v k (10 - k) (omega (arith, q .few)) in
+          let t = hash-tail x v k (omega arith) (λ i. c (suc i)) (subst (λ (i : ℕ). HashSize i k) (sym f) q) in
+          let r : midOf (suc k) (10 - k) (x ∷ v) ≡ drop k v = rest-is v k (10 - k) (omega (arith, small-size q)) in
           (λ z. t .0 (ap zeros? (sym r) ∙ z), λ y. ap zeros? r ∙ t .1 y)
 
   -- no value is kept
   pub hash-0 : getD s 0 0 ≡ 0 → (zeros? (midOf 1 10 s) ≡ true) ↔ EntryOf HashOk hash-bytes s
-  hash-0 = hash-at 0 0 size-0
+  hash-0 = hash-at 0 0 no-hash
 
   -- four bytes are
   pub hash-1 : getD s 0 0 ≡ 1 → (zeros? (midOf 5 6 s) ≡ true) ↔ EntryOf HashOk hash-bytes s
-  hash-1 = hash-at 1 4 size-1
+  hash-1 = hash-at 1 4 hash-4
 
   -- or ten
   pub hash-2 : getD s 0 0 ≡ 2 → EntryOf HashOk hash-bytes s
-  hash-2 e = hash-at 2 10 size-2 e .0 refl
+  hash-2 e = hash-at 2 10 hash-10 e .0 refl
 
   -- another code is none
   pub hash-other : (getD s 0 0 ≡ 0 → ⊥) → (getD s 0 0 ≡ 1 → ⊥) → (getD s 0 0 ≡ 2 → ⊥) → EntryOf HashOk hash-bytes s → ⊥
   hash-other n0 n1 n2 e =
       let c : getD s 0 0 ≡ e .entry .code = ap (λ (u : List ℕ). getD u 0 0) (e .bytes) in
-      omega (arith, n0, n1, n2, no-code (e .entry .code) (length (e .entry .value)) (e .holds .size))
+      omega (arith, n0, n1, n2, small-code (e .holds .size))
 
 -- ---- the emergency key
 

@@ -1,13 +1,5 @@
 -- A list table is a table of places of which the empty ones stand at the end: where the first empty slot starts, zeros begin. Assumes nothing.
-use mathlib.Core.Path.{_≡_, refl, sym, ap, _∙_, subst}
-use mathlib.Core.Bool.{true, false}
-use mathlib.Core.Logic.{_↔_}
-use mathlib.Core.Option.{Option, none, some}
-use mathlib.Core.List.{List, [], _∷_, _++_, map}
-use Prim.Native.Nat.{ℕ, zero, suc, _+_, _*_, _-_, _≤_, _<_}
-use native.Mathlib.Nat.{not-suc-le-zero, le-of-suc-le-suc, zero-mul}
-use lib.ListN.{length, drop}
-use lib.Seq.{take-at, drop-at, drop-append-add}
+use Rattle.lists.proofs.Kit.{_≡_, refl, sym, ap, _∙_, subst, true, false, _↔_, Option, none, some, List, [], _∷_, _++_, map, ℕ, zero, suc, _+_, _*_, _-_, _≤_, _<_, not-suc-le-zero, le-of-suc-le-suc, zero-mul, length, drop, take-at, drop-at, drop-append-add}
 use Rattle.lists.specs.Every.{All}
 use Rattle.slots.specs.Slots.{slot, places, front, zeros?, bytesBefore, Present, PlacesOf, ListOf, Found}
 use Rattle.slots.proofs.Runs.{zeros-all}

@@ -1,22 +1,12 @@
 -- Numbers of two and three bytes, and flags of one: which bytes are theirs. Assumes nothing.
-use mathlib.Core.Path.{_≡_, refl, sym, ap, _∙_, subst}
-use mathlib.Core.Bool.{Bool}
-use mathlib.Core.Logic.{_↔_, _≢_}
-use mathlib.Core.List.{List, [], _∷_, head-eq-of-cons-eq}
-use Prim.Native.Nat.{ℕ, _+_, _*_, _/_, _%_, _≤_, _<_}
-use native.Mathlib.Nat.{add-zero, div-add-mod', div-div-eq-div-mul, mod-eq-of-lt}
-use native.Mathlib.Omega.{arith}
-use borrow.Rule.Slice.PartMut.{midOf}
-use lib.Dec.{eqb}
-use lib.ListN.{length, drop, getD, length-drop}
-use lib.Seq.{getD-drop, getD-take, length-take-le}
+use Rattle.lists.proofs.Kit.{_≡_, refl, sym, ap, _∙_, subst, Bool, _↔_, _≢_, List, [], _∷_, head-eq-of-cons-eq, ℕ, _+_, _*_, _/_, _%_, _≤_, _<_, add-zero, div-add-mod', div-div-eq-div-mul, mod-eq-of-lt, arith, midOf, eqb, length, drop, getD, length-drop, getD-drop, getD-take, length-take-le}
 use Rattle.lists.specs.Bytes.{Bytes}
 use Rattle.lists.proofs.Bytes.{bytes-drop, bytes-take}
 use Rattle.slots.specs.Slots.{u16, u24, EntryOf}
 use Rattle.slots.proofs.Numbers.{u16-of, u16-one, u24-of, u24-one}
 use Rattle.settings.proofs.BodyLaws.{flag-bit}
 use Rattle.writing.specs.Writing.{bit}
-use Rattle.tables.specs.Layout.{line-flags, group-flags, individual-flags}
+use Rattle.tables.specs.Layout.{group-flags, individual-flags}
 use Rattle.tables.proofs.EntryCodes.{bit-small}
 
 -- ---- numbers
@@ -95,15 +85,9 @@ flags-are P byte R k b = (
   λ x. subst R (sym (head-eq-of-cons-eq (x .bytes))) (k .back (x .entry) (x .holds)),
 )
 
--- "encryption 1, emergency 1, priority 2, IDtype 1"
-pub line-flag : Flags (λ f. f .priority < 4) line-flags (_< 32)
-line-flag =
-    record {
-      of = λ b. record { encryption = odd (b / 16); emergency = odd (b / 8); priority = b / 2 % 4; pabx = odd b };
-      good = λ b r. omega arith;
-      is = λ b r. let t = bit-top b 16 (omega arith) in omega (arith, t, bit-off b 8, cut-off b 2 4, odd-is b);
-      back = λ f p. omega (arith, bit-small (f .encryption), bit-small (f .emergency), bit-small (f .pabx));
-    }
+-- "IDtype 1 (0 PSTN, 1 PABX)"
+pub id-type : Flags (λ b. Unit {0}) bit (_< 2)
+id-type = record { of = odd; good = λ b r. tt; is = λ b r. omega (arith, odd-is b); back = λ f p. omega (arith, bit-small f) }
 
 -- "attribute 2 (not 00), broadcast 1, encryption 1, OVCM 1, emergency 1, priority 2"
 pub group-flag : Flags (λ f. ((f .attribute ≢ 0) × (f .attribute < 4)) × (f .priority < 4)) group-flags (λ b. (64 ≤ b) × (b < 256))

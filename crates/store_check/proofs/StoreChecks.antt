@@ -1,13 +1,5 @@
--- A store, part by part: which bytes are one. Assumes nothing.
-use mathlib.Core.Path.{_≡_, sym, ap, ap₂, _∙_, subst}
-use mathlib.Core.Bool.{Bool, true}
-use mathlib.Core.Logic.{_↔_, Iff·rfl, Iff·trans, Iff·and}
-use mathlib.Core.Option.{Option}
-use mathlib.Core.List.{List, [], _++_, append-assoc, append-nil}
-use Prim.Native.Nat.{ℕ, _+_, _*_, _-_}
-use native.Mathlib.Omega.{arith}
-use borrow.Rule.Slice.PartMut.{midOf}
-use lib.ListN.{length, drop, replicate, length-append, length-drop}
+-- A store, region by region: which bytes are one. Assumes nothing.
+use Rattle.lists.proofs.Kit.{_≡_, sym, ap, ap₂, _∙_, subst, Bool, true, _↔_, Iff·rfl, Iff·trans, Iff·and, Option, List, [], _++_, append-assoc, append-nil, ℕ, _+_, _*_, _-_, arith, midOf, length, drop, replicate, length-append, length-drop}
 use Rattle.slots.specs.Slots.{places, front, zeros?, u16, EntryOf, PlacesOf, ListOf, Listed}
 use Rattle.slots.proofs.Runs.{zeros-all, zeros-are}
 use Rattle.slots.proofs.Tables.{front-length, places-length}
@@ -24,11 +16,12 @@ use Rattle.store_check.proofs.CheckLaws.{Same, entry-same, parts-are, l
 use Rattle.tables.proofs.EntryCodes.{quick-code, status-code, group-code, individual-code, channel-code, line-code}
 use Rattle.tables.proofs.FixedCodes.{hash-code, key-code, home-code, system-code}
 
--- ---- how long the parts are
+-- ---- how long the regions are
 
 -- one after the other
-joined-long : {A B : Type 0} (f : A → List ℕ) (g : B → List ℕ) (x : A × B) (j k : ℕ) → length (f (x .0)) ≡ j → length (g (x .1)) ≡ k → length (joined f g x) ≡ j + k
-joined-long f g x j k p q = length-append (f (x .0)) (g (x .1)) ∙ ap₂ (λ (a b : ℕ). a + b) p q
+both-long : {A B : Type 0} {P : A → Type 0} {Q : B → Type 0} (f : A → List ℕ) (g : B → List ℕ) {j k : ℕ} → ((x : A) → P x → length (f x) ≡ j) → ((y : B) → Q y → length (g y) ≡ k)
+    → (x : A × B) → Both P Q x → length (joined f g x) ≡ j + k
+both-long f g p q x h = length-append (f (x .0)) (g (x .1)) ∙ ap₂ (λ (a b : ℕ). a + b) (p (x .0) (h .0)) (q (x .1) (h .1))
 
 module _ {A : Type 0} (P : A → Type 0) (w : ℕ) (f : A → List ℕ) (long : (a : A) → length (f a) ≡ w) (n : ℕ) where
   -- an indexed table
@@ -94,11 +87,11 @@ spare-is k s l = (
   λ x. ap zeros? (x .bytes) ∙ zeros-all k,
 )
 
--- eleven parts in five runs
+-- eleven regions in five runs
 regroup : (a b c d e f g h i j k : List ℕ) → (a ++ (b ++ (c ++ d))) ++ ((e ++ (f ++ (g ++ h))) ++ (i ++ (j ++ k))) ≡ a ++ (b ++ (c ++ (d ++ (e ++ (f ++ (g ++ (h ++ (i ++ (j ++ (k ++ []))))))))))
 regroup a b c d e f g h i j k = simp (append-assoc, append-nil)
 
--- the parts that every store begins with
+-- the regions that every store begins with
 abbrev Fixed : Type 0
 Fixed = Hash × (Key × (HomeNumbers × SystemCode))
 
@@ -112,10 +105,9 @@ fixed-bytes = joined hash-bytes (joined key-bytes (joined home-bytes system-byte
 
 -- they are 22 bytes
 fixed-long : (x : Fixed) → FixedOk x → length (fixed-bytes x) ≡ 22
-fixed-long x p =
-    joined-long hash-bytes (joined key-bytes (joined home-bytes system-bytes)) x 11 11 (hash-code .long (x .0))
-    (joined-long key-bytes (joined home-bytes system-bytes) (x .1) 4 7 (key-code .long (x .1 .0))
-    (joined-long home-bytes system-bytes (x .1 .1) 4 3 (home-code .long (x .1 .1 .0)) (system-code .long (x .1 .1 .1))))
+fixed-long =
+    both-long hash-bytes (joined key-bytes (joined home-bytes system-bytes)) (λ h p. hash-code .long h)
+    (both-long key-bytes (joined home-bytes system-bytes) (λ k p. key-code .long k) (both-long home-bytes system-bytes (λ h p. home-code .long h) (λ s p. system-code .long s)))
 
 -- the indexed tables
 abbrev Indexed : Type 0
@@ -131,35 +123,31 @@ indexed-bytes = joined (places 46 quick-bytes) (joined (places 33 status-bytes) 
 
 -- they are 7264 bytes
 indexed-long : (x : Indexed) → IndexedOk x → length (indexed-bytes x) ≡ 7264
-indexed-long x p =
-    joined-long (places 46 quick-bytes) (joined (places 33 status-bytes) (joined (places 36 group-bytes) (places 36 individual-bytes))) x quick-size 4320
-    (table-long QuickOk 46 quick-bytes (quick-code .long) 64 (x .0) (p .0))
-    (joined-long (places 33 status-bytes) (joined (places 36 group-bytes) (places 36 individual-bytes)) (x .1) status-size 1152
-    (table-long StatusOk 33 status-bytes (status-code .long) 96 (x .1 .0) (p .1 .0))
-    (joined-long (places 36 group-bytes) (places 36 individual-bytes) (x .1 .1) member-size member-size
-    (table-long GroupOk 36 group-bytes (group-code .long) 16 (x .1 .1 .0) (p .1 .1 .0))
-    (table-long IndividualOk 36 individual-bytes (individual-code .long) 16 (x .1 .1 .1) (p .1 .1 .1))))
+indexed-long =
+    both-long (places 46 quick-bytes) (joined (places 33 status-bytes) (joined (places 36 group-bytes) (places 36 individual-bytes))) (table-long QuickOk 46 quick-bytes (quick-code .long) 64)
+    (both-long (places 33 status-bytes) (joined (places 36 group-bytes) (places 36 individual-bytes)) (table-long StatusOk 33 status-bytes (status-code .long) 96)
+    (both-long (places 36 group-bytes) (places 36 individual-bytes) (table-long GroupOk 36 group-bytes (group-code .long) 16) (table-long IndividualOk 36 individual-bytes (individual-code .long) 16)))
 
-module _ (m : Limits) where
+module _ (lim : Limits) where
   -- the list tables, and what is spare
   abbrev Rest : Type 0
   Rest = List ℕ × (List Line × Unit {0})
 
   -- as the rules allow them
   abbrev RestOk : Rest → Type 0
-  RestOk = Both (ListOk InChannel (m .channels)) (Both (LinesOk (m .lines)) (λ u. Unit {0}))
+  RestOk = Both (ListOk InChannel (lim .channels)) (Both (LinesOk (lim .lines)) (λ u. Unit {0}))
 
   -- the channels' bytes
   abbrev channels-bytes : List ℕ → List ℕ
-  channels-bytes cs = places 2 u16 (front (m .channels) cs)
+  channels-bytes cs = places 2 u16 (front (lim .channels) cs)
 
   -- the lines' bytes
   abbrev lines-bytes : List Line → List ℕ
-  lines-bytes ls = places line-width line-bytes (front (m .lines) ls)
+  lines-bytes ls = places line-width line-bytes (front (lim .lines) ls)
 
   -- the bytes that no table uses
   abbrev spare-bytes : Unit {0} → List ℕ
-  spare-bytes u = replicate (m .size - used-size m) 0
+  spare-bytes u = replicate (lim .size - used-size lim) 0
 
   -- all of them
   abbrev rest-bytes : Rest → List ℕ
@@ -186,14 +174,14 @@ module _ (m : Limits) where
       }
 
   -- their bytes
-  runs-bytes : (t : Tables) → joined fixed-bytes (joined indexed-bytes rest-bytes) (runs-of t) ≡ layout m t
+  runs-bytes : (t : Tables) → joined fixed-bytes (joined indexed-bytes rest-bytes) (runs-of t) ≡ layout lim t
   unfolding layout runs-of
   runs-bytes t =
       regroup (hash-bytes (t .hash)) (key-bytes (t .key)) (home-bytes (t .home)) (system-bytes (t .system)) (places 46 quick-bytes (t .quick)) (places 33 status-bytes (t .status))
       (places 36 group-bytes (t .groups)) (places 36 individual-bytes (t .individuals)) (channels-bytes (t .channels)) (lines-bytes (t .lines)) (spare-bytes tt)
 
-  -- the parts of a store are tables
-  tables-of : Same (Both FixedOk (Both IndexedOk RestOk)) (joined fixed-bytes (joined indexed-bytes rest-bytes)) (Allowed m) (layout m)
+  -- the regions of a store are tables
+  tables-of : Same (Both FixedOk (Both IndexedOk RestOk)) (joined fixed-bytes (joined indexed-bytes rest-bytes)) (Allowed lim) (layout lim)
   unfolding runs-of tables
   tables-of =
       record {
@@ -218,33 +206,33 @@ module _ (m : Limits) where
         back-bytes = λ t p. sym (runs-bytes t);
       }
 
-  module _ (s : List ℕ) (room : Roomy m) (l : length s ≡ m .size) where
-    -- a part, as the code reads it
+  module _ (s : List ℕ) (room : Roomy lim) (l : length s ≡ lim .size) where
+    -- a region, as the code reads it
     part-is : {A : Type 0} (P : A → Type 0) (f : A → List ℕ) (a k : ℕ) → EntryOf P f (midOf a (a + k - a) s) ↔ EntryOf P f (midOf a k s)
     part-is P f a k =
         let e : a + k - a ≡ k = omega arith in
         (subst (λ (i : ℕ). EntryOf P f (midOf a i s)) e, subst (λ (i : ℕ). EntryOf P f (midOf a i s)) (sym e))
 
     -- the bytes that no table uses
-    spare-part : (zeros? (midOf (lists-at + m .channels * 2 + m .lines * line-width) (length s - (lists-at + m .channels * 2 + m .lines * line-width)) s) ≡ true) ↔ EntryOf (λ u. Unit {0}) spare-bytes (drop (lists-at + m .channels * 2 + m .lines * line-width) s)
+    spare-part : (zeros? (midOf (lists-at + lim .channels * 2 + lim .lines * line-width) (length s - (lists-at + lim .channels * 2 + lim .lines * line-width)) s) ≡ true) ↔ EntryOf (λ u. Unit {0}) spare-bytes (drop (lists-at + lim .channels * 2 + lim .lines * line-width) s)
     spare-part =
-        let a = lists-at + m .channels * 2 + m .lines * line-width in
+        let a = lists-at + lim .channels * 2 + lim .lines * line-width in
         let e : midOf a (length s - a) s ≡ drop a s = rest-is s a (length s - a) (omega arith) in
-        let k : length (drop a s) ≡ m .size - used-size m = omega (arith, length-drop a s) in
-        Iff·trans (λ z. ap zeros? (sym e) ∙ z, λ z. ap zeros? e ∙ z) (spare-is (m .size - used-size m) (drop a s) k)
+        let k : length (drop a s) ≡ lim .size - used-size lim = omega (arith, length-drop a s) in
+        Iff·trans (λ z. ap zeros? (sym e) ∙ z, λ z. ap zeros? e ∙ z) (spare-is (lim .size - used-size lim) (drop a s) k)
 
-    -- the bytes of a store's size are a store where each part is what it has to be
-    pub store-is : (FixedOf (midOf 0 22 s) × (IndexedOf (midOf quick-at 7264 s) × (ChannelsOf (m .channels) (midOf lists-at (lists-at + m .channels * 2 - lists-at) s) × (LinesOf (m .lines) (midOf (lists-at + m .channels * 2) (lists-at + m .channels * 2 + m .lines * line-width - (lists-at + m .channels * 2)) s) × (zeros? (midOf (lists-at + m .channels * 2 + m .lines * line-width) (length s - (lists-at + m .channels * 2 + m .lines * line-width)) s) ≡ true))))) ↔ IsStore m s
+    -- the bytes of a store's size are a store where each region is what it has to be
+    pub store-is : (FixedOf (midOf 0 22 s) × (IndexedOf (midOf quick-at 7264 s) × (ChannelsOf (lim .channels) (midOf lists-at (lists-at + lim .channels * 2 - lists-at) s) × (LinesOf (lim .lines) (midOf (lists-at + lim .channels * 2) (lists-at + lim .channels * 2 + lim .lines * line-width - (lists-at + lim .channels * 2)) s) × (zeros? (midOf (lists-at + lim .channels * 2 + lim .lines * line-width) (length s - (lists-at + lim .channels * 2 + lim .lines * line-width)) s) ≡ true))))) ↔ IsStore lim s
     store-is =
         let w = Iff·trans (Iff·and Iff·rfl
         (Iff·trans (Iff·and Iff·rfl
-        (Iff·trans (Iff·and (part-is (ListOk InChannel (m .channels)) channels-bytes lists-at (m .channels * 2))
-        (Iff·trans (Iff·and (part-is (LinesOk (m .lines)) lines-bytes (lists-at + m .channels * 2) (m .lines * line-width)) spare-part)
-        (parts-are (LinesOk (m .lines)) (λ u. Unit {0}) lines-bytes spare-bytes (lists-at + m .channels * 2) (m .lines * line-width) s (λ ls p. list-long LineOk line-width line-bytes (line-code .long) (m .lines) ls))))
-        (parts-are (ListOk InChannel (m .channels)) (Both (LinesOk (m .lines)) (λ u. Unit {0})) channels-bytes (joined lines-bytes spare-bytes) lists-at (m .channels * 2) s (λ cs p. list-long InChannel 2 u16 (channel-code .long) (m .channels) cs))))
+        (Iff·trans (Iff·and (part-is (ListOk InChannel (lim .channels)) channels-bytes lists-at (lim .channels * 2))
+        (Iff·trans (Iff·and (part-is (LinesOk (lim .lines)) lines-bytes (lists-at + lim .channels * 2) (lim .lines * line-width)) spare-part)
+        (parts-are (LinesOk (lim .lines)) (λ u. Unit {0}) lines-bytes spare-bytes (lists-at + lim .channels * 2) (lim .lines * line-width) s (λ ls p. list-long LineOk line-width line-bytes (line-code .long) (lim .lines) ls))))
+        (parts-are (ListOk InChannel (lim .channels)) (Both (LinesOk (lim .lines)) (λ u. Unit {0})) channels-bytes (joined lines-bytes spare-bytes) lists-at (lim .channels * 2) s (λ cs p. list-long InChannel 2 u16 (channel-code .long) (lim .channels) cs))))
         (parts-are IndexedOk RestOk indexed-bytes rest-bytes 22 7264 s indexed-long)))
         (Iff·trans (parts-are FixedOk (Both IndexedOk RestOk) fixed-bytes (joined indexed-bytes rest-bytes) 0 22 s fixed-long)
-        (entry-same (Both FixedOk (Both IndexedOk RestOk)) (joined fixed-bytes (joined indexed-bytes rest-bytes)) (Allowed m) (layout m) tables-of s)) in (
+        (entry-same (Both FixedOk (Both IndexedOk RestOk)) (joined fixed-bytes (joined indexed-bytes rest-bytes)) (Allowed lim) (layout lim) tables-of s)) in (
           λ x. let t = w .0 x in record { tables = t .entry; allowed = t .holds; bytes-are = t .bytes },
           λ y. w .1 (record { entry = y .tables; holds = y .allowed; bytes = y .bytes-are }),
         )

@@ -1,13 +1,5 @@
 -- Tables made of slots, whichever: how wide an entry is, that it shows, and what a walk over the slots decides. Assumes nothing.
-use mathlib.Core.Path.{_≡_, sym, ap, _∙_, subst}
-use mathlib.Core.Bool.{Bool, true, false, true≢false}
-use mathlib.Core.Logic.{_↔_}
-use mathlib.Core.Option.{Option, none, some}
-use mathlib.Core.List.{List}
-use Prim.Native.Nat.{ℕ, _+_, _*_, _-_, _≤_, _<_}
-use native.Mathlib.Omega.{arith}
-use borrow.Rule.Slice.PartMut.{midOf}
-use lib.ListN.{length, drop, replicate}
+use Rattle.lists.proofs.Kit.{_≡_, sym, ap, _∙_, subst, Bool, true, false, true≢false, _↔_, Option, none, some, List, ℕ, _+_, _*_, _-_, _≤_, _<_, arith, midOf, length, drop, replicate}
 use Rattle.slots.specs.Slots.{slot, zeros?, Present, EntryOf, SlotOf, PlacesOf, ListOf, Found}
 use Rattle.slots.proofs.Runs.{zeros-all, zeros-are}
 use Rattle.slots.proofs.Tables.{slot-wide}

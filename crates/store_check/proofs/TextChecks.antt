@@ -1,16 +1,5 @@
 -- Texts and digits: which bytes are theirs. Assumes nothing.
-use mathlib.Core.Path.{_≡_, refl, sym, ap, _∙_, subst}
-use mathlib.Core.Bool.{Bool, true, false, _&&_, true≢false}
-use mathlib.Core.Logic.{_↔_, _≢_}
-use mathlib.Core.Option.{Option, none, some}
-use mathlib.Core.List.{List, [], _∷_, map, head-eq-of-cons-eq}
-use Prim.Native.Nat.{ℕ, zero, suc, _+_, _*_, _-_, _≤_, _<_}
-use native.Mathlib.Nat.{suc-mul}
-use native.Mathlib.Omega.{arith}
-use borrow.Author.Tests.{ne-eqb}
-use borrow.Rule.Slice.PartMut.{midOf}
-use lib.ListN.{length, take, drop, getD, length-drop}
-use lib.Seq.{length-take-le}
+use Rattle.lists.proofs.Kit.{_≡_, refl, sym, ap, _∙_, subst, Bool, true, false, _&&_, true≢false, _↔_, _≢_, Option, none, some, List, [], _∷_, map, head-eq-of-cons-eq, ℕ, zero, suc, _+_, _*_, _-_, _≤_, _<_, suc-mul, arith, ne-eqb, midOf, length, take, drop, getD, length-drop, length-take-le}
 use Rattle.lists.specs.Bytes.{Bytes}
 use Rattle.lists.proofs.Bytes.{bytes-take, bytes-drop}
 use Rattle.lists.specs.Every.{All}

@@ -1,4 +1,4 @@
--- What the checks of a store's bytes decide, part by part: inner steps, no promise cites these.
+-- What the checks of a store's bytes decide, region by region: inner steps, no promise cites these.
 use Prim.Native.Nat.{ℕ}
 use mathlib.Core.List.{List, _++_}
 use Rattle.slots.specs.Slots.{EntryOf, places, front, u16}
@@ -59,7 +59,7 @@ width-in Individuals = member-width
 width-in Channels = channel-width
 width-in Lines = line-width
 
--- ---- the parts of a store
+-- ---- the regions of a store
 
 -- the key calls where it may
 abbrev pub KeyOk : Key → Type 0

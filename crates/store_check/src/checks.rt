@@ -18,7 +18,7 @@ ghost use lib.ListN.{length};
 ghost use Rattle.tables.specs.Layout.{Roomy, IsStore};
 ghost use Rattle.tables.specs.Store.{StoreOf};
 
-// Whether each part of bytes of the limits' size is what it has to be: docs/STORE.md says where they stand.
+// Whether each region of bytes of the limits' size is what it has to be: docs/STORE.md says where they stand.
 fn parts_ok(store: &[u8], limits: Limits) -> bool
     requires { ⌜ Roomy limits × (length (now store) ≡ limits .size) ⌝ }
     ensures { λ r. ⌜ (r ≡ true) ↔ IsStore limits (now (store .entry)) ⌝ }

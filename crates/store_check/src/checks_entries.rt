@@ -3,6 +3,7 @@ use slots::bytes::is_clear;
 use slots::bytes::is_zeros;
 use slots::slots::used;
 use tables::places::LINE_DIGITS;
+use tables::places::LINE_IDTYPE;
 use tables::places::LINE_SLOT;
 use tables::places::LINE_TEXT;
 use tables::places::MEMBER_SLOT;
@@ -17,7 +18,7 @@ ghost use Rattle.lists.specs.Every.{All};
 ghost use Rattle.slots.specs.Slots.{EntryOf, u16, u24};
 ghost use Rattle.writing.specs.Ranges.{InNumber, InChannel};
 ghost use Rattle.tables.specs.Allowed.{TextOk, QuickOk, StatusOk, AddressOk, LineOk, GroupOk, IndividualOk};
-ghost use Rattle.tables.specs.Layout.{text-bytes, quick-bytes, status-bytes, digit-bytes, line-bytes, group-bytes, individual-bytes};
+ghost use Rattle.tables.specs.Layout.{text-bytes, quick-bytes, status-bytes, digit-bytes, line-bytes, group-bytes, individual-bytes, line-width};
 ghost use Rattle.store_check.specs.Checks.{Both, joined};
 
 // The number of two bytes, high byte first.
@@ -139,10 +140,13 @@ pub(crate) fn channel_ok(s: &[u8]) -> bool
 }
 
 pub(crate) fn line_ok(s: &[u8]) -> bool
-    requires { ⌜ length (now s) ≡ 51 ⌝ }
+    requires { ⌜ length (now s) ≡ line-width ⌝ }
     ensures { λ r. ⌜ (r ≡ true) ↔ EntryOf LineOk line-bytes (now (s .entry)) ⌝ }
 {
-    if 31 < s[0] {
+    if 15 < s[0] {
+        return false;
+    }
+    if 1 < s[LINE_IDTYPE] {
         return false;
     }
     if !digits_ok(&s[LINE_DIGITS..LINE_TEXT]) {

@@ -63,7 +63,7 @@ fn system_ok(s: &[u8]) -> bool
     s[2] / 2 % 4 != 3
 }
 
-// The four parts that every store begins with.
+// The four regions that every store begins with.
 pub(crate) fn fixed_ok(s: &[u8]) -> bool
     requires { ⌜ length (now s) ≡ 22 ⌝ }
     ensures { λ r. ⌜ (r ≡ true) ↔ FixedOf (now (s .entry)) ⌝ }

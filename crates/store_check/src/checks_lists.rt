@@ -26,8 +26,8 @@ fn lines_distinct(s: &[u8]) -> bool
     let mut at = 0;
     while LINE_SLOT <= end - at {
         let next = at + LINE_SLOT;
-        let a = at + 1;
-        let b = a + 18;
+        let a = at + LINE_DIGITS;
+        let b = a + DIGITS;
         if place_of(&s[next..end], LINE_SLOT, LINE_DIGITS, DIGITS, &s[a..b]) != end - next {
             return false;
         }

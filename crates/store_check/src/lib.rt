@@ -1,4 +1,4 @@
-// Whether lent bytes are a store of the limits, part by part.
+// Whether lent bytes are a store of the limits, region by region.
 pub mod checks;
 mod checks_entries;
 mod checks_fixed;

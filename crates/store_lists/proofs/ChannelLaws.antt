@@ -1,16 +1,5 @@
 -- Laws of the table of channels: what a turn of its loops does. Assumes nothing.
-use mathlib.Core.Path.{_≡_, refl, sym, ap, _∙_, subst}
-use mathlib.Core.Bool.{Bool, true, false, cond}
-use mathlib.Core.List.{List, [], _∷_, _++_, append-assoc, append-nil, head-eq-of-cons-eq, tail-eq-of-cons-eq}
-use mathlib.Core.Option.{none, some}
-use Prim.Native.Nat.{ℕ, _+_, _-_, _*_, _/_, _≤_, _<_}
-use native.Mathlib.Numerals.{add-one}
-use native.Mathlib.Omega.{arith}
-use borrow.Author.Tests.{lt-ltb, le-ltb, ltb-true}
-use borrow.Rule.Slice.PartMut.{putMid, midOf}
-use lib.Dec.{eqb, ltb}
-use lib.ListN.{length, take, drop, getD, replicate, length-append, length-replicate}
-use lib.Seq.{drop-cons, length-take-le, take-all, take-suc}
+use Rattle.lists.proofs.Kit.{_≡_, refl, sym, ap, _∙_, subst, Bool, true, false, cond, List, [], _∷_, _++_, append-assoc, append-nil, head-eq-of-cons-eq, tail-eq-of-cons-eq, none, some, ℕ, _+_, _-_, _*_, _/_, _≤_, _<_, add-one, arith, lt-ltb, le-ltb, ltb-true, putMid, midOf, eqb, ltb, length, take, drop, getD, replicate, length-append, length-replicate, drop-cons, length-take-le, take-all, take-suc}
 use Rattle.lists.specs.Every.{All}
 use Rattle.lists.proofs.Every.{all-get}
 use Rattle.slots.specs.Slots.{u16, zeros?, places, front, Found, Removed}
@@ -21,9 +10,9 @@ use Rattle.writing.specs.declared.Operation.{Operation}
 use Rattle.writing.specs.declared.Operation.the-variants.{Add, Delete, Replace}
 use Rattle.writing.specs.Ranges.{InChannel}
 use Rattle.settings.specs.declared.settings.Entries.{Entries}
-use Rattle.read_fields.specs.Places.{PartAt}
+use Rattle.read_fields.specs.Places.{FieldsAt}
 use Rattle.read_fields.specs.Entries.{channel-list}
-use Rattle.settings.specs.Settings.{EntriesAre}
+use Rattle.settings.specs.Meant.{EntriesAre}
 use Rattle.tables.specs.Apply.{and-then, in-turn, channel-step}
 use Rattle.tables.specs.Changing.{Tried}
 use Rattle.store_lists.specs.Lists.{ChannelTable, ChannelApplied, ChannelsApplied}
@@ -68,30 +57,30 @@ FromPlace ns rest i = rest ≡ drop i ns
 
 -- x is the channel in place i
 abbrev pub ChannelIs : List ℕ → Entries → ℕ → ℕ → Type 0
-ChannelIs m p i x = (es : List ℕ) (next : ℕ) → PartAt (channel-list es) m (p .start) next → i < length es → x ≡ getD es i 0
+ChannelIs m p i x = (es : List ℕ) (next : ℕ) → FieldsAt (channel-list es) m (p .start) next → i < length es → x ≡ getD es i 0
 
 module _ (o : Operation) (m : List ℕ) (p : Entries) (s : List ℕ) where
-  -- on a part that was s, whatever its places, the channels from place i on are left, and it is now t
+  -- on a region that was s, whatever its places, the channels from place i on are left, and it is now t
   abbrev pub ChannelsLeft : ℕ → List ℕ → Type 0
-  ChannelsLeft i t = (n : ℕ) → Going (EntriesAre channel-list m p) FromPlace InChannel (channel-step n o) (ChannelTable n) s i (p .count - i) t
+  ChannelsLeft i t = (n : ℕ) → Going (EntriesAre (λ c. channel-list) m p) FromPlace InChannel (channel-step n o) (ChannelTable n) s i (p .count - i) t
 
   -- what all channels in turn answer
   abbrev pub ChannelsDone : List ℕ → Bool → Type 0
-  ChannelsDone t r = (n : ℕ) (cs ns : List ℕ) → ChannelTable n cs s → EntriesAre channel-list m p ns → All InChannel ns → Tried (ChannelTable n) (in-turn (channel-step n o) ns cs) t r
+  ChannelsDone t r = (n : ℕ) (cs ns : List ℕ) → ChannelTable n cs s → EntriesAre (λ c. channel-list) m p ns → All InChannel ns → Tried (ChannelTable n) (in-turn (channel-step n o) ns cs) t r
 
   -- at the start all are left
   pub channels-start : ChannelsLeft 0 s
-  channels-start n = going-start (EntriesAre channel-list m p) FromPlace InChannel (channel-step n o) (ChannelTable n) s 0 (p .count - 0) (λ ns e. (omega (arith, e .counted), refl))
+  channels-start n = going-start (EntriesAre (λ c. channel-list) m p) FromPlace InChannel (channel-step n o) (ChannelTable n) s 0 (p .count - 0) (λ ns e. (omega (arith, e .counted), refl))
 
   -- at the end none is left
   pub channels-end : (i : ℕ) (t : List ℕ) → p .count ≤ i → ChannelsLeft i t → ChannelsDone t true
   channels-end i t h g n cs ns l e q =
-      let (u, d, k) = going-end (EntriesAre channel-list m p) FromPlace InChannel (channel-step n o) (ChannelTable n) s i (p .count - i) t (omega arith) (g n) ns cs e q l in
+      let (u, d, k) = going-end (EntriesAre (λ c. channel-list) m p) FromPlace InChannel (channel-step n o) (ChannelTable n) s i (p .count - i) t (omega arith) (g n) ns cs e q l in
       tried-room (ChannelTable n) u d k
 
   module _ (i x : ℕ) (t u : List ℕ) (r : Bool) (h : i < p .count) (g : ChannelsLeft i t) (is : ChannelIs m p i x) (turn : ChannelApplied o x t u r) where
     -- the channel in place i is the next
-    next : (ns : List ℕ) → EntriesAre channel-list m p ns → (b : ℕ) (more : List ℕ) → FromPlace ns (b ∷ more) i → (b ≡ x) × FromPlace ns more (i + 1)
+    next : (ns : List ℕ) → EntriesAre (λ c. channel-list) m p ns → (b : ℕ) (more : List ℕ) → FromPlace ns (b ∷ more) i → (b ≡ x) × FromPlace ns more (i + 1)
     next ns e b more d =
         let k : i < length ns = omega (arith, e .counted) in
         let z : b ∷ more ≡ getD ns i 0 ∷ drop (i + 1) ns = rw add-one (d ∙ drop-cons ns i 0 k) in
@@ -101,15 +90,15 @@ module _ (o : Operation) (m : List ℕ) (p : Entries) (s : List ℕ) where
     pub channels-on : r ≡ true → ChannelsLeft (i + 1) u
     channels-on e n =
         let k : p .count - i - 1 ≡ p .count - (i + 1) = omega arith in
-        subst (λ (left : ℕ). Going (EntriesAre channel-list m p) FromPlace InChannel (channel-step n o) (ChannelTable n) s (i + 1) left u) k
-        (going-next (EntriesAre channel-list m p) FromPlace InChannel (channel-step n o) (ChannelTable n) s i (i + 1) (p .count - i) t x (omega arith) next (g n) u
+        subst (λ (left : ℕ). Going (EntriesAre (λ c. channel-list) m p) FromPlace InChannel (channel-step n o) (ChannelTable n) s (i + 1) left u) k
+        (going-next (EntriesAre (λ c. channel-list) m p) FromPlace InChannel (channel-step n o) (ChannelTable n) s i (i + 1) (p .count - i) t x (omega arith) next (g n) u
         (λ cs l q. turn n cs l q .room e))
 
     -- it had none
     pub channels-stop : r ≡ false → ChannelsDone u false
     channels-stop e n cs ns l d q =
         tried-full (ChannelTable n)
-        (going-full (EntriesAre channel-list m p) FromPlace InChannel (channel-step n o) (ChannelTable n) s i (i + 1) (p .count - i) t x (omega arith) next (g n)
+        (going-full (EntriesAre (λ c. channel-list) m p) FromPlace InChannel (channel-step n o) (ChannelTable n) s i (i + 1) (p .count - i) t x (omega arith) next (g n)
         (λ cs l q. turn n cs l q .full e) ns cs d q l)
 
 -- ---- replacing
@@ -151,9 +140,9 @@ replace-full m p s h n cs ns l e q =
     tried-full (ChannelTable n) (none-added n ns [] (omega arith) (omega (arith, e .counted, channel-places n cs s l)))
 
 module _ (m : List ℕ) (p : Entries) (w : List ℕ) where
-  -- whatever channels stand at the place, and however many places the wiped part w has, it is now the table of the first i of them
+  -- whatever channels stand at the place, and however many places the wiped region w has, it is now the table of the first i of them
   abbrev pub ChannelsPut : ℕ → List ℕ → Type 0
-  ChannelsPut i t = (n : ℕ) (ns : List ℕ) → ChannelTable n [] w → EntriesAre channel-list m p ns → All InChannel ns → ChannelTable n (take i ns) t
+  ChannelsPut i t = (n : ℕ) (ns : List ℕ) → ChannelTable n [] w → EntriesAre (λ c. channel-list) m p ns → All InChannel ns → ChannelTable n (take i ns) t
 
   -- none was put
   pub replace-start : ChannelsPut 0 w

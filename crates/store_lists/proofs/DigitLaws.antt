@@ -1,11 +1,5 @@
 -- A number's digits in a message, and as they are kept. Assumes nothing.
-use mathlib.Core.Path.{_≡_, refl, sym, ap, _∙_, subst}
-use mathlib.Core.List.{List, [], _∷_, _++_, map, append-nil}
-use Prim.Native.Nat.{ℕ, zero, suc, _+_, _-_, _/_, _%_, _≤_, _<_}
-use native.Mathlib.Nat.{not-suc-le-zero, le-of-suc-le-suc}
-use native.Mathlib.Omega.{arith}
-use lib.ListN.{length, take, drop, getD, set, List·getD-eq-default, length-map, drop-of-length-le}
-use lib.Seq.{take-all}
+use Rattle.lists.proofs.Kit.{_≡_, refl, sym, ap, _∙_, subst, List, [], _∷_, _++_, map, append-nil, ℕ, zero, suc, _+_, _-_, _/_, _%_, _≤_, _<_, not-suc-le-zero, le-of-suc-le-suc, arith, length, take, drop, getD, set, List·getD-eq-default, length-map, drop-of-length-le, take-all}
 use Rattle.lists.specs.Bytes.{Bytes}
 use Rattle.lists.proofs.Seqs.{getD-map}
 use Rattle.slots.specs.Slots.{pad}
@@ -15,8 +9,8 @@ use Rattle.writing.specs.Fields.{val, item}
 use Rattle.writing.specs.Settings.{Number}
 use Rattle.writing.specs.Writing.{number}
 use Rattle.read_fields.specs.declared.numbers.NumberPlace.{NumberPlace}
-use Rattle.read_fields.specs.Parts.{NumberIs}
-use Rattle.read_fields.specs.Places.{PartAt, be}
+use Rattle.read_fields.specs.TextsAndNumbers.{NumberIs}
+use Rattle.read_fields.specs.Places.{FieldsAt, be}
 use Rattle.read_fields.proofs.Heads.{head-out, be-turn}
 use Rattle.store_lists.specs.Lists.{DigitIs, DigitKept, DigitsPut}
 
@@ -35,7 +29,7 @@ one-byte m p r =
 
 module _ (m : List ℕ) (h : Bytes m) where
   -- the digit in place i of a number that stands at p
-  pub digit-here : (ds : Number) (p next i : ℕ) → PartAt (number ds) m p next → i < length ds → Half m ds i (p + i / 2)
+  pub digit-here : (ds : Number) (p next i : ℕ) → FieldsAt (number ds) m p next → i < length ds → Half m ds i (p + i / 2)
   digit-here [] p next i x l = absurd (omega arith)
   digit-here (a ∷ []) p next zero x l =
       let (r, k, y) = head-out (item 4 15 a ∷ val 4 15 ∷ []) [] m p 1 refl (omega arith) h next x in

@@ -1,13 +1,5 @@
 -- Laws of the table of line contacts: a line's slot, and what a turn of the table's loops does. Assumes nothing.
-use mathlib.Core.Path.{_≡_, refl, sym, ap, ap₂, _∙_, subst}
-use mathlib.Core.Bool.{Bool, true, false, cond}
-use mathlib.Core.List.{List, [], _∷_, _++_, map, append-nil}
-use mathlib.Core.Option.{none, some}
-use Prim.Native.Nat.{ℕ, suc, _+_, _-_, _≤_, _<_}
-use native.Mathlib.Omega.{arith}
-use borrow.Author.Tests.{lt-ltb, le-ltb}
-use borrow.Rule.Slice.PartMut.{putMid, midOf}
-use lib.ListN.{length, take, drop, replicate, length-append}
+use Rattle.lists.proofs.Kit.{_≡_, refl, sym, ap, ap₂, _∙_, subst, subst⁻¹, Bool, true, false, cond, List, [], _∷_, _++_, map, append-nil, none, some, ℕ, suc, _+_, _-_, _≤_, _<_, arith, lt-ltb, le-ltb, putMid, midOf, length, take, drop, replicate, length-append}
 use Rattle.lists.specs.Bytes.{Bytes}
 use Rattle.lists.specs.Every.{All}
 use Rattle.slots.specs.Slots.{same?, fit, indexOf, putAt, KeyAt, Found, Removed}
@@ -17,11 +9,11 @@ use Rattle.slots.proofs.Parts.{put-part, get-part}
 use Rattle.slots.proofs.Tables.{slot-copied}
 use Rattle.writing.specs.declared.LineFlags.{LineFlags}
 use Rattle.writing.specs.declared.Operation.{Operation}
-use Rattle.writing.specs.declared.Operation.the-variants.{Add, Replace}
+use Rattle.writing.specs.declared.Operation.the-variants.{Add, Delete, Replace}
 use Rattle.writing.specs.Fields.{each}
 use Rattle.writing.specs.Ranges.{text-limits, InContact}
-use Rattle.writing.specs.Settings.{Contact, unicode16}
-use Rattle.writing.specs.Writing.{contact}
+use Rattle.writing.specs.Settings.{Contact}
+use Rattle.writing.specs.Writing.{bit, contact}
 use Rattle.writing.proofs.Unique.{contact-ends}
 use Rattle.writing.proofs.Whole.{contact-whole}
 use Rattle.read_fields.specs.declared.entries.ContactPlace.{ContactPlace}
@@ -29,11 +21,11 @@ use Rattle.read_fields.specs.declared.entries.ContactRead.{ContactRead}
 use Rattle.read_fields.specs.declared.entries.ContactRead.the-variants.{Contact as AContact, NoContact}
 use Rattle.settings.specs.declared.settings.Entries.{Entries}
 use Rattle.read_fields.specs.Entries.{ContactIs, ContactAt}
-use Rattle.settings.specs.Settings.{EntriesAre}
+use Rattle.settings.specs.Meant.{EntriesAre}
 use Rattle.tables.specs.Allowed.{LineOk}
-use Rattle.tables.specs.Apply.{in-turn, has-number, line-of, line-step}
+use Rattle.tables.specs.Apply.{in-turn, start-from, has-number, line-of, line-step}
 use Rattle.tables.specs.Changing.{TextPut, Tried}
-use Rattle.tables.specs.Layout.{line-flags, digit-bytes, text-bytes, line-bytes, line-width}
+use Rattle.tables.specs.Layout.{line-flags, digit-bytes, text-bytes, line-bytes, digits-at, line-width}
 use Rattle.store_lists.specs.Lists.{DigitsPut, LineSlot, LineTable, LinePut, LineDropped, LinesApplied}
 use Rattle.tables.specs.Tables.{Line}
 use Rattle.tables.proofs.EntryCodes.{line-keyed}
@@ -45,21 +37,22 @@ use Rattle.tables.proofs.TextLaws.{text-out}
 -- ---- a line's slot
 
 -- a slot that is empty but for its flags and digits has room for its text
-pub slot-room : (b : ℕ) (y : List ℕ) → length y ≡ 18 → line-width ≤ length (putMid 1 18 (b ∷ replicate 50 0) y)
-slot-room b y l = omega (arith, length-append y (replicate 32 0))
+pub slot-room : (b c : ℕ) (y : List ℕ) → length y ≡ 18 → line-width ≤ length (putMid digits-at 18 (b ∷ c ∷ replicate 50 0) y)
+slot-room b c y l = omega (arith, length-append y (replicate 32 0))
 
--- flags, digits and text make the slot
-pub slot-made : (m : List ℕ) (f : LineFlags) (p : ContactPlace) (b : ℕ) (y z : List ℕ) → (f .priority < 4 → b ≡ line-flags f) → DigitsPut m (p .number) (replicate 18 0) y
-    → TextPut m (p .text) (midOf 19 32 (putMid 1 18 (b ∷ replicate 50 0) y)) z → LineSlot m f p (putMid 19 32 (putMid 1 18 (b ∷ replicate 50 0) y) z)
-slot-made m f p b y z flags digits text e is range low =
+-- flags, IDtype, digits and text make the slot
+pub slot-made : (m : List ℕ) (f : LineFlags) (p : ContactPlace) (b c : ℕ) (y z : List ℕ) → (f .priority < 4 → b ≡ line-flags f) → c ≡ bit (f .pabx)
+    → DigitsPut m (p .number) (replicate 18 0) y
+    → TextPut m (p .text) (midOf 20 32 (putMid digits-at 18 (b ∷ c ∷ replicate 50 0) y)) z → LineSlot m f p (putMid 20 32 (putMid digits-at 18 (b ∷ c ∷ replicate 50 0) y) z)
+slot-made m f p b c y z flags kind digits text e is range low =
     let d : y ≡ digit-bytes (e .number) = digits (e .number) (is .middle) (is .number) in
-    let n : length (b ∷ y) ≡ 19 = omega (arith, ap length d, pad-length 0 18 (map suc (e .number))) in
-    let g : midOf 19 32 (b ∷ y ++ replicate 32 0) ≡ replicate 32 0 = get-part (b ∷ y) (replicate 32 0) [] 19 32 n refl in
+    let n : length (b ∷ c ∷ y) ≡ 20 = omega (arith, ap length d, pad-length 0 18 (map suc (e .number))) in
+    let g : midOf 20 32 (b ∷ c ∷ y ++ replicate 32 0) ≡ replicate 32 0 = get-part (b ∷ c ∷ y) (replicate 32 0) [] 20 32 n refl in
     let t : z ≡ text-bytes 16 (e .text) = text 16 (e .text) (is .end) (is .text) (range .1) (ap length g) in
-    put-part (b ∷ y) (replicate 32 0) [] z 19 32 n refl
-    ∙ ap (λ (l : List ℕ). b ∷ y ++ l) (append-nil z)
-    ∙ ap (λ (c : ℕ). c ∷ y ++ z) (flags low)
-    ∙ ap₂ (λ (u v : List ℕ). line-flags f ∷ u ++ v) d t
+    put-part (b ∷ c ∷ y) (replicate 32 0) [] z 20 32 n refl
+    ∙ ap (λ (l : List ℕ). b ∷ c ∷ y ++ l) (append-nil z)
+    ∙ ap₂ (λ (u v : ℕ). u ∷ v ∷ y ++ z) (flags low) kind
+    ∙ ap₂ (λ (u v : List ℕ). line-flags f ∷ bit (f .pabx) ∷ u ++ v) d t
 
 -- ---- a line's key
 
@@ -70,8 +63,8 @@ key l = digit-bytes (l .number)
 -- the slot of a line
 module _ (l : Line) (ok : LineOk l) (x : List ℕ) (e : x ≡ line-bytes l) where
   -- its key is read
-  key-read : midOf 1 18 x ≡ key l
-  key-read = ap (midOf 1 18) e ∙ line-keyed .stands l
+  key-read : midOf digits-at 18 x ≡ key l
+  key-read = ap (midOf digits-at 18) e ∙ line-keyed .stands l
 
   -- the lines with its key are those with its number
   key-same : (a : Line) → LineOk a → same? (key a) (key l) ≡ has-number (l .number) a
@@ -79,11 +72,11 @@ module _ (l : Line) (ok : LineOk l) (x : List ℕ) (e : x ≡ line-bytes l) wher
 
 -- ---- one line
 
-module _ (x s : List ℕ) (r : ℕ) (long : length x ≡ line-width) (found : Found (KeyAt line-width 1 (midOf 1 18 x) × (length (midOf 1 18 x) ≡ 18)) (fit 1 (midOf 1 18 x)) line-width s r) where
+module _ (x s : List ℕ) (r : ℕ) (long : length x ≡ line-width) (found : Found (KeyAt line-width digits-at (midOf digits-at 18 x) × (length (midOf digits-at 18 x) ≡ 18)) (fit digits-at (midOf digits-at 18 x)) line-width s r) where
   -- the place that was found is that of the line's key
-  found-key : (l : Line) → LineOk l → x ≡ line-bytes l → Found (KeyAt line-width 1 (key l)) (fit 1 (key l)) line-width s r
-  found-key l ok e = subst (λ (k : List ℕ). Found (KeyAt line-width 1 k) (fit 1 k) line-width s r) (key-read l ok x e)
-      (found-known line-width 1 18 (midOf 1 18 x) s (fit 1 (midOf 1 18 x)) r (ap length (key-read l ok x e) ∙ digits-length (l .number)) found)
+  found-key : (l : Line) → LineOk l → x ≡ line-bytes l → Found (KeyAt line-width digits-at (key l)) (fit digits-at (key l)) line-width s r
+  found-key l ok e = subst (λ (k : List ℕ). Found (KeyAt line-width digits-at k) (fit digits-at k) line-width s r) (key-read l ok x e)
+      (found-known line-width digits-at 18 (midOf digits-at 18 x) s (fit digits-at (midOf digits-at 18 x)) r (ap length (key-read l ok x e) ∙ digits-length (l .number)) found)
 
   -- a line's slot where its number was, or in the first free place
   pub line-added : (y : List ℕ) → (length s - r < line-width → ⊥) → y ≡ take (length (midOf r (r + line-width - r) s)) x ++ drop (length x) (midOf r (r + line-width - r) s)
@@ -93,49 +86,49 @@ module _ (x s : List ℕ) (r : ℕ) (long : length x ≡ line-width) (found : Fo
       let z : y ≡ line-bytes l = slot-copied s x y r line-width (omega (arith, found .within)) long copied ∙ e in
       let f = found-key l ok e in
       let w : indexOf (has-number (l .number)) ls < n
-      = key-room LineOk line-width line-bytes 1 18 key line-keyed (key l) (digits-length (l .number)) (line-keyed .shown l ok) (has-number (l .number)) (key-same l ok x e) n ls s t r f h in
+      = key-room LineOk line-width line-bytes digits-at 18 key line-keyed (key l) (digits-length (l .number)) (line-keyed .shown l ok) (has-number (l .number)) (key-same l ok x e) n ls s t r f h in
       tried-room (LineTable n) (putAt (indexOf (has-number (l .number)) ls) l ls)
       (ap (λ (b : Bool). cond b (some (putAt (indexOf (has-number (l .number)) ls) l ls)) none) (lt-ltb (indexOf (has-number (l .number)) ls) n w))
-      (key-put LineOk line-width line-bytes 1 18 key line-keyed (key l) (digits-length (l .number)) (line-keyed .shown l ok) (has-number (l .number)) (key-same l ok x e) n ls s t r f l y ok h z)
+      (key-put LineOk line-width line-bytes digits-at 18 key line-keyed (key l) (digits-length (l .number)) (line-keyed .shown l ok) (has-number (l .number)) (key-same l ok x e) n ls s t r f l y ok h z)
 
   -- no place was found
   pub line-refused : length s - r < line-width → LinePut x s s false
   line-refused h n ls l t ok e =
       let w : n ≤ indexOf (has-number (l .number)) ls
-      = key-full LineOk line-width line-bytes 1 18 key line-keyed (key l) (digits-length (l .number)) (line-keyed .shown l ok) (has-number (l .number)) (key-same l ok x e) n ls s t r (found-key l ok e) h in
+      = key-full LineOk line-width line-bytes digits-at 18 key line-keyed (key l) (digits-length (l .number)) (line-keyed .shown l ok) (has-number (l .number)) (key-same l ok x e) n ls s t r (found-key l ok e) h in
       tried-full (LineTable n) (ap (λ (b : Bool). cond b (some (putAt (indexOf (has-number (l .number)) ls) l ls)) none) (le-ltb (indexOf (has-number (l .number)) ls) n w))
 
 -- the lines with a line's number are taken out
-pub line-dropped : (x s t : List ℕ) → Removed line-width 1 (midOf 1 18 x) s t → LineDropped x s t
+pub line-dropped : (x s t : List ℕ) → Removed line-width digits-at (midOf digits-at 18 x) s t → LineDropped x s t
 line-dropped x s t r n ls l i ok e =
-    key-removed LineOk line-width line-bytes 1 18 key line-keyed (key l) (digits-length (l .number)) (line-keyed .shown l ok) (has-number (l .number)) (key-same l ok x e) n ls s i t
-    (subst (λ (k : List ℕ). Removed line-width 1 k s t) (key-read l ok x e) r)
+    key-removed LineOk line-width line-bytes digits-at 18 key line-keyed (key l) (digits-length (l .number)) (line-keyed .shown l ok) (has-number (l .number)) (key-same l ok x e) n ls s i t
+    (subst (λ (k : List ℕ). Removed line-width digits-at k s t) (key-read l ok x e) r)
 
 -- ---- the loops
 
 -- a contact in range that stands at a place makes a line in range
-line-ok : (m : List ℕ) → Bytes m → (f : LineFlags) (p : ContactPlace) (e : Contact) → ContactIs unicode16 m p e → InContact text-limits e → f .priority < 4 → LineOk (line-of f e)
+line-ok : (m : List ℕ) → Bytes m → (f : LineFlags) (p : ContactPlace) (e : Contact) → ContactIs m p e → InContact text-limits e → f .priority < 4 → LineOk (line-of f e)
 line-ok m h f p e is range low = record {
   priority = low;
   number = range .0;
-  text = record { short = range .1; units = text-out m (p .text .start) (is .end) (e .text) h (is .text .stands) .units };
+  text = record { short = range .1; units = text-out (p .text .coding) m (p .text .start) (is .end) (e .text) h (is .text .stands) .units };
 }
 
 module _ (o : Operation) (m : List ℕ) (f : LineFlags) (p : Entries) (s : List ℕ) where
-  -- on a part that was s, whatever its places, i contacts are done, the others are left at a place, and it is now t
+  -- on a region that was s, whatever its places, i contacts are done, the others are left at a place, and it is now t
   abbrev pub LinesLeft : ℕ → ℕ → List ℕ → Type 0
   LinesLeft at i t =
-      f .priority < 4 → (n : ℕ) → Applying (contact unicode16) (contact-ends unicode16) (contact-whole unicode16) (InContact text-limits) (line-step n o f) (LineTable n) m s
+      f .priority < 4 → (n : ℕ) → Applying (contact (p .coding)) (contact-ends (p .coding)) (contact-whole (p .coding)) (InContact text-limits) (line-step n o f) (LineTable n) m s
       (p .start) (p .count) at (p .count - i) t
 
   -- what all contacts in turn answer
   abbrev pub LinesDone : List ℕ → Bool → Type 0
   LinesDone t r =
-      f .priority < 4 → (n : ℕ) (ls : List Line) (es : List Contact) → LineTable n ls s → EntriesAre (each (contact unicode16)) m p es → All (InContact text-limits) es
+      f .priority < 4 → (n : ℕ) (ls : List Line) (es : List Contact) → LineTable n ls s → EntriesAre (λ c. each (contact c)) m p es → All (InContact text-limits) es
       → Tried (LineTable n) (in-turn (line-step n o f) es ls) t r
 
   -- the contacts stand where the setting says
-  start : (es : List Contact) → EntriesAre (each (contact unicode16)) m p es → Starting (contact unicode16) m (p .start) (p .count) es
+  start : (es : List Contact) → EntriesAre (λ c. each (contact c)) m p es → Starting (contact (p .coding)) m (p .start) (p .count) es
   start es e = (e .counted, (p .next, e .stands))
 
   -- at the start all are left
@@ -148,10 +141,10 @@ module _ (o : Operation) (m : List ℕ) (f : LineFlags) (p : Entries) (s : List 
       let (u, d, k) = applying-end (g low n) (omega arith) es ls (start es e) q l in
       tried-room (LineTable n) u d k
 
-  module _ (at i : ℕ) (t : List ℕ) (h : i < p .count) (g : LinesLeft at i t) {c : ContactRead} (read : ContactAt unicode16 text-limits m at c) where
+  module _ (at i : ℕ) (t : List ℕ) (h : i < p .count) (g : LinesLeft at i t) {c : ContactRead} (read : ContactAt (p .coding) text-limits m at c) where
     -- no contact stands there, so this is not reached
     pub lines-stuck : (u : List ℕ) (r : Bool) → c ≡ NoContact → LinesDone u r
-    lines-stuck u r z low n ls es l e q = absurd (applying-stuck (g low n) (omega arith) (subst (ContactAt unicode16 text-limits m at) z read) es ls (start es e) q l)
+    lines-stuck u r z low n ls es l e q = absurd (applying-stuck (g low n) (omega arith) (subst (ContactAt (p .coding) text-limits m at) z read) es ls (start es e) q l)
 
     -- one does, x is the slot of its line, and applying it to t answered r and left u
     module _ (b : Bytes m) (place : ContactPlace) (q : ℕ) (is : c ≡ AContact place q) (x : List ℕ) (slot : LineSlot m f place x) (u : List ℕ) (r : Bool)
@@ -159,19 +152,25 @@ module _ (o : Operation) (m : List ℕ) (f : LineFlags) (p : Entries) (s : List 
       -- it had room
       pub lines-on : r ≡ true → LinesLeft q (i + 1) u
       lines-on z low n =
-          let (e, range, there, stands) = subst (ContactAt unicode16 text-limits m at) is read in
+          let (e, range, there, stands) = subst (ContactAt (p .coding) text-limits m at) is read in
           let d : p .count - (i + 1) ≡ p .count - i - 1 = omega arith in
           (rw d (applying-next (g low n) (omega arith) e q stands u (λ j ls l. turn e (line-ok m b f place e there range low) (slot e there range low) n ls l .room z)))
 
       -- it had none
       pub lines-full : r ≡ false → LinesDone u false
       lines-full z low n ls es l k j =
-          let (e, range, there, stands) = subst (ContactAt unicode16 text-limits m at) is read in
+          let (e, range, there, stands) = subst (ContactAt (p .coding) text-limits m at) is read in
           tried-full (LineTable n)
           (applying-full (g low n) (omega arith) e q stands (λ j ls l. turn e (line-ok m b f place e there range low) (slot e there range low) n ls l .full z) es ls (start es k) j l)
 
 -- ---- replacing
 
--- adding to a wiped part replaces
-pub lines-replaced : (m : List ℕ) (f : LineFlags) (p : Entries) (s t u : List ℕ) (r : Bool) → t ≡ replicate (length s) 0 → LinesApplied Add m f p t u r → LinesApplied Replace m f p s u r
-lines-replaced m f p s t u r w a low n ls es l e q = a low n [] es (wiped LineOk line-width line-bytes (line-keyed .long) n ls s t l w) e q
+-- a region that was emptied where it is to be replaced
+lines-emptied : (o : Operation) (n : ℕ) (ls : List Line) (s t : List ℕ) → t ≡ start-from o (replicate (length s) 0) s → LineTable n ls s → LineTable n (start-from o [] ls) t
+lines-emptied Add n ls s t e l = subst⁻¹ (LineTable n ls) e l
+lines-emptied Delete n ls s t e l = subst⁻¹ (LineTable n ls) e l
+lines-emptied Replace n ls s t e l = wiped LineOk line-width line-bytes (line-keyed .long) n ls s t l e
+
+-- what was done to it was done to the region
+pub lines-applied : (o : Operation) (m : List ℕ) (f : LineFlags) (p : Entries) (s t u : List ℕ) (r : Bool) → t ≡ start-from o (replicate (length s) 0) s → LinesDone o m f p t u r → LinesApplied o m f p s u r
+lines-applied o m f p s t u r e d low n ls es l = d low n (start-from o [] ls) es (lines-emptied o n ls s t e l)

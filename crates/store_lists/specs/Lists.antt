@@ -11,16 +11,16 @@ use Rattle.writing.specs.declared.LineFlags.{LineFlags}
 use Rattle.writing.specs.declared.Operation.{Operation}
 use Rattle.writing.specs.Fields.{each}
 use Rattle.writing.specs.Ranges.{text-limits, InChannel, InContact}
-use Rattle.writing.specs.Settings.{Contact, Number, unicode16}
+use Rattle.writing.specs.Settings.{Contact, Number}
 use Rattle.writing.specs.Writing.{contact}
 use Rattle.read_fields.specs.declared.entries.ContactPlace.{ContactPlace}
 use Rattle.read_fields.specs.declared.numbers.NumberPlace.{NumberPlace}
 use Rattle.settings.specs.declared.settings.Entries.{Entries}
 use Rattle.read_fields.specs.Entries.{channel-list, ContactIs}
-use Rattle.read_fields.specs.Parts.{NumberIs}
-use Rattle.settings.specs.Settings.{EntriesAre}
+use Rattle.read_fields.specs.TextsAndNumbers.{NumberIs}
+use Rattle.settings.specs.Meant.{EntriesAre}
 use Rattle.tables.specs.Allowed.{LineOk}
-use Rattle.tables.specs.Apply.{channel-step, channels-after, line-of, put-line, drop-line, lines-after}
+use Rattle.tables.specs.Apply.{channel-step, channels-after, line-of, line-step, put-line, drop-line, lines-after}
 use Rattle.tables.specs.Layout.{channel-width, line-bytes, line-width}
 use Rattle.tables.specs.Tables.{Line}
 use Rattle.tables.specs.Changing.{Tried}
@@ -31,10 +31,10 @@ use Rattle.tables.specs.Changing.{Tried}
 abbrev pub ChannelTable : ℕ → List ℕ → List ℕ → Type 0
 ChannelTable n = Listed InChannel channel-width u16 n
 
--- what applying the channels that stand at a place answers, on a part that was s and becomes t
+-- what applying the channels that stand at a place answers, on a region that was s and becomes t
 abbrev pub ChannelsApplied : Operation → List ℕ → Entries → List ℕ → List ℕ → Bool → Type 0
 ChannelsApplied o m p s t r =
-    (n : ℕ) (cs ns : List ℕ) → ChannelTable n cs s → EntriesAre channel-list m p ns → All InChannel ns → Tried (ChannelTable n) (channels-after n o ns cs) t r
+    (n : ℕ) (cs ns : List ℕ) → ChannelTable n cs s → EntriesAre (λ c. channel-list) m p ns → All InChannel ns → Tried (ChannelTable n) (channels-after n o ns cs) t r
 
 -- ---- line contacts
 
@@ -42,10 +42,10 @@ ChannelsApplied o m p s t r =
 abbrev pub LineTable : ℕ → List Line → List ℕ → Type 0
 LineTable n = Listed LineOk line-width line-bytes n
 
--- what applying the contacts that stand at a place answers, on a part that was s and becomes t
+-- what applying the contacts that stand at a place answers, on a region that was s and becomes t
 abbrev pub LinesApplied : Operation → List ℕ → LineFlags → Entries → List ℕ → List ℕ → Bool → Type 0
 LinesApplied o m f p s t r =
-    f .priority < 4 → (n : ℕ) (ls : List Line) (es : List Contact) → LineTable n ls s → EntriesAre (each (contact unicode16)) m p es → All (InContact text-limits) es
+    f .priority < 4 → (n : ℕ) (ls : List Line) (es : List Contact) → LineTable n ls s → EntriesAre (λ c. each (contact c)) m p es → All (InContact text-limits) es
     → Tried (LineTable n) (lines-after n o f es ls) t r
 
 -- ---- inner steps: no promise cites these
@@ -68,7 +68,7 @@ DigitsPut m p s t = (ds : Number) (next : ℕ) → NumberIs m p ds next → t �
 
 -- r are the bytes of the line that a contact at a place makes
 abbrev pub LineSlot : List ℕ → LineFlags → ContactPlace → List ℕ → Type 0
-LineSlot m f p r = (e : Contact) → ContactIs unicode16 m p e → InContact text-limits e → f .priority < 4 → r ≡ line-bytes (line-of f e)
+LineSlot m f p r = (e : Contact) → ContactIs m p e → InContact text-limits e → f .priority < 4 → r ≡ line-bytes (line-of f e)
 
 -- what putting the line of these bytes answers
 abbrev pub LinePut : List ℕ → List ℕ → List ℕ → Bool → Type 0
@@ -77,3 +77,9 @@ LinePut x s t r = (n : ℕ) (ls : List Line) (l : Line) → LineTable n ls s →
 -- what taking the line with the number of these bytes out leaves
 abbrev pub LineDropped : List ℕ → List ℕ → List ℕ → Type 0
 LineDropped x s t = (n : ℕ) (ls : List Line) (l : Line) → LineTable n ls s → LineOk l → x ≡ line-bytes l → LineTable n (drop-line (l .number) ls) t
+
+-- what applying an operation to the line of these bytes answers
+abbrev pub LineStepped : Operation → List ℕ → List ℕ → List ℕ → Bool → Type 0
+LineStepped o x s t r =
+    (n : ℕ) (ls : List Line) (l : Line) → LineTable n ls s → LineOk l → x ≡ line-bytes l
+    → Tried (LineTable n) (line-step n o (l .flags) (record { number = l .number; text = l .text }) ls) t r

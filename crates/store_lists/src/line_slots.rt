@@ -1,8 +1,9 @@
-// The bytes of a line contact's slot: its flags, its digits, each one more than itself, and its text.
+// The bytes of a line contact's slot: its flags, its IDtype, its digits, each one more than itself, and its text.
 use read_fields::entries::ContactPlace;
 use read_fields::numbers::NumberPlace;
 use tables::heads::bit_of;
 use tables::places::LINE_DIGITS;
+use tables::places::LINE_IDTYPE;
 use tables::places::LINE_SLOT;
 use tables::places::LINE_TEXT;
 use tables::texts::put_text;
@@ -13,14 +14,11 @@ ghost use lib.ListN.{getD};
 ghost use Rattle.tables.specs.Layout.{line-flags};
 ghost use Rattle.store_lists.specs.Lists.{DigitIs, DigitKept, DigitsPut, LineSlot};
 
-// The flags of a line in one byte.
+// The flags of a line in one byte, IDtype aside.
 fn line_flag_byte(flags: LineFlags) -> u8
     ensures { λ r. ⌜ (flags .priority < 4 → r ≡ line-flags flags) ⌝ }
 {
-    bit_of(flags.encryption) * 16
-        + bit_of(flags.emergency) * 8
-        + flags.priority % 4 * 2
-        + bit_of(flags.pabx)
+    bit_of(flags.encryption) * 8 + bit_of(flags.emergency) * 4 + flags.priority % 4
 }
 
 // The byte k places after start, or 0 past the end.
@@ -74,6 +72,7 @@ pub(crate) fn line_slot(m: &[u8], flags: LineFlags, place: ContactPlace) -> [u8;
 {
     let mut slot = [0u8; LINE_SLOT];
     slot[0] = line_flag_byte(flags);
+    slot[LINE_IDTYPE] = bit_of(flags.pabx);
     put_digits(&mut slot[LINE_DIGITS..LINE_TEXT], m, place.number);
     put_text(&mut slot[LINE_TEXT..LINE_SLOT], m, place.text);
     slot

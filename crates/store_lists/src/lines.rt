@@ -1,111 +1,91 @@
-// What a setting does to the table of line contacts, which is a part of a store.
+// What a setting does to the table of line contacts, which is a region of a store.
 use super::line_slots::line_slot;
 use read_fields::entries::ContactRead;
 use read_fields::entries::read_contact;
 use settings::settings::Entries;
 use slots::bytes::copy;
-use slots::bytes::wipe;
 use slots::slots::place_of;
 use slots::slots::remove_all;
 use tables::places::DIGITS;
 use tables::places::LINE_DIGITS;
 use tables::places::LINE_SLOT;
 use tables::places::LINE_TEXT;
+use tables::replacing::empty_to_replace;
 use writing::LineFlags;
 use writing::Operation;
 ghost use mathlib.Core.Path.{_≡_};
-ghost use mathlib.Core.Bool.{true};
 ghost use lib.ListN.{length};
-ghost use Rattle.writing.specs.declared.Operation.the-variants.{Add, Delete};
 ghost use Rattle.tables.specs.Layout.{line-width};
-ghost use Rattle.store_lists.specs.Lists.{LinePut, LineDropped, LinesApplied};
+ghost use Rattle.store_lists.specs.Lists.{LinePut, LineDropped, LineStepped, LinesApplied};
 
 // Puts a line in place of the one with its number, or at the end, where there is room.
-fn put_line(part: &mut [u8], slot: &[u8]) -> bool
+fn put_line(list: &mut [u8], slot: &[u8]) -> bool
     requires { ⌜ length (now slot) ≡ line-width ⌝ }
-    ensures { λ r. ⌜ LinePut (now (slot .entry)) (now (part .entry)) (now (part .exit)) r ⌝ }
+    ensures { λ r. ⌜ LinePut (now (slot .entry)) (now (list .entry)) (now (list .exit)) r ⌝ }
 {
     let at = place_of(
-        part,
+        list,
         LINE_SLOT,
         LINE_DIGITS,
         DIGITS,
         &slot[LINE_DIGITS..LINE_TEXT],
     );
-    if part.len() - at < LINE_SLOT {
+    if list.len() - at < LINE_SLOT {
         return false;
     }
     let e = at + LINE_SLOT;
-    copy(&mut part[at..e], slot);
+    copy(&mut list[at..e], slot);
     true
 }
 
 // Takes the line with the slot's number out.
-fn drop_line(part: &mut [u8], slot: &[u8])
+fn drop_line(list: &mut [u8], slot: &[u8])
     requires { ⌜ length (now slot) ≡ line-width ⌝ }
-    ensures { λ _. ⌜ LineDropped (now (slot .entry)) (now (part .entry)) (now (part .exit)) ⌝ }
+    ensures { λ _. ⌜ LineDropped (now (slot .entry)) (now (list .entry)) (now (list .exit)) ⌝ }
 {
-    remove_all(part, LINE_SLOT, LINE_DIGITS, &slot[LINE_DIGITS..LINE_TEXT]);
+    remove_all(list, LINE_SLOT, LINE_DIGITS, &slot[LINE_DIGITS..LINE_TEXT]);
 }
 
-// Puts the lines of a setting in order, until there is no room.
-fn put_lines(part: &mut [u8], m: &[u8], flags: LineFlags, entries: Entries) -> bool
-    ensures { λ r. ⌜ LinesApplied Add (now (m .entry)) flags entries (now (part .entry)) (now (part .exit)) r ⌝ }
+// Applies an operation to the line of a slot: was there room?
+fn step_line(list: &mut [u8], operation: Operation, slot: &[u8]) -> bool
+    requires { ⌜ length (now slot) ≡ line-width ⌝ }
+    ensures { λ r. ⌜ LineStepped operation (now (slot .entry)) (now (list .entry)) (now (list .exit)) r ⌝ }
 {
-    let mut p = entries.start;
-    let mut i = 0;
-    while i < entries.count {
-        let here = read_contact(m, p);
-        let ContactRead::Contact(place, next) = here else {
-            return false;
-        };
-        let slot = line_slot(m, flags, place);
-        if !put_line(part, &slot) {
-            return false;
+    match operation {
+        Operation::Add => put_line(list, slot),
+        Operation::Delete => {
+            drop_line(list, slot);
+            true
         }
-        p = next;
-        i += 1;
-    }
-    true
-}
-
-// Takes the lines with the numbers of a setting out.
-fn drop_lines(part: &mut [u8], m: &[u8], flags: LineFlags, entries: Entries)
-    ensures { λ _. ⌜ LinesApplied Delete (now (m .entry)) flags entries (now (part .entry)) (now (part .exit)) true ⌝ }
-{
-    let mut p = entries.start;
-    let mut i = 0;
-    while i < entries.count {
-        let here = read_contact(m, p);
-        let ContactRead::Contact(place, next) = here else {
-            return;
-        };
-        let slot = line_slot(m, flags, place);
-        drop_line(part, &slot);
-        p = next;
-        i += 1;
+        Operation::Replace => put_line(list, slot),
     }
 }
 
-// Applies the line contacts of a setting in order: was there room?
+// Applies the line contacts of a setting in order, until there is no room: was there?
 pub fn apply_lines(
-    part: &mut [u8],
+    list: &mut [u8],
     m: &[u8],
     operation: Operation,
     flags: LineFlags,
     entries: Entries,
 ) -> bool
-    ensures { λ r. ⌜ LinesApplied operation (now (m .entry)) flags entries (now (part .entry)) (now (part .exit)) r ⌝ }
+    ensures { λ r. ⌜ LinesApplied operation (now (m .entry)) flags entries (now (list .entry)) (now (list .exit)) r ⌝ }
 {
-    match operation {
-        Operation::Add => put_lines(part, m, flags, entries),
-        Operation::Delete => {
-            drop_lines(part, m, flags, entries);
-            true
+    empty_to_replace(list, operation);
+    let coding = entries.coding;
+    let mut p = entries.start;
+    let mut i = 0;
+    while i < entries.count {
+        let here = read_contact(m, p, coding);
+        let ContactRead::Contact(place, next) = here else {
+            return false;
+        };
+        let slot = line_slot(m, flags, place);
+        if !step_line(list, operation, &slot) {
+            return false;
         }
-        Operation::Replace => {
-            wipe(part);
-            put_lines(part, m, flags, entries)
-        }
+        p = next;
+        i += 1;
     }
+    true
 }

@@ -1,11 +1,5 @@
 -- The fixed parts: what the functions that fill them have to show. Assumes nothing.
-use Prim.Native.Nat.{ℕ, _+_, _-_, _*_, _/_, _%_, _≤_, _<_}
-use mathlib.Core.Path.{_≡_, refl, sym, ap, ap₂, _∙_, subst⁻¹}
-use mathlib.Core.Bool.{Bool}
-use mathlib.Core.List.{List, [], _∷_, _++_, append-nil}
-use native.Mathlib.Omega.{arith}
-use borrow.Rule.Slice.PartMut.{putMid, midOf}
-use lib.ListN.{length, set, take, drop, replicate, length-take, drop-of-length-le}
+use Rattle.lists.proofs.Kit.{ℕ, _+_, _-_, _*_, _/_, _%_, _≤_, _<_, _≡_, refl, sym, ap, ap₂, _∙_, subst⁻¹, Bool, List, [], _∷_, _++_, append-nil, arith, putMid, midOf, length, set, take, drop, replicate, length-take, drop-of-length-le}
 use Rattle.lists.specs.Bytes.{Bytes}
 use Rattle.plan.specs.declared.numbers.GroupAddress.{GroupAddress}
 use Rattle.plan.specs.declared.numbers.IndividualAddress.{IndividualAddress}
@@ -24,7 +18,7 @@ use Rattle.store_places.specs.Changes.{KeyPut, SystemPut, HashPut}
 use Rattle.tables.specs.Layout.{key-address, hash-bytes}
 use Rattle.tables.specs.Tables.{no-hash}
 
--- as many bytes copied over a part are the part
+-- as many bytes copied over a region are the region
 pub copied : (bytes s t : List ℕ) → length s ≡ length bytes → t ≡ take (length s) bytes ++ drop (length bytes) s → t ≡ bytes
 copied bytes s t l e = e ∙ copy-whole bytes s l
 

@@ -2,5 +2,4 @@ mod FixedLaws
 mod IndexedLaws
 mod MemberLaws
 mod OverwriteLaws
-mod QuickLaws
-mod StatusLaws
+mod TextTables

@@ -1,59 +1,33 @@
--- Group and individual slots: what the functions that set one have to show. Assumes nothing.
-use Prim.Native.Nat.{ℕ, suc, _+_, _*_, _≤_, _<_}
-use mathlib.Core.Path.{_≡_, ap, _∙_}
-use mathlib.Core.List.{List, _∷_, _++_}
-use native.Mathlib.Omega.{arith}
-use lib.ListN.{length}
+-- Group and individual slots: what the function that sets one has to show. Assumes nothing.
+use Rattle.lists.proofs.Kit.{ℕ, _+_, _*_, _≤_, _<_, _≡_, refl, ap, _∙_, false, List, _∷_, _++_, arith, length}
 use Rattle.slots.specs.Slots.{u24}
-use Rattle.writing.specs.declared.GroupFlags.{GroupFlags}
-use Rattle.writing.specs.declared.IndividualFlags.{IndividualFlags}
 use Rattle.writing.specs.declared.Operation.{Operation}
 use Rattle.writing.specs.Ranges.{text-limits}
-use Rattle.settings.specs.declared.settings.GroupPlace.{GroupPlace}
-use Rattle.settings.specs.declared.settings.IndividualPlace.{IndividualPlace}
-use Rattle.tables.specs.Allowed.{GroupOk, IndividualOk}
-use Rattle.store_places.specs.Changes.{PlaceSet, GroupApplied, IndividualApplied, group-member, individual-member}
-use Rattle.tables.specs.Layout.{text-bytes, group-flags, group-bytes, individual-flags, individual-bytes, member-width}
+use Rattle.writing.specs.Settings.{Text}
+use Rattle.read_fields.specs.declared.texts.TextPlace.{TextPlace}
+use Rattle.tables.specs.Allowed.{AddressOk, TextOk}
+use Rattle.tables.specs.declared.members.Members.{Members}
+use Rattle.tables.specs.declared.members.Members.the-variants.{OfGroups, OfIndividuals}
+use Rattle.tables.specs.Members.{MemberIn, member-ok, flags-of, number-of, member-bytes}
+use Rattle.tables.specs.Layout.{text-bytes, member-width}
 use Rattle.tables.specs.Limits.{slot-places}
-use Rattle.tables.specs.Tables.{GroupMember, IndividualMember}
+use Rattle.tables.proofs.EntryCodes.{member-code}
+use Rattle.store_places.specs.Changes.{PlaceSet, MemberSet, member}
 use Rattle.store_places.proofs.OverwriteLaws.{Made, place-overwritten, after-turn}
-use Rattle.tables.proofs.TextLaws.{text-long}
 
--- a group's bytes are as many as its slot has
-pub group-long : (g : GroupMember) → length (group-bytes g) ≡ member-width
-group-long g = ap (λ (n : ℕ). suc (suc (suc (suc n)))) (text-long (text-limits .short) (g .text))
-
--- and so are an individual's
-pub individual-long : (i : IndividualMember) → length (individual-bytes i) ≡ member-width
-individual-long i = ap (λ (n : ℕ). suc (suc (suc (suc n)))) (text-long (text-limits .short) (i .text))
+-- what is allowed has an address of 24 bits and a text, and its bytes are the flags, the address and the text
+parts-of : (w : Members) (x : MemberIn w) → member-ok w x
+    → (number-of w (x .address) < 16777216) × TextOk (text-limits .short) (x .text)
+    × (flags-of w (x .flags) ∷ u24 (number-of w (x .address)) ++ text-bytes (text-limits .short) (x .text) ≡ member-bytes w x)
+parts-of OfGroups x ok = (ok .address .1, ok .text, refl)
+parts-of OfIndividuals x ok = (ok .address .1, ok .text, refl)
 
 -- a place was set, with a head of four bytes: the flags and the address
-module _ (m : List ℕ) (o : Operation) (s t head : List ℕ) (four : length head ≡ 4) (flags : ℕ) where
-  -- a group's place
-  pub group-applied : (f : GroupFlags) (p : GroupPlace) → (f .attribute < 4 → f .priority < 4 → flags ≡ group-flags f)
-      → (p .address .0 < 16777216 → head ≡ flags ∷ u24 (p .address .0)) → (p .index * member-width + member-width ≤ length s → PlaceSet m o (p .text) head member-width (p .index) s t)
-      → GroupApplied m o f p s t
-  group-applied f p fl hd changed gs us next is l ok h =
-      place-overwritten GroupOk member-width group-bytes group-long slot-places gs s h (p .index) l o (group-member f p us) head (text-limits .short) us next is (omega arith)
-      (after-turn GroupOk (Made GroupOk group-bytes head (text-limits .short) us) (group-member f p us)
-      (λ g. (
-        g,
-        g .text .short,
-        ap (λ (l : List ℕ). l ++ text-bytes (text-limits .short) us)
-            (hd (g .address .1) ∙ ap (λ (x : ℕ). x ∷ u24 (p .address .0)) (fl (g .attribute .1) (g .priority))),
-      )) o ok) t changed
-
-  -- an individual's place
-  pub individual-applied : (f : IndividualFlags) (p : IndividualPlace) → (f .priority < 4 → flags ≡ individual-flags f)
-      → (p .address .0 < 16777216 → head ≡ flags ∷ u24 (p .address .0)) → (p .index * member-width + member-width ≤ length s → PlaceSet m o (p .text) head member-width (p .index) s t)
-      → IndividualApplied m o f p s t
-  individual-applied f p fl hd changed gs us next is l ok h =
-      place-overwritten IndividualOk member-width individual-bytes individual-long slot-places gs s h (p .index) l o (individual-member f p us) head (text-limits .short) us next is
-      (omega arith)
-      (after-turn IndividualOk (Made IndividualOk individual-bytes head (text-limits .short) us) (individual-member f p us)
-      (λ g. (
-        g,
-        g .text .short,
-        ap (λ (l : List ℕ). l ++ text-bytes (text-limits .short) us)
-            (hd (g .address .1) ∙ ap (λ (x : ℕ). x ∷ u24 (p .address .0)) (fl (g .priority))),
-      )) o ok) t changed
+pub member-set : (m : List ℕ) (o : Operation) (i flags address : ℕ) (p : TextPlace) (s t head : List ℕ) → length head ≡ 4 → (address < 16777216 → head ≡ flags ∷ u24 address)
+    → (i * member-width + member-width ≤ length s → PlaceSet false m o p head member-width i s t) → MemberSet m o i flags address p s t
+member-set m o i flags address p s t head four hd changed w f a fl ad os us next is low ok h =
+    place-overwritten (member-ok w) member-width (member-bytes w) (member-code w .long) slot-places os s h i low o (member w f a us) head (text-limits .short) us next is (omega arith)
+    (after-turn (member-ok w) (Made (member-ok w) (member-bytes w) head (text-limits .short) us) (member w f a us) (λ g.
+    let (few, text, bytes) = parts-of w (member w f a us) g in
+    let e : head ≡ flags-of w f ∷ u24 (number-of w a) = hd (omega (arith, few, ad)) ∙ (λ j. fl us g j ∷ u24 (ad j)) in
+    (g, text .short, ap (λ (l : List ℕ). l ++ text-bytes (text-limits .short) us) e ∙ bytes)) o ok) t changed

@@ -1,11 +1,13 @@
--- What the functions that change a part with a place for each entry promise: its bytes at exit, for every table that its bytes at entry are.
-use Prim.Native.Nat.{ℕ, _+_, _*_, _≤_, _<_}
+-- What the functions that change a region with a place for each entry promise: its bytes at exit, for every table that its bytes at entry are.
+use Prim.Native.Nat.{ℕ, _+_, _-_, _*_, _≤_, _<_}
 use mathlib.Core.Path.{_≡_}
+use mathlib.Core.Bool.{Bool, true, false}
 use mathlib.Core.List.{List, _++_, map}
 use mathlib.Core.Option.{Option, none, some}
-use lib.ListN.{length, take, drop, set}
+use lib.ListN.{length, take, drop, set, replicate}
 use Rattle.lists.specs.Every.{All}
-use Rattle.slots.specs.Slots.{slot, Present, Placed}
+use Rattle.slots.specs.Slots.{zeros?, Present, Placed}
+use Rattle.writing.specs.declared.Coding.{Coding}
 use Rattle.writing.specs.declared.GroupFlags.{GroupFlags}
 use Rattle.writing.specs.declared.IndividualFlags.{IndividualFlags}
 use Rattle.writing.specs.declared.KeyFlags.{KeyFlags}
@@ -13,126 +15,158 @@ use Rattle.writing.specs.declared.KeyTarget.{KeyTarget}
 use Rattle.writing.specs.declared.Operation.{Operation}
 use Rattle.writing.specs.declared.Operation.the-variants.{Add, Delete, Replace}
 use Rattle.writing.specs.declared.SystemCode.{SystemCode}
-use Rattle.writing.specs.Fields.{each, val}
+use Rattle.writing.specs.Fields.{Field, each, val}
 use Rattle.writing.specs.Ranges.{text-limits, InQuick, InStatus, HashSize}
-use Rattle.writing.specs.Settings.{Text, Entry, unicode16}
+use Rattle.writing.specs.Settings.{Text, Entry}
 use Rattle.writing.specs.Writing.{quick-text, status-text}
-use Rattle.read_fields.specs.Entries.{EntryIs}
-use Rattle.read_fields.specs.Parts.{TextIs}
-use Rattle.read_fields.specs.Places.{PartAt}
-use Rattle.settings.specs.Settings.{EntriesAre}
+use Rattle.read_fields.specs.Entries.{EntryIs, QuickFrom}
+use Rattle.read_fields.specs.TextsAndNumbers.{TextIs}
+use Rattle.read_fields.specs.Places.{FieldsAt}
+use Rattle.settings.specs.Meant.{EntriesAre}
 use Rattle.read_fields.specs.declared.entries.EntryPlace.{EntryPlace}
 use Rattle.read_fields.specs.declared.hashes.HashPlace.{HashPlace}
 use Rattle.settings.specs.declared.settings.Entries.{Entries}
 use Rattle.settings.specs.declared.settings.GroupPlace.{GroupPlace}
 use Rattle.settings.specs.declared.settings.IndividualPlace.{IndividualPlace}
 use Rattle.read_fields.specs.declared.texts.TextPlace.{TextPlace}
-use Rattle.tables.specs.Allowed.{QuickOk, StatusOk, GroupOk, IndividualOk}
-use Rattle.tables.specs.Apply.{if-absent, quick-step, quick-after, status-step, status-after, slot-after}
-use Rattle.tables.specs.Layout.{text-bytes, quick-bytes, quick-width, status-bytes, status-width, group-bytes, individual-bytes, member-width, key-address, key-bytes, system-bytes, hash-bytes}
+use Rattle.tables.specs.Allowed.{QuickOk, StatusOk}
+use Rattle.tables.specs.Apply.{in-turn, start-from, quick-step, status-step, slot-after}
+use Rattle.tables.specs.Layout.{text-bytes, quick-bytes, quick-width, status-bytes, status-width, member-width, key-address, key-bytes, system-bytes, hash-bytes}
+use Rattle.tables.specs.declared.members.Members.{Members}
+use Rattle.tables.specs.declared.members.Members.the-variants.{OfGroups, OfIndividuals}
+use Rattle.tables.specs.Members.{FlagsIn, AddressIn, MemberIn, member-ok, flags-of, number-of, member-bytes}
 use Rattle.tables.specs.Limits.{quick-places, status-places, slot-places}
 use Rattle.tables.specs.Tables.{GroupMember, IndividualMember}
 use Rattle.tables.specs.Changing.{Changed}
+use Rattle.store_places.specs.declared.texts.TextTable.{TextTable}
+use Rattle.store_places.specs.declared.texts.TextTable.the-variants.{Quick, Status}
 
--- ---- quick texts
+-- ---- quick texts and status texts
 
--- the bytes are the quick texts
-abbrev pub QuicksAre : List (Option Text) → List ℕ → Type 0
-QuicksAre qs s = Placed QuickOk quick-width quick-bytes quick-places qs s
+-- how an entry is written
+abbrev pub entry-form : TextTable → Coding → Entry → List Field
+entry-form Quick c = quick-text c
+entry-form Status c = status-text c
 
--- what the entries make of the quick texts
-abbrev pub QuickApplied : List ℕ → Operation → Entries → List ℕ → List ℕ → Type 0
-QuickApplied m o p s t =
-    (es : List Entry) → EntriesAre (each (quick-text unicode16)) m p es → All (InQuick text-limits o) es → Changed QuicksAre (quick-after o es) s t
+-- which entries are in range of an operation
+abbrev pub InTexts : TextTable → Operation → Entry → Type 0
+InTexts Quick o e = InQuick text-limits o e
+InTexts Status o e = InStatus text-limits e
 
--- inner steps: one entry
-abbrev pub QuickStep : List ℕ → Operation → EntryPlace → List ℕ → List ℕ → Type 0
-QuickStep m o p s t =
-    (e : Entry) → EntryIs unicode16 m p e → e .index < quick-places → InQuick text-limits o e → Changed QuicksAre (quick-step o e) s t
+-- what an entry makes of the table
+abbrev pub text-step : TextTable → Operation → Entry → List (Option Text) → Option (List (Option Text))
+text-step Quick = quick-step
+text-step Status = status-step
 
--- a slot that holds q becomes that of what q is changed to
-abbrev pub QuickChanged : List ℕ → TextPlace → (Option Text → Text → Option Text) → List ℕ → List ℕ → Type 0
-QuickChanged m p change s t =
-    (q : Option Text) (us : Text) (next : ℕ) → TextIs unicode16 m p us next → length us ≤ text-limits .quick → Present QuickOk q
-    → s ≡ slot quick-width quick-bytes q → t ≡ slot quick-width quick-bytes (change q us)
+-- which texts the table may have
+abbrev pub TextIn : TextTable → Text → Type 0
+TextIn Quick = QuickOk
+TextIn Status = StatusOk
 
--- what an operation leaves in a slot
-abbrev pub quick-slot : Operation → Option Text → Text → Option Text
-quick-slot Add q us = if-absent q us
-quick-slot Delete q us = none
-quick-slot Replace q us = if-absent q us
+-- their bytes, and how many these are
+abbrev pub text-code : TextTable → Text → List ℕ
+text-code Quick = quick-bytes
+text-code Status = status-bytes
 
--- a slot that an operation changes
-abbrev pub QuickSlot : List ℕ → Operation → TextPlace → List ℕ → List ℕ → Type 0
-QuickSlot m o p = QuickChanged m p (quick-slot o)
+abbrev pub text-width : TextTable → ℕ
+text-width Quick = quick-width
+text-width Status = status-width
 
--- a slot that a text is put in where there is none
-abbrev pub QuickIfAbsent : List ℕ → TextPlace → List ℕ → List ℕ → Type 0
-QuickIfAbsent m p = QuickChanged m p if-absent
+-- how many places it has
+abbrev pub text-places : TextTable → ℕ
+text-places Quick = quick-places
+text-places Status = status-places
 
--- ---- slots that are overwritten
+-- the bytes are the texts of the table
+abbrev pub TextsAre : TextTable → List (Option Text) → List ℕ → Type 0
+TextsAre k ts s = Placed (TextIn k) (text-width k) (text-code k) (text-places k) ts s
 
--- a slot of a head and room for n units: the text's bytes behind the head's, or zeros in a delete
-abbrev pub SlotSet : List ℕ → Operation → TextPlace → List ℕ → List ℕ → List ℕ → Type 0
-SlotSet m o p head s t =
-    (n : ℕ) (us : Text) (next : ℕ) → TextIs unicode16 m p us next → Present (λ us. length us ≤ n) (slot-after o us) → length s ≡ length head + 2 * n
-    → t ≡ slot (length s) (λ us. head ++ text-bytes n us) (slot-after o us)
+-- what the entries make of the table
+abbrev pub TextsApplied : TextTable → List ℕ → Operation → Entries → List ℕ → List ℕ → Type 0
+TextsApplied k m o p s t =
+    (es : List Entry) → EntriesAre (λ c. each (entry-form k c)) m p es → All (InTexts k o) es
+    → Changed (TextsAre k) (λ ts. in-turn (text-step k o) es (start-from o (replicate (text-places k) none) ts)) s t
+
+-- inner steps: the entries that are read, whatever the operation
+abbrev pub Readable : TextTable → Entry → Type 0
+Readable Quick = QuickFrom text-limits 0
+Readable Status = InStatus text-limits
+
+-- the place of an index, and of a code
+abbrev pub text-place : TextTable → ℕ → ℕ
+text-place Quick i = i
+text-place Status i = i - 32
+
+-- one entry
+abbrev pub TextStep : TextTable → List ℕ → Operation → EntryPlace → List ℕ → List ℕ → Type 0
+TextStep k m o p s t =
+    (e : Entry) → EntryIs m p e → text-place k (e .index) < text-places k → InTexts k o e → Changed (TextsAre k) (text-step k o e) s t
+
+-- ---- slots of a head and a text
+
+-- whether a slot may be filled: one that is to be kept only where it is empty
+abbrev pub free? : Bool → List ℕ → Bool
+free? true s = zeros? s
+free? false s = true
+
+-- a slot that may be filled, of a head and room for n units, becomes the head and the text's bytes, and another stays
+pub record SlotPut (keep : Bool) (m : List ℕ) (p : TextPlace) (head s t : List ℕ) : Type 0 where
+  pub kept : free? keep s ≡ false → t ≡ s
+  pub filled : free? keep s ≡ true → (n : ℕ) (us : Text) (next : ℕ) → TextIs m p us next → length us ≤ n → length s ≡ length head + 2 * n → t ≡ head ++ text-bytes n us
+
+-- so it is set by an operation that adds, and a delete leaves zeros
+abbrev pub SlotSet : Bool → List ℕ → Operation → TextPlace → List ℕ → List ℕ → List ℕ → Type 0
+SlotSet keep m Add p head s t = SlotPut keep m p head s t
+SlotSet keep m Delete p head s t = t ≡ replicate (length s) 0
+SlotSet keep m Replace p head s t = SlotPut keep m p head s t
 
 -- place k of slots of w bytes is set so, and the others stand
-pub record PlaceSet (m : List ℕ) (o : Operation) (p : TextPlace) (head : List ℕ) (w k : ℕ) (s t : List ℕ) : Type 0 where
+pub record PlaceSet (keep : Bool) (m : List ℕ) (o : Operation) (p : TextPlace) (head : List ℕ) (w k : ℕ) (s t : List ℕ) : Type 0 where
   pub slot : List ℕ
-  pub set : SlotSet m o p head (take w (drop (k * w) s)) slot
+  pub set : SlotSet keep m o p head (take w (drop (k * w) s)) slot
   pub others : t ≡ take (k * w) s ++ (slot ++ drop w (drop (k * w) s))
-
--- an inner step: a slot that is filled
-abbrev pub SlotPut : List ℕ → TextPlace → List ℕ → List ℕ → List ℕ → Type 0
-SlotPut m = SlotSet m Add
-
--- ---- status texts
-
--- the bytes are the status texts
-abbrev pub StatusesAre : List (Option Text) → List ℕ → Type 0
-StatusesAre ss s = Placed StatusOk status-width status-bytes status-places ss s
-
--- what the entries make of the status texts
-abbrev pub StatusApplied : List ℕ → Operation → Entries → List ℕ → List ℕ → Type 0
-StatusApplied m o p s t =
-    (es : List Entry) → EntriesAre (each (status-text unicode16)) m p es → All (InStatus text-limits) es → Changed StatusesAre (status-after o es) s t
-
--- an inner step: one entry
-abbrev pub StatusStep : List ℕ → Operation → EntryPlace → List ℕ → List ℕ → Type 0
-StatusStep m o p s t = (e : Entry) → EntryIs unicode16 m p e → InStatus text-limits e → Changed StatusesAre (status-step o e) s t
 
 -- ---- group and individual slots
 
--- the bytes are the group slots
+-- the bytes are the slots of a table
+abbrev pub MembersAre : (w : Members) → List (Option (MemberIn w)) → List ℕ → Type 0
+MembersAre w os s = Placed (member-ok w) member-width (member-bytes w) slot-places os s
+
+-- the member that a setting gives
+abbrev pub member : (w : Members) → FlagsIn w → AddressIn w → Text → MemberIn w
+member w f a us = record { flags = f; address = a; text = us }
+
+-- the slot of an index is set to the member, or emptied, and the others stand; in a delete the member need not be allowed
+abbrev pub MemberApplied : (w : Members) → List ℕ → Operation → FlagsIn w → AddressIn w → (index : ℕ) → TextPlace → List ℕ → List ℕ → Type 0
+MemberApplied w m o f a i p s t =
+    (os : List (Option (MemberIn w))) (us : Text) (next : ℕ) → TextIs m p us next → i < slot-places
+    → Present (member-ok w) (slot-after o (member w f a us)) → MembersAre w os s → MembersAre w (set os i (slot-after o (member w f a us))) t
+
+-- an inner step: whichever table it is, where the byte of flags and the address are the member's
+abbrev pub MemberSet : List ℕ → Operation → (index flags address : ℕ) → TextPlace → List ℕ → List ℕ → Type 0
+MemberSet m o i flags address p s t =
+    (w : Members) (f : FlagsIn w) (a : AddressIn w) → ((us : Text) → member-ok w (member w f a us) → flags ≡ flags-of w f) → address ≡ number-of w a
+    → MemberApplied w m o f a i p s t
+
+-- group slots
 abbrev pub GroupsAre : List (Option GroupMember) → List ℕ → Type 0
-GroupsAre gs s = Placed GroupOk member-width group-bytes slot-places gs s
+GroupsAre = MembersAre OfGroups
 
--- the bytes are the individual slots
-abbrev pub IndividualsAre : List (Option IndividualMember) → List ℕ → Type 0
-IndividualsAre is s = Placed IndividualOk member-width individual-bytes slot-places is s
-
--- the member that a group setting gives
 abbrev pub group-member : GroupFlags → GroupPlace → Text → GroupMember
-group-member f p us = record { flags = f; address = p .address; text = us }
+group-member f p = member OfGroups f (p .address)
 
--- the member that an individual setting gives
-abbrev pub individual-member : IndividualFlags → IndividualPlace → Text → IndividualMember
-individual-member f p us = record { flags = f; address = p .address; text = us }
-
--- a group slot is set to the member, or emptied, and the others stand; in a delete the member need not be allowed
 abbrev pub GroupApplied : List ℕ → Operation → GroupFlags → GroupPlace → List ℕ → List ℕ → Type 0
-GroupApplied m o f p s t =
-    (gs : List (Option GroupMember)) (us : Text) (next : ℕ) → TextIs unicode16 m (p .text) us next → p .index < slot-places
-    → Present GroupOk (slot-after o (group-member f p us)) → GroupsAre gs s → GroupsAre (set gs (p .index) (slot-after o (group-member f p us))) t
+GroupApplied m o f p = MemberApplied OfGroups m o f (p .address) (p .index) (p .text)
 
--- and so is an individual slot
+-- individual slots
+abbrev pub IndividualsAre : List (Option IndividualMember) → List ℕ → Type 0
+IndividualsAre = MembersAre OfIndividuals
+
+abbrev pub individual-member : IndividualFlags → IndividualPlace → Text → IndividualMember
+individual-member f p = member OfIndividuals f (p .address)
+
 abbrev pub IndividualApplied : List ℕ → Operation → IndividualFlags → IndividualPlace → List ℕ → List ℕ → Type 0
-IndividualApplied m o f p s t =
-    (is : List (Option IndividualMember)) (us : Text) (next : ℕ) → TextIs unicode16 m (p .text) us next → p .index < slot-places
-    → Present IndividualOk (slot-after o (individual-member f p us)) → IndividualsAre is s
-    → IndividualsAre (set is (p .index) (slot-after o (individual-member f p us))) t
+IndividualApplied m o f p = MemberApplied OfIndividuals m o f (p .address) (p .index) (p .text)
 
 -- ---- the fixed parts
 
@@ -147,5 +181,5 @@ SystemPut c s t = c .la < 16 → c .roaming < 4 → length s ≡ 3 → t ≡ sys
 -- eleven bytes become the hash's, whose value stands in the message
 abbrev pub HashPut : List ℕ → HashPlace → List ℕ → List ℕ → Type 0
 HashPut m p s t =
-    (v : List ℕ) → HashSize (p .code) (length v) → PartAt (map (val 8) v) m (p .start) (p .start + length v) → length s ≡ 11
+    (v : List ℕ) → HashSize (p .code) (length v) → FieldsAt (map (val 8) v) m (p .start) (p .start + length v) → length s ≡ 11
     → t ≡ hash-bytes (record { code = p .code; value = v })

@@ -40,19 +40,19 @@ fn target_address(target: KeyTarget) -> u32
     }
 }
 
-pub fn put_key(part: &mut [u8], target: KeyTarget, flags: KeyFlags)
-    ensures { λ _. ⌜ KeyPut target flags (now (part .entry)) (now (part .exit)) ⌝ }
+pub fn put_key(region: &mut [u8], target: KeyTarget, flags: KeyFlags)
+    ensures { λ _. ⌜ KeyPut target flags (now (region .entry)) (now (region .exit)) ⌝ }
 {
     let byte = target_bits(target)
         + bit_of(flags.voice) * 4
         + bit_of(flags.status) * 2
         + bit_of(flags.siren);
     let bytes = head_of(byte, target_address(target));
-    copy(part, &bytes);
+    copy(region, &bytes);
 }
 
-pub fn put_home(part: &mut [u8], h: HomeNumbers)
-    ensures { λ _. ⌜ (length (now (part .entry)) ≡ 4 → now (part .exit) ≡ home-bytes h) ⌝ }
+pub fn put_home(region: &mut [u8], h: HomeNumbers)
+    ensures { λ _. ⌜ (length (now (region .entry)) ≡ 4 → now (region .exit) ≡ home-bytes h) ⌝ }
 {
     let bytes: [u8; 4] = [
         (h.nzi / 256) as u8,
@@ -60,34 +60,34 @@ pub fn put_home(part: &mut [u8], h: HomeNumbers)
         (h.np / 256) as u8,
         (h.np % 256) as u8,
     ];
-    copy(part, &bytes);
+    copy(region, &bytes);
 }
 
-pub fn put_system(part: &mut [u8], s: SystemCode)
-    ensures { λ _. ⌜ SystemPut s (now (part .entry)) (now (part .exit)) ⌝ }
+pub fn put_system(region: &mut [u8], s: SystemCode)
+    ensures { λ _. ⌜ SystemPut s (now (region .entry)) (now (region .exit)) ⌝ }
 {
     let bytes: [u8; 3] = [
         (s.lai / 256) as u8,
         (s.lai % 256) as u8,
         s.la % 16 * 8 + s.roaming % 4 * 2 + bit_of(s.par),
     ];
-    copy(part, &bytes);
+    copy(region, &bytes);
 }
 
 // No hash is kept.
-pub fn clear_hash(part: &mut [u8])
-    ensures { λ _. ⌜ (length (now (part .entry)) ≡ 11 → now (part .exit) ≡ hash-bytes no-hash) ⌝ }
+pub fn clear_hash(region: &mut [u8])
+    ensures { λ _. ⌜ (length (now (region .entry)) ≡ 11 → now (region .exit) ≡ hash-bytes no-hash) ⌝ }
 {
-    wipe(part);
+    wipe(region);
 }
 
 // The code, the value's bytes as they stand in the message, and zeros after them. A place outside the message changes nothing.
-pub fn put_hash(part: &mut [u8], m: &[u8], place: HashPlace)
-    ensures { λ _. ⌜ HashPut (now (m .entry)) place (now (part .entry)) (now (part .exit)) ⌝ }
+pub fn put_hash(region: &mut [u8], m: &[u8], place: HashPlace)
+    ensures { λ _. ⌜ HashPut (now (m .entry)) place (now (region .entry)) (now (region .exit)) ⌝ }
 {
     let size = hash_size(place.code);
     if size == 0 {
-        clear_hash(part);
+        clear_hash(region);
         return;
     }
     let a = place.start;
@@ -97,10 +97,10 @@ pub fn put_hash(part: &mut [u8], m: &[u8], place: HashPlace)
     if m.len() - a < size {
         return;
     }
-    if part.len() < 1 {
+    if region.len() < 1 {
         return;
     }
     let e = a + size;
-    copy_padded(&mut part[1..], &m[a..e]);
-    part[0] = place.code;
+    copy_padded(&mut region[1..], &m[a..e]);
+    region[0] = place.code;
 }

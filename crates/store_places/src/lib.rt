@@ -2,6 +2,4 @@
 pub mod fixed;
 pub mod members;
 mod overwriting;
-pub mod quick;
-mod replacing;
-pub mod status;
+pub mod texts;

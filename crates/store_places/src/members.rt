@@ -1,61 +1,59 @@
 // Group and individual slots: a place for each index of 4 bits.
 use super::overwriting::set_place;
+use read_fields::texts::TextPlace;
 use settings::settings::GroupPlace;
 use settings::settings::IndividualPlace;
-use tables::heads::bit_of;
+use tables::heads::group_flag_byte;
 use tables::heads::head_of;
+use tables::heads::individual_flag_byte;
 use writing::GroupFlags;
 use writing::IndividualFlags;
 use writing::Operation;
-ghost use mathlib.Core.Path.{_≡_};
-ghost use Prim.Native.Nat.{_<_};
-ghost use Rattle.store_places.specs.Changes.{GroupApplied, IndividualApplied};
-ghost use Rattle.tables.specs.Layout.{group-flags, individual-flags};
+ghost use Rattle.store_places.specs.Changes.{MemberSet, GroupApplied, IndividualApplied};
 
 // A slot's bytes: a byte of flags, three of the address, and 16 units of two.
 const WIDTH: u8 = 36;
 
-pub fn group_flag_byte(flags: GroupFlags) -> u8
-    ensures { λ r. ⌜ (flags .attribute < 4 → flags .priority < 4 → r ≡ group-flags flags) ⌝ }
+// Sets the slot of an index to a byte of flags, an address and a text, or wipes it in a delete.
+fn set_member(
+    region: &mut [u8],
+    m: &[u8],
+    operation: Operation,
+    index: u8,
+    flags: u8,
+    address: u32,
+    text: TextPlace,
+)
+    ensures { λ _. ⌜ MemberSet (now (m .entry)) operation index flags address text (now (region .entry)) (now (region .exit)) ⌝ }
 {
-    flags.attribute % 4 * 64
-        + bit_of(flags.broadcast) * 32
-        + bit_of(flags.encryption) * 16
-        + bit_of(flags.ovcm) * 8
-        + bit_of(flags.emergency) * 4
-        + flags.priority % 4
-}
-
-pub fn individual_flag_byte(flags: IndividualFlags) -> u8
-    ensures { λ r. ⌜ (flags .priority < 4 → r ≡ individual-flags flags) ⌝ }
-{
-    bit_of(flags.encryption) * 8 + bit_of(flags.emergency) * 4 + flags.priority % 4
+    let head = head_of(flags, address);
+    set_place(region, WIDTH, index, &head, m, operation, text, false);
 }
 
 pub fn apply_group(
-    part: &mut [u8],
+    region: &mut [u8],
     m: &[u8],
     operation: Operation,
     flags: GroupFlags,
     place: GroupPlace,
 )
-    ensures { λ _. ⌜ GroupApplied (now (m .entry)) operation flags place (now (part .entry)) (now (part .exit)) ⌝ }
+    ensures { λ _. ⌜ GroupApplied (now (m .entry)) operation flags place (now (region .entry)) (now (region .exit)) ⌝ }
 {
+    let byte = group_flag_byte(flags);
     let address = place.address.0;
-    let head = head_of(group_flag_byte(flags), address);
-    set_place(part, WIDTH, place.index, &head, m, operation, place.text);
+    set_member(region, m, operation, place.index, byte, address, place.text);
 }
 
 pub fn apply_individual(
-    part: &mut [u8],
+    region: &mut [u8],
     m: &[u8],
     operation: Operation,
     flags: IndividualFlags,
     place: IndividualPlace,
 )
-    ensures { λ _. ⌜ IndividualApplied (now (m .entry)) operation flags place (now (part .entry)) (now (part .exit)) ⌝ }
+    ensures { λ _. ⌜ IndividualApplied (now (m .entry)) operation flags place (now (region .entry)) (now (region .exit)) ⌝ }
 {
+    let byte = individual_flag_byte(flags);
     let address = place.address.0;
-    let head = head_of(individual_flag_byte(flags), address);
-    set_place(part, WIDTH, place.index, &head, m, operation, place.text);
+    set_member(region, m, operation, place.index, byte, address, place.text);
 }

@@ -1,10 +1,5 @@
 -- What the yes or no of a test says. Assumes nothing.
-use mathlib.Core.Path.{_≡_, refl, sym, ap, _∙_}
-use mathlib.Core.Bool.{Bool, true, false, not, true≢false, false≢true}
-use mathlib.Core.Logic.{_↔_, _≢_}
-use Prim.Native.Nat.{ℕ, _≤_}
-use borrow.Author.Tests.{eqb-false, leb-true, le-leb, ne-eqb, not-true, not-false}
-use lib.Dec.{eqb, leb}
+use Rattle.lists.proofs.Kit.{_≡_, refl, sym, ap, _∙_, Bool, true, false, not, true≢false, false≢true, _↔_, _≢_, ℕ, _≤_, eqb-false, leb-true, le-leb, ne-eqb, not-true, not-false, eqb, leb}
 
 module _ {X : Type 0} where
   -- no is right where it cannot be

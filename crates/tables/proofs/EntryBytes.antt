@@ -1,7 +1,5 @@
--- The bytes of entries and of the fixed parts are bytes: below 256. Assumes nothing.
-use Prim.Native.Nat.{ℕ, _+_, _*_, _<_}
-use mathlib.Core.List.{[], _∷_, _++_}
-use native.Mathlib.Omega.{arith}
+-- The bytes of entries and of the fixed regions are bytes: below 256. Assumes nothing.
+use Rattle.lists.proofs.Kit.{ℕ, _+_, _*_, _<_, [], _∷_, _++_, arith}
 use Rattle.lists.specs.Bytes.{Bytes}
 use Rattle.lists.proofs.Bytes.{all-bytes, bytes-append, bytes-cons, bytes-zeros}
 use Rattle.slots.specs.Slots.{pad, u16, u24}
@@ -36,9 +34,10 @@ channel-are-bytes n p = u16-bytes n (omega (arith, p .1))
 -- a line contact
 pub line-are-bytes : (l : Line) → LineOk l → Bytes (line-bytes l)
 line-are-bytes l p =
-    bytes-cons _ (digit-bytes (l .number) ++ text-bytes 16 (l .text))
-    (omega (arith, p .priority, bit-small (l .flags .encryption), bit-small (l .flags .emergency), bit-small (l .flags .pabx)))
-    (bytes-append (digit-bytes (l .number)) (text-bytes 16 (l .text)) (digits-are-bytes (l .number) (p .number)) (text-are-bytes 16 (l .text) (p .text)))
+    bytes-cons _ (bit (l .flags .pabx) ∷ digit-bytes (l .number) ++ text-bytes 16 (l .text))
+    (omega (arith, p .priority, bit-small (l .flags .encryption), bit-small (l .flags .emergency)))
+    (bytes-cons (bit (l .flags .pabx)) (digit-bytes (l .number) ++ text-bytes 16 (l .text)) (omega (arith, bit-small (l .flags .pabx)))
+    (bytes-append (digit-bytes (l .number)) (text-bytes 16 (l .text)) (digits-are-bytes (l .number) (p .number)) (text-are-bytes 16 (l .text) (p .text))))
 
 -- a group slot
 pub group-are-bytes : (g : GroupMember) → GroupOk g → Bytes (group-bytes g)

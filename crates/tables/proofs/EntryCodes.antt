@@ -1,12 +1,5 @@
 -- The bytes of an entry of a table: as many as its slot is wide, not all zeros, and they tell the entry. Assumes nothing.
-use Prim.Native.Nat.{ℕ, suc, _≤_, _<_}
-use mathlib.Core.Path.{_≡_, refl, sym, ap, _∙_}
-use mathlib.Core.Bool.{Bool, true, false, true≢false}
-use mathlib.Core.List.{List, _∷_, _++_, head-eq-of-cons-eq, tail-eq-of-cons-eq}
-use native.Mathlib.Omega.{arith}
-use lib.Dec.{eqb}
-use lib.ListN.{length, length-append}
-use lib.Seq.{take-at}
+use Rattle.lists.proofs.Kit.{ℕ, suc, _+_, _*_, _≤_, _<_, _≡_, refl, sym, ap, _∙_, Bool, true, false, true≢false, List, _∷_, _++_, head-eq-of-cons-eq, tail-eq-of-cons-eq, arith, eqb, length, length-append, take-at}
 use Rattle.lists.proofs.Bools.{is-false, and-parts}
 use Rattle.lists.proofs.Seqs.{cut}
 use Rattle.slots.specs.Slots.{u16, u24, zeros?}
@@ -21,7 +14,10 @@ use Rattle.writing.specs.Ranges.{InChannel, text-limits}
 use Rattle.writing.specs.Settings.{Text}
 use Rattle.writing.specs.Writing.{bit}
 use Rattle.tables.specs.Allowed.{TextOk, QuickOk, StatusOk, LineOk, GroupOk, IndividualOk}
-use Rattle.tables.specs.Layout.{text-bytes, digit-bytes, quick-bytes, status-bytes, line-bytes, group-bytes, individual-bytes, line-flags, group-flags, individual-flags, quick-width, status-width, member-width, channel-width, line-width}
+use Rattle.tables.specs.Layout.{text-bytes, digit-bytes, quick-bytes, status-bytes, line-bytes, digits-at, group-bytes, individual-bytes, line-flags, group-flags, individual-flags, quick-width, status-width, member-width, channel-width, line-width}
+use Rattle.tables.specs.declared.members.Members.{Members}
+use Rattle.tables.specs.declared.members.Members.the-variants.{OfGroups, OfIndividuals}
+use Rattle.tables.specs.Members.{MemberIn, member-ok, member-bytes}
 use Rattle.tables.specs.Tables.{Line, Member, GroupMember, IndividualMember}
 use Rattle.tables.proofs.TextCodes.{text-length, text-one, text-shown, digits-length, digits-one, digits-shown}
 
@@ -32,7 +28,11 @@ pub bit-small : (b : Bool) → bit b ≤ 1
 bit-small true = omega arith
 bit-small false = omega arith
 
--- and says which
+-- and so are two
+pub both-small : (a b : Bool) → (bit a ≤ 1) × (bit b ≤ 1)
+both-small a b = (bit-small a, bit-small b)
+
+-- a flag's bit says which
 pub bit-one : (a b : Bool) → bit a ≡ bit b → a ≡ b
 bit-one true true e = refl
 bit-one true false e = absurd (omega arith)
@@ -69,33 +69,29 @@ channel-shown n p = u16-shown n (λ e. omega (arith, p .0))
 
 -- ---- line contacts
 
--- the byte of flags tells them
-line-flags-one : (f g : LineFlags) → f .priority < 4 → g .priority < 4 → line-flags f ≡ line-flags g → f ≡ g
-line-flags-one f g p q e =
-    let a = bit-small (f .encryption) in
-    let b = bit-small (g .encryption) in
-    let c = bit-small (f .emergency) in
-    let d = bit-small (g .emergency) in
-    let h = bit-small (f .pabx) in
-    let k = bit-small (g .pabx) in
-    let u : bit (f .encryption) ≡ bit (g .encryption) = omega arith in
-    let v : bit (f .emergency) ≡ bit (g .emergency) = omega arith in
-    let w : f .priority ≡ g .priority = omega arith in
-    let x : bit (f .pabx) ≡ bit (g .pabx) = omega arith in
-    let u' = bit-one (f .encryption) (g .encryption) u in
-    let v' = bit-one (f .emergency) (g .emergency) v in
-    let x' = bit-one (f .pabx) (g .pabx) x in
-    (λ i. record { encryption = u' i; emergency = v' i; priority = w i; pabx = x' i })
+-- encryption, emergency and priority in one byte
+three-one : (a b c d : Bool) (m n : ℕ) → m < 4 → n < 4 → bit a * 8 + bit b * 4 + m ≡ bit c * 8 + bit d * 4 + n → (a ≡ c) × (b ≡ d) × (m ≡ n)
+three-one a b c d m n p q e =
+    let x = both-small a c in
+    let y = both-small b d in
+    (bit-one a c (omega arith), bit-one b d (omega arith), omega arith)
 
--- 51 bytes
+-- the bytes of flags and IDtype tell them
+line-flags-one : (f g : LineFlags) → f .priority < 4 → g .priority < 4 → line-flags f ≡ line-flags g → bit (f .pabx) ≡ bit (g .pabx) → f ≡ g
+line-flags-one f g p q e x =
+    let (u, v, w) = three-one (f .encryption) (f .emergency) (g .encryption) (g .emergency) (f .priority) (g .priority) p q e in
+    let y = bit-one (f .pabx) (g .pabx) x in
+    (λ i. record { encryption = u i; emergency = v i; priority = w i; pabx = y i })
+
+-- 52 bytes
 line-long : (l : Line) → length (line-bytes l) ≡ line-width
 line-long l = omega (arith, length-append (digit-bytes (l .number)) (text-bytes 16 (l .text)), digits-length (l .number), text-length 16 (l .text))
 
 -- the bytes tell the line
 line-one : (a b : Line) → LineOk a → LineOk b → line-bytes a ≡ line-bytes b → a ≡ b
 line-one a b p q e =
-    let f = line-flags-one (a .flags) (b .flags) (p .priority) (q .priority) (head-eq-of-cons-eq e) in
-    let r = cut (digit-bytes (a .number)) (digit-bytes (b .number)) (digits-length (a .number) ∙ sym (digits-length (b .number))) (tail-eq-of-cons-eq e) in
+    let f = line-flags-one (a .flags) (b .flags) (p .priority) (q .priority) (head-eq-of-cons-eq e) (head-eq-of-cons-eq (tail-eq-of-cons-eq e)) in
+    let r = cut (digit-bytes (a .number)) (digit-bytes (b .number)) (digits-length (a .number) ∙ sym (digits-length (b .number))) (tail-eq-of-cons-eq (tail-eq-of-cons-eq e)) in
     let n = digits-one (a .number) (b .number) (p .number .1) (q .number .1) (r .0) in
     let t = text-one 16 (a .text) (b .text) (p .text) (q .text) (r .1) in
     (λ i. record { flags = f i; number = n i; text = t i })
@@ -104,8 +100,8 @@ line-one a b p q e =
 pub line-code : Code LineOk line-width line-bytes
 line-code = record { long = line-long; one = line-one }
 
--- its number stands behind the flags, in 18 bytes
-pub line-keyed : Keyed LineOk line-width line-bytes 1 18 (λ l. digit-bytes (l .number))
+-- its number stands behind flags and IDtype, in 18 bytes
+pub line-keyed : Keyed LineOk line-width line-bytes digits-at 18 (λ l. digit-bytes (l .number))
 line-keyed =
     record {
       wide = omega arith;
@@ -118,25 +114,25 @@ line-keyed =
 
 -- they are not all zeros
 pub line-shown : (l : Line) → LineOk l → zeros? (line-bytes l) ≡ false
-line-shown = keyed-shown LineOk line-width line-bytes 1 18 (λ l. digit-bytes (l .number)) line-keyed
+line-shown = keyed-shown LineOk line-width line-bytes digits-at 18 (λ l. digit-bytes (l .number)) line-keyed
 
 -- ---- slots, whatever the kind of their flags and address
 
 -- a byte of flags, an address and a text
-abbrev member-bytes : {F A : Type 0} → (F → ℕ) → (A → ℕ) → Member F A → List ℕ
-member-bytes flags-of number-of g = flags-of (g .flags) ∷ u24 (number-of (g .address)) ++ text-bytes (text-limits .short) (g .text)
+abbrev slot-bytes : {F A : Type 0} → (F → ℕ) → (A → ℕ) → Member F A → List ℕ
+slot-bytes flags-of number-of g = flags-of (g .flags) ∷ u24 (number-of (g .address)) ++ text-bytes (text-limits .short) (g .text)
 
 module _ {F A : Type 0} (flags-of : F → ℕ) (number-of : A → ℕ) where
   -- 36 bytes
-  member-long : (g : Member F A) → length (member-bytes flags-of number-of g) ≡ member-width
-  member-long g = omega (arith, text-length 16 (g .text))
+  slot-long : (g : Member F A) → length (slot-bytes flags-of number-of g) ≡ member-width
+  slot-long g = omega (arith, text-length 16 (g .text))
 
   -- where the byte of flags tells the flags, and the number the address, the bytes tell the slot
-  member-code : (P : Member F A → Type 0) → ((g : Member F A) → P g → TextOk 16 (g .text)) → ((a b : Member F A) → P a → P b → flags-of (a .flags) ≡ flags-of (b .flags) → a .flags ≡ b .flags)
-      → ((a b : A) → number-of a ≡ number-of b → a ≡ b) → Code P member-width (member-bytes flags-of number-of)
-  member-code P text-ok flags-one number-one = record { long = member-long; one = one }
+  slot-code : (P : Member F A → Type 0) → ((g : Member F A) → P g → TextOk 16 (g .text)) → ((a b : Member F A) → P a → P b → flags-of (a .flags) ≡ flags-of (b .flags) → a .flags ≡ b .flags)
+      → ((a b : A) → number-of a ≡ number-of b → a ≡ b) → Code P member-width (slot-bytes flags-of number-of)
+  slot-code P text-ok flags-one number-one = record { long = slot-long; one = one }
     where
-      one : (a b : Member F A) → P a → P b → member-bytes flags-of number-of a ≡ member-bytes flags-of number-of b → a ≡ b
+      one : (a b : Member F A) → P a → P b → slot-bytes flags-of number-of a ≡ slot-bytes flags-of number-of b → a ≡ b
       one a b p q e =
           let r = cut (u24 (number-of (a .address))) (u24 (number-of (b .address))) refl (tail-eq-of-cons-eq e) in
           let f = flags-one a b p q (head-eq-of-cons-eq e) in
@@ -145,9 +141,9 @@ module _ {F A : Type 0} (flags-of : F → ℕ) (number-of : A → ℕ) where
           (λ i. record { flags = f i; address = n i; text = t i })
 
   -- a slot with an address is not all zeros
-  member-shown : (g : Member F A) → 1048576 ≤ number-of (g .address) → zeros? (member-bytes flags-of number-of g) ≡ false
-  member-shown g h =
-      is-false (zeros? (member-bytes flags-of number-of g)) (λ z.
+  slot-shown : (g : Member F A) → 1048576 ≤ number-of (g .address) → zeros? (slot-bytes flags-of number-of g) ≡ false
+  slot-shown g h =
+      is-false (zeros? (slot-bytes flags-of number-of g)) (λ z.
       let a = and-parts (eqb (flags-of (g .flags)) 0) (zeros? (u24 (number-of (g .address)) ++ text-bytes 16 (g .text))) z in
       let b = and-parts (zeros? (u24 (number-of (g .address)))) (zeros? (text-bytes 16 (g .text))) (sym (zeros-append (u24 (number-of (g .address))) (text-bytes 16 (g .text))) ∙ a .1) in
       true≢false (sym (b .0) ∙ u24-shown (number-of (g .address)) (λ e. omega arith)))
@@ -157,58 +153,54 @@ module _ {F A : Type 0} (flags-of : F → ℕ) (number-of : A → ℕ) where
 -- the byte of flags tells them
 group-flags-one : (f g : GroupFlags) → f .priority < 4 → g .priority < 4 → group-flags f ≡ group-flags g → f ≡ g
 group-flags-one f g p q e =
-    let a = bit-small (f .broadcast) in
-    let b = bit-small (g .broadcast) in
-    let c = bit-small (f .encryption) in
-    let d = bit-small (g .encryption) in
-    let h = bit-small (f .ovcm) in
-    let k = bit-small (g .ovcm) in
-    let m = bit-small (f .emergency) in
-    let n = bit-small (g .emergency) in
+    let a = both-small (f .broadcast) (g .broadcast) in
+    let b = both-small (f .encryption) (g .encryption) in
+    let c = both-small (f .ovcm) (g .ovcm) in
+    let d = both-small (f .emergency) (g .emergency) in
     let u : f .attribute ≡ g .attribute = omega arith in
-    let v : bit (f .broadcast) ≡ bit (g .broadcast) = omega arith in
-    let w : bit (f .encryption) ≡ bit (g .encryption) = omega arith in
-    let x : bit (f .ovcm) ≡ bit (g .ovcm) = omega arith in
-    let y : bit (f .emergency) ≡ bit (g .emergency) = omega arith in
+    let v = bit-one (f .broadcast) (g .broadcast) (omega arith) in
+    let w = bit-one (f .encryption) (g .encryption) (omega arith) in
+    let x = bit-one (f .ovcm) (g .ovcm) (omega arith) in
+    let y = bit-one (f .emergency) (g .emergency) (omega arith) in
     let z : f .priority ≡ g .priority = omega arith in
-    let v' = bit-one (f .broadcast) (g .broadcast) v in
-    let w' = bit-one (f .encryption) (g .encryption) w in
-    let x' = bit-one (f .ovcm) (g .ovcm) x in
-    let y' = bit-one (f .emergency) (g .emergency) y in
-    (λ i. record { attribute = u i; broadcast = v' i; encryption = w' i; ovcm = x' i; emergency = y' i; priority = z i })
+    (λ i. record { attribute = u i; broadcast = v i; encryption = w i; ovcm = x i; emergency = y i; priority = z i })
 
 -- a group slot's bytes
 pub group-code : Code GroupOk member-width group-bytes
 group-code =
-    member-code group-flags (λ x. x .0) GroupOk (λ g p. p .text) (λ a b p q e. group-flags-one (a .flags) (b .flags) (p .priority) (q .priority) e)
+    slot-code group-flags (λ x. x .0) GroupOk (λ g p. p .text) (λ a b p q e. group-flags-one (a .flags) (b .flags) (p .priority) (q .priority) e)
     (λ a b e i. record { 0 = e i })
 
 -- they are not all zeros
 pub group-shown : (g : GroupMember) → GroupOk g → zeros? (group-bytes g) ≡ false
-group-shown g p = member-shown group-flags (λ x. x .0) g (p .address .0 .0)
+group-shown g p = slot-shown group-flags (λ x. x .0) g (p .address .0 .0)
 
 -- ---- individual slots
 
 -- the byte of flags tells them
 individual-flags-one : (f g : IndividualFlags) → f .priority < 4 → g .priority < 4 → individual-flags f ≡ individual-flags g → f ≡ g
 individual-flags-one f g p q e =
-    let a = bit-small (f .encryption) in
-    let b = bit-small (g .encryption) in
-    let c = bit-small (f .emergency) in
-    let d = bit-small (g .emergency) in
-    let u : bit (f .encryption) ≡ bit (g .encryption) = omega arith in
-    let v : bit (f .emergency) ≡ bit (g .emergency) = omega arith in
-    let w : f .priority ≡ g .priority = omega arith in
-    let u' = bit-one (f .encryption) (g .encryption) u in
-    let v' = bit-one (f .emergency) (g .emergency) v in
-    (λ i. record { encryption = u' i; emergency = v' i; priority = w i })
+    let (u, v, w) = three-one (f .encryption) (f .emergency) (g .encryption) (g .emergency) (f .priority) (g .priority) p q e in
+    (λ i. record { encryption = u i; emergency = v i; priority = w i })
 
 -- an individual slot's bytes
 pub individual-code : Code IndividualOk member-width individual-bytes
 individual-code =
-    member-code individual-flags (λ x. x .0) IndividualOk (λ g p. p .text) (λ a b p q e. individual-flags-one (a .flags) (b .flags) (p .priority) (q .priority) e)
+    slot-code individual-flags (λ x. x .0) IndividualOk (λ g p. p .text) (λ a b p q e. individual-flags-one (a .flags) (b .flags) (p .priority) (q .priority) e)
     (λ a b e i. record { 0 = e i })
 
 -- they are not all zeros
 pub individual-shown : (g : IndividualMember) → IndividualOk g → zeros? (individual-bytes g) ≡ false
-individual-shown g p = member-shown individual-flags (λ x. x .0) g (p .address .0 .0)
+individual-shown g p = slot-shown individual-flags (λ x. x .0) g (p .address .0 .0)
+
+-- ---- slots of either table
+
+-- a slot's bytes
+pub member-code : (w : Members) → Code (member-ok w) member-width (member-bytes w)
+member-code OfGroups = group-code
+member-code OfIndividuals = individual-code
+
+-- they are not all zeros
+pub member-shown : (w : Members) (x : MemberIn w) → member-ok w x → zeros? (member-bytes w x) ≡ false
+member-shown OfGroups = group-shown
+member-shown OfIndividuals = individual-shown

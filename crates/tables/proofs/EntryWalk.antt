@@ -1,16 +1,11 @@
 -- A loop that applies entries in turn: those that are left, from the table that stands now, give what all give from the start. Assumes nothing.
-use Prim.Native.Nat.{ℕ, _+_, _-_, _*_, _≤_, _<_}
-use mathlib.Core.Path.{_≡_, refl, sym, ap, _∙_, subst, subst⁻¹}
-use mathlib.Core.List.{List, [], _∷_}
-use mathlib.Core.Option.{Option, none, some}
-use native.Mathlib.Omega.{arith}
-use lib.ListN.{length}
+use Rattle.lists.proofs.Kit.{ℕ, _+_, _-_, _*_, _≤_, _<_, _≡_, refl, sym, ap, _∙_, subst, subst⁻¹, List, [], _∷_, Option, none, some, arith, length}
 use Rattle.lists.specs.Every.{All}
 use Rattle.writing.specs.Fields.{Field, widths, each}
 use Rattle.writing.proofs.Ends.{Ends}
-use Rattle.writing.specs.Settings.{Entry, unicode16}
+use Rattle.writing.specs.Settings.{Entry}
 use Rattle.read_fields.specs.Entries.{EntryIs, EntryAt}
-use Rattle.read_fields.specs.Places.{PartAt}
+use Rattle.read_fields.specs.Places.{FieldsAt}
 use Rattle.read_fields.specs.declared.entries.EntryPlace.{EntryPlace}
 use Rattle.read_fields.specs.declared.entries.EntryRead.{EntryRead}
 use Rattle.read_fields.specs.declared.entries.EntryRead.the-variants.{Entry as AnEntry, NoEntry}
@@ -106,7 +101,7 @@ module _ {A T : Type 0} (Starts : List A → Type 0) (Stands : List A → List A
 module _ {A : Type 0} (f : A → List Field) (m : List ℕ) where
   -- those that are left stand at the place, up to some end
   abbrev pub Standing : List A → List A → ℕ → Type 0
-  Standing es rest at = (end : ℕ) × PartAt (each f rest) m at end
+  Standing es rest at = (end : ℕ) × FieldsAt (each f rest) m at end
 
   -- so many stand at the place
   abbrev pub Starting : ℕ → ℕ → List A → Type 0
@@ -114,14 +109,14 @@ module _ {A : Type 0} (f : A → List Field) (m : List ℕ) where
 
   module _ (wide : (a : A) → (n : ℕ) × (widths (f a) ≡ 8 * n)) (at : ℕ) where
     -- the first that is left stands next
-    first-stands : (es : List A) (b : A) (more : List A) → Standing es (b ∷ more) at → (q : ℕ) × PartAt (f b) m at q × Standing es more q
+    first-stands : (es : List A) (b : A) (more : List A) → Standing es (b ∷ more) at → (q : ℕ) × FieldsAt (f b) m at q × Standing es more q
     first-stands es b more (end, x) =
         let (n, e) = wide b in
         let (y, z) = part-split (f b) (each f more) m at n end e x in
         (at + n, y, (end, z))
 
     -- where an entry stands next it is that one
-    next-entry : Ends f → (a : A) (q : ℕ) → PartAt (f a) m at q → (es : List A) (b : A) (more : List A) → Standing es (b ∷ more) at → (b ≡ a) × Standing es more q
+    next-entry : Ends f → (a : A) (q : ℕ) → FieldsAt (f a) m at q → (es : List A) (b : A) (more : List A) → Standing es (b ∷ more) at → (b ≡ a) × Standing es more q
     next-entry ends a q x es b more y =
         let (r, z, w) = first-stands es b more y in
         let (e, d) = one-part f ends a b m at q r x z in
@@ -139,7 +134,7 @@ module _ {A T : Type 0} {f : A → List Field} {ends : Ends f} {wide : (a : A) �
   applying-start {at} {count} = record { going = going-start (Starting f m at count) (Standing f m) In step Is s₀ at count (λ es h. h) }
 
   module _ {at count p left : ℕ} {s : List ℕ} (g : Applying f ends wide In step Is m s₀ at count p left s) where
-    module _ (l : 0 < left) (a : A) (q : ℕ) (x : PartAt (f a) m p q) where
+    module _ (l : 0 < left) (a : A) (q : ℕ) (x : FieldsAt (f a) m p q) where
       -- the entry a, which stands next, has been applied
       pub applying-next : (t : List ℕ) → (In a → Changed Is (step a) s t) → Applying f ends wide In step Is m s₀ at count q (left - 1) t
       applying-next t applied = record {
@@ -154,7 +149,7 @@ module _ {A T : Type 0} {f : A → List Field} {ends : Ends f} {wide : (a : A) �
           (λ now is i. full i now is)
 
     -- where none that is in range stands next, none is left
-    pub applying-stuck : 0 < left → ((a : A) (q : ℕ) → In a → PartAt (f a) m p q → ⊥) → (es : List A) (start : T) → Starting f m at count es → All In es → Is start s₀ → ⊥
+    pub applying-stuck : 0 < left → ((a : A) (q : ℕ) → In a → FieldsAt (f a) m p q → ⊥) → (es : List A) (start : T) → Starting f m at count es → All In es → Is start s₀ → ⊥
     applying-stuck l never =
         going-stuck (Starting f m at count) (Standing f m) In step Is s₀ p left s l
         (λ es h b more i y. let (r, z, w) = first-stands f m wide p es b more y in never b r i z) (g .going)
@@ -167,14 +162,14 @@ module _ {A T : Type 0} {f : A → List Field} {ends : Ends f} {wide : (a : A) �
 
 module _ {T : Type 0} {f : Entry → List Field} {ends : Ends f} {wide : (e : Entry) → (n : ℕ) × (widths (f e) ≡ 8 * n)} {In : Entry → Type 0} {step : Entry → T → Option T}
     {Is : T → List ℕ → Type 0} {m s₀ : List ℕ} {at count p left : ℕ} {s : List ℕ} (g : Applying f ends wide In step Is m s₀ at count p left s)
-    (InRead : Entry → Type 0) {r : EntryRead} (read : EntryAt unicode16 f InRead m p r) (l : 0 < left) where
+    (InRead : Entry → Type 0) {r : EntryRead} (read : EntryAt f InRead m p r) (l : 0 < left) where
   -- the entry that was read has been applied
   pub entry-applied : (a : EntryPlace) (q : ℕ) (t : List ℕ) → r ≡ AnEntry a q
-      → ((e : Entry) → EntryIs unicode16 m a e → PartAt (f e) m p q → In e → Changed Is (step e) s t) → Applying f ends wide In step Is m s₀ at count q (left - 1) t
+      → ((e : Entry) → EntryIs m a e → FieldsAt (f e) m p q → In e → Changed Is (step e) s t) → Applying f ends wide In step Is m s₀ at count q (left - 1) t
   entry-applied a q t e applied =
-      let (x, i, is, z) = subst (EntryAt unicode16 f InRead m p) e read in
+      let (x, i, is, z) = subst (EntryAt f InRead m p) e read in
       applying-next g l x q z t (λ j. applied x is z j)
 
   -- none was, so none was left
   pub entry-missing : ((e : Entry) → In e → InRead e) → r ≡ NoEntry → (es : List Entry) (start : T) → Starting f m at count es → All In es → Is start s₀ → ⊥
-  entry-missing in-read e = applying-stuck g l (λ x q i y. subst (EntryAt unicode16 f InRead m p) e read x q (in-read x i) y)
+  entry-missing in-read e = applying-stuck g l (λ x q i y. subst (EntryAt f InRead m p) e read x q (in-read x i) y)

@@ -1,9 +1,5 @@
 -- A setting in range whose values fit their fields holds only what the tables may hold. Assumes nothing.
-use Prim.Native.Nat.{ℕ, _≤_, _<_}
-use mathlib.Core.Logic.{_≢_}
-use mathlib.Core.List.{List, [], _∷_, map}
-use native.Mathlib.Omega.{arith}
-use lib.ListN.{length}
+use Rattle.lists.proofs.Kit.{ℕ, _≤_, _<_, _≢_, List, [], _∷_, map, arith, length}
 use Rattle.lists.specs.Every.{All}
 use Rattle.lists.proofs.Every.{all-both, all-left, all-right}
 use Rattle.writing.specs.declared.LineFlags.{LineFlags}

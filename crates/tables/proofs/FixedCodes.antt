@@ -1,9 +1,5 @@
--- The bytes of the parts that are no tables: hash, emergency key, home numbers and system code. Assumes nothing.
-use Prim.Native.Nat.{suc, _+_, _*_}
-use mathlib.Core.Path.{_≡_, refl, sym, ap}
-use mathlib.Core.Bool.{Bool, true≢false}
-use mathlib.Core.List.{head-eq-of-cons-eq, tail-eq-of-cons-eq}
-use native.Mathlib.Omega.{arith}
+-- The bytes of the regions that are no tables: hash, emergency key, home numbers and system code. Assumes nothing.
+use Rattle.lists.proofs.Kit.{suc, _+_, _*_, _≡_, refl, sym, ap, Bool, true≢false, head-eq-of-cons-eq, tail-eq-of-cons-eq, arith}
 use Rattle.lists.proofs.Seqs.{cut}
 use Rattle.slots.specs.Slots.{u16}
 use Rattle.slots.proofs.Codes.{Code}
@@ -19,7 +15,7 @@ use Rattle.read_fields.proofs.HashLaws.{one-size, small-size}
 use Rattle.tables.specs.Allowed.{HashOk, HomeOk, SystemOk, TargetOk}
 use Rattle.tables.specs.Layout.{hash-bytes, key-bytes, key-address, home-bytes, system-bytes}
 use Rattle.tables.specs.Tables.{Key}
-use Rattle.tables.proofs.EntryCodes.{bit-small, bit-one}
+use Rattle.tables.proofs.EntryCodes.{both-small, bit-one}
 
 -- ---- the hash
 
@@ -51,16 +47,11 @@ target-one (ToIndividual x) (ToIndividual y) c d e = ap ToIndividual (λ i. reco
 -- five flags in one byte
 flags-one : (a b c d e f g h i j : Bool) → bit a * 16 + bit b * 8 + bit c * 4 + bit d * 2 + bit e ≡ bit f * 16 + bit g * 8 + bit h * 4 + bit i * 2 + bit j → (a ≡ f) × (b ≡ g) × (c ≡ h) × (d ≡ i) × (e ≡ j)
 flags-one a b c d e f g h i j q =
-    let a₁ = bit-small a in
-    let b₁ = bit-small b in
-    let c₁ = bit-small c in
-    let d₁ = bit-small d in
-    let e₁ = bit-small e in
-    let f₁ = bit-small f in
-    let g₁ = bit-small g in
-    let h₁ = bit-small h in
-    let i₁ = bit-small i in
-    let j₁ = bit-small j in
+    let k = both-small a f in
+    let l = both-small b g in
+    let m = both-small c h in
+    let n = both-small d i in
+    let o = both-small e j in
     (bit-one a f (omega arith), bit-one b g (omega arith), bit-one c h (omega arith), bit-one d i (omega arith), bit-one e j (omega arith))
 
 -- the bytes tell the key
@@ -100,8 +91,7 @@ system-one a b p q e =
     let r = cut (u16 (a .lai)) (u16 (b .lai)) refl e in
     let l = u16-one (a .lai) (b .lai) (r .0) in
     let s : a .la * 8 + a .roaming * 2 + bit (a .par) ≡ b .la * 8 + b .roaming * 2 + bit (b .par) = head-eq-of-cons-eq (r .1) in
-    let x = bit-small (a .par) in
-    let y = bit-small (b .par) in
+    let x = both-small (a .par) (b .par) in
     let la : a .la ≡ b .la = omega (arith, p .roaming, q .roaming) in
     let ro : a .roaming ≡ b .roaming = omega (arith, p .roaming, q .roaming) in
     let pa = bit-one (a .par) (b .par) (omega arith) in

@@ -1,12 +1,6 @@
--- Where the parts of the store stand: each is read at its place, and put back it changes that table and no other. Assumes nothing.
-use Prim.Native.Nat.{ℕ, _+_, _*_, _-_, _<_}
-use mathlib.Core.Path.{_≡_, refl, ap, _∙_}
-use mathlib.Core.List.{List, [], _∷_, _++_}
-use mathlib.Core.Option.{Option}
-use native.Mathlib.Omega.{arith}
-use borrow.Rule.Slice.PartMut.{putMid, midOf}
-use lib.ListN.{getD, set, take, replicate}
-use Rattle.slots.specs.Slots.{flat, places, front, u16, Placed, Listed, sum}
+-- Where the regions of the store stand: each is read at its place, and put back it changes that table and no other. Assumes nothing.
+use Rattle.lists.proofs.Kit.{ℕ, _+_, _*_, _-_, _<_, _≡_, refl, ap, _∙_, List, [], _∷_, _++_, Option, arith, putMid, midOf, getD, set, take}
+use Rattle.slots.specs.Slots.{flat, u16, Placed, Listed, sum}
 use Rattle.slots.proofs.Parts.{parts-get, parts-put}
 use Rattle.writing.specs.declared.HomeNumbers.{HomeNumbers}
 use Rattle.writing.specs.declared.SystemCode.{SystemCode}
@@ -14,160 +8,110 @@ use Rattle.writing.specs.Ranges.{InChannel}
 use Rattle.writing.specs.Settings.{Text, Hash}
 use Rattle.tables.specs.declared.limits.Limits.{Limits}
 use Rattle.tables.specs.Allowed.{Allowed, QuickOk, StatusOk, GroupOk, IndividualOk, LineOk}
-use Rattle.tables.specs.Layout.{parts, part-widths, used-size, layout, hash-bytes, key-bytes, home-bytes, system-bytes, quick-bytes, status-bytes, group-bytes, individual-bytes, line-bytes, quick-width, status-width, member-width, channel-width, line-width, groups-at, hash-size, home-at, home-size, individuals-at, key-at, key-size, lists-at, member-size, quick-at, quick-size, status-at, status-size, system-at, system-size}
+use Rattle.tables.specs.Layout.{regions, region-widths, used-size, layout, hash-bytes, key-bytes, home-bytes, system-bytes, quick-bytes, status-bytes, group-bytes, individual-bytes, line-bytes, quick-width, status-width, member-width, channel-width, line-width, groups-at, hash-size, home-at, home-size, individuals-at, key-at, key-size, lists-at, member-size, quick-at, quick-size, status-at, status-size, system-at, system-size}
 use Rattle.tables.specs.Limits.{quick-places, status-places, slot-places}
-use Rattle.tables.specs.Tables.{Line, GroupMember, IndividualMember, Key, Tables, with-hash, with-key, with-home, with-system, with-quick, with-status, with-groups, with-individuals, with-channels, with-lines}
+use Rattle.tables.specs.Tables.{Line, GroupMember, IndividualMember, Tables}
+use Rattle.writing.specs.declared.Kind.the-variants.{Lines, Key, QuickTexts, Home, Channels, System, StatusTexts, Group, Individual, Last}
+use Rattle.tables.specs.Owns.{Own, put-own}
 use Rattle.tables.proofs.LayoutLaws.{parts-wide}
 
--- the widths of all parts, the spare bytes at the end
+-- the widths of all regions, the spare bytes at the end
 abbrev pub all-widths : Limits → List ℕ
-all-widths m = part-widths m ++ ((m .size - used-size m) ∷ [])
+all-widths lim = region-widths lim ++ ((lim .size - used-size lim) ∷ [])
 
--- part k of the store has n bytes from a on
-module _ (m : Limits) (t : Tables) (ok : Allowed m t) (k : ℕ) (h : k < 11) (a n : ℕ) (p : a ≡ sum (take k (all-widths m))) (q : n ≡ getD (all-widths m) k 0) where
+-- region k of the store has n bytes from a on
+module _ (lim : Limits) (t : Tables) (ok : Allowed lim t) (k : ℕ) (h : k < 11) (a n : ℕ) (p : a ≡ sum (take k (all-widths lim))) (q : n ≡ getD (all-widths lim) k 0) where
   -- PART-GET: it is read
-  pub part-get : midOf a n (layout m t) ≡ getD (parts m t) k []
+  pub part-get : midOf a n (layout lim t) ≡ getD (regions lim t) k []
   unfolding layout
-  part-get = rw (p, q) (parts-get (parts m t) (all-widths m) (parts-wide m t ok) k h)
+  part-get = rw (p, q) (parts-get (regions lim t) (all-widths lim) (parts-wide lim t ok) k h)
 
-  -- PART-PUT: it comes back as y, and these are the bytes of the tables u where they are those of t with y for part k
-  pub part-put : (u : Tables) (y : List ℕ) → set (parts m t) k y ≡ parts m u → putMid a n (layout m t) y ≡ layout m u
+  -- PART-PUT: it comes back as y, and these are the bytes of the tables u where they are those of t with y for region k
+  pub part-put : (u : Tables) (y : List ℕ) → set (regions lim t) k y ≡ regions lim u → putMid a n (layout lim t) y ≡ layout lim u
   unfolding layout
-  part-put u y e = rw (p, q) (parts-put (parts m t) (all-widths m) (parts-wide m t ok) k h y ∙ ap flat e)
+  part-put u y e = rw (p, q) (parts-put (regions lim t) (all-widths lim) (parts-wide lim t ok) k h y ∙ ap flat e)
 
--- ---- part by part
+-- ---- region by region
 
-module _ (m : Limits) (t : Tables) (ok : Allowed m t) where
+module _ (lim : Limits) (t : Tables) (ok : Allowed lim t) where
   -- the kept hash
-  pub hash-get : midOf 0 hash-size (layout m t) ≡ hash-bytes (t .hash)
-  hash-get = part-get m t ok 0 (omega arith) 0 11 refl refl
+  pub hash-get : midOf 0 hash-size (layout lim t) ≡ hash-bytes (t .hash)
+  hash-get = part-get lim t ok 0 (omega arith) 0 11 refl refl
 
   -- and put back
-  pub hash-put : (x : Hash) → putMid 0 hash-size (layout m t) (hash-bytes x) ≡ layout m (with-hash t x)
-  hash-put x = part-put m t ok 0 (omega arith) 0 11 refl refl (with-hash t x) (hash-bytes x) refl
+  pub hash-put : (x : Hash) → putMid 0 hash-size (layout lim t) (hash-bytes x) ≡ layout lim (put-own Last t x)
+  hash-put x = part-put lim t ok 0 (omega arith) 0 11 refl refl (put-own Last t x) (hash-bytes x) refl
 
   -- the emergency key
-  pub key-get : midOf key-at key-size (layout m t) ≡ key-bytes (t .key)
-  key-get = part-get m t ok 1 (omega arith) 11 4 refl refl
+  pub key-get : midOf key-at key-size (layout lim t) ≡ key-bytes (t .key)
+  key-get = part-get lim t ok 1 (omega arith) 11 4 refl refl
 
   -- and put back
-  pub key-put : (x : Key) → putMid key-at key-size (layout m t) (key-bytes x) ≡ layout m (with-key t x)
-  key-put x = part-put m t ok 1 (omega arith) 11 4 refl refl (with-key t x) (key-bytes x) refl
+  pub key-put : (x : Own Key) → putMid key-at key-size (layout lim t) (key-bytes x) ≡ layout lim (put-own Key t x)
+  key-put x = part-put lim t ok 1 (omega arith) 11 4 refl refl (put-own Key t x) (key-bytes x) refl
 
   -- the home numbers
-  pub home-get : midOf home-at home-size (layout m t) ≡ home-bytes (t .home)
-  home-get = part-get m t ok 2 (omega arith) 15 4 refl refl
+  pub home-get : midOf home-at home-size (layout lim t) ≡ home-bytes (t .home)
+  home-get = part-get lim t ok 2 (omega arith) 15 4 refl refl
 
   -- and put back
-  pub home-put : (x : HomeNumbers) → putMid home-at home-size (layout m t) (home-bytes x) ≡ layout m (with-home t x)
-  home-put x = part-put m t ok 2 (omega arith) 15 4 refl refl (with-home t x) (home-bytes x) refl
+  pub home-put : (x : HomeNumbers) → putMid home-at home-size (layout lim t) (home-bytes x) ≡ layout lim (put-own Home t x)
+  home-put x = part-put lim t ok 2 (omega arith) 15 4 refl refl (put-own Home t x) (home-bytes x) refl
 
   -- the system code
-  pub system-get : midOf system-at system-size (layout m t) ≡ system-bytes (t .system)
-  system-get = part-get m t ok 3 (omega arith) 19 3 refl refl
+  pub system-get : midOf system-at system-size (layout lim t) ≡ system-bytes (t .system)
+  system-get = part-get lim t ok 3 (omega arith) 19 3 refl refl
 
   -- and put back
-  pub system-put : (x : SystemCode) → putMid system-at system-size (layout m t) (system-bytes x) ≡ layout m (with-system t x)
-  system-put x = part-put m t ok 3 (omega arith) 19 3 refl refl (with-system t x) (system-bytes x) refl
-
-  -- the quick texts
-  pub quick-get : midOf quick-at quick-size (layout m t) ≡ places quick-width quick-bytes (t .quick)
-  quick-get = part-get m t ok 4 (omega arith) quick-at quick-size refl refl
-
-  -- and put back
-  pub quick-put : (x : List (Option Text)) → putMid quick-at quick-size (layout m t) (places quick-width quick-bytes x) ≡ layout m (with-quick t x)
-  quick-put x = part-put m t ok 4 (omega arith) quick-at quick-size refl refl (with-quick t x) (places quick-width quick-bytes x) refl
-
-  -- the status texts
-  pub status-get : midOf status-at status-size (layout m t) ≡ places status-width status-bytes (t .status)
-  status-get = part-get m t ok 5 (omega arith) status-at status-size refl refl
-
-  -- and put back
-  pub status-put : (x : List (Option Text)) → putMid status-at status-size (layout m t) (places status-width status-bytes x) ≡ layout m (with-status t x)
-  status-put x = part-put m t ok 5 (omega arith) status-at status-size refl refl (with-status t x) (places status-width status-bytes x) refl
-
-  -- the group slots
-  pub groups-get : midOf groups-at member-size (layout m t) ≡ places member-width group-bytes (t .groups)
-  groups-get = part-get m t ok 6 (omega arith) groups-at member-size refl refl
-
-  -- and put back
-  pub groups-put : (x : List (Option GroupMember)) → putMid groups-at member-size (layout m t) (places member-width group-bytes x) ≡ layout m (with-groups t x)
-  groups-put x = part-put m t ok 6 (omega arith) groups-at member-size refl refl (with-groups t x) (places member-width group-bytes x) refl
-
-  -- the individual slots
-  pub individuals-get : midOf individuals-at member-size (layout m t) ≡ places member-width individual-bytes (t .individuals)
-  individuals-get = part-get m t ok 7 (omega arith) individuals-at member-size refl refl
-
-  -- and put back
-  pub individuals-put : (x : List (Option IndividualMember)) → putMid individuals-at member-size (layout m t) (places member-width individual-bytes x) ≡ layout m (with-individuals t x)
-  individuals-put x = part-put m t ok 7 (omega arith) individuals-at member-size refl refl (with-individuals t x) (places member-width individual-bytes x) refl
-
-  -- the channels
-  pub channels-get : midOf lists-at (m .channels * channel-width) (layout m t) ≡ places channel-width u16 (front (m .channels) (t .channels))
-  channels-get = part-get m t ok 8 (omega arith) lists-at (m .channels * channel-width) refl refl
-
-  -- and put back
-  pub channels-put : (x : List ℕ) → putMid lists-at (m .channels * channel-width) (layout m t) (places channel-width u16 (front (m .channels) x)) ≡ layout m (with-channels t x)
-  channels-put x = part-put m t ok 8 (omega arith) lists-at (m .channels * channel-width) refl refl (with-channels t x) (places channel-width u16 (front (m .channels) x)) refl
-
-  -- the line contacts
-  pub lines-get : midOf (lists-at + m .channels * channel-width) (m .lines * line-width) (layout m t) ≡ places line-width line-bytes (front (m .lines) (t .lines))
-  lines-get = part-get m t ok 9 (omega arith) (lists-at + m .channels * channel-width) (m .lines * line-width) (omega arith) refl
-
-  -- and put back
-  pub lines-put : (x : List Line) → putMid (lists-at + m .channels * channel-width) (m .lines * line-width) (layout m t) (places line-width line-bytes (front (m .lines) x)) ≡ layout m (with-lines t x)
-  lines-put x = part-put m t ok 9 (omega arith) (lists-at + m .channels * channel-width) (m .lines * line-width) (omega arith) refl (with-lines t x) (places line-width line-bytes (front (m .lines) x)) refl
-
-  -- the bytes that no table uses are 0
-  pub spare-get : midOf (lists-at + m .channels * channel-width + m .lines * line-width) (m .size - used-size m) (layout m t) ≡ replicate (m .size - used-size m) 0
-  spare-get = part-get m t ok 10 (omega arith) (lists-at + m .channels * channel-width + m .lines * line-width) (m .size - used-size m) (omega arith) refl
+  pub system-put : (x : SystemCode) → putMid system-at system-size (layout lim t) (system-bytes x) ≡ layout lim (put-own System t x)
+  system-put x = part-put lim t ok 3 (omega arith) 19 3 refl refl (put-own System t x) (system-bytes x) refl
 
   -- ---- as tables of slots
 
   -- the quick texts
-  pub quick-placed : Placed QuickOk quick-width quick-bytes quick-places (t .quick) (midOf quick-at quick-size (layout m t))
-  quick-placed = record { many = ok .quick .0; each = ok .quick .1; bytes = quick-get }
+  pub quick-placed : Placed QuickOk quick-width quick-bytes quick-places (t .quick) (midOf quick-at quick-size (layout lim t))
+  quick-placed = record { many = ok .quick .0; each = ok .quick .1; bytes = part-get lim t ok 4 (omega arith) quick-at quick-size refl refl }
 
-  -- a table of slots put back
-  pub quick-back : (x : List (Option Text)) (y : List ℕ) → Placed QuickOk quick-width quick-bytes quick-places x y → putMid quick-at quick-size (layout m t) y ≡ layout m (with-quick t x)
-  quick-back x y p = ap (putMid quick-at quick-size (layout m t)) (p .bytes) ∙ quick-put x
+  -- and put back
+  pub quick-back : (x : List (Option Text)) (y : List ℕ) → Placed QuickOk quick-width quick-bytes quick-places x y → putMid quick-at quick-size (layout lim t) y ≡ layout lim (put-own QuickTexts t x)
+  quick-back x y p = part-put lim t ok 4 (omega arith) quick-at quick-size refl refl (put-own QuickTexts t x) y (ap (set (regions lim t) 4) (p .bytes))
 
   -- the status texts
-  pub status-placed : Placed StatusOk status-width status-bytes status-places (t .status) (midOf status-at status-size (layout m t))
-  status-placed = record { many = ok .status .0; each = ok .status .1; bytes = status-get }
+  pub status-placed : Placed StatusOk status-width status-bytes status-places (t .status) (midOf status-at status-size (layout lim t))
+  status-placed = record { many = ok .status .0; each = ok .status .1; bytes = part-get lim t ok 5 (omega arith) status-at status-size refl refl }
 
-  -- a table of slots put back
-  pub status-back : (x : List (Option Text)) (y : List ℕ) → Placed StatusOk status-width status-bytes status-places x y → putMid status-at status-size (layout m t) y ≡ layout m (with-status t x)
-  status-back x y p = ap (putMid status-at status-size (layout m t)) (p .bytes) ∙ status-put x
+  -- and put back
+  pub status-back : (x : List (Option Text)) (y : List ℕ) → Placed StatusOk status-width status-bytes status-places x y → putMid status-at status-size (layout lim t) y ≡ layout lim (put-own StatusTexts t x)
+  status-back x y p = part-put lim t ok 5 (omega arith) status-at status-size refl refl (put-own StatusTexts t x) y (ap (set (regions lim t) 5) (p .bytes))
 
   -- the group slots
-  pub groups-placed : Placed GroupOk member-width group-bytes slot-places (t .groups) (midOf groups-at member-size (layout m t))
-  groups-placed = record { many = ok .groups .0; each = ok .groups .1; bytes = groups-get }
+  pub groups-placed : Placed GroupOk member-width group-bytes slot-places (t .groups) (midOf groups-at member-size (layout lim t))
+  groups-placed = record { many = ok .groups .0; each = ok .groups .1; bytes = part-get lim t ok 6 (omega arith) groups-at member-size refl refl }
 
-  -- a table of slots put back
-  pub groups-back : (x : List (Option GroupMember)) (y : List ℕ) → Placed GroupOk member-width group-bytes slot-places x y → putMid groups-at member-size (layout m t) y ≡ layout m (with-groups t x)
-  groups-back x y p = ap (putMid groups-at member-size (layout m t)) (p .bytes) ∙ groups-put x
+  -- and put back
+  pub groups-back : (x : List (Option GroupMember)) (y : List ℕ) → Placed GroupOk member-width group-bytes slot-places x y → putMid groups-at member-size (layout lim t) y ≡ layout lim (put-own Group t x)
+  groups-back x y p = part-put lim t ok 6 (omega arith) groups-at member-size refl refl (put-own Group t x) y (ap (set (regions lim t) 6) (p .bytes))
 
   -- the individual slots
-  pub individuals-placed : Placed IndividualOk member-width individual-bytes slot-places (t .individuals) (midOf individuals-at member-size (layout m t))
-  individuals-placed = record { many = ok .individuals .0; each = ok .individuals .1; bytes = individuals-get }
+  pub individuals-placed : Placed IndividualOk member-width individual-bytes slot-places (t .individuals) (midOf individuals-at member-size (layout lim t))
+  individuals-placed = record { many = ok .individuals .0; each = ok .individuals .1; bytes = part-get lim t ok 7 (omega arith) individuals-at member-size refl refl }
 
-  -- a table of slots put back
-  pub individuals-back : (x : List (Option IndividualMember)) (y : List ℕ) → Placed IndividualOk member-width individual-bytes slot-places x y → putMid individuals-at member-size (layout m t) y ≡ layout m (with-individuals t x)
-  individuals-back x y p = ap (putMid individuals-at member-size (layout m t)) (p .bytes) ∙ individuals-put x
+  -- and put back
+  pub individuals-back : (x : List (Option IndividualMember)) (y : List ℕ) → Placed IndividualOk member-width individual-bytes slot-places x y → putMid individuals-at member-size (layout lim t) y ≡ layout lim (put-own Individual t x)
+  individuals-back x y p = part-put lim t ok 7 (omega arith) individuals-at member-size refl refl (put-own Individual t x) y (ap (set (regions lim t) 7) (p .bytes))
 
   -- the channels
-  pub channels-listed : Listed InChannel channel-width u16 (m .channels) (t .channels) (midOf lists-at (m .channels * channel-width) (layout m t))
-  channels-listed = record { few = ok .channels .0; each = ok .channels .1; bytes = channels-get }
+  pub channels-listed : Listed InChannel channel-width u16 (lim .channels) (t .channels) (midOf lists-at (lim .channels * channel-width) (layout lim t))
+  channels-listed = record { few = ok .channels .0; each = ok .channels .1; bytes = part-get lim t ok 8 (omega arith) lists-at (lim .channels * channel-width) refl refl }
 
-  -- a table of slots put back
-  pub channels-back : (x : List ℕ) (y : List ℕ) → Listed InChannel channel-width u16 (m .channels) x y → putMid lists-at (m .channels * channel-width) (layout m t) y ≡ layout m (with-channels t x)
-  channels-back x y p = ap (putMid lists-at (m .channels * channel-width) (layout m t)) (p .bytes) ∙ channels-put x
+  -- and put back
+  pub channels-back : (x : List ℕ) (y : List ℕ) → Listed InChannel channel-width u16 (lim .channels) x y → putMid lists-at (lim .channels * channel-width) (layout lim t) y ≡ layout lim (put-own Channels t x)
+  channels-back x y p = part-put lim t ok 8 (omega arith) lists-at (lim .channels * channel-width) refl refl (put-own Channels t x) y (ap (set (regions lim t) 8) (p .bytes))
 
   -- the line contacts
-  pub lines-listed : Listed LineOk line-width line-bytes (m .lines) (t .lines) (midOf (lists-at + m .channels * channel-width) (m .lines * line-width) (layout m t))
-  lines-listed = record { few = ok .lines .0; each = ok .lines .1; bytes = lines-get }
+  pub lines-listed : Listed LineOk line-width line-bytes (lim .lines) (t .lines) (midOf (lists-at + lim .channels * channel-width) (lim .lines * line-width) (layout lim t))
+  lines-listed = record { few = ok .lines .0; each = ok .lines .1; bytes = part-get lim t ok 9 (omega arith) (lists-at + lim .channels * channel-width) (lim .lines * line-width) (omega arith) refl }
 
-  -- a table of slots put back
-  pub lines-back : (x : List Line) (y : List ℕ) → Listed LineOk line-width line-bytes (m .lines) x y → putMid (lists-at + m .channels * channel-width) (m .lines * line-width) (layout m t) y ≡ layout m (with-lines t x)
-  lines-back x y p = ap (putMid (lists-at + m .channels * channel-width) (m .lines * line-width) (layout m t)) (p .bytes) ∙ lines-put x
+  -- and put back
+  pub lines-back : (x : List Line) (y : List ℕ) → Listed LineOk line-width line-bytes (lim .lines) x y → putMid (lists-at + lim .channels * channel-width) (lim .lines * line-width) (layout lim t) y ≡ layout lim (put-own Lines t x)
+  lines-back x y p = part-put lim t ok 9 (omega arith) (lists-at + lim .channels * channel-width) (lim .lines * line-width) (omega arith) refl (put-own Lines t x) y (ap (set (regions lim t) 9) (p .bytes))

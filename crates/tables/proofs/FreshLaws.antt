@@ -1,11 +1,5 @@
 -- A fresh store: it is allowed, and what its bytes are. Assumes nothing.
-use Prim.Native.Nat.{ℕ, _+_, _*_, _-_, _≤_}
-use mathlib.Core.Path.{_≡_, refl, sym, ap, _∙_}
-use mathlib.Core.List.{List, [], _∷_, _++_, map}
-use mathlib.Core.Option.{Option, none}
-use native.Mathlib.Omega.{arith}
-use borrow.Rule.Slice.PartMut.{putMid}
-use lib.ListN.{length, set, replicate, length-replicate, replicate-append-replicate}
+use Rattle.lists.proofs.Kit.{ℕ, _+_, _*_, _-_, _≤_, _≡_, refl, sym, ap, _∙_, List, [], _∷_, _++_, map, Option, none, arith, putMid, length, set, replicate, length-replicate, replicate-append-replicate}
 use Rattle.lists.specs.Every.{All}
 use Rattle.lists.proofs.Every.{all-replicate}
 use Rattle.slots.specs.Slots.{flat, places, front, u16, Present, sum}
@@ -14,7 +8,7 @@ use Rattle.slots.proofs.Tables.{front-nil, places-nil}
 use Rattle.writing.specs.Ranges.{no-hash as hash-0}
 use Rattle.tables.specs.declared.limits.Limits.{Limits}
 use Rattle.tables.specs.Allowed.{Allowed, QuickOk, StatusOk, GroupOk, IndividualOk}
-use Rattle.tables.specs.Layout.{parts, layout, used-size, Roomy, quick-bytes, status-bytes, group-bytes, individual-bytes, line-bytes, quick-width, status-width, member-width, channel-width, line-width, key-at, key-size}
+use Rattle.tables.specs.Layout.{regions, layout, used-size, Roomy, quick-bytes, status-bytes, group-bytes, individual-bytes, line-bytes, quick-width, status-width, member-width, channel-width, line-width, key-at, key-size}
 use Rattle.tables.specs.Limits.{quick-places, status-places, slot-places}
 use Rattle.tables.specs.Tables.{fresh}
 use Rattle.tables.proofs.Frames.{all-widths}
@@ -24,8 +18,8 @@ pub empty-table : {A : Type 0} (P : A → Type 0) (n : ℕ) → (length (replica
 empty-table {A = A} P n = (length-replicate {A = Option A} n none, all-replicate (Present P) n none tt)
 
 -- FRESH-ALLOWED: a fresh store is one of any set
-pub fresh-allowed : (m : Limits) → Allowed m fresh
-fresh-allowed m =
+pub fresh-allowed : (lim : Limits) → Allowed lim fresh
+fresh-allowed lim =
     record {
       hash = record { size = hash-0; bytes = tt };
       key = tt;
@@ -44,18 +38,18 @@ fresh-allowed m =
 front-zeros : {A : Type 0} (w : ℕ) (f : A → List ℕ) (n : ℕ) → places w f (front n []) ≡ replicate (n * w) 0
 front-zeros w f n = ap (places w f) (front-nil n) ∙ places-nil w f n
 
--- the parts of a fresh store are zeros, the key aside
-fresh-parts : (m : Limits) → parts m fresh ≡ set (map (λ w. replicate w 0) (all-widths m)) 1 (16 ∷ 0 ∷ 0 ∷ 0 ∷ [])
-fresh-parts m =
+-- the regions of a fresh store are zeros, the key aside
+fresh-parts : (lim : Limits) → regions lim fresh ≡ set (map (λ w. replicate w 0) (all-widths lim)) 1 (16 ∷ 0 ∷ 0 ∷ 0 ∷ [])
+fresh-parts lim =
     let q = places-nil quick-width quick-bytes quick-places in
     let s = places-nil status-width status-bytes status-places in
     let g = places-nil member-width group-bytes slot-places in
     let j = places-nil member-width individual-bytes slot-places in
-    let c = front-zeros channel-width u16 (m .channels) in
-    let l = front-zeros line-width line-bytes (m .lines) in
+    let c = front-zeros channel-width u16 (lim .channels) in
+    let l = front-zeros line-width line-bytes (lim .lines) in
     (λ i.
     replicate 11 0 ∷ (16 ∷ 0 ∷ 0 ∷ 0 ∷ []) ∷ replicate 4 0 ∷ replicate 3 0 ∷ q i ∷ s i ∷ g i ∷ j i ∷ c i ∷ l i
-    ∷ replicate (m .size - used-size m) 0 ∷ [])
+    ∷ replicate (lim .size - used-size lim) 0 ∷ [])
 
 -- a byte among zeros
 one-byte : (n : ℕ) → 15 ≤ n → putMid {X = ℕ} 11 4 (replicate n 0) (16 ∷ 0 ∷ 0 ∷ 0 ∷ []) ≡ set (replicate n 0) 11 16
@@ -65,12 +59,12 @@ one-byte n h =
     rw z
 
 -- FRESH-LAYOUT: it is all zeros, but for the key's flags, which say current
-pub fresh-layout : (m : Limits) → Roomy m → layout m fresh ≡ set (replicate (m .size) 0) 11 16
+pub fresh-layout : (lim : Limits) → Roomy lim → layout lim fresh ≡ set (replicate (lim .size) 0) 11 16
 unfolding layout
-fresh-layout m r =
-    let zs : List (List ℕ) = map (λ w. replicate w 0) (all-widths m) in
-    let e : sum (all-widths m) ≡ m .size = omega arith in
-    ap flat (fresh-parts m)
+fresh-layout lim r =
+    let zs : List (List ℕ) = map (λ w. replicate w 0) (all-widths lim) in
+    let e : sum (all-widths lim) ≡ lim .size = omega arith in
+    ap flat (fresh-parts lim)
     ∙ sym (parts-put zs (map length zs) refl 1 (omega arith) (16 ∷ 0 ∷ 0 ∷ 0 ∷ []))
-    ∙ ap (λ (l : List ℕ). putMid key-at key-size l (16 ∷ 0 ∷ 0 ∷ 0 ∷ [])) (flat-zeros (all-widths m) ∙ ap (λ (k : ℕ). replicate k 0) e)
-    ∙ one-byte (m .size) (omega arith)
+    ∙ ap (λ (l : List ℕ). putMid key-at key-size l (16 ∷ 0 ∷ 0 ∷ 0 ∷ [])) (flat-zeros (all-widths lim) ∙ ap (λ (k : ℕ). replicate k 0) e)
+    ∙ one-byte (lim .size) (omega arith)

@@ -1,8 +1,5 @@
 -- Flags and addresses as bytes. Assumes nothing.
-use Prim.Native.Nat.{ℕ, _/_, _%_, _<_}
-use mathlib.Core.Path.{_≡_, ap₂}
-use mathlib.Core.List.{List, [], _∷_}
-use native.Mathlib.Omega.{arith}
+use Rattle.lists.proofs.Kit.{ℕ, _/_, _%_, _<_, _≡_, ap₂, List, [], _∷_, arith}
 use Rattle.slots.specs.Slots.{u24}
 
 -- three bytes that are cut from an address are its bytes

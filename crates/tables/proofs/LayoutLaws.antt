@@ -1,22 +1,17 @@
--- The bytes of tables: every part has its width, the parts are bytes, and equal bytes are equal tables. Assumes nothing.
-use Prim.Native.Nat.{ℕ, _*_, _-_, _≤_}
-use mathlib.Core.Path.{_≡_, refl, sym, ap, _∙_}
-use mathlib.Core.Bool.{false}
-use mathlib.Core.List.{List, [], _∷_, _++_, map}
-use mathlib.Core.Option.{Option}
-use native.Mathlib.Omega.{arith}
-use lib.ListN.{length, getD, length-replicate}
+-- The bytes of tables: every region has its width, the regions are bytes, and equal bytes are equal tables. Assumes nothing.
+use Rattle.lists.proofs.Kit.{ℕ, _*_, _-_, _≤_, _≡_, refl, sym, ap, _∙_, false, List, [], _∷_, _++_, map, Option, arith, length, getD, take, drop, length-replicate}
 use Rattle.lists.specs.Bytes.{Bytes}
 use Rattle.lists.proofs.Bytes.{bytes-zeros}
 use Rattle.lists.specs.Every.{All}
 use Rattle.slots.specs.Slots.{places, front, u16, zeros?, Present, sum}
 use Rattle.slots.proofs.Codes.{Code, places-one, list-one}
+use Rattle.slots.proofs.Runs.{copy-whole}
 use Rattle.slots.proofs.Parts.{flat-bytes, flat-length, parts-one}
 use Rattle.slots.proofs.Tables.{all-front, front-length, places-bytes, places-length}
 use Rattle.writing.specs.Ranges.{InChannel}
 use Rattle.tables.specs.declared.limits.Limits.{Limits}
 use Rattle.tables.specs.Allowed.{Allowed, QuickOk, StatusOk, GroupOk, IndividualOk, LineOk}
-use Rattle.tables.specs.Layout.{parts, part-widths, used-size, layout, Roomy, quick-bytes, status-bytes, group-bytes, individual-bytes, line-bytes, quick-width, status-width, member-width, channel-width, line-width}
+use Rattle.tables.specs.Layout.{regions, region-widths, used-size, layout, Roomy, quick-bytes, status-bytes, group-bytes, individual-bytes, line-bytes, quick-width, status-width, member-width, channel-width, line-width}
 use Rattle.tables.specs.Store.{StoreOf, Holds}
 use Rattle.tables.specs.Tables.{Tables}
 use Rattle.tables.proofs.EntryBytes.{quick-are-bytes, status-are-bytes, group-are-bytes, individual-are-bytes, channel-are-bytes, line-are-bytes, hash-are-bytes, key-are-bytes, home-are-bytes, system-are-bytes}
@@ -29,72 +24,56 @@ use Rattle.tables.proofs.FixedCodes.{hash-code, key-code, home-code, sy
 table-wide : {A : Type 0} {P : A → Type 0} {w : ℕ} {f : A → List ℕ} → Code P w f → (os : List (Option A)) (n : ℕ) → length os ≡ n → length (places w f os) ≡ n * w
 table-wide {w = w} {f = f} k os n e = places-length w f (k .long) os ∙ ap (λ (i : ℕ). i * w) e
 
--- PARTS-WIDE: every part has its width
-pub parts-wide : (m : Limits) (t : Tables) → Allowed m t → map length (parts m t) ≡ part-widths m ++ ((m .size - used-size m) ∷ [])
-parts-wide m t ok =
+-- PARTS-WIDE: every region has its width
+pub parts-wide : (lim : Limits) (t : Tables) → Allowed lim t → map length (regions lim t) ≡ region-widths lim ++ ((lim .size - used-size lim) ∷ [])
+parts-wide lim t ok =
     let a = hash-code .long (t .hash) in
     let b = table-wide quick-code (t .quick) 64 (ok .quick .0) in
     let c = table-wide status-code (t .status) 96 (ok .status .0) in
     let d = table-wide group-code (t .groups) 16 (ok .groups .0) in
     let e = table-wide individual-code (t .individuals) 16 (ok .individuals .0) in
-    let f = table-wide channel-code (front (m .channels) (t .channels)) (m .channels) (front-length (m .channels) (t .channels)) in
-    let g = table-wide line-code (front (m .lines) (t .lines)) (m .lines) (front-length (m .lines) (t .lines)) in
-    let h = length-replicate {A = ℕ} (m .size - used-size m) 0 in
+    let f = table-wide channel-code (front (lim .channels) (t .channels)) (lim .channels) (front-length (lim .channels) (t .channels)) in
+    let g = table-wide line-code (front (lim .lines) (t .lines)) (lim .lines) (front-length (lim .lines) (t .lines)) in
+    let h = length-replicate {A = ℕ} (lim .size - used-size lim) 0 in
     (λ i. a i ∷ 4 ∷ 4 ∷ 3 ∷ b i ∷ c i ∷ d i ∷ e i ∷ f i ∷ g i ∷ h i ∷ [])
 
 -- LAYOUT-LENGTH: where the tables fit, their bytes fill the store
-pub layout-length : (m : Limits) (t : Tables) → Roomy m → Allowed m t → length (layout m t) ≡ m .size
+pub layout-length : (lim : Limits) (t : Tables) → Roomy lim → Allowed lim t → length (layout lim t) ≡ lim .size
 unfolding layout
-layout-length m t r ok = omega (arith, flat-length (parts m t), ap sum (parts-wide m t ok))
+layout-length lim t r ok = omega (arith, flat-length (regions lim t), ap sum (parts-wide lim t ok))
 
 -- HOLDS-STORE: so the bytes that hold allowed tables, where these have room, are a store
-pub holds-store : (m : Limits) (t : Tables) (store : List ℕ) → Roomy m → Holds m t store → StoreOf m store
-holds-store m t store room holds = record {
-  size = ap length (holds .1) ∙ layout-length m t room (holds .0);
+pub holds-store : (lim : Limits) (t : Tables) (store : List ℕ) → Roomy lim → Holds lim t store → StoreOf lim store
+holds-store lim t store room holds = record {
+  size = ap length (holds .1) ∙ layout-length lim t room (holds .0);
   roomy = room;
   store = record { tables = t; allowed = holds .0; bytes-are = holds .1 };
 }
 
+-- HOLDS-COPIED: and so are those that they were copied to
+pub holds-copied : (lim : Limits) (from to after : List ℕ) → after ≡ take (length to) from ++ drop (length from) to → length to ≡ lim .size
+    → (t : Tables) → Roomy lim → Holds lim t from → Holds lim t after
+holds-copied lim from to after c l t room holds =
+    (holds .0, c ∙ copy-whole from to (l ∙ sym (holds-store lim t from room holds .size)) ∙ holds .1)
+
 -- ---- bytes
 
 -- LAYOUT-BYTES: they are bytes
-pub layout-bytes : (m : Limits) (t : Tables) → Allowed m t → Bytes (layout m t)
+pub layout-bytes : (lim : Limits) (t : Tables) → Allowed lim t → Bytes (layout lim t)
 unfolding layout
-layout-bytes m t ok =
-    flat-bytes (parts m t) (
-      hash-are-bytes (t .hash) (ok .hash),
-      (
-        key-are-bytes (t .key) (ok .key),
-        (
-          home-are-bytes (t .home) (ok .home),
-          (
-            system-are-bytes (t .system) (ok .system),
-            (
-              places-bytes QuickOk quick-width quick-bytes quick-are-bytes (t .quick) (ok .quick .1),
-              (
-                places-bytes StatusOk status-width status-bytes status-are-bytes (t .status) (ok .status .1),
-                (
-                  places-bytes GroupOk member-width group-bytes group-are-bytes (t .groups) (ok .groups .1),
-                  (
-                    places-bytes IndividualOk member-width individual-bytes individual-are-bytes (t .individuals) (ok .individuals .1),
-                    (
-                      places-bytes InChannel channel-width u16 channel-are-bytes (front (m .channels) (t .channels)) (all-front InChannel (m .channels) (t .channels) (ok .channels .1)),
-                      (
-                        places-bytes LineOk line-width line-bytes line-are-bytes (front (m .lines) (t .lines)) (all-front LineOk (m .lines) (t .lines) (ok .lines .1)),
-                        (
-                          bytes-zeros (m .size - used-size m),
-                          tt,
-                        ),
-                      ),
-                    ),
-                  ),
-                ),
-              ),
-            ),
-          ),
-        ),
-      ),
-    )
+layout-bytes lim t ok =
+    let a = hash-are-bytes (t .hash) (ok .hash) in
+    let b = key-are-bytes (t .key) (ok .key) in
+    let c = home-are-bytes (t .home) (ok .home) in
+    let d = system-are-bytes (t .system) (ok .system) in
+    let e = places-bytes QuickOk quick-width quick-bytes quick-are-bytes (t .quick) (ok .quick .1) in
+    let f = places-bytes StatusOk status-width status-bytes status-are-bytes (t .status) (ok .status .1) in
+    let g = places-bytes GroupOk member-width group-bytes group-are-bytes (t .groups) (ok .groups .1) in
+    let h = places-bytes IndividualOk member-width individual-bytes individual-are-bytes (t .individuals) (ok .individuals .1) in
+    let i = places-bytes InChannel channel-width u16 channel-are-bytes (front (lim .channels) (t .channels)) (all-front InChannel (lim .channels) (t .channels) (ok .channels .1)) in
+    let j = places-bytes LineOk line-width line-bytes line-are-bytes (front (lim .lines) (t .lines)) (all-front LineOk (lim .lines) (t .lines) (ok .lines .1)) in
+    let k = bytes-zeros (lim .size - used-size lim) in
+    flat-bytes (regions lim t) (a, (b, (c, (d, (e, (f, (g, (h, (i, (j, (k, tt)))))))))))
 
 -- ---- equal bytes are equal tables
 
@@ -111,11 +90,11 @@ front-table-one {P = P} {w = w} {f = f} k z {n} {xs} {ys} p q e =
     list-one P w f k z n (places w f (front n xs)) xs ys (record { few = p .0; each = p .1; bytes = refl }) (record { few = q .0; each = q .1; bytes = e })
 
 -- LAYOUT-ONE: allowed tables that have the same bytes are the same
-pub layout-one : (m : Limits) (t u : Tables) → Allowed m t → Allowed m u → layout m t ≡ layout m u → t ≡ u
+pub layout-one : (lim : Limits) (t u : Tables) → Allowed lim t → Allowed lim u → layout lim t ≡ layout lim u → t ≡ u
 unfolding layout
-layout-one m t u p q e =
-    let r : parts m t ≡ parts m u = parts-one (parts m t) (parts m u) (parts-wide m t p ∙ sym (parts-wide m u q)) e in
-    let at : (k : ℕ) → getD (parts m t) k [] ≡ getD (parts m u) k [] = λ k. ap (λ (l : List (List ℕ)). getD l k []) r in
+layout-one lim t u p q e =
+    let r : regions lim t ≡ regions lim u = parts-one (regions lim t) (regions lim u) (parts-wide lim t p ∙ sym (parts-wide lim u q)) e in
+    let at : (k : ℕ) → getD (regions lim t) k [] ≡ getD (regions lim u) k [] = λ k. ap (λ (l : List (List ℕ)). getD l k []) r in
     let a = hash-code .one (t .hash) (u .hash) (p .hash) (q .hash) (at 0) in
     let b = key-code .one (t .key) (u .key) (p .key) (q .key) (at 1) in
     let c = home-code .one (t .home) (u .home) (p .home) (q .home) (at 2) in

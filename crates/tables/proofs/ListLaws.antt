@@ -1,11 +1,5 @@
 -- The list tables: what trying to change one answers, and what wiping one leaves. Assumes nothing.
-use mathlib.Core.Path.{_≡_, sym, ap, _∙_}
-use mathlib.Core.Bool.{true, false, true≢false}
-use mathlib.Core.List.{List, []}
-use mathlib.Core.Option.{Option, none, some}
-use Prim.Native.Nat.{ℕ, _-_, _*_}
-use native.Mathlib.Omega.{arith}
-use lib.ListN.{length, replicate}
+use Rattle.lists.proofs.Kit.{_≡_, sym, ap, _∙_, true, false, true≢false, List, [], Option, none, some, ℕ, _-_, _*_, arith, length, replicate}
 use Rattle.slots.specs.Slots.{places, front, Listed}
 use Rattle.slots.proofs.Tables.{front-length, front-nil, places-length, places-nil}
 use Rattle.tables.specs.Changing.{Tried}
@@ -23,7 +17,7 @@ module _ {T : Type 0} (Is : T → List ℕ → Type 0) {after : Option T} {s : L
 
 -- ---- replacing
 
--- a part that was wiped is the table with no entry
+-- a region that was wiped is the table with no entry
 pub wiped : {A : Type 0} (P : A → Type 0) (w : ℕ) (f : A → List ℕ) → ((a : A) → length (f a) ≡ w) → (n : ℕ) (ls : List A) (s t : List ℕ) → Listed P w f n ls s → t ≡ replicate (length s) 0 → Listed P w f n [] t
 wiped P w f long n ls s t l e =
     let k : length s ≡ n * w = ap length (l .bytes) ∙ places-length w f long (front n ls) ∙ ap (λ (i : ℕ). i * w) (front-length n ls) in

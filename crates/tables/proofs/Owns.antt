@@ -1,22 +1,16 @@
 -- Each kind of setting has its own table: what is equal there, and what stays. One case a kind. Assumes nothing.
-use Prim.Native.Nat.{ℕ}
-use mathlib.Core.Path.{_≡_, refl, sym, ap, _∙_, subst}
-use mathlib.Core.Bool.{Bool, true, false, cond, _||_, true≢false}
-use mathlib.Core.List.{List, [], _∷_}
-use mathlib.Core.Option.{Option, none, some, Option·some-injective, Option·none-ne-some}
-use lib.ListN.{set}
-use borrow.Author.Tests.{eqb-true}
+use Rattle.lists.proofs.Kit.{ℕ, _≡_, refl, sym, ap, _∙_, subst, Bool, true, false, cond, _||_, true≢false, List, [], _∷_, Option, none, some, Option·some-injective, Option·none-ne-some, eqb-true}
 use Rattle.lists.specs.Every.{All}
 use Rattle.writing.specs.Writing.{type-byte}
 use Rattle.writing.proofs.Unique.{one-kind}
 use Rattle.writing.specs.declared.Kind.{Kind}
 use Rattle.writing.specs.declared.Kind.the-variants.{Lines, Key, QuickTexts, Home, Channels, System, StatusTexts, Group, Individual, Last}
-use Rattle.writing.specs.Settings.{Setting, kind, lines, key, quick-texts, home, channels, system, status-texts, group, individual, last}
+use Rattle.writing.specs.Settings.{Setting, kind}
 use Rattle.tables.specs.declared.limits.Limits.{Limits}
-use Rattle.tables.specs.Apply.{apply, and-then, in-turn, with-room, lines-after, quick-after, status-after, channels-after, slot-after}
-use Rattle.tables.specs.Tables.{Tables, with-lines, with-quick, with-status, with-channels}
-use Rattle.tables.specs.Owns.{Own, own, mix, only, touches, Agree}
-use Rattle.tables.proofs.RoomSentences.{own-table}
+use Rattle.tables.specs.Apply.{apply, own-after, and-then, in-turn}
+use Rattle.tables.specs.Tables.{Tables}
+use Rattle.tables.specs.Owns.{Own, own, mix, only, touches, Agree, put-own}
+use Rattle.tables.proofs.RoomSentences.{came, own-table}
 
 -- OWN-MIX: each table is that of one or of the other
 pub own-mix : (p : Kind → Bool) (t u : Tables) (k : Kind) → own k (mix p t u) ≡ cond (p k) (own k u) (own k t)
@@ -47,44 +41,38 @@ alike t u e = λ i. record {
 }
 
 -- OTHERS STAY: a setting leaves every table but its own
-pub others-stay : (m : Limits) (s : Setting) (t u : Tables) (k : Kind) → apply m s t ≡ some u → only (kind s) k ≡ false → own k u ≡ own k t
-others-stay m s t u k e h =
-    ap (own k) (own-table m s t u e) ∙ own-mix (only (kind s)) t u k ∙ ap (λ (b : Bool). cond b (own k u) (own k t)) h
+pub others-stay : (lim : Limits) (s : Setting) (t u : Tables) (k : Kind) → apply lim s t ≡ some u → only (kind s) k ≡ false → own k u ≡ own k t
+others-stay lim s t u k e h =
+    ap (own k) (own-table lim s t u e) ∙ own-mix (only (kind s)) t u k ∙ ap (λ (b : Bool). cond b (own k u) (own k t)) h
 
--- what was made where there was room was made of something
-pub came : {A B : Type 0} (f : A → B) (o : Option A) (b : B) → with-room f o ≡ some b → (a : A) × (o ≡ some a) × (f a ≡ b)
-came f none b e = absurd (Option·none-ne-some b e)
-came f (some a) b e = (a, refl, Option·some-injective (f a) b e)
-
--- one table, changed by a function of itself
-module _ {A : Type 0} (of : Tables → A) (with-it : Tables → A → Tables) (put-get : (t : Tables) (a : A) → of (with-it t a) ≡ a) (f : A → Option A) where
-  by-room : (t t′ u u′ : Tables) → with-room (with-it t) (f (of t)) ≡ some u → with-room (with-it t′) (f (of t′)) ≡ some u′ → of t ≡ of t′ → of u ≡ of u′
-  by-room t t′ u u′ e e′ h =
-      let (a, p, q) = came (with-it t) (f (of t)) u e in
-      let (b, p′, q′) = came (with-it t′) (f (of t′)) u′ e′ in
-      let s : a ≡ b = Option·some-injective a b (sym p ∙ ap f h ∙ p′) in
-      sym (ap of q) ∙ put-get t a ∙ s ∙ sym (put-get t′ b) ∙ ap of q′
+-- OWN-PUT: a table that was put is there
+own-put : (k : Kind) (t : Tables) (x : Own k) → own k (put-own k t x) ≡ x
+own-put Lines t x = refl
+own-put Key t x = refl
+own-put QuickTexts t x = refl
+own-put Home t x = refl
+own-put Channels t x = refl
+own-put System t x = refl
+own-put StatusTexts t x = refl
+own-put Group t x = refl
+own-put Individual t x = refl
+own-put Last t x = refl
 
 -- OWN ALONE: what a setting makes of its table depends on that table alone
-pub own-alone : (m : Limits) (s : Setting) (t t′ u u′ : Tables) → apply m s t ≡ some u → apply m s t′ ≡ some u′ → own (kind s) t ≡ own (kind s) t′ → own (kind s) u ≡ own (kind s) u′
-own-alone m (lines o f es) t t′ u u′ e e′ h = by-room (λ x. x .lines) with-lines (λ x a. refl) (lines-after (m .lines) o f es) t t′ u u′ e e′ h
-own-alone m (key x f) t t′ u u′ e e′ h = sym (ap (own Key) (Option·some-injective _ u e)) ∙ ap (own Key) (Option·some-injective _ u′ e′)
-own-alone m (quick-texts o es) t t′ u u′ e e′ h = by-room (λ x. x .quick) with-quick (λ x a. refl) (quick-after o es) t t′ u u′ e e′ h
-own-alone m (home x) t t′ u u′ e e′ h = sym (ap (own Home) (Option·some-injective _ u e)) ∙ ap (own Home) (Option·some-injective _ u′ e′)
-own-alone m (channels o ns) t t′ u u′ e e′ h = by-room (λ x. x .channels) with-channels (λ x a. refl) (channels-after (m .channels) o ns) t t′ u u′ e e′ h
-own-alone m (system x) t t′ u u′ e e′ h = sym (ap (own System) (Option·some-injective _ u e)) ∙ ap (own System) (Option·some-injective _ u′ e′)
-own-alone m (status-texts o es) t t′ u u′ e e′ h = by-room (λ x. x .status) with-status (λ x a. refl) (status-after o es) t t′ u u′ e e′ h
-own-alone m (group o f s) t t′ u u′ e e′ h = sym (ap (own Group) (Option·some-injective _ u e)) ∙ ap (λ (x : Own Group). set x (s .index) (slot-after o (record { flags = f; address = s .address; text = s .text }))) h ∙ ap (own Group) (Option·some-injective _ u′ e′)
-own-alone m (individual o f s) t t′ u u′ e e′ h = sym (ap (own Individual) (Option·some-injective _ u e)) ∙ ap (λ (x : Own Individual). set x (s .index) (slot-after o (record { flags = f; address = s .address; text = s .text }))) h ∙ ap (own Individual) (Option·some-injective _ u′ e′)
-own-alone m (last f x) t t′ u u′ e e′ h = sym (ap (own Last) (Option·some-injective _ u e)) ∙ ap (own Last) (Option·some-injective _ u′ e′)
+pub own-alone : (lim : Limits) (s : Setting) (t t′ u u′ : Tables) → apply lim s t ≡ some u → apply lim s t′ ≡ some u′ → own (kind s) t ≡ own (kind s) t′ → own (kind s) u ≡ own (kind s) u′
+own-alone lim s t t′ u u′ e e′ h =
+    let (a, p, q) = came (put-own (kind s) t) (own-after lim s (own (kind s) t)) u e in
+    let (b, p′, q′) = came (put-own (kind s) t′) (own-after lim s (own (kind s) t′)) u′ e′ in
+    let r : a ≡ b = Option·some-injective a b (sym p ∙ ap (own-after lim s) h ∙ p′) in
+    sym (ap (own (kind s)) q) ∙ own-put (kind s) t a ∙ r ∙ sym (own-put (kind s) t′ b) ∙ ap (own (kind s)) q′
 
 -- ---- settings in turn
 
 -- the first step of settings in turn, and the others
-pub first : (m : Limits) (s : Setting) (l : List Setting) (t u : Tables) → in-turn (apply m) (s ∷ l) t ≡ some u → (v : Tables) × (apply m s t ≡ some v) × (in-turn (apply m) l v ≡ some u)
-first m s l t u e = go (apply m s t) refl e
+pub first : (lim : Limits) (s : Setting) (l : List Setting) (t u : Tables) → in-turn (apply lim) (s ∷ l) t ≡ some u → (v : Tables) × (apply lim s t ≡ some v) × (in-turn (apply lim) l v ≡ some u)
+first lim s l t u e = go (apply lim s t) refl e
   where
-    go : (o : Option Tables) → apply m s t ≡ o → and-then o (in-turn (apply m) l) ≡ some u → (v : Tables) × (apply m s t ≡ some v) × (in-turn (apply m) l v ≡ some u)
+    go : (o : Option Tables) → apply lim s t ≡ o → and-then o (in-turn (apply lim) l) ≡ some u → (v : Tables) × (apply lim s t ≡ some v) × (in-turn (apply lim) l v ≡ some u)
     go none d h = absurd (Option·none-ne-some u h)
     go (some v) d h = (v, d, h)
 
@@ -93,25 +81,25 @@ or-false false b e = (refl, e)
 or-false true b e = absurd (true≢false e)
 
 -- FRAME: settings leave every table that they do not touch
-pub untouched-stays : (m : Limits) (l : List Setting) (t u : Tables) (k : Kind) → in-turn (apply m) l t ≡ some u → touches l k ≡ false → own k u ≡ own k t
-untouched-stays m [] t u k e h = ap (own k) (sym (Option·some-injective t u e))
-untouched-stays m (s ∷ l) t u k e h =
-    let (v, a, b) = first m s l t u e in
+pub untouched-stays : (lim : Limits) (l : List Setting) (t u : Tables) (k : Kind) → in-turn (apply lim) l t ≡ some u → touches l k ≡ false → own k u ≡ own k t
+untouched-stays lim [] t u k e h = ap (own k) (sym (Option·some-injective t u e))
+untouched-stays lim (s ∷ l) t u k e h =
+    let (v, a, b) = first lim s l t u e in
     let (x, y) = or-false (only (kind s) k) (touches l k) h in
-    untouched-stays m l v u k b y ∙ others-stay m s t v k a x
+    untouched-stays lim l v u k b y ∙ others-stay lim s t v k a x
 
 -- a kind is found equal by its type byte
 pub same-kind : (k j : Kind) → only k j ≡ true → k ≡ j
 same-kind k j e = one-kind k j (eqb-true (type-byte k) (type-byte j) e)
 
 -- LOCAL: settings whose tables are among p make equal tables of equal tables
-pub local : (m : Limits) (p : Kind → Bool) (l : List Setting) (t t′ u u′ : Tables) → All (λ s. p (kind s) ≡ true) l → Agree p t t′ → in-turn (apply m) l t ≡ some u → in-turn (apply m) l t′ ≡ some u′ → Agree p u u′
-local m p [] t t′ u u′ among g e e′ = λ k h. ap (own k) (sym (Option·some-injective t u e)) ∙ g k h ∙ ap (own k) (Option·some-injective t′ u′ e′)
-local m p (s ∷ l) t t′ u u′ among g e e′ =
-    let (v, a, b) = first m s l t u e in
-    let (v′, a′, b′) = first m s l t′ u′ e′ in
-    local m p l v v′ u u′ (among .1) (λ k h. one k h v v′ a a′ (only (kind s) k) refl) b b′
+pub local : (lim : Limits) (p : Kind → Bool) (l : List Setting) (t t′ u u′ : Tables) → All (λ s. p (kind s) ≡ true) l → Agree p t t′ → in-turn (apply lim) l t ≡ some u → in-turn (apply lim) l t′ ≡ some u′ → Agree p u u′
+local lim p [] t t′ u u′ among g e e′ = λ k h. ap (own k) (sym (Option·some-injective t u e)) ∙ g k h ∙ ap (own k) (Option·some-injective t′ u′ e′)
+local lim p (s ∷ l) t t′ u u′ among g e e′ =
+    let (v, a, b) = first lim s l t u e in
+    let (v′, a′, b′) = first lim s l t′ u′ e′ in
+    local lim p l v v′ u u′ (among .1) (λ k h. one k h v v′ a a′ (only (kind s) k) refl) b b′
   where
-    one : (k : Kind) → p k ≡ true → (v v′ : Tables) → apply m s t ≡ some v → apply m s t′ ≡ some v′ → (c : Bool) → only (kind s) k ≡ c → own k v ≡ own k v′
-    one k h v v′ a a′ false o = others-stay m s t v k a o ∙ g k h ∙ sym (others-stay m s t′ v′ k a′ o)
-    one k h v v′ a a′ true o = subst (λ (j : Kind). own j v ≡ own j v′) (same-kind (kind s) k o) (own-alone m s t t′ v v′ a a′ (g (kind s) (among .0)))
+    one : (k : Kind) → p k ≡ true → (v v′ : Tables) → apply lim s t ≡ some v → apply lim s t′ ≡ some v′ → (c : Bool) → only (kind s) k ≡ c → own k v ≡ own k v′
+    one k h v v′ a a′ false o = others-stay lim s t v k a o ∙ g k h ∙ sym (others-stay lim s t′ v′ k a′ o)
+    one k h v v′ a a′ true o = subst (λ (j : Kind). own j v ≡ own j v′) (same-kind (kind s) k o) (own-alone lim s t t′ v v′ a a′ (g (kind s) (among .0)))

@@ -1,14 +1,5 @@
 -- The sentences of document 01 on room, on entries in order, and on what a setting leaves alone. Assumes nothing.
-use Prim.Native.Nat.{ℕ, _≤_, _<_}
-use mathlib.Core.Path.{_≡_, refl, ap, _∙_, subst}
-use mathlib.Core.Logic.{_≢_, _↔_, _⊎_, inl, inr}
-use mathlib.Core.Bool.{Bool, true, false, cond, true≢false}
-use mathlib.Core.List.{List, [], _∷_, _++_}
-use mathlib.Core.Option.{Option, none, some, Option·some-ne-none}
-use native.Mathlib.Omega.{arith}
-use borrow.Author.Tests.{eq-eqb, le-ltb, ltb-false}
-use lib.Dec.{eqb, ltb}
-use lib.ListN.{length, replicate}
+use Rattle.lists.proofs.Kit.{ℕ, _≤_, _<_, _≡_, refl, ap, _∙_, subst, _≢_, _↔_, _⊎_, inl, inr, Bool, true, false, cond, true≢false, List, [], _∷_, _++_, Option, none, some, Option·some-ne-none, Option·none-ne-some, Option·some-injective, arith, eq-eqb, le-ltb, ltb-false, eqb, ltb, length, replicate}
 use Rattle.slots.specs.Slots.{indexOf, putAt, Present}
 use Rattle.slots.proofs.Changes.{index-absent, index-end, unless-fewer}
 use Rattle.slots.proofs.Tables.{index-le}
@@ -18,11 +9,11 @@ use Rattle.writing.specs.declared.Operation.{Operation}
 use Rattle.writing.specs.declared.Operation.the-variants.{Add, Delete, Replace}
 use Rattle.writing.specs.Settings.{Text, Number, Entry, Setting, lines, key, quick-texts, home, channels, system, status-texts, group, individual, last, kind}
 use Rattle.tables.specs.declared.limits.Limits.{Limits}
-use Rattle.tables.specs.Apply.{and-then, in-turn, start-from, has-number, put-line, drop-line, lines-after, quick-step, quick-after, status-step, status-after, put-channel, drop-channel, channels-after, with-room, apply}
+use Rattle.tables.specs.Apply.{and-then, in-turn, start-from, has-number, put-line, drop-line, lines-after, quick-step, quick-after, status-step, status-after, put-channel, drop-channel, channels-after, with-room, own-after, apply}
 use Rattle.tables.specs.Limits.{handheld, quick-places, status-places}
-use Rattle.tables.specs.Tables.{Line, Tables, with-hash, with-key, with-home, with-system, with-quick, with-status, with-groups, with-individuals, with-channels, with-lines}
+use Rattle.tables.specs.Tables.{Line, Tables}
 use Rattle.tables.proofs.Sentences.{Without, key-is-digits, says-without, without-says}
-use Rattle.tables.specs.Owns.{mix, only}
+use Rattle.tables.specs.Owns.{Own, own, mix, only, put-own}
 
 -- ---- entries in order
 
@@ -145,44 +136,46 @@ room-none f none e = refl
 room-none f (some a) e = absurd (Option·some-ne-none (f a) e)
 
 -- a setting that has no room is one of lines or of channels
-pub no-room-kinds : (m : Limits) (s : Setting) (t : Tables) → apply m s t ≡ none → (kind s ≡ Lines) ⊎ (kind s ≡ Channels)
-no-room-kinds m (lines o f es) t e = inl refl
-no-room-kinds m (key target f) t e = absurd (Option·some-ne-none _ e)
-no-room-kinds m (quick-texts o es) t e =
-    absurd (all-have-room (quick-step o) (quick-has-room o) es (start-from o (replicate quick-places none) (t .quick)) (room-none (with-quick t) (quick-after o es (t .quick)) e))
-no-room-kinds m (home h) t e = absurd (Option·some-ne-none _ e)
-no-room-kinds m (channels o ns) t e = inr refl
-no-room-kinds m (system s) t e = absurd (Option·some-ne-none _ e)
-no-room-kinds m (status-texts o es) t e =
-    absurd (all-have-room (status-step o) (status-has-room o) es (start-from o (replicate status-places none) (t .status)) (room-none (with-status t) (status-after o es (t .status)) e))
-no-room-kinds m (group o f s) t e = absurd (Option·some-ne-none _ e)
-no-room-kinds m (individual o f s) t e = absurd (Option·some-ne-none _ e)
-no-room-kinds m (last f h) t e = absurd (Option·some-ne-none _ e)
+pub no-room-kinds : (lim : Limits) (s : Setting) (t : Tables) → apply lim s t ≡ none → (kind s ≡ Lines) ⊎ (kind s ≡ Channels)
+no-room-kinds lim (lines o f es) t e = inl refl
+no-room-kinds lim (key target f) t e = absurd (Option·some-ne-none _ e)
+no-room-kinds lim (quick-texts o es) t e =
+    absurd (all-have-room (quick-step o) (quick-has-room o) es (start-from o (replicate quick-places none) (t .quick)) (room-none (put-own QuickTexts t) (quick-after o es (t .quick)) e))
+no-room-kinds lim (home h) t e = absurd (Option·some-ne-none _ e)
+no-room-kinds lim (channels o ns) t e = inr refl
+no-room-kinds lim (system s) t e = absurd (Option·some-ne-none _ e)
+no-room-kinds lim (status-texts o es) t e =
+    absurd (all-have-room (status-step o) (status-has-room o) es (start-from o (replicate status-places none) (t .status)) (room-none (put-own StatusTexts t) (status-after o es (t .status)) e))
+no-room-kinds lim (group o f s) t e = absurd (Option·some-ne-none _ e)
+no-room-kinds lim (individual o f s) t e = absurd (Option·some-ne-none _ e)
+no-room-kinds lim (last f h) t e = absurd (Option·some-ne-none _ e)
 
 -- ---- a setting changes its own table and no other
+
+-- what was made where there was room was made of something
+pub came : {A B : Type 0} (f : A → B) (o : Option A) (b : B) → with-room f o ≡ some b → (a : A) × (o ≡ some a) × (f a ≡ b)
+came f none b e = absurd (Option·none-ne-some b e)
+came f (some a) b e = (a, refl, Option·some-injective (f a) b e)
+
+-- one table changed is that table taken from the tables changed
+put-mixes : (k : Kind) (t : Tables) (x : Own k) → put-own k t x ≡ mix (only k) t (put-own k t x)
+put-mixes Lines t x = refl
+put-mixes Key t x = refl
+put-mixes QuickTexts t x = refl
+put-mixes Home t x = refl
+put-mixes Channels t x = refl
+put-mixes System t x = refl
+put-mixes StatusTexts t x = refl
+put-mixes Group t x = refl
+put-mixes Individual t x = refl
+put-mixes Last t x = refl
 
 -- t with the table of one kind as u has it
 abbrev pub with-own : Kind → Tables → Tables → Tables
 with-own k t u = mix (only k) t u
 
--- what a change of one table makes where there is room
-room-own : {A : Type 0} (k : Kind) (t : Tables) (with-it : A → Tables) → ((a : A) → with-it a ≡ with-own k t (with-it a)) → (o : Option A) → Present (λ u. u ≡ with-own k t u) (with-room with-it o)
-room-own k t with-it h none = tt
-room-own k t with-it h (some a) = h a
-
--- one case for each kind
-own-kept : (m : Limits) (s : Setting) (t : Tables) → Present (λ u. u ≡ with-own (kind s) t u) (apply m s t)
-own-kept m (lines o f es) t = room-own Lines t (with-lines t) (λ x. refl) (lines-after (m .lines) o f es (t .lines))
-own-kept m (key target f) t = refl
-own-kept m (quick-texts o es) t = room-own QuickTexts t (with-quick t) (λ x. refl) (quick-after o es (t .quick))
-own-kept m (home h) t = refl
-own-kept m (channels o ns) t = room-own Channels t (with-channels t) (λ x. refl) (channels-after (m .channels) o ns (t .channels))
-own-kept m (system s) t = refl
-own-kept m (status-texts o es) t = room-own StatusTexts t (with-status t) (λ x. refl) (status-after o es (t .status))
-own-kept m (group o f s) t = refl
-own-kept m (individual o f s) t = refl
-own-kept m (last f h) t = refl
-
 -- OWN-TABLE: what a setting leaves is the tables before, with its own table changed
-pub own-table : (m : Limits) (s : Setting) (t u : Tables) → apply m s t ≡ some u → u ≡ with-own (kind s) t u
-own-table m s t u e = subst (Present (λ v. v ≡ with-own (kind s) t v)) e (own-kept m s t)
+pub own-table : (lim : Limits) (s : Setting) (t u : Tables) → apply lim s t ≡ some u → u ≡ with-own (kind s) t u
+own-table lim s t u e =
+    let (x, _, p) = came (put-own (kind s) t) (own-after lim s (own (kind s) t)) u e in
+    subst (λ v. v ≡ with-own (kind s) t v) p (put-mixes (kind s) t x)

@@ -1,15 +1,5 @@
 -- The sentences of document 01, "What each operation does", each as a law of the definitions. Assumes nothing.
-use Prim.Native.Nat.{ℕ, _-_, _≤_, _<_}
-use mathlib.Core.Path.{_≡_, refl, sym, ap, _∙_}
-use mathlib.Core.Logic.{_≢_, _↔_, _⊎_, inl, inr}
-use mathlib.Core.Bool.{Bool, true, false, true≢false}
-use mathlib.Core.List.{List, [], _∷_, _++_}
-use mathlib.Core.Option.{Option, none, some}
-use native.Mathlib.Omega.{arith}
-use borrow.Author.Tests.{eq-eqb, lt-ltb, ne-eqb, eqb-false}
-use lib.Dec.{eqb}
-use lib.ListN.{length, getD, set, replicate, length-append, length-set}
-use lib.Seq.{getD-set-same, getD-set-other, set-getD}
+use Rattle.lists.proofs.Kit.{ℕ, _-_, _≤_, _<_, _≡_, refl, sym, ap, _∙_, _≢_, _↔_, _⊎_, inl, inr, Bool, true, false, true≢false, List, [], _∷_, _++_, Option, none, some, arith, eq-eqb, lt-ltb, ne-eqb, eqb-false, eqb, length, getD, set, replicate, length-append, length-set, getD-set-same, getD-set-other, set-getD}
 use Rattle.lists.specs.Every.{All}
 use Rattle.lists.proofs.Every.{all-right, all-turn}
 use Rattle.slots.specs.Slots.{indexOf, putAt, same?}
@@ -33,7 +23,9 @@ use Rattle.tables.specs.declared.limits.Limits.{Limits}
 use Rattle.tables.specs.Allowed.{Distinct}
 use Rattle.tables.specs.Apply.{start-from, has-number, put-line, line-of, line-step, lines-after, quick-step, quick-after, status-step, status-after, drop-channel, channel-step, channels-after, apply}
 use Rattle.tables.specs.Limits.{quick-places, status-places}
-use Rattle.tables.specs.Tables.{Line, Tables, with-hash, with-key, with-home, with-system, with-quick, with-status, with-groups, with-individuals, with-channels, with-lines}
+use Rattle.tables.specs.Tables.{Line, Tables}
+use Rattle.writing.specs.declared.Kind.the-variants.{Lines, Key, QuickTexts, Home, Channels, System, StatusTexts, Group, Individual, Last}
+use Rattle.tables.specs.Owns.{put-own}
 
 -- ---- "Line contacts: the key is the digits."
 
@@ -166,32 +158,32 @@ module _ (e : Entry) (ss : List (Option Text)) where
   status-delete-absent h = ap some (place-empty ss (e .index - 32) h)
 
 -- a group slot
-module _ (m : Limits) (f : GroupFlags) (s : Slot GroupAddress) (t : Tables) where
+module _ (lim : Limits) (f : GroupFlags) (s : Slot GroupAddress) (t : Tables) where
   -- whatever was there
-  pub group-add : apply m (group Add f s) t ≡ some (with-groups t (set (t .groups) (s .index) (some (record { flags = f; address = s .address; text = s .text }))))
+  pub group-add : apply lim (group Add f s) t ≡ some (put-own Group t (set (t .groups) (s .index) (some (record { flags = f; address = s .address; text = s .text }))))
   group-add = refl
 
   -- "In a D1 or D2 delete only the index counts"
-  pub group-delete : apply m (group Delete f s) t ≡ some (with-groups t (set (t .groups) (s .index) none))
+  pub group-delete : apply lim (group Delete f s) t ≡ some (put-own Group t (set (t .groups) (s .index) none))
   group-delete = refl
 
   -- "Deleting what isn't there does nothing"
-  pub group-delete-absent : getD (t .groups) (s .index) none ≡ none → apply m (group Delete f s) t ≡ some t
-  group-delete-absent h = ap (λ x. some (with-groups t x)) (place-empty (t .groups) (s .index) h)
+  pub group-delete-absent : getD (t .groups) (s .index) none ≡ none → apply lim (group Delete f s) t ≡ some t
+  group-delete-absent h = ap (λ x. some (put-own Group t x)) (place-empty (t .groups) (s .index) h)
 
 -- an individual slot
-module _ (m : Limits) (f : IndividualFlags) (s : Slot IndividualAddress) (t : Tables) where
+module _ (lim : Limits) (f : IndividualFlags) (s : Slot IndividualAddress) (t : Tables) where
   -- whatever was there
-  pub individual-add : apply m (individual Add f s) t ≡ some (with-individuals t (set (t .individuals) (s .index) (some (record { flags = f; address = s .address; text = s .text }))))
+  pub individual-add : apply lim (individual Add f s) t ≡ some (put-own Individual t (set (t .individuals) (s .index) (some (record { flags = f; address = s .address; text = s .text }))))
   individual-add = refl
 
   -- "In a D1 or D2 delete only the index counts"
-  pub individual-delete : apply m (individual Delete f s) t ≡ some (with-individuals t (set (t .individuals) (s .index) none))
+  pub individual-delete : apply lim (individual Delete f s) t ≡ some (put-own Individual t (set (t .individuals) (s .index) none))
   individual-delete = refl
 
   -- "Deleting what isn't there does nothing"
-  pub individual-delete-absent : getD (t .individuals) (s .index) none ≡ none → apply m (individual Delete f s) t ≡ some t
-  individual-delete-absent h = ap (λ x. some (with-individuals t x)) (place-empty (t .individuals) (s .index) h)
+  pub individual-delete-absent : getD (t .individuals) (s .index) none ≡ none → apply lim (individual Delete f s) t ≡ some t
+  individual-delete-absent h = ap (λ x. some (put-own Individual t x)) (place-empty (t .individuals) (s .index) h)
 
 -- ---- "Channels: add always appends, so repeats are kept; delete removes every match."
 
@@ -241,27 +233,27 @@ channels-replace room ns cs = refl
 -- ---- "Count 0 is allowed."
 
 -- an add or a delete with no entries changes nothing, and a replace empties the table
-module _ (m : Limits) (t : Tables) where
+module _ (lim : Limits) (t : Tables) where
   -- line contacts
-  pub lines-count-0 : (o : Operation) (f : LineFlags) → apply m (lines o f []) t ≡ some (start-from o (with-lines t []) t)
+  pub lines-count-0 : (o : Operation) (f : LineFlags) → apply lim (lines o f []) t ≡ some (start-from o (put-own Lines t []) t)
   lines-count-0 Add f = refl
   lines-count-0 Delete f = refl
   lines-count-0 Replace f = refl
 
   -- quick texts
-  pub quick-count-0 : (o : Operation) → apply m (quick-texts o []) t ≡ some (start-from o (with-quick t (replicate quick-places none)) t)
+  pub quick-count-0 : (o : Operation) → apply lim (quick-texts o []) t ≡ some (start-from o (put-own QuickTexts t (replicate quick-places none)) t)
   quick-count-0 Add = refl
   quick-count-0 Delete = refl
   quick-count-0 Replace = refl
 
   -- status texts
-  pub status-count-0 : (o : Operation) → apply m (status-texts o []) t ≡ some (start-from o (with-status t (replicate status-places none)) t)
+  pub status-count-0 : (o : Operation) → apply lim (status-texts o []) t ≡ some (start-from o (put-own StatusTexts t (replicate status-places none)) t)
   status-count-0 Add = refl
   status-count-0 Delete = refl
   status-count-0 Replace = refl
 
   -- channels
-  pub channels-count-0 : (o : Operation) → apply m (channels o []) t ≡ some (start-from o (with-channels t []) t)
+  pub channels-count-0 : (o : Operation) → apply lim (channels o []) t ≡ some (start-from o (put-own Channels t []) t)
   channels-count-0 Add = refl
   channels-count-0 Delete = refl
   channels-count-0 Replace = refl
@@ -269,17 +261,17 @@ module _ (m : Limits) (t : Tables) where
   -- ---- "CB, CD and CF overwrite."
 
   -- the emergency key
-  pub key-overwrites : (target : KeyTarget) (f : KeyFlags) → apply m (key target f) t ≡ some (with-key t (record { target = target; flags = f }))
+  pub key-overwrites : (target : KeyTarget) (f : KeyFlags) → apply lim (key target f) t ≡ some (put-own Key t (record { target = target; flags = f }))
   key-overwrites target f = refl
 
   -- the home numbers
-  pub home-overwrites : (h : HomeNumbers) → apply m (home h) t ≡ some (with-home t h)
+  pub home-overwrites : (h : HomeNumbers) → apply lim (home h) t ≡ some (put-own Home t h)
   home-overwrites h = refl
 
   -- the system code
-  pub system-overwrites : (s : SystemCode) → apply m (system s) t ≡ some (with-system t s)
+  pub system-overwrites : (s : SystemCode) → apply lim (system s) t ≡ some (put-own System t s)
   system-overwrites s = refl
 
   -- "After each taken request the hash kept is that request's own": FF's hash is kept
-  pub hash-kept : (f : LastFlags) (h : Hash) → apply m (last f h) t ≡ some (with-hash t h)
+  pub hash-kept : (f : LastFlags) (h : Hash) → apply lim (last f h) t ≡ some (put-own Last t h)
   hash-kept f h = refl

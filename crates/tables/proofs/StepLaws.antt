@@ -1,14 +1,5 @@
 -- What each operation leaves of a table is allowed, entry by entry. Assumes nothing.
-use Prim.Native.Nat.{ℕ, suc, _-_, _≤_, _<_}
-use mathlib.Core.Path.{_≡_, refl, sym, ap, _∙_}
-use mathlib.Core.Logic.{_≢_}
-use mathlib.Core.Bool.{Bool, true, false, cond, true≢false}
-use mathlib.Core.List.{List, [], _∷_, _++_}
-use mathlib.Core.Option.{Option, none, some}
-use native.Mathlib.Omega.{arith}
-use borrow.Author.Tests.{ltb-true}
-use lib.Dec.{eqb, ltb}
-use lib.ListN.{length, getD, set, length-append, length-set, replicate}
+use Rattle.lists.proofs.Kit.{ℕ, suc, _-_, _≤_, _<_, _≡_, refl, sym, ap, _∙_, _≢_, Bool, true, false, cond, true≢false, List, [], _∷_, _++_, Option, none, some, arith, ltb-true, eqb, ltb, length, getD, set, length-append, length-set, replicate}
 use Rattle.lists.specs.Every.{All}
 use Rattle.lists.proofs.Every.{all-append, all-get, all-set, all-turn}
 use Rattle.slots.specs.Slots.{unless, indexOf, putAt, same?, Present}

@@ -1,13 +1,5 @@
 -- Texts and numbers as bytes: how many bytes they take, and that the bytes tell them. Assumes nothing.
-use Prim.Native.Nat.{ℕ, zero, suc, _*_, _≤_, _<_}
-use mathlib.Core.Path.{_≡_, refl, sym, ap, _∙_}
-use mathlib.Core.Bool.{Bool, true, false, true≢false}
-use mathlib.Core.Logic.{_≢_}
-use mathlib.Core.List.{[], _∷_, map}
-use native.Mathlib.Omega.{arith}
-use borrow.Author.Tests.{eqb-true}
-use lib.Dec.{eqb}
-use lib.ListN.{length, length-map}
+use Rattle.lists.proofs.Kit.{ℕ, zero, suc, _*_, _≤_, _<_, _≡_, refl, sym, ap, _∙_, Bool, true, false, true≢false, _≢_, [], _∷_, map, arith, eqb-true, eqb, length, length-map}
 use Rattle.lists.proofs.Bools.{is-false, and-parts}
 use Rattle.lists.specs.Bytes.{Bytes}
 use Rattle.lists.proofs.Bytes.{all-bytes}

@@ -1,23 +1,16 @@
 -- A text's bytes in a message, and in the store. Assumes nothing.
-use Prim.Native.Nat.{ℕ, suc, _+_, _-_, _*_, _≤_, _<_}
-use mathlib.Core.Path.{_≡_, refl, sym, ap, ap₂, _∙_}
-use mathlib.Core.Logic.{_≢_}
-use mathlib.Core.Bool.{Bool, false, _&&_}
-use mathlib.Core.List.{List, [], _∷_, _++_, map}
-use native.Mathlib.Omega.{arith}
-use lib.ListN.{length, drop, take, getD}
-use lib.Seq.{drop-cons}
+use Rattle.lists.proofs.Kit.{ℕ, suc, _+_, _-_, _*_, _≤_, _<_, _≡_, refl, sym, ap, ap₂, _∙_, _≢_, List, [], _∷_, _++_, map, arith, length, drop, take, getD, drop-cons}
 use Rattle.lists.specs.Bytes.{Bytes}
 use Rattle.lists.specs.Every.{All}
-use Rattle.slots.specs.Slots.{flat, pad, u16, zeros?}
-use Rattle.slots.proofs.Numbers.{u16-of, u16-shown}
-use Rattle.slots.proofs.Pads.{pad-length}
-use Rattle.slots.proofs.Runs.{zeros-append}
+use Rattle.slots.specs.Slots.{flat, pad, u16}
+use Rattle.slots.proofs.Numbers.{u16-of}
 use Rattle.slots.proofs.Tables.{flat-pad}
 use Rattle.writing.specs.Fields.{item, val}
-use Rattle.writing.specs.Settings.{Text, unicode16}
+use Rattle.writing.specs.declared.Coding.{Coding}
+use Rattle.writing.specs.declared.Coding.the-variants.{Unicode16}
+use Rattle.writing.specs.Settings.{Text}
 use Rattle.writing.specs.Writing.{text}
-use Rattle.read_fields.specs.Places.{PartAt, be}
+use Rattle.read_fields.specs.Places.{FieldsAt, be}
 use Rattle.read_fields.specs.declared.texts.TextPlace.{TextPlace}
 use Rattle.read_fields.proofs.Heads.{head-out}
 use Rattle.tables.specs.Changing.{TextPut}
@@ -38,13 +31,13 @@ pub record TextOut (m : List ℕ) (p : ℕ) (us : Text) : Type 0 where
   pub units : All Unit16 us
 
 -- a text's bytes are its units, high byte first
-pub text-out : (m : List ℕ) (p next : ℕ) (us : Text) → Bytes m → PartAt (text unicode16 us) m p next → TextOut m p us
-text-out m p next [] h x =
+pub text-out : (c : Coding) (m : List ℕ) (p next : ℕ) (us : Text) → Bytes m → FieldsAt (text c us) m p next → TextOut m p us
+text-out Unicode16 m p next [] h x =
     let (r, k, y) = head-out (val 16 0 ∷ []) [] m p 2 refl (omega arith) h next x in
     record { inside = omega (arith, r); bytes = refl; units = tt }
-text-out m p next (u ∷ us) h x =
-    let (r, k, y) = head-out (item 16 0 u ∷ []) (text unicode16 us) m p 2 refl (omega arith) h next x in
-    let z = text-out m (p + 2) next us h y in
+text-out Unicode16 m p next (u ∷ us) h x =
+    let (r, k, y) = head-out (item 16 0 u ∷ []) (text Unicode16 us) m p 2 refl (omega arith) h next x in
+    let z = text-out Unicode16 m (p + 2) next us h y in
     let a : ℕ = getD m p 0 in
     let b : ℕ = getD m (suc p) 0 in
     let d : drop p m ≡ a ∷ b ∷ drop (suc (suc p)) m = two-bytes m p r in
@@ -68,22 +61,11 @@ text-padded n us = let e : 2 * n ≡ n * 2 = omega arith in rw e (sym (flat-pad 
 module _ (m : List ℕ) (h : Bytes m) (p : TextPlace) (s t : List ℕ) where
   -- no text stands outside the message
   pub text-absent : (p .start + 2 * p .units ≤ length m → ⊥) → TextPut m p s t
-  text-absent never n us next is l k = absurd (never (omega (arith, is .units, text-out m (p .start) next us h (is .stands) .inside)))
+  text-absent never n us next is l k = absurd (never (omega (arith, is .units, text-out (p .coding) m (p .start) next us h (is .stands) .inside)))
 
   -- the message's bytes, and zeros after them, are the text's
   pub text-put : t ≡ pad 0 (length s) (take (p .start + 2 * p .units - p .start) (drop (p .start) m)) → TextPut m p s t
   text-put e n us next is l k =
       let i : p .start + 2 * p .units - p .start ≡ 2 * length us = omega (arith, is .units) in
-      e ∙ ap₂ (λ (a : ℕ) (b : List ℕ). pad 0 a b) k (ap (λ (j : ℕ). take j (drop (p .start) m)) i ∙ text-out m (p .start) next us h (is .stands) .bytes)
+      e ∙ ap₂ (λ (a : ℕ) (b : List ℕ). pad 0 a b) k (ap (λ (j : ℕ). take j (drop (p .start) m)) i ∙ text-out (p .coding) m (p .start) next us h (is .stands) .bytes)
       ∙ text-padded n us
-
--- ---- a text's bytes in the store
-
--- two bytes a unit
-pub text-long : (n : ℕ) (us : Text) → length (text-bytes n us) ≡ 2 * n
-text-long n us = ap length (sym (text-padded n us)) ∙ pad-length 0 (2 * n) (flat (map u16 us))
-
--- a text that has a unit is not zeros
-pub text-shown : (n : ℕ) (us : Text) → 1 ≤ length us → All Unit16 us → zeros? (text-bytes (suc n) us) ≡ false
-text-shown n [] l h = absurd (omega arith)
-text-shown n (u ∷ us) l h = zeros-append (u16 u) (flat (map u16 (pad 0 n us))) ∙ ap (λ (b : Bool). b && zeros? (flat (map u16 (pad 0 n us)))) (u16-shown u (h .0 .0))

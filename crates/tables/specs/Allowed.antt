@@ -74,7 +74,7 @@ Distinct [] = Unit {0}
 Distinct (l ∷ ls) = All (λ x. x .number ≢ l .number) ls × Distinct ls
 
 -- the tables that a set with these limits can hold
-pub record Allowed (m : Limits) (t : Tables) : Type 0 where
+pub record Allowed (lim : Limits) (t : Tables) : Type 0 where
   pub hash : HashOk (t .hash)
   pub key : TargetOk (t .key .target)
   pub home : HomeOk (t .home)
@@ -83,8 +83,8 @@ pub record Allowed (m : Limits) (t : Tables) : Type 0 where
   pub status : (length (t .status) ≡ status-places) × All (Present StatusOk) (t .status)
   pub groups : (length (t .groups) ≡ slot-places) × All (Present GroupOk) (t .groups)
   pub individuals : (length (t .individuals) ≡ slot-places) × All (Present IndividualOk) (t .individuals)
-  pub channels : (length (t .channels) ≤ m .channels) × All InChannel (t .channels)
-  pub lines : (length (t .lines) ≤ m .lines) × All LineOk (t .lines)
+  pub channels : (length (t .channels) ≤ lim .channels) × All InChannel (t .channels)
+  pub lines : (length (t .lines) ≤ lim .lines) × All LineOk (t .lines)
   pub distinct : Distinct (t .lines)
 
 -- ---- inner steps: no promise cites these

@@ -9,10 +9,11 @@ use Rattle.slots.specs.Slots.{unless, indexOf, putAt, same?}
 use Rattle.writing.specs.declared.LineFlags.{LineFlags}
 use Rattle.writing.specs.declared.Operation.{Operation}
 use Rattle.writing.specs.declared.Operation.the-variants.{Add, Delete, Replace}
-use Rattle.writing.specs.Settings.{Text, Number, Contact, Entry, Setting, lines, key, quick-texts, home, channels, system, status-texts, group, individual, last}
+use Rattle.writing.specs.Settings.{Text, Number, Contact, Entry, Setting, lines, key, quick-texts, home, channels, system, status-texts, group, individual, last, kind}
 use Rattle.tables.specs.declared.limits.Limits.{Limits}
 use Rattle.tables.specs.Limits.{quick-places, status-places}
-use Rattle.tables.specs.Tables.{Line, Tables, with-hash, with-key, with-home, with-system, with-quick, with-status, with-groups, with-individuals, with-channels, with-lines}
+use Rattle.tables.specs.Tables.{Line, Tables}
+use Rattle.tables.specs.Owns.{Own, own, put-own}
 
 -- ---- entries in turn
 
@@ -115,17 +116,19 @@ abbrev pub with-room : {A B : Type 0} → (A → B) → Option A → Option B
 with-room f none = none
 with-room f (some a) = some (f a)
 
--- what a setting makes of the tables; "CB, CD and CF overwrite"; FF's hash is kept
+-- what a setting makes of its own table; "CB, CD and CF overwrite"; FF's hash is kept
+abbrev pub own-after : Limits → (s : Setting) → Own (kind s) → Option (Own (kind s))
+own-after lim (lines o f es) x = lines-after (lim .lines) o f es x
+own-after lim (key target f) x = some (record { target = target; flags = f })
+own-after lim (quick-texts o es) x = quick-after o es x
+own-after lim (home h) x = some h
+own-after lim (channels o ns) x = channels-after (lim .channels) o ns x
+own-after lim (system s) x = some s
+own-after lim (status-texts o es) x = status-after o es x
+own-after lim (group o f s) x = some (set x (s .index) (slot-after o (record { flags = f; address = s .address; text = s .text })))
+own-after lim (individual o f s) x = some (set x (s .index) (slot-after o (record { flags = f; address = s .address; text = s .text })))
+own-after lim (last f h) x = some h
+
+-- and of the tables: the others stay
 abbrev pub apply : Limits → Setting → Tables → Option Tables
-apply m (lines o f es) t = with-room (with-lines t) (lines-after (m .lines) o f es (t .lines))
-apply m (key target f) t = some (with-key t (record { target = target; flags = f }))
-apply m (quick-texts o es) t = with-room (with-quick t) (quick-after o es (t .quick))
-apply m (home h) t = some (with-home t h)
-apply m (channels o ns) t = with-room (with-channels t) (channels-after (m .channels) o ns (t .channels))
-apply m (system s) t = some (with-system t s)
-apply m (status-texts o es) t = with-room (with-status t) (status-after o es (t .status))
-apply m (group o f s) t =
-    some (with-groups t (set (t .groups) (s .index) (slot-after o (record { flags = f; address = s .address; text = s .text }))))
-apply m (individual o f s) t =
-    some (with-individuals t (set (t .individuals) (s .index) (slot-after o (record { flags = f; address = s .address; text = s .text }))))
-apply m (last f h) t = some (with-hash t h)
+apply lim s t = with-room (put-own (kind s) t) (own-after lim s (own (kind s) t))

@@ -5,8 +5,8 @@ use mathlib.Core.Bool.{Bool, true, false}
 use mathlib.Core.List.{List}
 use mathlib.Core.Option.{Option, none, some}
 use lib.ListN.{length}
-use Rattle.writing.specs.Settings.{Text, unicode16}
-use Rattle.read_fields.specs.Parts.{TextIs}
+use Rattle.writing.specs.Settings.{Text}
+use Rattle.read_fields.specs.TextsAndNumbers.{TextIs}
 use Rattle.read_fields.specs.declared.texts.TextPlace.{TextPlace}
 use Rattle.tables.specs.Layout.{text-bytes}
 
@@ -16,7 +16,7 @@ Changed {T} Is change s t = (was : T) → Is was s → (u : T) × (change was �
 
 -- room for n units becomes the text's units, and zeros after them
 abbrev pub TextPut : List ℕ → TextPlace → List ℕ → List ℕ → Type 0
-TextPut m p s t = (n : ℕ) (us : Text) (next : ℕ) → TextIs unicode16 m p us next → length us ≤ n → length s ≡ 2 * n → t ≡ text-bytes n us
+TextPut m p s t = (n : ℕ) (us : Text) (next : ℕ) → TextIs m p us next → length us ≤ n → length s ≡ 2 * n → t ≡ text-bytes n us
 
 -- what trying to change a table answers: its bytes are those of the table afterwards, or there was no room
 pub record Tried {T : Type 0} (Is : T → List ℕ → Type 0) (after : Option T) (bytes : List ℕ) (r : Bool) : Type 0 where

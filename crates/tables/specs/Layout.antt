@@ -33,14 +33,15 @@ abbrev pub status-bytes : Text → List ℕ
 status-bytes us = 1 ∷ text-bytes (text-limits .short) us
 
 abbrev pub line-flags : LineFlags → ℕ
-line-flags f = bit (f .encryption) * 16 + bit (f .emergency) * 8 + f .priority * 2 + bit (f .pabx)
+line-flags f = bit (f .encryption) * 8 + bit (f .emergency) * 4 + f .priority
 
 -- a digit is kept as one more than itself, so that none is 0
 abbrev pub digit-bytes : List ℕ → List ℕ
 digit-bytes ds = pad 0 18 (map suc ds)
 
+-- flags, then IDtype and digits, which stand together, then the text
 abbrev pub line-bytes : Line → List ℕ
-line-bytes l = line-flags (l .flags) ∷ digit-bytes (l .number) ++ text-bytes (text-limits .short) (l .text)
+line-bytes l = line-flags (l .flags) ∷ bit (l .flags .pabx) ∷ digit-bytes (l .number) ++ text-bytes (text-limits .short) (l .text)
 
 abbrev pub group-flags : GroupFlags → ℕ
 group-flags f =
@@ -92,11 +93,15 @@ abbrev pub channel-width : ℕ
 channel-width = 2
 
 abbrev pub line-width : ℕ
-line-width = 51
+line-width = 52
+
+-- where a line's digits stand in its slot
+abbrev pub digits-at : ℕ
+digits-at = 2
 
 -- ---- the store
 
--- how many bytes the parts of a fixed size have
+-- how many bytes the regions of a fixed size have
 abbrev pub hash-size : ℕ
 hash-size = 11
 
@@ -118,11 +123,11 @@ status-size = status-places * status-width
 abbrev pub member-size : ℕ
 member-size = slot-places * member-width
 
--- how many bytes each part has, the spare ones aside: hash, key, home, system, quick, status, groups, individuals, channels, lines
-abbrev pub part-widths : Limits → List ℕ
-part-widths m =
+-- how many bytes each region has, the spare ones aside: hash, key, home, system, quick, status, groups, individuals, channels, lines
+abbrev pub region-widths : Limits → List ℕ
+region-widths lim =
     hash-size ∷ key-size ∷ home-size ∷ system-size ∷ quick-size ∷ status-size ∷ member-size ∷ member-size
-    ∷ m .channels * channel-width ∷ m .lines * line-width ∷ []
+    ∷ lim .channels * channel-width ∷ lim .lines * line-width ∷ []
 
 -- where they start; behind the individuals come the two lists, channels and lines
 abbrev pub key-at : ℕ
@@ -150,19 +155,19 @@ abbrev pub lists-at : ℕ
 lists-at = individuals-at + member-size
 
 abbrev pub lines-at : Limits → ℕ
-lines-at m = lists-at + m .channels * channel-width
+lines-at lim = lists-at + lim .channels * channel-width
 
--- where part k of the store starts
-abbrev pub part-start : Limits → ℕ → ℕ
-part-start m k = sum (take k (part-widths m))
+-- where region k of the store starts
+abbrev pub region-start : Limits → ℕ → ℕ
+region-start lim k = sum (take k (region-widths lim))
 
 -- the bytes that the tables take
 abbrev pub used-size : Limits → ℕ
-used-size m = lists-at + (m .channels * channel-width + m .lines * line-width)
+used-size lim = lists-at + (lim .channels * channel-width + lim .lines * line-width)
 
--- the parts, in order; the bytes that no table uses are 0
-abbrev pub parts : Limits → Tables → List (List ℕ)
-parts m t =
+-- the regions, in order; the bytes that no table uses are 0
+abbrev pub regions : Limits → Tables → List (List ℕ)
+regions lim t =
     hash-bytes (t .hash)
     ∷ key-bytes (t .key)
     ∷ home-bytes (t .home)
@@ -171,21 +176,21 @@ parts m t =
     ∷ places status-width status-bytes (t .status)
     ∷ places member-width group-bytes (t .groups)
     ∷ places member-width individual-bytes (t .individuals)
-    ∷ places channel-width u16 (front (m .channels) (t .channels))
-    ∷ places line-width line-bytes (front (m .lines) (t .lines))
-    ∷ replicate (m .size - used-size m) 0
+    ∷ places channel-width u16 (front (lim .channels) (t .channels))
+    ∷ places line-width line-bytes (front (lim .lines) (t .lines))
+    ∷ replicate (lim .size - used-size lim) 0
     ∷ []
 
 -- the bytes of the tables
 unfoldable pub layout : Limits → Tables → List ℕ
-layout m t = flat (parts m t)
+layout lim t = flat (regions lim t)
 
 -- limits whose tables fit the store
 abbrev pub Roomy : Limits → Type 0
-Roomy m = used-size m ≤ m .size
+Roomy lim = used-size lim ≤ lim .size
 
 -- the bytes are those of tables that the rules allow; that they fill the store is said by StoreOf
-pub record IsStore (m : Limits) (bytes : List ℕ) : Type 0 where
+pub record IsStore (lim : Limits) (bytes : List ℕ) : Type 0 where
   pub tables : Tables
-  pub allowed : Allowed m tables
-  pub bytes-are : bytes ≡ layout m tables
+  pub allowed : Allowed lim tables
+  pub bytes-are : bytes ≡ layout lim tables

@@ -3,6 +3,7 @@ pub mod Apply
 pub mod Changing
 pub mod Layout
 pub mod Limits
+pub mod Members
 pub mod Owns
 pub mod Store
 pub mod Tables

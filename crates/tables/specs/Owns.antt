@@ -40,6 +40,34 @@ own Group t = t .groups
 own Individual t = t .individuals
 own Last t = t .hash
 
+-- the tables that have these
+abbrev pub tables-of : Own Last → Own Key → Own Home → Own System → Own QuickTexts → Own StatusTexts → Own Group → Own Individual → Own Channels → Own Lines → Tables
+tables-of hash key home system quick status groups individuals channels lines = record {
+  hash = hash;
+  key = key;
+  home = home;
+  system = system;
+  quick = quick;
+  status = status;
+  groups = groups;
+  individuals = individuals;
+  channels = channels;
+  lines = lines;
+}
+
+-- t, with x for its table of this kind
+abbrev pub put-own : (k : Kind) → Tables → Own k → Tables
+put-own Last t x = tables-of x (t .key) (t .home) (t .system) (t .quick) (t .status) (t .groups) (t .individuals) (t .channels) (t .lines)
+put-own Key t x = tables-of (t .hash) x (t .home) (t .system) (t .quick) (t .status) (t .groups) (t .individuals) (t .channels) (t .lines)
+put-own Home t x = tables-of (t .hash) (t .key) x (t .system) (t .quick) (t .status) (t .groups) (t .individuals) (t .channels) (t .lines)
+put-own System t x = tables-of (t .hash) (t .key) (t .home) x (t .quick) (t .status) (t .groups) (t .individuals) (t .channels) (t .lines)
+put-own QuickTexts t x = tables-of (t .hash) (t .key) (t .home) (t .system) x (t .status) (t .groups) (t .individuals) (t .channels) (t .lines)
+put-own StatusTexts t x = tables-of (t .hash) (t .key) (t .home) (t .system) (t .quick) x (t .groups) (t .individuals) (t .channels) (t .lines)
+put-own Group t x = tables-of (t .hash) (t .key) (t .home) (t .system) (t .quick) (t .status) x (t .individuals) (t .channels) (t .lines)
+put-own Individual t x = tables-of (t .hash) (t .key) (t .home) (t .system) (t .quick) (t .status) (t .groups) x (t .channels) (t .lines)
+put-own Channels t x = tables-of (t .hash) (t .key) (t .home) (t .system) (t .quick) (t .status) (t .groups) (t .individuals) x (t .lines)
+put-own Lines t x = tables-of (t .hash) (t .key) (t .home) (t .system) (t .quick) (t .status) (t .groups) (t .individuals) (t .channels) x
+
 -- t, with the tables of the kinds that p says yes of as u has them
 abbrev pub mix : (Kind → Bool) → Tables → Tables → Tables
 mix p t u = record {

@@ -9,7 +9,7 @@ use Rattle.writing.specs.Canonical.{Fits}
 use Rattle.writing.specs.Ranges.{text-limits, InRange}
 use Rattle.writing.specs.Settings.{Setting, unicode16}
 use Rattle.settings.specs.declared.settings.Setting.{Setting as Read}
-use Rattle.settings.specs.Settings.{Meant}
+use Rattle.settings.specs.Meant.{Meant}
 use Rattle.tables.specs.declared.limits.Limits.{Limits}
 use Rattle.tables.specs.declared.start.Started.{Started}
 use Rattle.tables.specs.declared.start.Started.the-variants.{Fresh, WrongSize}
@@ -22,10 +22,10 @@ use Rattle.tables.specs.Tables.{Tables, fresh}
 -- ---- which bytes are a store, and starting one
 
 -- "A store is exactly the bytes of tables and a kept hash that these rules allow": they fill it, and have room in it
-pub record StoreOf (m : Limits) (bytes : List ℕ) : Type 0 where
-  pub size : length bytes ≡ m .size
-  pub roomy : Roomy m
-  pub store : IsStore m bytes
+pub record StoreOf (lim : Limits) (bytes : List ℕ) : Type 0 where
+  pub size : length bytes ≡ lim .size
+  pub roomy : Roomy lim
+  pub store : IsStore lim bytes
 
 -- "11 store not 12,288 bytes"
 abbrev pub started : Started → ℕ
@@ -43,9 +43,9 @@ begins a store = record { number = started a; store = store }
 
 -- "Starting a store: any 12,288 bytes become fresh, another length is 11", and touches nothing
 abbrev pub starting : Limits → List ℕ → Ladder Begun
-starting m before =
-    rung (length before ≡ m .size → Roomy m → ⊥) (record { number = 11; store = before })
-    (foot (λ a. (length before ≡ m .size) × Roomy m × (a ≡ record { number = 0; store = layout m fresh })))
+starting lim before =
+    rung (length before ≡ lim .size → Roomy lim → ⊥) (record { number = 11; store = before })
+    (foot (λ a. (length before ≡ lim .size) × Roomy lim × (a ≡ record { number = 0; store = layout lim fresh })))
 
 -- ---- a setting
 
@@ -53,8 +53,20 @@ starting m before =
 abbrev pub Holds : Limits → Tables → List ℕ → Type 0
 Holds l t s = Allowed l t × (s ≡ layout l t)
 
--- what applying a setting that was read answers, on a store that was s and becomes t
+-- the working copy that settings are tried on has these tables: it is laid out as the store is
+abbrev pub Works : Limits → Tables → List ℕ → Type 0
+Works l t work = Holds l t work
+
+-- a working copy as long as the store takes the store's tables
+abbrev pub Loaded : Limits → List ℕ → List ℕ → List ℕ → Type 0
+Loaded l store work after = length work ≡ l .size → (t : Tables) → Roomy l → Holds l t store → Works l t after
+
+-- and the store those of the working copy
+abbrev pub Saved : Limits → List ℕ → List ℕ → List ℕ → Type 0
+Saved l work store after = length store ≡ l .size → (t : Tables) → Roomy l → Works l t work → Holds l t after
+
+-- what applying a setting that was read answers, on a working copy that was s and becomes t
 abbrev pub Applied : Limits → List ℕ → Read → List ℕ → List ℕ → Bool → Type 0
-Applied l m r s t k =
-    (was : Tables) (set : Setting) (left : ℕ) → Roomy l → Holds l was s → Meant m r set → InRange text-limits left set → Fits unicode16 set
-    → Tried (Holds l) (apply l set was) t k
+Applied l lim r s t k =
+    (was : Tables) (set : Setting) (left : ℕ) → Roomy l → Works l was s → Meant lim r set → InRange text-limits left set → Fits unicode16 set
+    → Tried (Works l) (apply l set was) t k

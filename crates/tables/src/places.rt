@@ -1,4 +1,4 @@
-// Where the parts of a store stand, how wide a slot is, and where things stand in it: docs/STORE.md.
+// Where the regions of a store stand, how wide a slot is, and where things stand in it: docs/STORE.md.
 
 // The widths of slots.
 pub const QUICK_SLOT: usize = 46;
@@ -9,7 +9,7 @@ pub const MEMBER_SLOT: usize = 36;
 
 pub const CHANNEL_SLOT: usize = 2;
 
-pub const LINE_SLOT: usize = 51;
+pub const LINE_SLOT: usize = 52;
 
 // How many places the tables of the standard's own size have.
 pub const QUICK_PLACES: usize = 64;
@@ -18,7 +18,14 @@ pub const STATUS_PLACES: usize = 96;
 
 pub const SLOT_PLACES: usize = 16;
 
-// Where the parts start, the hash first; behind the individuals come the channels, and behind them the lines.
+// How many bytes these tables have.
+pub const QUICK_SIZE: usize = QUICK_PLACES * QUICK_SLOT;
+
+pub const STATUS_SIZE: usize = STATUS_PLACES * STATUS_SLOT;
+
+pub const MEMBER_SIZE: usize = SLOT_PLACES * MEMBER_SLOT;
+
+// Where the regions start, the hash first; behind the individuals come the channels, and behind them the lines.
 pub const HASH: usize = 0;
 
 pub const KEY: usize = 11;
@@ -29,16 +36,18 @@ pub const SYSTEM: usize = HOME + 4;
 
 pub const QUICK: usize = SYSTEM + 3;
 
-pub const STATUS: usize = QUICK + QUICK_PLACES * QUICK_SLOT;
+pub const STATUS: usize = QUICK + QUICK_SIZE;
 
-pub const GROUPS: usize = STATUS + STATUS_PLACES * STATUS_SLOT;
+pub const GROUPS: usize = STATUS + STATUS_SIZE;
 
-pub const INDIVIDUALS: usize = GROUPS + SLOT_PLACES * MEMBER_SLOT;
+pub const INDIVIDUALS: usize = GROUPS + MEMBER_SIZE;
 
-pub const LISTS: usize = INDIVIDUALS + SLOT_PLACES * MEMBER_SLOT;
+pub const LISTS: usize = INDIVIDUALS + MEMBER_SIZE;
 
-// In a slot: a line's digits, and the text, which stands last.
-pub const LINE_DIGITS: usize = 1;
+// In a slot: a line's IDtype and digits, and the text, which stands last.
+pub const LINE_IDTYPE: usize = 1;
+
+pub const LINE_DIGITS: usize = 2;
 
 pub const DIGITS: usize = 18;
 

@@ -1,15 +1,8 @@
 -- Bits and fields: what bits say, and fields that are taken apart and put together. Assumes nothing.
-use Prim.Native.Nat.{ℕ, zero, suc, _+_, _*_, _/_, _%_, _^_, _<_}
-use mathlib.Core.Path.{_≡_, refl, sym, ap, ap₂, _∙_, subst⁻¹}
-use mathlib.Core.List.{List, [], _∷_, _++_, map, append-assoc, head-eq-of-cons-eq, tail-eq-of-cons-eq, nil≢cons}
-use native.Mathlib.Nat.{mod-eq-of-lt, mod-lt, zero-add, suc-add, add-comm, add-assoc, zero-mul}
-use native.Mathlib.Numerals.{one-add}
-use native.Mathlib.Omega.{arith}
-use lib.ListN.{length, length-append}
-use lib.Pow.{shr-shr, pow-pos, mod-mod-pow, mod-pow-add, field}
+use Rattle.lists.proofs.Kit.{ℕ, zero, suc, _+_, _*_, _/_, _%_, _^_, _<_, _≡_, refl, sym, ap, ap₂, _∙_, subst⁻¹, List, [], _∷_, _++_, map, append-assoc, head-eq-of-cons-eq, tail-eq-of-cons-eq, nil≢cons, mod-eq-of-lt, mod-lt, zero-add, suc-add, add-comm, add-assoc, zero-mul, one-add, arith, length, length-append, shr-shr, pow-pos, mod-mod-pow, mod-pow-add, field}
 use Rattle.lists.specs.Every.{All}
 use Rattle.lists.proofs.Seqs.{cut}
-use Rattle.writing.specs.Fields.{bits, bitsOf, Field, width, Holds, Shows, widths}
+use Rattle.writing.specs.Fields.{bits, bitsOf, Field, width, MayHave, Shows, widths}
 
 -- ---- the bits of a number
 
@@ -71,14 +64,14 @@ bitsOf-one (x ∷ a) (y ∷ b) h k e =
 
 -- a field of w bits with W bits below it is cut from a number, and put into one
 module _ (f : Field) (fs : List Field) (W N : ℕ) (t : List ℕ) where
-  pub peel : Shows (f ∷ fs) (bits (width f + W) N ++ t) → Holds f (N / 2 ^ W % 2 ^ width f) × Shows fs (bits W N ++ t)
+  pub peel : Shows (f ∷ fs) (bits (width f + W) N ++ t) → MayHave f (N / 2 ^ W % 2 ^ width f) × Shows fs (bits W N ++ t)
   peel s =
       let (x, u, hx, bx, e, ss) = s in
       let (p, q) = cut (bits (width f) (N / 2 ^ W)) (bits (width f) x) (length-bits (width f) (N / 2 ^ W) ∙ sym (length-bits (width f) x))
       (sym (append-assoc (bits (width f) (N / 2 ^ W)) (bits W N) t) ∙ ap (λ l. l ++ t) (sym (bits-split (width f) W N)) ∙ e) in
-      (subst⁻¹ (Holds f) (bits-mod (width f) (N / 2 ^ W) x p ∙ mod-eq-of-lt bx) hx, subst⁻¹ (Shows fs) q ss)
+      (subst⁻¹ (MayHave f) (bits-mod (width f) (N / 2 ^ W) x p ∙ mod-eq-of-lt bx) hx, subst⁻¹ (Shows fs) q ss)
 
-  pub put : Holds f (N / 2 ^ W % 2 ^ width f) → Shows fs (bits W N ++ t) → Shows (f ∷ fs) (bits (width f + W) N ++ t)
+  pub put : MayHave f (N / 2 ^ W % 2 ^ width f) → Shows fs (bits W N ++ t) → Shows (f ∷ fs) (bits (width f + W) N ++ t)
   put h s =
       let b : N / 2 ^ W % 2 ^ width f < 2 ^ width f = mod-lt (N / 2 ^ W) (pow-pos (width f)) in (
         N / 2 ^ W % 2 ^ width f,

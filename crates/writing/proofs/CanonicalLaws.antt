@@ -1,29 +1,24 @@
 -- The writing with reserved bits 0: it is one, and exactly the settings whose values fit have one. Assumes nothing.
-use Prim.Native.Nat.{ℕ, zero, suc, _+_, _*_, _/_, _%_, _^_, _<_}
-use mathlib.Core.Path.{_≡_, refl, sym, ap, ap₂, _∙_, subst⁻¹}
-use mathlib.Core.List.{List, [], _∷_, _++_}
-use native.Mathlib.Nat.{mod-eq-of-lt, mod-lt, mod-mod}
-use native.Mathlib.Omega.{arith}
+use Rattle.lists.proofs.Kit.{ℕ, zero, suc, _+_, _*_, _/_, _%_, _^_, _<_, _≡_, refl, sym, ap, ap₂, _∙_, subst⁻¹, List, [], _∷_, _++_, mod-eq-of-lt, mod-lt, mod-mod, arith, length, pow-pos, pow-add, high, low}
 use lib.Arith.{digits-lt}
-use lib.ListN.{length}
-use lib.Pow.{pow-pos, pow-add, high, low}
 use Rattle.lists.specs.Every.{All}
 use Rattle.lists.proofs.Every.{all-append}
 use Rattle.writing.specs.Canonical.{value, side-by-side, bytes, plain, canonical, canonical-all, FitsField, Fits}
-use Rattle.writing.specs.Fields.{bits, bitsOf, Field, val, item, res, width, widths, Holds, Shows}
-use Rattle.writing.specs.Settings.{Setting, Coding}
+use Rattle.writing.specs.Fields.{bits, bitsOf, Field, val, item, res, width, widths, MayHave, Shows}
+use Rattle.writing.specs.declared.Coding.{Coding}
+use Rattle.writing.specs.Settings.{Setting}
 use Rattle.writing.specs.Writing.{fields, data-length, Written, WrittenAll}
 use Rattle.writing.proofs.Bits.{bits-split, bits-cong, bitsOf-append, bitsOf-one, widths-append}
 use Rattle.writing.proofs.Whole.{body-whole, whole}
 
 -- a value that fits may stand in its field
-fits-holds : (f : Field) → FitsField f → Holds f (value f) × (value f < 2 ^ width f)
+fits-holds : (f : Field) → FitsField f → MayHave f (value f) × (value f < 2 ^ width f)
 fits-holds (val w v) h = (refl, h)
 fits-holds (item w end v) h = ((refl, h .1), h .0)
 fits-holds (res w) h = (tt, pow-pos w)
 
 -- a value that stands in its field fits
-holds-fits : (f : Field) (x : ℕ) → Holds f x → x < 2 ^ width f → FitsField f
+holds-fits : (f : Field) (x : ℕ) → MayHave f x → x < 2 ^ width f → FitsField f
 holds-fits (val w v) x h b = rw h at b
 holds-fits (item w end v) x h b = (rw (h .0) at b, h .1)
 holds-fits (res w) x h b = tt

@@ -1,15 +1,11 @@
 -- Bytes of closed fields, by computed tests: that every value fits, and that no bit is reserved. Assumes nothing.
-use Prim.Native.Nat.{ℕ, _*_, _^_, _<_}
-use mathlib.Core.Path.{_≡_, sym, ap₂, _∙_, subst}
-use mathlib.Core.Logic.{_≢_}
-use mathlib.Core.Bool.{Bool, true, false, not, _&&_}
-use mathlib.Core.List.{List, [], _∷_, _++_}
-use lib.Dec.{T, ltb, eqb, ltb→lt, T-not, eqb-refl}
+use Rattle.lists.proofs.Kit.{ℕ, _*_, _^_, _<_, _≡_, sym, ap₂, _∙_, subst, _≢_, Bool, true, false, not, _&&_, List, [], _∷_, _++_, T, ltb, eqb, ltb→lt, T-not, eqb-refl}
 use Rattle.lists.specs.Every.{All}
 use Rattle.lists.proofs.Every.{all?, all-passed, both}
 use Rattle.writing.specs.Canonical.{plain, canonical, FitsField}
-use Rattle.writing.specs.Fields.{bits, bitsOf, Field, val, item, res, width, widths, Holds, Shows}
-use Rattle.writing.specs.Settings.{Setting, Coding}
+use Rattle.writing.specs.Fields.{bits, bitsOf, Field, val, item, res, width, widths, MayHave, Shows}
+use Rattle.writing.specs.declared.Coding.{Coding}
+use Rattle.writing.specs.Settings.{Setting}
 use Rattle.writing.specs.Writing.{fields, Written}
 use Rattle.writing.proofs.Bits.{bitsOf-one}
 use Rattle.writing.proofs.CanonicalLaws.{plain-bytes, plain-shows, canonical-written}
@@ -37,7 +33,7 @@ fit (item w end v) t = let (p, q) = both (ltb v (2 ^ w)) (not (eqb v end)) t in 
 fit (res w) t = tt
 
 -- a field that is not reserved holds one value
-one-value : (f : Field) (x y : ℕ) → T (valued? f) → Holds f x → Holds f y → x ≡ y
+one-value : (f : Field) (x y : ℕ) → T (valued? f) → MayHave f x → MayHave f y → x ≡ y
 one-value (val w v) x y t p q = p ∙ sym q
 one-value (item w end v) x y t p q = p .0 ∙ sym (q .0)
 one-value (res w) x y t p q = absurd t

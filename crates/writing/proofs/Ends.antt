@@ -1,11 +1,7 @@
 -- Two lists of fields that stand at the start of the same bits, taken apart field by field. Assumes nothing.
-use Prim.Native.Nat.{ℕ}
-use mathlib.Core.Path.{_≡_, refl, sym, _∙_}
-use mathlib.Core.List.{List, [], _∷_, _++_, map, append-assoc}
-use native.Mathlib.Omega.{arith}
-use lib.ListN.{length}
+use Rattle.lists.proofs.Kit.{ℕ, _≡_, refl, sym, _∙_, List, [], _∷_, _++_, map, append-assoc, arith, length}
 use Rattle.lists.proofs.Seqs.{cut}
-use Rattle.writing.specs.Fields.{bits, Field, val, item, res, width, Holds, Shows, each}
+use Rattle.writing.specs.Fields.{bits, Field, val, item, res, width, MayHave, Shows, each}
 use Rattle.writing.proofs.Bits.{length-bits, bits-val}
 
 -- fs and gs stand at the start of the same bits; r and q are what is left
@@ -17,7 +13,7 @@ pub record Agree (fs gs : List Field) (r q : List ℕ) : Type 0 where
   pub same : one ++ r ≡ two ++ q
 
 module _ {fs gs : List Field} {r q : List ℕ} where
-  pub first : (f g : Field) → width f ≡ width g → Agree (f ∷ fs) (g ∷ gs) r q → (x : ℕ) × Holds f x × Holds g x × Agree fs gs r q
+  pub first : (f g : Field) → width f ≡ width g → Agree (f ∷ fs) (g ∷ gs) r q → (x : ℕ) × MayHave f x × MayHave g x × Agree fs gs r q
   first f g w a =
       let (x, t, hx, bx, ex, sx) = a .left in
       let (y, u, hy, by, ey, sy) = a .right in

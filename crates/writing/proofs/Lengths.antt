@@ -1,11 +1,5 @@
 -- Settings in range keep to their rows of document 01's table: DataLength and operations. Assumes nothing.
-use Prim.Native.Nat.{ℕ, suc, _*_, _/_, _≤_}
-use mathlib.Core.Path.{_≡_, refl, ap, subst}
-use mathlib.Core.List.{[], _∷_, map}
-use mathlib.Core.Option.{Option, none, some, Option·some-injective, Option·none-ne-some}
-use native.Mathlib.Nat.{mul-le-mul-right}
-use native.Mathlib.Omega.{arith}
-use lib.ListN.{length}
+use Rattle.lists.proofs.Kit.{ℕ, suc, _*_, _/_, _≤_, _≡_, refl, ap, subst, [], _∷_, map, Option, none, some, Option·some-injective, Option·none-ne-some, mul-le-mul-right, arith, length}
 use Rattle.writing.specs.declared.Kind.the-variants.{Lines, Key, QuickTexts, Home, Channels, System, StatusTexts, Group, Individual, Last}
 use Rattle.writing.specs.declared.KeyTarget.{KeyTarget}
 use Rattle.writing.specs.declared.KeyTarget.the-variants.{Current, ToGroup, ToIndividual}
@@ -13,9 +7,10 @@ use Rattle.writing.specs.declared.Operation.{Operation}
 use Rattle.writing.specs.declared.Operation.the-variants.{Add, Delete, Replace}
 use Rattle.writing.specs.Fields.{val, widths}
 use Rattle.writing.specs.Ranges.{TextLimits, text-limits, HashSize, no-hash, hash-4, hash-10, InRange, InSlot}
-use Rattle.writing.specs.Rows.{row, no-text, longest-text, Within, Allows, operation}
+use Rattle.writing.specs.Bounds.{bounds, no-text, longest-text, Within, Allows, operation}
 use Rattle.writing.specs.declared.Operations.the-variants.{AddOrDelete}
-use Rattle.writing.specs.Settings.{Text, Setting, lines, key, quick-texts, home, channels, system, status-texts, group, individual, last, kind, Coding, unicode16}
+use Rattle.writing.specs.declared.Coding.{Coding}
+use Rattle.writing.specs.Settings.{Text, Setting, lines, key, quick-texts, home, channels, system, status-texts, group, individual, last, kind, unicode16}
 use Rattle.writing.specs.Writing.{unit-width, text, key-address, data-length}
 use Rattle.writing.proofs.Bits.{widths-map}
 use Rattle.writing.proofs.Whole.{unit-whole, text-widths}
@@ -39,13 +34,13 @@ key-within (ToGroup a) = omega arith
 key-within (ToIndividual a) = omega arith
 
 -- a hash value has at most ten bytes
-hash-within : {code n : ℕ} → HashSize code n → n ≤ 10
-hash-within no-hash = omega arith
-hash-within hash-4 = omega arith
-hash-within hash-10 = omega arith
+pub small-size : {code n : ℕ} → HashSize code n → n ≤ 10
+small-size no-hash = omega arith
+small-size hash-4 = omega arith
+small-size hash-10 = omega arith
 
 -- WITHIN ROW: every setting that is in range has a DataLength within its row
-pub within-row : (c : Coding) (k : TextLimits) (left : ℕ) (s : Setting) → InRange k left s → Within (row c k (kind s)) (data-length c s)
+pub within-row : (c : Coding) (k : TextLimits) (left : ℕ) (s : Setting) → InRange k left s → Within (bounds c k (kind s)) (data-length c s)
 within-row c k left (lines o f es) h = omega arith
 within-row c k left (key t f) h = omega (arith, key-within t)
 within-row c k left (quick-texts o es) h = omega arith
@@ -55,7 +50,7 @@ within-row c k left (system s) h = omega arith
 within-row c k left (status-texts o es) h = omega arith
 within-row c k left (group o f s) h = omega (arith, text-within c k (s .text) (h .1))
 within-row c k left (individual o f s) h = omega (arith, text-within c k (s .text) (h .1))
-within-row c k left (last f x) h = omega (arith, hash-within (h .0), widths-map (val 8) 8 (λ v. refl) (x .value))
+within-row c k left (last f x) h = omega (arith, small-size (h .0), widths-map (val 8) 8 (λ v. refl) (x .value))
 
 -- in a D1 or D2, only add and delete are in range
 slot-allows : (o : Operation) (P : Type 0) → InSlot o P → Allows AddOrDelete o
@@ -65,7 +60,7 @@ slot-allows Replace P h = h
 
 -- ALLOWED: every setting that is in range has only an operation that its row allows
 pub allowed : (c : Coding) (k : TextLimits) (left : ℕ) (s : Setting) (o : Operation) → InRange k left s → operation s ≡ some o
-    → Allows (row c k (kind s) .operations) o
+    → Allows (bounds c k (kind s) .operations) o
 allowed c k left (lines p f es) o h e = tt
 allowed c k left (key t f) o h e = Option·none-ne-some o e
 allowed c k left (quick-texts p es) o h e = tt
@@ -79,7 +74,7 @@ allowed c k left (last f x) o h e = Option·none-ne-some o e
 
 -- the columns "least / most", in document 01's order of types
 pub rows-are :
-    map {B = ℕ × Option ℕ} (λ t. (row unicode16 text-limits t .least, row unicode16 text-limits t .most))
+    map {B = ℕ × Option ℕ} (λ t. (bounds unicode16 text-limits t .least, bounds unicode16 text-limits t .most))
     (Lines ∷ Key ∷ QuickTexts ∷ Home ∷ Channels ∷ System ∷ StatusTexts ∷ Group ∷ Individual ∷ Last ∷ [])
     ≡ (4, none) ∷ (3, some 6) ∷ (3, none) ∷ (5, some 5) ∷ (4, none) ∷ (5, some 5) ∷ (4, none) ∷ (9, some 41) ∷ (9, some 41) ∷ (3, some 13) ∷ []
 rows-are = refl

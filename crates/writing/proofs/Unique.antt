@@ -1,11 +1,5 @@
 -- No two settings share bytes: what is written says where it ends, and what it says. Assumes nothing.
-use Prim.Native.Nat.{ℕ, zero, suc, _/_}
-use mathlib.Core.Path.{_≡_, refl, sym, ap, ap₂, _∙_, subst, subst₂, subst⁻¹}
-use mathlib.Core.List.{List, [], _∷_, _++_, map, append-assoc, append-nil, nil≢cons}
-use mathlib.Core.Bool.{Bool, true, false, cond, true≢false}
-use native.Mathlib.Omega.{arith}
-use lib.ListN.{length, length-append}
-use lib.Dec.{eqb}
+use Rattle.lists.proofs.Kit.{ℕ, zero, suc, _/_, _≡_, refl, sym, ap, ap₂, _∙_, subst, subst₂, subst⁻¹, List, [], _∷_, _++_, map, append-assoc, append-nil, nil≢cons, Bool, true, false, cond, true≢false, arith, length, length-append, eqb}
 use Rattle.lists.proofs.Seqs.{cut}
 use Rattle.plan.specs.declared.numbers.GroupAddress.{GroupAddress}
 use Rattle.plan.specs.declared.numbers.IndividualAddress.{IndividualAddress}
@@ -23,8 +17,9 @@ use Rattle.writing.specs.declared.GroupFlags.{GroupFlags}
 use Rattle.writing.specs.declared.IndividualFlags.{IndividualFlags}
 use Rattle.writing.specs.declared.LastFlags.{LastFlags}
 use Rattle.writing.specs.Fields.{bitsOf, Field, val, Shows, widths}
-use Rattle.writing.specs.Settings.{Contact, Entry, Slot, Hash, Setting, lines, key, quick-texts, home, channels, system, status-texts, group, individual, last, kind, Coding}
-use Rattle.writing.specs.Writing.{bit, flag, op-code, op, unit-width, text, fill, number, contact, quick-text, status-text, slot, current, to-group, key-address, type-byte, body, data-length, fields, Written, WrittenAll, WrittenAs, request-head}
+use Rattle.writing.specs.declared.Coding.{Coding}
+use Rattle.writing.specs.Settings.{Contact, Entry, Slot, Hash, Setting, lines, key, quick-texts, home, channels, system, status-texts, group, individual, last, kind}
+use Rattle.writing.specs.Writing.{bit, flag, op-code, op, unit-width, text, fill, number, contact, quick-text, status-text, slot, current, to-group, address, key-address, type-byte, body, data-length, fields, Written, WrittenAll, WrittenAs, request-head}
 use Rattle.writing.proofs.ByKind.{Contents, make, of, kind-make}
 use Rattle.writing.proofs.Bits.{bitsOf-append, length-bitsOf, shows-length, widths-map}
 use Rattle.writing.proofs.Ends.{Agree, Ends, val-ends, res-ends, items-end, same-ends, vals-end, each-ends, all-read, regroup}
@@ -44,6 +39,10 @@ op-at-code Add = refl
 op-at-code Delete = refl
 op-at-code Replace = refl
 
+-- an operation is said by its code
+pub one-op : (o p : Operation) → op-code o ≡ op-code p → o ≡ p
+one-op o p e = cc (op-at-code o, op-at-code p, ap op-at e)
+
 bit-at : ℕ → Bool
 bit-at zero = false
 bit-at (suc n) = true
@@ -55,7 +54,7 @@ bit-at-bit true = refl
 
 module _ {fs gs : List Field} {r q : List ℕ} where
   op-ends : (o p : Operation) → Agree (op o ∷ fs) (op p ∷ gs) r q → (o ≡ p) × Agree fs gs r q
-  op-ends o p a = let (e, z) = val-ends a in (cc (op-at-code o, op-at-code p, ap op-at e), z)
+  op-ends o p a = let (e, z) = val-ends a in (one-op o p e, z)
 
   flag-ends : (b c : Bool) → Agree (flag b ∷ fs) (flag c ∷ gs) r q → (b ≡ c) × Agree fs gs r q
   flag-ends b c a = let (e, z) = val-ends a in (cc (bit-at-bit b, bit-at-bit c, ap bit-at e), z)
@@ -97,21 +96,20 @@ status-ends c = record {
 }
 
 -- a slot, whatever the kind of its address
-slot-ends : {A : Type 0} (number-of : A → ℕ) → ((a b : A) → number-of a ≡ number-of b → a ≡ b) → (c : Coding) → Ends (slot number-of c)
-slot-ends number-of one c = record {
+slot-ends : {A : Type 0} (address-of : A → List Field) → Ends address-of → (c : Coding) → Ends (slot address-of c)
+slot-ends address-of k c = record {
   ends = λ x y a.
       let (p, a) = val-ends a in
-      let (s, a) = val-ends a in
+      let (s, a) = k .ends (x .address) (y .address) (regroup (address-of (x .address)) (text c (x .text)) (address-of (y .address)) (text c (y .text)) _ _ a) in
       let (e, a) = text-ends c .ends (x .text) (y .text) a in
-      let z : x .address ≡ y .address = one (x .address) (y .address) s in
-      (λ i. record { index = p i; address = z i; text = e i }, a);
+      (λ i. record { index = p i; address = s i; text = e i }, a);
 }
 
-group-address : (a b : GroupAddress) → a .0 ≡ b .0 → a ≡ b
-group-address a b e = λ i. record { 0 = e i }
+group-ends : Ends (λ (a : GroupAddress). address (a .0))
+group-ends = record { ends = λ x y a. let (p, a) = val-ends a in (λ i. record { 0 = p i }, a) }
 
-individual-address : (a b : IndividualAddress) → a .0 ≡ b .0 → a ≡ b
-individual-address a b e = λ i. record { 0 = e i }
+individual-ends : Ends (λ (a : IndividualAddress). address (a .0))
+individual-ends = record { ends = λ x y a. let (p, a) = val-ends a in (λ i. record { 0 = p i }, a) }
 
 -- where the key calls is said by current, group and the address
 target-ends : (t u : KeyTarget) {fs gs : List Field} {r q : List ℕ} → current t ≡ current u → to-group t ≡ to-group u
@@ -120,11 +118,11 @@ target-ends (Current g) (Current h) e d a = (ap Current d, a)
 target-ends (Current g) (ToGroup y) e d a = absurd (true≢false e)
 target-ends (Current g) (ToIndividual y) e d a = absurd (true≢false e)
 target-ends (ToGroup x) (Current h) e d a = absurd (true≢false (sym e))
-target-ends (ToGroup x) (ToGroup y) e d a = let (p, a) = val-ends a in (ap ToGroup (group-address x y p), a)
+target-ends (ToGroup x) (ToGroup y) e d a = let (p, a) = group-ends .ends x y a in (ap ToGroup p, a)
 target-ends (ToGroup x) (ToIndividual y) e d a = absurd (true≢false d)
 target-ends (ToIndividual x) (Current h) e d a = absurd (true≢false (sym e))
 target-ends (ToIndividual x) (ToGroup y) e d a = absurd (true≢false (sym d))
-target-ends (ToIndividual x) (ToIndividual y) e d a = let (p, a) = val-ends a in (ap ToIndividual (individual-address x y p), a)
+target-ends (ToIndividual x) (ToIndividual y) e d a = let (p, a) = individual-ends .ends x y a in (ap ToIndividual p, a)
 
 -- ---- the ten, by kind and contents
 
@@ -217,14 +215,14 @@ body-ends c Group x y n a =
     let (p4, a) = flag-ends (x .1 .ovcm) (y .1 .ovcm) a in
     let (p5, a) = flag-ends (x .1 .emergency) (y .1 .emergency) a in
     let (p6, a) = val-ends a in
-    let (s, a) = slot-ends (λ a. a .0) group-address c .ends (x .2) (y .2) (res-ends a) in
+    let (s, a) = slot-ends (λ a. address (a .0)) group-ends c .ends (x .2) (y .2) (res-ends a) in
     (λ i. (o i, record { attribute = p1 i; broadcast = p2 i; encryption = p3 i; ovcm = p4 i; emergency = p5 i; priority = p6 i }, s i), a)
 body-ends c Individual x y n a =
     let (o, a) = op-ends (x .0) (y .0) a in
     let (p1, a) = flag-ends (x .1 .encryption) (y .1 .encryption) a in
     let (p2, a) = flag-ends (x .1 .emergency) (y .1 .emergency) a in
     let (p3, a) = val-ends a in
-    let (s, a) = slot-ends (λ a. a .0) individual-address c .ends (x .2) (y .2) (res-ends a) in
+    let (s, a) = slot-ends (λ a. address (a .0)) individual-ends c .ends (x .2) (y .2) (res-ends a) in
     (λ i. (o i, record { encryption = p1 i; emergency = p2 i; priority = p3 i }, s i), a)
 body-ends c Last x y n a =
     let (p1, a) = flag-ends (x .0 .reboot) (y .0 .reboot) a in

@@ -4,7 +4,8 @@ use mathlib.Core.Logic.{_≢_}
 use mathlib.Core.List.{List, [], _∷_, _++_}
 use Rattle.lists.specs.Every.{All}
 use Rattle.writing.specs.Fields.{Field, val, item, res, width, widths}
-use Rattle.writing.specs.Settings.{Setting, Coding}
+use Rattle.writing.specs.declared.Coding.{Coding}
+use Rattle.writing.specs.Settings.{Setting}
 use Rattle.writing.specs.Writing.{fields}
 
 -- the field's value, 0 where it is reserved

@@ -9,14 +9,16 @@ use Rattle.writing.specs.declared.Result.{Result}
 use Rattle.writing.specs.declared.Result.the-variants.{Taken, OtherVersion as NotVersion1, NoRoom, UnknownType, BadField, NoMatch}
 use Rattle.writing.specs.Fields.{bitsOf, Field, val, res, Shows}
 use Rattle.writing.specs.Ranges.{HashSize}
-use Rattle.writing.specs.Settings.{Setting, Hash, Coding, unicode16}
+use Rattle.writing.specs.declared.Coding.{Coding}
+use Rattle.writing.specs.declared.Coding.the-variants.{Unicode16}
+use Rattle.writing.specs.Settings.{Setting, Hash, unicode16}
 use Rattle.writing.specs.Writing.{hash, request-head, WrittenAs}
 
 -- ---- the carrier
 
 -- "The fixed start bytes 02 02": protocol version and service
-abbrev pub start : List ℕ
-start = 0x02 ∷ 0x02 ∷ []
+abbrev pub start-bytes : List ℕ
+start-bytes = 0x02 ∷ 0x02 ∷ []
 
 -- "length (2 bytes), MFID 08, a byte of 4 reserved bits and the coding type (4)"
 abbrev pub carrier : ℕ → ℕ → List Field
@@ -30,13 +32,13 @@ States stated after = (stated ≡ 0) ⊎ (stated ≡ after)
 pub record Carries (coding-type : ℕ) (data-bytes message : List ℕ) : Type 0 where
   pub stated : ℕ
   pub header : List ℕ
-  pub whole : message ≡ start ++ header ++ data-bytes
+  pub whole : message ≡ start-bytes ++ header ++ data-bytes
   pub fields : Shows (carrier stated coding-type) (bitsOf header)
   pub length-field : States stated (2 + length data-bytes)
 
 -- "Coding type must be 0111 (16-bit Unicode)"
 abbrev pub coding-type : Coding → ℕ
-coding-type unicode16 = 7
+coding-type Unicode16 = 7
 
 -- ---- requests, result queries and replies
 

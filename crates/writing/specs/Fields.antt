@@ -29,15 +29,15 @@ widths [] = 0
 widths (f ∷ fs) = width f + widths fs
 
 -- the field may have x for its value
-abbrev pub Holds : Field → ℕ → Type 0
-Holds (val w v) x = x ≡ v
-Holds (item w end v) x = (x ≡ v) × (v ≢ end)
-Holds (res w) x = Unit {0}
+abbrev pub MayHave : Field → ℕ → Type 0
+MayHave (val w v) x = x ≡ v
+MayHave (item w end v) x = (x ≡ v) × (v ≢ end)
+MayHave (res w) x = Unit {0}
 
 -- the bits are the fields, in order, and every value fits its field
 abbrev pub Shows : List Field → List ℕ → Type 0
 Shows [] bs = bs ≡ []
-Shows (f ∷ fs) bs = (x : ℕ) × (rest : List ℕ) × Holds f x × (x < 2 ^ width f) × (bs ≡ bits (width f) x ++ rest) × Shows fs rest
+Shows (f ∷ fs) bs = (x : ℕ) × (rest : List ℕ) × MayHave f x × (x < 2 ^ width f) × (bs ≡ bits (width f) x ++ rest) × Shows fs rest
 
 -- the fields of each, in order
 abbrev pub each : {A : Type 0} → (A → List Field) → List A → List Field

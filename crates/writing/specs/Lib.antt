@@ -2,6 +2,6 @@ pub mod Canonical
 pub mod Carrier
 pub mod Fields
 pub mod Ranges
-pub mod Rows
+pub mod Bounds
 pub mod Settings
 pub mod Writing

@@ -7,6 +7,8 @@ use Rattle.plan.specs.declared.numbers.IndividualAddress.{IndividualAddress}
 use Rattle.writing.specs.declared.Kind.{Kind}
 use Rattle.writing.specs.declared.Kind.the-variants.{Lines, Key, QuickTexts, Home, Channels, System, StatusTexts, Group, Individual, Last}
 use Rattle.writing.specs.declared.Operation.{Operation}
+use Rattle.writing.specs.declared.Coding.{Coding}
+use Rattle.writing.specs.declared.Coding.the-variants.{Unicode16}
 use Rattle.writing.specs.declared.LineFlags.{LineFlags}
 use Rattle.writing.specs.declared.KeyTarget.{KeyTarget}
 use Rattle.writing.specs.declared.KeyFlags.{KeyFlags}
@@ -71,6 +73,6 @@ kind (group o f s) = Group
 kind (individual o f s) = Individual
 kind (last f h) = Last
 
--- how texts are coded, by the carrier's coding type
-pub data Coding : Type 0 where
-  unicode16 : Coding
+-- "0111 (16-bit Unicode)"
+abbrev pub unicode16 : Coding
+unicode16 = Unicode16

@@ -13,7 +13,9 @@ use Rattle.writing.specs.declared.Operation.the-variants.{Add, Delete, R
 use Rattle.writing.specs.declared.KeyTarget.{KeyTarget}
 use Rattle.writing.specs.declared.KeyTarget.the-variants.{Current, ToGroup, ToIndividual}
 use Rattle.writing.specs.Fields.{bitsOf, Field, val, item, res, Shows, widths, each}
-use Rattle.writing.specs.Settings.{Text, Number, Contact, Entry, Slot, Hash, Setting, lines, key, quick-texts, home, channels, system, status-texts, group, individual, last, kind, Coding, unicode16}
+use Rattle.writing.specs.declared.Coding.{Coding}
+use Rattle.writing.specs.declared.Coding.the-variants.{Unicode16}
+use Rattle.writing.specs.Settings.{Text, Number, Contact, Entry, Slot, Hash, Setting, lines, key, quick-texts, home, channels, system, status-texts, group, individual, last, kind}
 
 -- ---- parts of the fields
 
@@ -35,7 +37,7 @@ op o = val 2 (op-code o)
 
 -- "Text: 16-bit units, ended by unit 0000"
 abbrev pub unit-width : Coding → ℕ
-unit-width unicode16 = 16
+unit-width Unicode16 = 16
 
 abbrev pub text : Coding → Text → List Field
 text c us = map (item (unit-width c) 0) us ++ val (unit-width c) 0 ∷ []
@@ -62,9 +64,13 @@ quick-text c e = res 2 ∷ val 6 (e .index) ∷ text c (e .text)
 abbrev pub status-text : Coding → Entry → List Field
 status-text c e = val 8 (e .index) ∷ text c (e .text)
 
--- "index 4, address 24, text"
-abbrev pub slot : {Address : Type 0} → (Address → ℕ) → Coding → Slot Address → List Field
-slot number-of c s = val 4 (s .index) ∷ val 24 (number-of (s .address)) ∷ text c (s .text)
+-- "address 24"
+abbrev pub address : ℕ → List Field
+address a = val 24 a ∷ []
+
+-- "index 4, address 24, text", by the fields of its kind of address
+abbrev pub slot : {Address : Type 0} → (Address → List Field) → Coding → Slot Address → List Field
+slot address-of c s = val 4 (s .index) ∷ address-of (s .address) ++ text c (s .text)
 
 -- "current 1, group 1"
 abbrev pub current : KeyTarget → Bool
@@ -80,8 +86,8 @@ to-group (ToIndividual a) = false
 -- "address 24 if current is 0"
 abbrev pub key-address : KeyTarget → List Field
 key-address (Current g) = []
-key-address (ToGroup a) = val 24 (a .0) ∷ []
-key-address (ToIndividual a) = val 24 (a .0) ∷ []
+key-address (ToGroup a) = address (a .0)
+key-address (ToIndividual a) = address (a .0)
 
 -- "HashCode (6), the hash value"
 abbrev pub hash : Hash → List Field
@@ -116,9 +122,9 @@ body c (system s) = val 12 (s .lai) ∷ val 4 (s .la) ∷ val 2 (s .roaming) ∷
 body c (status-texts o es) = op o ∷ res 6 ∷ val 8 (length es) ∷ each (status-text c) es
 body c (group o f s) =
     op o ∷ val 2 (f .attribute) ∷ flag (f .broadcast) ∷ flag (f .encryption) ∷ flag (f .ovcm) ∷ flag (f .emergency)
-    ∷ val 2 (f .priority) ∷ res 2 ∷ slot (λ a. a .0) c s
+    ∷ val 2 (f .priority) ∷ res 2 ∷ slot (λ a. address (a .0)) c s
 body c (individual o f s) =
-    op o ∷ flag (f .encryption) ∷ flag (f .emergency) ∷ val 2 (f .priority) ∷ res 6 ∷ slot (λ a. a .0) c s
+    op o ∷ flag (f .encryption) ∷ flag (f .emergency) ∷ val 2 (f .priority) ∷ res 6 ∷ slot (λ a. address (a .0)) c s
 body c (last f h) = flag (f .reboot) ∷ flag (f .reply) ∷ hash h
 
 -- "DataLength (16 bits, counting itself and all that follows in the setting)", in bytes

@@ -39,6 +39,11 @@ pub enum Result {
     NoMatch,
 }
 
+// How texts are coded, by the carrier's coding type.
+pub enum Coding {
+    Unicode16,
+}
+
 // Of all line contacts of one setting.
 pub struct LineFlags {
     pub encryption: bool,

@@ -1,8 +1,4 @@
-use borrow.Author.Needs.{needs}
-use Prim.Native.Nat.{_≤_, _-_}
-use mathlib.Core.Path.{_≡_}
-use native.Mathlib.Omega.{arith}
-use lib.ListN.{length}
+use Rattle.lists.proofs.Kit.{needs, _≤_, _-_, _≡_, arith, length}
 use Rattle.put.proofs.main.Statement.{statement}
 use Rattle.put.proofs.main.Tie as tie
 

@@ -1,12 +1,9 @@
-use borrow.Author.Needs.{needs}
-use Prim.Native.Nat.{_≤_}
-use lib.ListN.{length}
-use mathlib.Core.Path.{subst}
+use Rattle.lists.proofs.Kit.{needs, _≤_, length, subst}
 use Rattle.lists.specs.Ladder.{Answers}
 use Rattle.tables.specs.Limits.{handheld}
 use Rattle.export.specs.declared.parts.Export.{Export}
 use Rattle.export.specs.Exporting.{exporting, told}
-use Rattle.restore.proofs.RestoreLaws.{written-within}
+use Rattle.export.proofs.ExportLaws.{written-within}
 use Rattle.put.proofs.put_part.Statement.{statement}
 use Rattle.put.proofs.put_part.Tie as tie
 
@@ -50,7 +47,7 @@ part-write-all-end : tie.Need-part-write-all-end
 part-write-all-end c =
     let a = c .before .before .before .before .before .before .before .before .before .before .before .before .args in
     let k = c .before .before .before .before .before .before .before .before .export in
-    let h : c .before .before .before .before .written .given .0 .0 ≤ length (k .last .1 .1 .0) = written-within (a .part) (a .store .now) (a .buffer .now) (k .last .1 .1 .0) _ (subst (λ (r : Export). Answers (exporting handheld (a .part) (a .store .now) (a .buffer .now)) (record { answer = told r; buffer = k .last .1 .1 .0 })) (c .before .before .before .before .written .given .1) (k .ensures)) in
+    let h : c .before .before .before .before .written .given .0 .0 ≤ length (k .last .1 .1 .0) = written-within handheld (a .part) (a .store .now) (a .buffer .now) (k .last .1 .1 .0) _ (subst (λ (r : Export). Answers (exporting handheld (a .part) (a .store .now) (a .buffer .now)) (record { answer = told r; buffer = k .last .1 .1 .0 })) (c .before .before .before .before .written .given .1) (k .ensures)) in
     search needs
 
 write-all-requires-2 : tie.Need-write-all-requires-2

@@ -1,6 +1,4 @@
-use borrow.Author.Needs.{needs}
-use mathlib.Core.Path.{_≡_, refl}
-use lib.ListN.{length}
+use Rattle.lists.proofs.Kit.{needs, _≡_, refl, length}
 use Rattle.put.proofs.take_all.Statement.{statement}
 use Rattle.put.proofs.take_all.Tie as tie
 

@@ -1,7 +1,4 @@
-use borrow.Author.Needs.{needs}
-use Prim.Native.Nat.{_≤_}
-use lib.ListN.{length}
-use mathlib.Core.Path.{subst}
+use Rattle.lists.proofs.Kit.{needs, _≤_, length, subst}
 use Rattle.records.specs.Records.{Within}
 use Rattle.put.proofs.take_record.Statement.{statement}
 use Rattle.put.proofs.take_record.Tie as tie

@@ -1,6 +1,5 @@
 -- `counted_lists::changes::add_end` meets its contract. Assumes nothing.
-use borrow.Author.Needs.{needs}
-use native.Mathlib.Omega.{arith}
+use Rattle.lists.proofs.Kit.{needs, arith}
 use Rattle.counted_lists.proofs.ListLaws.{added-not, added-full, added-room}
 use Rattle.counted_lists.proofs.changes.add_end.Statement.{statement}
 use Rattle.counted_lists.proofs.changes.add_end.Tie as tie

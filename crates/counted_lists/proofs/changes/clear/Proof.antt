@@ -1,5 +1,5 @@
 -- `counted_lists::changes::clear` meets its contract. Assumes nothing.
-use borrow.Author.Needs.{needs}
+use Rattle.lists.proofs.Kit.{needs}
 use Rattle.counted_lists.proofs.ListLaws.{cleared}
 use Rattle.counted_lists.proofs.changes.clear.Statement.{statement}
 use Rattle.counted_lists.proofs.changes.clear.Tie as tie

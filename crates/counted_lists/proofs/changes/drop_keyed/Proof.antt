@@ -1,6 +1,5 @@
 -- `counted_lists::changes::drop_keyed` meets its contract. Assumes nothing.
-use borrow.Author.Needs.{needs}
-use native.Mathlib.Omega.{arith}
+use Rattle.lists.proofs.Kit.{needs, arith}
 use Rattle.counted_lists.proofs.ListLaws.{dropped, dropped-not}
 use Rattle.counted_lists.proofs.changes.drop_keyed.Statement.{statement}
 use Rattle.counted_lists.proofs.changes.drop_keyed.Tie as tie

@@ -1,6 +1,5 @@
 -- `counted_lists::changes::put_keyed` meets its contract. Assumes nothing.
-use borrow.Author.Needs.{needs}
-use native.Mathlib.Omega.{arith}
+use Rattle.lists.proofs.Kit.{needs, arith}
 use Rattle.counted_lists.proofs.ListLaws.{put-not, key-of, put-new, put-found}
 use Rattle.counted_lists.proofs.changes.put_keyed.Statement.{statement}
 use Rattle.counted_lists.proofs.changes.put_keyed.Tie as tie

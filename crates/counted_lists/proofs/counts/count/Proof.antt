@@ -1,6 +1,5 @@
 -- `counted_lists::counts::count` meets its contract. Assumes nothing.
-use borrow.Author.Needs.{needs}
-use native.Mathlib.Omega.{arith}
+use Rattle.lists.proofs.Kit.{needs, arith}
 use Rattle.counted_lists.proofs.CountLaws.{counted-length, count-read}
 use Rattle.counted_lists.proofs.counts.count.Statement.{statement}
 use Rattle.counted_lists.proofs.counts.count.Tie as tie

@@ -1,8 +1,5 @@
 -- `counted_lists::counts::end_of` meets its contract. Assumes nothing.
-use borrow.Author.Needs.{needs}
-use Prim.Native.Nat.{ℕ, _+_, _*_}
-use mathlib.Core.Path.{ap}
-use native.Mathlib.Omega.{arith}
+use Rattle.lists.proofs.Kit.{needs, ℕ, _+_, _*_, ap, arith}
 use Rattle.counted_lists.proofs.CountLaws.{counted-length, end-fits, end-not}
 use Rattle.counted_lists.proofs.counts.end_of.Statement.{statement}
 use Rattle.counted_lists.proofs.counts.end_of.Tie as tie

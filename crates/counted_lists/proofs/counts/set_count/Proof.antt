@@ -1,6 +1,5 @@
 -- `counted_lists::counts::set_count` meets its contract. Assumes nothing.
-use borrow.Author.Needs.{needs}
-use native.Mathlib.Omega.{arith}
+use Rattle.lists.proofs.Kit.{needs, arith}
 use Rattle.counted_lists.proofs.CountLaws.{count-written}
 use Rattle.counted_lists.proofs.counts.set_count.Statement.{statement}
 use Rattle.counted_lists.proofs.counts.set_count.Tie as tie

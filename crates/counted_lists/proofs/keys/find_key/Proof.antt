@@ -1,10 +1,5 @@
 -- `counted_lists::keys::find_key` meets its contract. Assumes nothing.
-use borrow.Author.Needs.{needs}
-use Prim.Native.Nat.{ℕ, _≤_, _-_}
-use mathlib.Core.Path.{_≡_, sym, _∙_}
-use mathlib.Core.List.{List}
-use native.Mathlib.Omega.{arith}
-use lib.ListN.{length}
+use Rattle.lists.proofs.Kit.{needs, ℕ, _≤_, _-_, _≡_, sym, _∙_, List, arith, length}
 use Rattle.slots.specs.Slots.{flat, Slots, hit}
 use Rattle.slots.proofs.Search.{Rest, search-start, search-more, search-stop, search-end, said-of}
 use Rattle.counted_lists.proofs.KeyLaws.{slot-hit}

@@ -1,13 +1,5 @@
 -- `counted_lists::keys::others` meets its contract. Assumes nothing.
-use borrow.Author.Needs.{needs}
-use Prim.Native.Nat.{ℕ, _+_, _-_, _≤_}
-use mathlib.Core.Path.{_≡_, sym, _∙_}
-use mathlib.Core.Bool.{Bool, true, false, cond}
-use mathlib.Core.List.{List}
-use native.Mathlib.Omega.{arith}
-use lib.ListN.{length, drop, take}
-use mathlib.Core.Logic.{⊎-elim}
-use borrow.Author.Tests.{not-true, not-false}
+use Rattle.lists.proofs.Kit.{needs, ℕ, _+_, _-_, _≤_, _≡_, sym, _∙_, Bool, true, false, cond, List, arith, length, drop, take, ⊎-elim, not-true, not-false}
 use Rattle.slots.specs.Slots.{flat, Slots, hit}
 use Rattle.counted_lists.proofs.KeyLaws.{slot-hit, Tally, tally-start, tally-more, tally-end}
 use Rattle.counted_lists.proofs.keys.others.Statement.{statement}

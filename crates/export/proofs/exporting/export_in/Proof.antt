@@ -1,14 +1,12 @@
 use Rattle.export.specs.PartWriters.{FoundAs}
-use mathlib.Core.Path.{subst}
+use Rattle.lists.proofs.Kit.{subst, needs, arith}
 use Rattle.tables.proofs.AnswerLaws.{not-said, was-said}
 use Rattle.export.proofs.ExportLaws.{says-15, says-11, says-16, says-0}
-use borrow.Author.Needs.{needs}
-use native.Mathlib.Omega.{arith}
 use Rattle.export.proofs.exporting.export_in.Statement.{statement}
 use Rattle.export.proofs.exporting.export_in.Tie as tie
 
 returns : tie.Need-returns
-returns c = let a = c .before .before .before .before .args in says-15 (a .limits) (a .part) (a .store .now) (a .buffer .now) (omega arith)
+returns c = let a = c .before .before .before .before .args in (omega arith, λ x. says-15 (a .limits) (a .part) (a .store .now) (a .buffer .now) (omega arith))
 
 is-store-requires : tie.Need-is-store-requires
 is-store-requires c κs = search needs
@@ -17,7 +15,7 @@ returns-2 : tie.Need-returns-2
 returns-2 c =
     let a = c .before .before .before .before .before .before .args in
     let k = c .before .is-store in
-    says-11 (a .limits) (a .part) (a .store .now) (a .buffer .now) (omega arith) (not-said (k .result) (k .ensures) (c .if2 .taken))
+    (omega arith, λ x. says-11 (a .limits) (a .part) (a .store .now) (a .buffer .now) (omega arith) (not-said (k .result) (k .ensures) (c .if2 .taken)))
 
 part-of-requires : tie.Need-part-of-requires
 part-of-requires c κs = search needs
@@ -32,13 +30,13 @@ returns-3 : tie.Need-returns-3
 returns-3 c =
     let a = c .before .before .before .before .before .before .before .before .before .args in
     let k = c .before .before .before .before .is-store in
-    says-16 (a .limits) (a .part) (a .store .now) (a .buffer .now) (omega arith) (was-said (k .result) (k .ensures) (c .before .before .before .if2 .left)) (subst (FoundAs (a .part)) (c .enum-told .given .1) (c .before .before .part-of .ensures))
+    (omega arith, λ x. says-16 (a .limits) (a .part) (a .store .now) (a .buffer .now) (omega arith) (was-said (k .result) (k .ensures) (c .before .before .before .if2 .left)) (subst (FoundAs (a .part)) (c .enum-told .given .1) (c .before .before .part-of .ensures)))
 
 write-part-requires : tie.Need-write-part-requires
 write-part-requires c κs =
     let k = c .before .before .before .before .before .before .is-store in
     let s = was-said (k .result) (k .ensures) (c .before .before .before .before .before .if2 .left) in
-    (s .roomy, s .size, c .before .before .before .before .before .before .before .before .before .before .before .pre, omega arith)
+    (s .roomy, s .size, omega arith)
 
 start-request-requires : tie.Need-start-request-requires
 start-request-requires c κs = search needs
@@ -51,9 +49,11 @@ returns-4 c =
     let a = c .before .before .before .before .before .before .before .before .before .before .before .before .before .before .before .before .before .before .args in
     let k = c .before .before .before .before .before .before .before .before .before .before .before .before .before .is-store in
     let w = c .before .before .before .before .before .before .write-part in
-    let z = c .before .before .start-request in
-    says-0 (a .limits) (a .part) (a .store .now) (a .buffer .now) (c .before .before .before .before .before .before .before .before .before .which .given .0 .0) (w .last .0) (z .last .0) (w .result) (z .result) (omega arith) (was-said (k .result) (k .ensures) (c .before .before .before .before .before .before .before .before .before .before .before .before .if2 .left))
-    (subst (FoundAs (a .part)) (c .before .before .before .before .before .before .before .before .before .which .given .1) (c .before .before .before .before .before .before .before .before .before .before .before .part-of .ensures)) (w .ensures) (z .ensures)
+    let z = c .before .before .start-request in (
+      z .ensures .0,
+      λ x. says-0 (a .limits) (a .part) (a .store .now) (a .buffer .now) (c .before .before .before .before .before .before .before .before .before .which .given .0 .0) (w .last .0) (z .last .0) (w .result) (z .result) (omega arith) (was-said (k .result) (k .ensures) (c .before .before .before .before .before .before .before .before .before .before .before .before .if2 .left))
+          (subst (FoundAs (a .part)) (c .before .before .before .before .before .before .before .before .before .which .given .1) (c .before .before .before .before .before .before .before .before .before .before .before .part-of .ensures)) (w .ensures x) (z .ensures .1),
+    )
 
 pub export-in-spec : {M : Type 1} → statement M
 export-in-spec =

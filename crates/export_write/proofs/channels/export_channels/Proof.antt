@@ -2,8 +2,7 @@ use Rattle.writing.specs.declared.Operation.the-variants.{Replace}
 use Rattle.writing.specs.Settings.{channels}
 use Rattle.export_write.proofs.ChannelWriting.{channels-wrote}
 use Rattle.export_write.proofs.StartLaws.{setting-writes, one-writes}
-use borrow.Author.Needs.{needs}
-use native.Mathlib.Omega.{arith}
+use Rattle.lists.proofs.Kit.{needs, arith}
 use Rattle.export_write.proofs.channels.export_channels.Statement.{statement}
 use Rattle.export_write.proofs.channels.export_channels.Tie as tie
 
@@ -64,7 +63,7 @@ returns-3 c =
     let z = c .before .before .start-setting in
     λ h. one-writes _ (channels Replace) 8 _ (z .result) (a .buffer .now) (z .last .0)
     (setting-writes _ (channels Replace) _ 8 _ (w .result) (z .result) (a .buffer .now) (w .last .0) (z .last .0) (z .ensures) (omega arith) (omega (arith, n .ensures .within))
-    (channels-wrote (a .part .now) 8 (n .result) (v .result) (w .result) (a .buffer .now) (v .last .0) (w .last .0) (omega (arith, n .ensures .within)) (n .ensures) (v .ensures) (w .ensures)))
+    (channels-wrote (a .region .now) 8 (n .result) (v .result) (w .result) (a .buffer .now) (v .last .0) (w .last .0) (omega (arith, n .ensures .within)) (n .ensures) (v .ensures) (w .ensures)))
 
 pub export-channels-spec : {M : Type 1} → statement M
 export-channels-spec =

@@ -1,11 +1,5 @@
-use lib.ListN.{length-drop, length, drop}
-use lib.Seq.{take-all}
-use borrow.Rule.Slice.PartMut.{mid-len}
+use Rattle.lists.proofs.Kit.{length-drop, length, drop, take-all, mid-len, needs, _-_, sym, arith}
 use Rattle.export_write.proofs.EntryWriting.{entry-wrote}
-use borrow.Author.Needs.{needs}
-use Prim.Native.Nat.{_-_}
-use mathlib.Core.Path.{sym}
-use native.Mathlib.Omega.{arith}
 use Rattle.export_write.proofs.entries.write_entry.Statement.{statement}
 use Rattle.export_write.proofs.entries.write_entry.Tie as tie
 

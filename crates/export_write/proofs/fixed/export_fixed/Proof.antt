@@ -1,12 +1,7 @@
 use Rattle.export_write.specs.FixedWriters.{key-setting}
 use Rattle.writing.specs.Settings.{home, system}
-use Rattle.export_write.proofs.FixedWriting.{three-wrote}
-use borrow.Author.Needs.{needs}
-use Prim.Native.Nat.{ℕ}
-use mathlib.Core.Path.{refl, ap}
-use mathlib.Core.List.{List}
-use native.Mathlib.Omega.{arith}
-use lib.ListN.{drop, take}
+use Rattle.export_write.proofs.FixedWriting.{three-wrote, home-three, system-three}
+use Rattle.lists.proofs.Kit.{ℕ, refl, ap, List, arith, drop, take, needs}
 use Rattle.export_write.proofs.fixed.export_fixed.Statement.{statement}
 use Rattle.export_write.proofs.fixed.export_fixed.Tie as tie
 
@@ -31,47 +26,56 @@ part-write-key-end c = search needs
 write-key-requires : tie.Need-write-key-requires
 write-key-requires c κs = search needs
 
-sub-write-home : tie.Need-sub-write-home
-sub-write-home c = search needs
+sub-home-bits : tie.Need-sub-home-bits
+sub-home-bits c = search needs
 
-part-write-home-start : tie.Need-part-write-home-start
-part-write-home-start c = search needs
+part-home-bits-start : tie.Need-part-home-bits-start
+part-home-bits-start c = search needs
 
-part-write-home-end : tie.Need-part-write-home-end
-part-write-home-end c = search needs
+part-home-bits-end : tie.Need-part-home-bits-end
+part-home-bits-end c = search needs
 
-write-home-requires : tie.Need-write-home-requires
-write-home-requires c κs = search needs
+home-bits-requires : tie.Need-home-bits-requires
+home-bits-requires c κs = search needs
 
-sub-write-system : tie.Need-sub-write-system
-sub-write-system c = search needs
+write-three-requires : tie.Need-write-three-requires
+write-three-requires c κs = search needs
 
-part-write-system-start : tie.Need-part-write-system-start
-part-write-system-start c = search needs
+sub-system-bits : tie.Need-sub-system-bits
+sub-system-bits c = search needs
 
-part-write-system-end : tie.Need-part-write-system-end
-part-write-system-end c = search needs
+part-system-bits-start : tie.Need-part-system-bits-start
+part-system-bits-start c = search needs
 
-write-system-requires : tie.Need-write-system-requires
-write-system-requires c κs = search needs
+part-system-bits-end : tie.Need-part-system-bits-end
+part-system-bits-end c = search needs
+
+system-bits-requires : tie.Need-system-bits-requires
+system-bits-requires c κs = search needs
+
+write-three-requires-2 : tie.Need-write-three-requires-2
+write-three-requires-2 c κs = search needs
 
 same-length : tie.Need-same-length
 same-length c = search needs
 
 returns-3 : tie.Need-returns-3
 returns-3 c =
-    let a = c .before .before .before .before .before .before .before .before .before .before .before .before .before .before .before .before .before .before .before .args in
-    let x = c .before .before .before .before .before .before .before .before .before .before .before .before .write-key in
-    let y = c .before .before .before .before .before .before .before .write-home in
-    let z = c .before .before .write-system in
+    let a = c .before .before .before .before .before .before .before .before .before .before .before .before .before .before .before .before .before .before .before .before .before .args in
+    let x = c .before .before .before .before .before .before .before .before .before .before .before .before .before .before .write-key in
+    let i = c .before .before .before .before .before .before .before .before .before .before .home-bits in
+    let y = c .before .before .before .before .before .before .before .before .write-three in
+    let j = c .before .before .before .before .system-bits in
+    let z = c .before .before .write-three2 in
     λ h. record {
       writes = record {
-        from = omega arith;
-        most = omega arith;
+        from = omega (arith, x .ensures .from, y .ensures .0, z .ensures .0);
+        most = omega (arith, x .ensures .most, y .ensures .0, z .ensures .0);
         wrote = λ t k.
             three-wrote (key-setting (t .0)) (home (t .1 .0)) (system (t .1 .1)) 8 (x .result) (y .result) (z .result) (a .buffer .now) (x .last .0) (y .last .0) (z .last .0)
-            (x .ensures .wrote (t .0) (k .0 .0, ap (λ (l : List ℕ). take 4 l) (k .1))) (y .ensures .wrote (t .1 .0) (k .0 .1 .0, ap (λ (l : List ℕ). take 4 (drop 4 l)) (k .1)))
-            (z .ensures .wrote (t .1 .1) (k .0 .1 .1, ap (λ (l : List ℕ). take 3 (drop 8 l)) (k .1)));
+            (x .ensures .wrote (t .0) (k .0 .0, ap (λ (l : List ℕ). take 4 l) (k .1)))
+            (y .ensures .1 (home (t .1 .0)) (home-three _ (i .result) (i .ensures) (t .1 .0) (k .0 .1 .0, ap (λ (l : List ℕ). take 4 (drop 4 l)) (k .1))))
+            (z .ensures .1 (system (t .1 .1)) (system-three _ (j .result) (j .ensures) (t .1 .1) (k .0 .1 .1, ap (λ (l : List ℕ). take 3 (drop 8 l)) (k .1))));
       };
       counted = λ t k. refl;
     }
@@ -87,13 +91,15 @@ export-fixed-spec =
     part-write-key-start
     part-write-key-end
     write-key-requires
-    sub-write-home
-    part-write-home-start
-    part-write-home-end
-    write-home-requires
-    sub-write-system
-    part-write-system-start
-    part-write-system-end
-    write-system-requires
+    sub-home-bits
+    part-home-bits-start
+    part-home-bits-end
+    home-bits-requires
+    write-three-requires
+    sub-system-bits
+    part-system-bits-start
+    part-system-bits-end
+    system-bits-requires
+    write-three-requires-2
     same-length
     returns-3)

@@ -1,8 +1,7 @@
 use Rattle.writing.specs.Settings.{key}
 use Rattle.export_write.proofs.FixedWriting.{key-wrote}
 use Rattle.export_write.proofs.StartLaws.{setting-writes}
-use borrow.Author.Needs.{needs}
-use native.Mathlib.Omega.{arith}
+use Rattle.lists.proofs.Kit.{needs, arith}
 use Rattle.export_write.proofs.fixed.write_key.Statement.{statement}
 use Rattle.export_write.proofs.fixed.write_key.Tie as tie
 
@@ -53,7 +52,7 @@ returns c =
     let w = c .before .before .before .before .before .before .write-bytes2 in
     let z = c .before .before .start-setting in
     setting-writes _ (λ k. key (k .target) (k .flags)) _ (a .at) 7 (w .result) (z .result) (a .buffer .now) (w .last .0) (z .last .0) (z .ensures) (omega arith) (omega arith)
-    (key-wrote (a .part .now) (a .at) (v .result) (w .result) (l .result) (a .buffer .now) (v .last .0) (w .last .0) (v .ensures) (l .ensures .2) (l .ensures .3) (w .ensures))
+    (key-wrote (a .region .now) (a .at) (v .result) (w .result) (l .result) (a .buffer .now) (v .last .0) (w .last .0) (v .ensures) (l .ensures .2) (l .ensures .3) (w .ensures))
 
 pub write-key-spec : {M : Type 1} → statement M
 write-key-spec =

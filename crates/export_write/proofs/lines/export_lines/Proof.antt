@@ -1,22 +1,17 @@
-use lib.ListN.{length-map, length}
-use mathlib.Core.List.{map}
+use Rattle.lists.proofs.Kit.{length-map, length, map, needs, _≤_, _-_, _+_, _*_, _≡_, refl, arith}
 use Rattle.export_write.specs.LineSettings.{line-add}
 use Rattle.writing.specs.Settings.{unicode16}
 use Rattle.writing.specs.Canonical.{canonical-all}
 use Rattle.export_write.proofs.WroteLaws.{writing-start}
 use Rattle.export_write.proofs.LineWriting.{Lined, lined-more, lined-end, lines-used}
-use borrow.Author.Needs.{needs}
-use Prim.Native.Nat.{_≤_, _-_, _+_, _*_}
-use mathlib.Core.Path.{_≡_, refl}
-use native.Mathlib.Omega.{arith}
 use Rattle.export_write.proofs.lines.export_lines.Statement.{statement}
 use Rattle.export_write.proofs.lines.export_lines.Tie as tie
 
 abbrev Inv-loop : tie.InvT-loop
-Inv-loop buffer₀ part end₀ count i₀ buffer end i = (length buffer ≡ length buffer₀) × (i ≤ count) × (end₀ ≤ end) × (end ≤ end₀ + 49 * i) × Lined part buffer₀ buffer end₀ end i
+Inv-loop buffer₀ region end₀ count i₀ buffer end i = (length buffer ≡ length buffer₀) × (i ≤ count) × (end₀ ≤ end) × (end ≤ end₀ + 49 * i) × Lined region buffer₀ buffer end₀ end i
 
 abbrev μ-loop : tie.MeasureT-loop
-μ-loop buffer₀ part end₀ count i₀ buffer end i = count - i
+μ-loop buffer₀ region end₀ count i₀ buffer end i = count - i
 
 returns : tie.Need-returns Inv-loop μ-loop
 returns c = λ h. absurd (omega (arith, h .0))
@@ -82,7 +77,7 @@ loop-again c =
       omega arith,
       omega arith,
       omega arith,
-      lined-more (a .part .now) (v .last .0) (l .buffer) (w .last .0) (v .result) (l .end) (l .i) (u .result) (w .result) (omega arith) (u .ensures) (l .inv .4) (w .ensures),
+      lined-more (a .region .now) (v .last .0) (l .buffer) (w .last .0) (v .result) (l .end) (l .i) (u .result) (w .result) (omega arith) (u .ensures) (l .inv .4) (w .ensures),
     )
 
 cast-t27 : tie.Need-cast-t27 Inv-loop μ-loop
@@ -104,9 +99,9 @@ returns-3 c =
       writes = record {
         from = omega arith;
         most = omega (arith, u .ensures .within);
-        wrote = lined-end (a .part .now) (a .buffer .now) (v .last .0) (l .buffer) 8 (v .result) (l .end) (l .i) (u .result) (omega arith) (u .ensures) (v .ensures) (l .inv .4);
+        wrote = lined-end (a .region .now) (a .buffer .now) (v .last .0) (l .buffer) 8 (v .result) (l .end) (l .i) (u .result) (omega arith) (u .ensures) (v .ensures) (l .inv .4);
       };
-      counted = λ ls k. omega (arith, lines-used (a .part .now) ls (u .result) k (u .ensures), length-map ls line-add);
+      counted = λ ls k. omega (arith, lines-used (a .region .now) ls (u .result) k (u .ensures), length-map ls line-add);
     }
 
 pub export-lines-spec : {M : Type 1} → statement M

@@ -1,20 +1,13 @@
-use borrow.Rule.Slice.PartMut.{mid-len}
+use Rattle.lists.proofs.Kit.{mid-len, needs, arith}
 use Rattle.export_write.specs.LineSettings.{line-add}
 use Rattle.export_write.proofs.LineWriting.{line-wrote}
 use Rattle.export_write.proofs.StartLaws.{setting-writes}
-use borrow.Author.Needs.{needs}
-use native.Mathlib.Omega.{arith}
+use Rattle.tables.specs.Layout.{line-width}
 use Rattle.export_write.proofs.lines.write_line.Statement.{statement}
 use Rattle.export_write.proofs.lines.write_line.Tie as tie
 
-shared-slice-read-t9 : tie.Need-shared-slice-read-t9
-shared-slice-read-t9 c = search needs
-
-mul-t11 : tie.Need-mul-t11
-mul-t11 c = search needs
-
-add-t12 : tie.Need-add-t12
-add-t12 c = search needs
+line-byte-requires : tie.Need-line-byte-requires
+line-byte-requires c κs = search needs
 
 add-write-bytes : tie.Need-add-write-bytes
 add-write-bytes c = search needs
@@ -59,21 +52,20 @@ returns : tie.Need-returns
 returns c =
     let a = c .before .before .before .before .before .before .before .before .before .before .before .before .before .before .before .before .before .before .before .before .before .before .args in
     let p = c .before .before .before .before .before .before .before .before .before .before .before .before .before .before .before .before .before .before .before .before .before .before .pre in
+    let b = c .before .before .before .before .before .before .before .before .before .before .before .before .before .before .before .before .before .before .before .line-byte in
     let v = c .before .before .before .before .before .before .before .before .before .before .before .before .before .before .before .before .write-bytes in
     let n = c .before .before .before .before .before .before .before .before .before .before .before .write-number in
     let w = c .before .before .before .before .before .before .write-text in
     let z = c .before .before .start-setting in
-    let t = mid-len 19 51 (a .slot .now) (omega (arith, p .0)) in
+    let t = mid-len 20 line-width (a .slot .now) (omega (arith, p .0)) in
     setting-writes _ line-add _ (a .at) 49 (w .result) (z .result) (a .buffer .now) (w .last .0) (z .last .0) (z .ensures) (omega arith) (omega (arith, t))
-    (line-wrote (a .slot .now) (a .at) (v .result) (n .result) (w .result) (a .buffer .now) (v .last .0) (n .last .0) (w .last .0) (v .ensures) (n .ensures) (w .ensures))
+    (line-wrote (a .slot .now) (a .at) (v .result) (n .result) (w .result) (b .result) (a .buffer .now) (v .last .0) (n .last .0) (w .last .0) (b .ensures) (v .ensures) (n .ensures) (w .ensures))
 
 pub write-line-spec : {M : Type 1} → statement M
 write-line-spec =
     tie.close
     (tie.spec
-    shared-slice-read-t9
-    mul-t11
-    add-t12
+    line-byte-requires
     add-write-bytes
     slice-aggregate-write-bytes
     write-bytes-requires

@@ -3,19 +3,15 @@ use Rattle.writing.specs.Settings.{unicode16}
 use Rattle.writing.specs.Canonical.{canonical-all}
 use Rattle.export_write.proofs.WroteLaws.{writing-start}
 use Rattle.export_write.proofs.MemberWriting.{Membered, membered-more, membered-end, settings-length}
-use borrow.Author.Needs.{needs}
-use Prim.Native.Nat.{_≤_, _-_, _+_, _*_}
-use mathlib.Core.Path.{_≡_, refl, sym, _∙_}
-use native.Mathlib.Omega.{arith}
-use lib.ListN.{length}
+use Rattle.lists.proofs.Kit.{needs, _≤_, _-_, _+_, _*_, _≡_, refl, sym, _∙_, arith, length}
 use Rattle.export_write.proofs.members.export_members.Statement.{statement}
 use Rattle.export_write.proofs.members.export_members.Tie as tie
 
 abbrev Inv-loop : tie.InvT-loop
-Inv-loop buffer₀ which part end₀ index₀ buffer end index = (length buffer ≡ length buffer₀) × (index ≤ 16) × (8 ≤ end) × (end ≤ 8 + 42 * index) × Membered which part buffer₀ buffer 8 end index
+Inv-loop buffer₀ which region end₀ index₀ buffer end index = (length buffer ≡ length buffer₀) × (index ≤ 16) × (8 ≤ end) × (end ≤ 8 + 42 * index) × Membered which region buffer₀ buffer 8 end index
 
 abbrev μ-loop : tie.MeasureT-loop
-μ-loop buffer₀ which part end₀ index₀ buffer end index = 16 - index
+μ-loop buffer₀ which region end₀ index₀ buffer end index = 16 - index
 
 returns : tie.Need-returns Inv-loop μ-loop
 returns c = λ h. absurd (omega (arith, h .0))
@@ -67,7 +63,7 @@ loop-again c =
       omega arith,
       omega arith,
       omega arith,
-      membered-more (a .which) (a .part .now) (a .buffer .now) (l .buffer) (w .last .0) 8 (l .end) (l .index) (w .result) (omega arith) (l .inv .4) (w .ensures),
+      membered-more (a .which) (a .region .now) (a .buffer .now) (l .buffer) (w .last .0) 8 (l .end) (l .index) (w .result) (omega arith) (l .inv .4) (w .ensures),
     )
 
 same-length : tie.Need-same-length Inv-loop μ-loop
@@ -81,7 +77,7 @@ returns-3 c =
       writes = record {
         from = omega arith;
         most = omega arith;
-        wrote = membered-end (a .which) (a .part .now) (a .buffer .now) (l .buffer) 8 (l .end) (l .index) (omega arith) (l .inv .4);
+        wrote = membered-end (a .which) (a .region .now) (a .buffer .now) (l .buffer) 8 (l .end) (l .index) (omega arith) (l .inv .4);
       };
       counted = λ os t. sym (settings-length (a .which) 0 os ∙ t .many);
     }

@@ -1,6 +1,4 @@
-use borrow.Author.Needs.{needs}
-use mathlib.Core.Path.{refl}
-use native.Mathlib.Omega.{arith}
+use Rattle.lists.proofs.Kit.{needs, refl, arith}
 use Rattle.export_write.proofs.members.flag_bits.Statement.{statement}
 use Rattle.export_write.proofs.members.flag_bits.Tie as tie
 

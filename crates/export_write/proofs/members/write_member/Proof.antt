@@ -1,45 +1,27 @@
-use borrow.Rule.Slice.PartMut.{mid-len}
+use Rattle.lists.proofs.Kit.{mid-len, needs, sym, _∙_, arith}
 use Rattle.export_write.specs.MemberWriters.{member-setting}
 use Rattle.export_write.proofs.MemberWriting.{member-wrote}
 use Rattle.export_write.proofs.StartLaws.{setting-writes}
-use borrow.Author.Needs.{needs}
-use mathlib.Core.Path.{sym, _∙_}
-use native.Mathlib.Omega.{arith}
 use Rattle.export_write.proofs.members.write_member.Statement.{statement}
 use Rattle.export_write.proofs.members.write_member.Tie as tie
 
-operation-requires : tie.Need-operation-requires
-operation-requires c κs = search needs
-
-mul-head : tie.Need-mul-head
-mul-head c = search needs
-
-shared-slice-read-flag-bits : tie.Need-shared-slice-read-flag-bits
-shared-slice-read-flag-bits c = search needs
-
-flag-bits-requires : tie.Need-flag-bits-requires
-flag-bits-requires c κs = search needs
-
-add-head : tie.Need-add-head
-add-head c = search needs
-
-add-head-2 : tie.Need-add-head-2
-add-head-2 c = search needs
+member-bits-requires : tie.Need-member-bits-requires
+member-bits-requires c κs = search needs
 
 cast-start-setting : tie.Need-cast-start-setting
 cast-start-setting c = search needs
 
-cast-t17 : tie.Need-cast-t17
-cast-t17 c = search needs
+cast-t14 : tie.Need-cast-t14
+cast-t14 c = search needs
 
-shared-slice-read-t19 : tie.Need-shared-slice-read-t19
-shared-slice-read-t19 c = search needs
+shared-slice-read-t16 : tie.Need-shared-slice-read-t16
+shared-slice-read-t16 c = search needs
 
-shared-slice-read-t21 : tie.Need-shared-slice-read-t21
-shared-slice-read-t21 c = search needs
+shared-slice-read-t18 : tie.Need-shared-slice-read-t18
+shared-slice-read-t18 c = search needs
 
-shared-slice-read-t23 : tie.Need-shared-slice-read-t23
-shared-slice-read-t23 c = search needs
+shared-slice-read-t20 : tie.Need-shared-slice-read-t20
+shared-slice-read-t20 c = search needs
 
 add-write-bytes : tie.Need-add-write-bytes
 add-write-bytes c = search needs
@@ -73,33 +55,27 @@ same-length c = search needs
 
 returns : tie.Need-returns
 returns c =
-    let a = c .before .before .before .before .before .before .before .before .before .before .before .before .before .before .before .before .before .before .before .before .before .before .before .args in
-    let p = c .before .before .before .before .before .before .before .before .before .before .before .before .before .before .before .before .before .before .before .before .before .before .before .pre in
-    let o = c .before .before .before .before .before .before .before .before .before .before .before .before .before .before .before .before .before .before .before .before .operation in
-    let f = c .before .before .before .before .before .before .before .before .before .before .before .before .before .before .before .before .before .before .flag-bits in
+    let a = c .before .before .before .before .before .before .before .before .before .before .before .before .before .before .before .before .before .before .before .before .before .args in
+    let p = c .before .before .before .before .before .before .before .before .before .before .before .before .before .before .before .before .before .before .before .before .before .pre in
+    let b = c .before .before .before .before .before .before .before .before .before .before .before .before .before .before .before .before .before .before .member-bits in
     let v = c .before .before .before .before .before .before .before .before .before .before .before .before .write-bytes in
     let w = c .before .before .before .before .before .before .before .write-text in
     let k = c .before .before .before .type-of in
     let z = c .before .before .start-setting in
     let t = mid-len 4 36 (a .slot .now) (omega (arith, p .0)) in
     setting-writes _ (member-setting (a .which) (a .index)) _ (a .at) 42 (w .result) (z .result) (a .buffer .now) (w .last .0) (z .last .0) (z .ensures) (omega arith) (omega (arith, t))
-    (λ x h. let (t, l, m) = member-wrote (a .index) (p .2) (a .which) (a .slot .now) (a .at) (f .result) (o .result) (v .result) (w .result) (a .buffer .now) (v .last .0) (w .last .0) (o .ensures .0) (f .ensures .0) (v .ensures) (w .ensures) x h in (t ∙ sym (k .ensures), l, m))
+    (λ x h. let (t, l, m) = member-wrote (a .index) (p .2) (a .which) (a .slot .now) (a .at) (b .result) (v .result) (w .result) (a .buffer .now) (v .last .0) (w .last .0) (b .ensures) (v .ensures) (w .ensures) x h in (t ∙ sym (k .ensures), l, m))
 
 pub write-member-spec : {M : Type 1} → statement M
 write-member-spec =
     tie.close
     (tie.spec
-    operation-requires
-    mul-head
-    shared-slice-read-flag-bits
-    flag-bits-requires
-    add-head
-    add-head-2
+    member-bits-requires
     cast-start-setting
-    cast-t17
-    shared-slice-read-t19
-    shared-slice-read-t21
-    shared-slice-read-t23
+    cast-t14
+    shared-slice-read-t16
+    shared-slice-read-t18
+    shared-slice-read-t20
     add-write-bytes
     slice-aggregate-write-bytes
     write-bytes-requires

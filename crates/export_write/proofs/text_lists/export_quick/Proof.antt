@@ -1,7 +1,5 @@
 use Rattle.export_write.proofs.TextSettings.{quick-wrote, quick-done, quick-more}
-use Prim.Native.Nat.{_≤_}
-use borrow.Author.Needs.{needs}
-use native.Mathlib.Omega.{arith}
+use Rattle.lists.proofs.Kit.{_≤_, needs, arith}
 use Rattle.export_write.proofs.text_lists.export_quick.Statement.{statement}
 use Rattle.export_write.proofs.text_lists.export_quick.Tie as tie
 
@@ -48,8 +46,8 @@ returns-3 c =
     let w = c .before .before .before .before .before .before .before .before .write-bytes in
     let z = c .before .before .before .before .start-setting in
     let high : x .result .end ≤ 3099 = omega (arith, x .ensures .most, x .ensures .few) in
-    let q = quick-wrote (a .part .now) (a .buffer .now) (x .last .0) (w .last .0) (z .last .0) 8 (w .result) (z .result) (x .result) (x .ensures) (w .ensures) (z .ensures) in
-    λ h. quick-done (a .part .now) (a .buffer .now) (x .last .0) (z .last .0) 8 (z .result) (x .result) (x .ensures) (omega arith) q (omega arith) (omega arith)
+    let q = quick-wrote (a .region .now) (a .buffer .now) (x .last .0) (w .last .0) (z .last .0) 8 (w .result) (z .result) (x .result) (x .ensures) (w .ensures) (z .ensures) in
+    λ h. quick-done (a .region .now) (a .buffer .now) (x .last .0) (z .last .0) 8 (z .result) (x .result) (x .ensures) (omega arith) q (omega arith) (omega arith)
 
 sub-write-last-quick : tie.Need-sub-write-last-quick
 sub-write-last-quick c = search needs
@@ -76,9 +74,9 @@ returns-4 c =
     let w = c .before .before .before .before .before .before .before .before .before .before .before .before .before .before .write-bytes in
     let z = c .before .before .before .before .before .before .before .before .before .before .start-setting in
     let high : x .result .end ≤ 3099 = omega (arith, x .ensures .most, x .ensures .few) in
-    let q = quick-wrote (a .part .now) (a .buffer .now) (x .last .0) (w .last .0) (z .last .0) 8 (w .result) (z .result) (x .result) (x .ensures) (w .ensures) (z .ensures) in
+    let q = quick-wrote (a .region .now) (a .buffer .now) (x .last .0) (w .last .0) (z .last .0) 8 (w .result) (z .result) (x .result) (x .ensures) (w .ensures) (z .ensures) in
     let y = c .before .before .before .write-last-quick in
-    λ h. quick-more (a .part .now) (a .buffer .now) (x .last .0) (z .last .0) 8 (z .result) (x .result) (x .ensures) (y .last .0) (y .result) (λ e. omega (arith, e)) q (y .ensures .1) (omega arith) (omega arith)
+    λ h. quick-more (a .region .now) (a .buffer .now) (x .last .0) (z .last .0) 8 (z .result) (x .result) (x .ensures) (y .last .0) (y .result) (λ e. omega (arith, e)) q (y .ensures .1) (omega arith) (omega arith)
 
 pub export-quick-spec : {M : Type 1} → statement M
 export-quick-spec =

@@ -3,8 +3,7 @@ use Rattle.writing.specs.Settings.{status-texts}
 use Rattle.export_write.specs.EntrySettings.{entries}
 use Rattle.export_write.proofs.TextSettings.{status-wrote}
 use Rattle.export_write.proofs.StartLaws.{setting-writes, one-writes}
-use borrow.Author.Needs.{needs}
-use native.Mathlib.Omega.{arith}
+use Rattle.lists.proofs.Kit.{needs, arith}
 use Rattle.export_write.proofs.text_lists.export_status.Statement.{statement}
 use Rattle.export_write.proofs.text_lists.export_status.Tie as tie
 
@@ -49,7 +48,7 @@ returns-3 c =
     let z = c .before .before .start-setting in
     λ h. one-writes _ (λ os. status-texts Replace (entries 32 os)) 8 3365 (z .result) (a .buffer .now) (z .last .0)
     (setting-writes _ (λ os. status-texts Replace (entries 32 os)) _ 8 3365 (x .result .end) (z .result) (a .buffer .now) (w .last .0) (z .last .0) (z .ensures) (omega arith) (omega (arith, x .ensures .most, x .ensures .few))
-    (status-wrote (a .part .now) (a .buffer .now) (x .last .0) (w .last .0) 8 (w .result) (x .result) (x .ensures) (w .ensures)))
+    (status-wrote (a .region .now) (a .buffer .now) (x .last .0) (w .last .0) 8 (w .result) (x .result) (x .ensures) (w .ensures)))
 
 pub export-status-spec : {M : Type 1} → statement M
 export-status-spec =

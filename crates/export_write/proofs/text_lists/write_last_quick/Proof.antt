@@ -1,7 +1,5 @@
 use Rattle.export_write.proofs.TextSettings.{last-none, last-some}
-use borrow.Author.Needs.{needs}
-use mathlib.Core.Path.{sym, _∙_}
-use native.Mathlib.Omega.{arith}
+use Rattle.lists.proofs.Kit.{needs, sym, _∙_, arith}
 use Rattle.export_write.proofs.text_lists.write_last_quick.Statement.{statement}
 use Rattle.export_write.proofs.text_lists.write_last_quick.Tie as tie
 

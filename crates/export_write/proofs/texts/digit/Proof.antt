@@ -1,6 +1,5 @@
 use Rattle.export_write.proofs.NumberWriting.{digit-past, digit-none, digit-some}
-use borrow.Author.Needs.{needs}
-use native.Mathlib.Omega.{arith}
+use Rattle.lists.proofs.Kit.{needs, arith}
 use Rattle.export_write.proofs.texts.digit.Statement.{statement}
 use Rattle.export_write.proofs.texts.digit.Tie as tie
 

@@ -1,9 +1,5 @@
-use mathlib.Core.Path.{subst, _≡_, refl}
-use lib.ListN.{length-set, length}
+use Rattle.lists.proofs.Kit.{subst, _≡_, refl, length-set, length, needs, ℕ, _≤_, _-_, _/_, arith}
 use Rattle.export_write.proofs.NumberWriting.{numbered-start, Numbered, numbered-more, numbered-end}
-use borrow.Author.Needs.{needs}
-use Prim.Native.Nat.{ℕ, _≤_, _-_, _/_}
-use native.Mathlib.Omega.{arith}
 use Rattle.export_write.proofs.texts.write_number.Statement.{statement}
 use Rattle.export_write.proofs.texts.write_number.Tie as tie
 

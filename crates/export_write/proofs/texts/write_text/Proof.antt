@@ -1,7 +1,5 @@
-use borrow.Rule.Slice.PartMut.{mid-len}
+use Rattle.lists.proofs.Kit.{mid-len, needs, arith}
 use Rattle.export_write.proofs.TextWriting.{text-wrote}
-use borrow.Author.Needs.{needs}
-use native.Mathlib.Omega.{arith}
 use Rattle.export_write.proofs.texts.write_text.Statement.{statement}
 use Rattle.export_write.proofs.texts.write_text.Tie as tie
 

@@ -1,6 +1,5 @@
 use Rattle.export_write.proofs.StartLaws.{setting-started}
-use borrow.Author.Needs.{needs}
-use native.Mathlib.Omega.{arith}
+use Rattle.lists.proofs.Kit.{needs, arith}
 use Rattle.export_write.proofs.writers.start_setting.Statement.{statement}
 use Rattle.export_write.proofs.writers.start_setting.Tie as tie
 

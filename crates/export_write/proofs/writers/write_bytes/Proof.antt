@@ -1,6 +1,5 @@
 use Rattle.export_write.proofs.WroteLaws.{wrote-copied}
-use borrow.Author.Needs.{needs}
-use native.Mathlib.Omega.{arith}
+use Rattle.lists.proofs.Kit.{needs, arith}
 use Rattle.export_write.proofs.writers.write_bytes.Statement.{statement}
 use Rattle.export_write.proofs.writers.write_bytes.Tie as tie
 

@@ -1,4 +1,4 @@
-use borrow.Author.Needs.{needs}
+use Rattle.lists.proofs.Kit.{needs}
 use Rattle.packing.proofs.ExportBits.{written-packed, refusal-packed}
 use Rattle.packing.proofs.exports.pack_export.Statement.{statement}
 use Rattle.packing.proofs.exports.pack_export.Tie as tie

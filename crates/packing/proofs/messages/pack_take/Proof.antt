@@ -1,5 +1,4 @@
-use borrow.Author.Needs.{needs}
-use native.Mathlib.Omega.{arith}
+use Rattle.lists.proofs.Kit.{needs, arith}
 use Rattle.packing.proofs.Packed.{packed-refusal, packed-reply}
 use Rattle.packing.proofs.messages.pack_take.Statement.{statement}
 use Rattle.packing.proofs.messages.pack_take.Tie as tie

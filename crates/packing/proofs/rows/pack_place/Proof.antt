@@ -1,4 +1,4 @@
-use borrow.Author.Needs.{needs}
+use Rattle.lists.proofs.Kit.{needs}
 use Rattle.packing.proofs.RowBits.{store-packed, scratch-packed, nothing-packed}
 use Rattle.packing.proofs.rows.pack_place.Statement.{statement}
 use Rattle.packing.proofs.rows.pack_place.Tie as tie

@@ -1,6 +1,4 @@
-use native.Mathlib.Omega.{arith}
-use Prim.Native.Nat.{_/_}
-use mathlib.Core.Path.{refl}
+use Rattle.lists.proofs.Kit.{arith, _/_, refl}
 use Rattle.plan.specs.Answers.{has, none}
 use Rattle.plan.proofs.channels.channel_above.Statement.{statement}
 use Rattle.plan.proofs.channels.channel_above.Tie as tie

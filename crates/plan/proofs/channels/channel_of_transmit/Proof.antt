@@ -1,6 +1,4 @@
-use borrow.Author.Needs.{needs}
-use native.Mathlib.Omega.{arith}
-use mathlib.Core.Path.{refl}
+use Rattle.lists.proofs.Kit.{needs, arith, refl}
 use Rattle.plan.specs.Answers.{none}
 use Rattle.plan.proofs.AnswerLaws.{carried}
 use Rattle.plan.proofs.FrequencyLaws.{paired-steps, steps-paired, simplex-steps, steps-simplex, no-band}

@@ -1,7 +1,4 @@
-use borrow.Author.Needs.{needs}
-use Prim.Native.Nat.{_+_}
-use native.Mathlib.Omega.{arith}
-use mathlib.Core.Path.{refl}
+use Rattle.lists.proofs.Kit.{needs, _+_, arith, refl}
 use Rattle.plan.specs.Answers.{has, none}
 use Rattle.plan.specs.Frequencies.{both-ways, above}
 use Rattle.plan.proofs.FrequencyLaws.{transmits-in, receives-in}

@@ -1,6 +1,4 @@
-use borrow.Author.Needs.{needs}
-use native.Mathlib.Omega.{arith}
-use mathlib.Core.Path.{refl}
+use Rattle.lists.proofs.Kit.{needs, arith, refl}
 use Rattle.plan.specs.Answers.{has, none}
 use Rattle.plan.proofs.FrequencyLaws.{transmits-in}
 use Rattle.plan.proofs.channels.transmit.Statement.{statement}

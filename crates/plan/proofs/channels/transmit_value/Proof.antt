@@ -1,5 +1,4 @@
-use borrow.Author.Needs.{needs}
-use native.Mathlib.Omega.{arith}
+use Rattle.lists.proofs.Kit.{needs, arith}
 use Rattle.plan.proofs.FrequencyLaws.{from-table}
 use Rattle.plan.proofs.channels.transmit_value.Statement.{statement}
 use Rattle.plan.proofs.channels.transmit_value.Tie as tie

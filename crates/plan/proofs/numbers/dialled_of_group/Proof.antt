@@ -1,5 +1,4 @@
-use borrow.Author.Needs.{needs}
-use Prim.Native.Nat.{_%_}
+use Rattle.lists.proofs.Kit.{needs, _%_}
 use Rattle.plan.specs.Numbers.{GroupShort}
 use Rattle.plan.proofs.NumberLaws.{groups, member-fits, addressed}
 use Rattle.plan.proofs.numbers.dialled_of_group.Statement.{statement}

@@ -1,5 +1,4 @@
-use borrow.Author.Needs.{needs}
-use Prim.Native.Nat.{_%_}
+use Rattle.lists.proofs.Kit.{needs, _%_}
 use Rattle.plan.specs.Numbers.{IndividualShort}
 use Rattle.plan.proofs.NumberLaws.{individuals, member-fits, addressed}
 use Rattle.plan.proofs.numbers.dialled_of_individual.Statement.{statement}

@@ -1,5 +1,4 @@
-use borrow.Author.Needs.{needs}
-use Prim.Native.Nat.{_/_, _%_}
+use Rattle.lists.proofs.Kit.{needs, _/_, _%_}
 use Rattle.plan.specs.Numbers.{GroupShort}
 use Rattle.plan.proofs.NumberLaws.{groups, short-fits, numbered}
 use Rattle.plan.proofs.numbers.group_of_dialled.Statement.{statement}

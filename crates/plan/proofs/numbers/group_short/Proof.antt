@@ -1,5 +1,4 @@
-use borrow.Author.Needs.{needs}
-use native.Mathlib.Omega.{arith}
+use Rattle.lists.proofs.Kit.{needs, arith}
 use Rattle.plan.specs.Numbers.{of-100}
 use Rattle.plan.proofs.NumberLaws.{no-group}
 use Rattle.plan.proofs.numbers.group_short.Statement.{statement}

@@ -1,5 +1,4 @@
-use borrow.Author.Needs.{needs}
-use native.Mathlib.Omega.{arith}
+use Rattle.lists.proofs.Kit.{needs, arith}
 use Rattle.plan.specs.Numbers.{of-700, of-350}
 use Rattle.plan.proofs.NumberLaws.{individual-to}
 use Rattle.plan.proofs.numbers.individual_member.Statement.{statement}

@@ -1,5 +1,4 @@
-use borrow.Author.Needs.{needs}
-use Prim.Native.Nat.{_/_, _%_}
+use Rattle.lists.proofs.Kit.{needs, _/_, _%_}
 use Rattle.plan.specs.Numbers.{IndividualShort}
 use Rattle.plan.proofs.NumberLaws.{individuals, short-fits, numbered}
 use Rattle.plan.proofs.numbers.individual_of_dialled.Statement.{statement}

@@ -1,5 +1,4 @@
-use mathlib.Core.Path.{refl}
-use borrow.Author.Needs.{needs}
+use Rattle.lists.proofs.Kit.{refl, needs}
 use Rattle.read_bodies.proofs.list_bodies.least_units.Statement.{statement}
 use Rattle.read_bodies.proofs.list_bodies.least_units.Tie as tie
 

@@ -1,52 +1,40 @@
-use borrow.Author.Needs.{needs}
-use native.Mathlib.Omega.{arith}
-use Prim.Native.Nat.{_+_, _/_, _%_}
-use mathlib.Core.Path.{refl, sym, _∙_, subst}
-use mathlib.Core.List.{List, [], _∷_}
+use Rattle.lists.proofs.Kit.{needs, arith, ℕ, refl, sym, _∙_, subst, subst⁻¹}
+use Rattle.lists.specs.Bytes.{Bytes}
 use Rattle.writing.specs.declared.Kind.the-variants.{QuickTexts as KQuickTexts}
+use Rattle.writing.specs.Fields.{each}
 use Rattle.writing.specs.Ranges.{text-limits}
-use Rattle.writing.specs.Settings.{unicode16}
-use Rattle.read_fields.specs.Entries.{QuicksAt}
-use Rattle.settings.specs.Rows.{OperationIs}
+use Rattle.writing.specs.Writing.{quick-text}
+use Rattle.read_fields.specs.Entries.{EntriesAt}
+use Rattle.read_fields.specs.declared.entries.Listed.the-variants.{QuickTexts as LQuickTexts}
+use Rattle.read_fields.specs.Places.{FieldsAt}
 use Rattle.settings.specs.declared.settings.Setting.the-variants.{QuickTexts}
-use Rattle.settings.proofs.BodyLaws.{no-room, no-body, the-body, flag-bit, op-small}
-use Rattle.read_bodies.proofs.ListLaws.{quick-head}
-use Rattle.read_bodies.proofs.ListLaws.{quick-from, quick-in}
+use Rattle.settings.proofs.BodyLaws.{no-head, no-body, the-body, op-small}
+use Rattle.read_bodies.specs.Heads.{HeadIs}
+use Rattle.read_bodies.proofs.ListLaws.{quick-head, quick-from, quick-in}
 use Rattle.read_bodies.proofs.list_bodies.read_quick_texts.Statement.{statement}
 use Rattle.read_bodies.proofs.list_bodies.read_quick_texts.Tie as tie
 
-remaining-requires : tie.Need-remaining-requires
-remaining-requires c κs = search needs
+list-head-requires : tie.Need-list-head-requires
+list-head-requires c κs = search needs
 
-returns : tie.Need-returns
-returns c = λ ops left. no-room KQuickTexts quick-head left (c .before .before .before .args .m .now) (c .before .before .before .args .p) (λ i. (c .before .before .shared-slice-known .given i) .fits) (omega arith)
-
-number-requires : tie.Need-number-requires
-number-requires c κs = search needs
-
-operation-of-requires : tie.Need-operation-of-requires
-operation-of-requires c κs = search needs
-
-enum-known-o : tie.Need-enum-known-o
-enum-known-o c = search needs
+enum-known-head : tie.Need-enum-known-head
+enum-known-head c = search needs
 
 enum-told : tie.Need-enum-told
 enum-told c = search needs
 
-returns-2 : tie.Need-returns-2
-returns-2 c =
-    λ ops left.
-    let told = subst (OperationIs (c .before .before .before .number .result / 64 % 4) (c .before .before .before .before .before .before .before .args .operations)) (c .enum-told .given .1) (c .before .before .operation-of .ensures) in
-    no-body KQuickTexts quick-head left (c .before .before .before .before .before .before .before .args .m .now) (c .before .before .before .before .before .before .before .args .p) (λ i. (c .before .before .before .before .before .before .shared-slice-known .given i) .fits) (c .before .before .before .number .ensures (omega arith, omega arith)) (λ x next k i t. told (x .0) (sym (k .0)) (omega (arith, op-small (x .0), k .0)))
-
-add-start : tie.Need-add-start
-add-start c = search needs
+returns : tie.Need-returns
+returns c =
+    let a = c .before .before .before .before .args in
+    let bytes : Bytes (a .m .now) = λ i. (c .before .before .before .shared-slice-known .given i) .fits in
+    λ ops left. no-head KQuickTexts (quick-head (a .coding)) left (a .m .now) (a .p) bytes
+    (λ x r k i. subst (HeadIs (a .m .now) (a .p) 1 64 (a .operations)) (c .enum-told .given .1) (c .before .before .list-head .ensures) r (x .0) (sym (k .0)) (omega (arith, op-small (x .0))))
 
 least-units-requires : tie.Need-least-units-requires
 least-units-requires c κs = search needs
 
-walk-quick-requires : tie.Need-walk-quick-requires
-walk-quick-requires c κs = search needs
+walk-entries-requires : tie.Need-walk-entries-requires
+walk-entries-requires c κs = search needs
 
 enum-known-walked : tie.Need-enum-known-walked
 enum-known-walked c = search needs
@@ -54,37 +42,39 @@ enum-known-walked c = search needs
 enum-told-2 : tie.Need-enum-told-2
 enum-told-2 c = search needs
 
+returns-2 : tie.Need-returns-2
+returns-2 c =
+    let a = c .before .before .before .before .before .before .before .before .before .args in
+    let bytes : Bytes (a .m .now) = λ i. (c .before .before .before .before .before .before .before .before .shared-slice-known .given i) .fits in
+    let h = c .before .before .before .before .before .head .given in
+    let z = subst (HeadIs (a .m .now) (a .p) 1 64 (a .operations)) (h .1) (c .before .before .before .before .before .before .before .list-head .ensures) in
+    let stop = subst (EntriesAt (LQuickTexts (c .before .before .before .least-units .result)) (a .coding) text-limits (a .m .now) (h .0 .1 .0) (h .0 .1 .1 .0)) (c .enum-told2 .given .1) (c .before .before .walk-entries .ensures) in
+    λ ops left. no-body KQuickTexts (quick-head (a .coding)) left (a .m .now) (a .p) bytes refl
+    (λ x next k i t. stop (x .1) next (record { counted = omega (arith, z .3, k .1 .0); in-range = quick-from (h .0 .0) (x .0) _ (x .1) (z .1 ∙ k .0) (c .before .before .before .least-units .ensures) i; stands = subst⁻¹ (λ (s : ℕ). FieldsAt (each (quick-text (a .coding)) (x .1)) (a .m .now) s next) (z .2) t }))
+
 returns-3 : tie.Need-returns-3
 returns-3 c =
-    λ ops left.
-    let stop = subst (QuicksAt unicode16 text-limits (c .before .before .before .least-units .result) (c .before .before .before .before .before .before .before .before .before .before .before .before .args .m .now) (c .before .before .before .before .before .before .before .before .before .before .before .before .args .p + 1) (c .before .before .before .before .before .before .before .before .number .result % 64)) (c .enum-told2 .given .1) (c .before .before .walk-quick .ensures) in
-    let o = c .before .before .before .before .before .o .given .0 .0 in
-    let told = subst (OperationIs (c .before .before .before .before .before .before .before .before .number .result / 64 % 4) (c .before .before .before .before .before .before .before .before .before .before .before .before .args .operations)) (c .before .before .before .before .before .o .given .1) (c .before .before .before .before .before .before .before .operation-of .ensures) in
-    no-body KQuickTexts quick-head left (c .before .before .before .before .before .before .before .before .before .before .before .before .args .m .now) (c .before .before .before .before .before .before .before .before .before .before .before .before .args .p) (λ i. (c .before .before .before .before .before .before .before .before .before .before .before .shared-slice-known .given i) .fits) (c .before .before .before .before .before .before .before .before .number .ensures (omega arith, omega arith)) (λ x next k i t. stop (x .1) next (record { counted = omega (arith, k .1 .0); in-range = quick-from o (x .0) _ (x .1) (told .0 ∙ k .0) (c .before .before .before .least-units .ensures) i; stands = t }))
-
-returns-4 : tie.Need-returns-4
-returns-4 c =
-    λ ops left.
-    let z = subst (QuicksAt unicode16 text-limits (c .before .before .before .before .least-units .result) (c .before .before .before .before .before .before .before .before .before .before .before .before .before .args .m .now) (c .before .before .before .before .before .before .before .before .before .before .before .before .before .args .p + 1) (c .before .before .before .before .before .before .before .before .before .number .result % 64)) (c .before .walked .given .1) (c .before .before .before .walk-quick .ensures) in
-    let told = subst (OperationIs (c .before .before .before .before .before .before .before .before .before .number .result / 64 % 4) (c .before .before .before .before .before .before .before .before .before .before .before .before .before .args .operations)) (c .before .before .before .before .before .before .o .given .1) (c .before .before .before .before .before .before .before .before .operation-of .ensures) in
-    the-body KQuickTexts quick-head left (c .before .before .before .before .before .before .before .before .before .before .before .before .before .args .m .now) (c .before .before .before .before .before .before .before .before .before .before .before .before .before .args .p) (λ i. (c .before .before .before .before .before .before .before .before .before .before .before .before .shared-slice-known .given i) .fits) (c .before .before .before .before .before .before .before .before .before .number .ensures (omega arith, omega arith)) ((c .before .before .before .before .before .before .o .given .0 .0), z .0) (QuickTexts (c .before .before .before .before .before .before .o .given .0 .0) (record { start = c .before .before .before .before .before .before .before .before .before .before .before .before .before .args .p + 1; count = c .before .before .before .before .before .before .before .before .before .number .result % 64; next = c .before .walked .given .0 .0 })) (c .before .walked .given .0 .0) (omega arith)
-    (sym (told .0), (omega (arith, z .1 .counted), tt)) (quick-in (c .before .before .before .before .before .before .o .given .0 .0) _ (z .0) (c .before .before .before .before .least-units .ensures) (z .1 .in-range)) (z .1 .stands) (z .0, refl, record { counted = z .1 .counted; stands = z .1 .stands })
+    let a = c .before .before .before .before .before .before .before .before .before .before .args in
+    let bytes : Bytes (a .m .now) = λ i. (c .before .before .before .before .before .before .before .before .before .shared-slice-known .given i) .fits in
+    let h = c .before .before .before .before .before .before .head .given in
+    let next = c .before .walked .given .0 .0 in
+    let z = subst (HeadIs (a .m .now) (a .p) 1 64 (a .operations)) (h .1) (c .before .before .before .before .before .before .before .before .list-head .ensures) in
+    let w = subst (EntriesAt (LQuickTexts (c .before .before .before .before .least-units .result)) (a .coding) text-limits (a .m .now) (h .0 .1 .0) (h .0 .1 .1 .0)) (c .before .walked .given .1) (c .before .before .before .walk-entries .ensures) in
+    λ ops left. the-body KQuickTexts (quick-head (a .coding)) left (a .m .now) (a .p) bytes refl (h .0 .0, w .0)
+    (QuickTexts (h .0 .0) (record { start = h .0 .1 .0; count = h .0 .1 .1 .0; next = next; coding = a .coding })) next (z .0) (sym (z .1), (omega (arith, w .1 .counted, z .3), tt)) (quick-in (h .0 .0) _ (w .0) (c .before .before .before .before .least-units .ensures) (w .1 .in-range))
+    (subst (λ (s : ℕ). FieldsAt (each (quick-text (a .coding)) (w .0)) (a .m .now) s next) (z .2) (w .1 .stands)) (w .0, refl, record { counted = w .1 .counted; stands = w .1 .stands })
 
 pub read-quick-texts-spec : {M : Type 1} → statement M
 read-quick-texts-spec =
     tie.close
     (tie.spec
-    remaining-requires
-    returns
-    number-requires
-    operation-of-requires
-    enum-known-o
+    list-head-requires
+    enum-known-head
     enum-told
-    returns-2
-    add-start
+    returns
     least-units-requires
-    walk-quick-requires
+    walk-entries-requires
     enum-known-walked
     enum-told-2
-    returns-3
-    returns-4)
+    returns-2
+    returns-3)

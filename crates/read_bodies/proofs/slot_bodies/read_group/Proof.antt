@@ -1,17 +1,12 @@
-use borrow.Author.Needs.{needs}
-use native.Mathlib.Omega.{arith}
-use Prim.Native.Nat.{_+_, _/_, _%_}
-use mathlib.Core.Path.{refl, sym, _∙_, subst}
+use Rattle.lists.proofs.Kit.{needs, arith, _+_, _/_, _%_, refl, sym, _∙_, subst}
 use Rattle.settings.proofs.BodyLaws.{no-room, no-body, the-body, flag-bit}
-use Rattle.read_bodies.proofs.SlotLaws.{group-head, slot-op, group-in}
+use Rattle.read_bodies.proofs.SlotLaws.{group-head, slot-op, slot-in}
 use Rattle.settings.specs.declared.settings.Setting.the-variants.{Group}
 use Rattle.writing.specs.declared.Kind.the-variants.{Group as KGroup}
-use Rattle.writing.specs.Settings.{unicode16}
-use Rattle.settings.specs.Rows.{OperationIs}
-use Rattle.read_fields.specs.Parts.{TextAt}
-use Rattle.read_bodies.specs.Refused.{GroupRefused}
-use Rattle.read_fields.specs.Places.{PartAt}
-use Rattle.writing.specs.Writing.{text}
+use Rattle.settings.specs.TypeTable.{OperationIs}
+use Rattle.read_fields.specs.TextsAndNumbers.{TextAt}
+use Rattle.read_fields.proofs.TextWalk.{text-read}
+use Rattle.read_bodies.specs.Refused.{SlotRefused}
 use Rattle.read_bodies.proofs.slot_bodies.read_group.Statement.{statement}
 use Rattle.read_bodies.proofs.slot_bodies.read_group.Tie as tie
 
@@ -19,7 +14,7 @@ remaining-requires : tie.Need-remaining-requires
 remaining-requires c κs = search needs
 
 returns : tie.Need-returns
-returns c = λ ops left. no-room KGroup group-head left (c .before .before .before .args .m .now) (c .before .before .before .args .p) (λ i. (c .before .before .shared-slice-known .given i) .fits) (omega arith)
+returns c = λ ops left. no-room KGroup (group-head (c .before .before .before .args .coding)) left (c .before .before .before .args .m .now) (c .before .before .before .args .p) (λ i. (c .before .before .shared-slice-known .given i) .fits) (omega arith)
 
 number-requires : tie.Need-number-requires
 number-requires c κs = search needs
@@ -37,7 +32,7 @@ returns-2 : tie.Need-returns-2
 returns-2 c =
     λ ops left.
     let told = subst (OperationIs (c .before .before .before .number .result / 274877906944 % 4) (c .before .before .before .before .before .before .before .args .operations)) (c .enum-told .given .1) (c .before .before .operation-of .ensures) in
-    no-body KGroup group-head left (c .before .before .before .before .before .before .before .args .m .now) (c .before .before .before .before .before .before .before .args .p) (λ i. (c .before .before .before .before .before .before .shared-slice-known .given i) .fits) (c .before .before .before .number .ensures (omega arith, omega arith)) (λ x next k i t. told (x .0) (sym (k .0)) (omega (arith, slot-op (x .0) _ (i .0), k .0)))
+    no-body KGroup (group-head (c .before .before .before .before .before .before .before .args .coding)) left (c .before .before .before .before .before .before .before .args .m .now) (c .before .before .before .before .before .before .before .args .p) (λ i. (c .before .before .before .before .before .before .shared-slice-known .given i) .fits) (c .before .before .before .number .ensures (omega arith, omega arith)) (λ x next k i t. told (x .0) (sym (k .0)) (omega (arith, slot-op (x .0) _ (i .0), k .0)))
 
 cast-attribute : tie.Need-cast-attribute
 cast-attribute c = search needs
@@ -45,15 +40,15 @@ cast-attribute c = search needs
 cast-address : tie.Need-cast-address
 cast-address c = search needs
 
-group-refused-requires : tie.Need-group-refused-requires
-group-refused-requires c κs = search needs
+slot-refused-requires : tie.Need-slot-refused-requires
+slot-refused-requires c κs = search needs
 
 returns-3 : tie.Need-returns-3
 returns-3 c =
     λ ops left.
     let told = subst (OperationIs (c .before .before .before .before .before .before .number .result / 274877906944 % 4) (c .before .before .before .before .before .before .before .before .before .before .args .operations)) (c .before .before .before .o .given .1) (c .before .before .before .before .before .operation-of .ensures) in
-    let never = subst (GroupRefused (c .before .before .before .o .given .0 .0) (c .before .before .before .before .before .before .number .result / 68719476736 % 4) (c .before .before .before .before .before .before .number .result % 16777216)) (c .if2 .taken) (c .before .group-refused .ensures) in
-    no-body KGroup group-head left (c .before .before .before .before .before .before .before .before .before .before .args .m .now) (c .before .before .before .before .before .before .before .before .before .before .args .p) (λ i. (c .before .before .before .before .before .before .before .before .before .shared-slice-known .given i) .fits) (c .before .before .before .before .before .before .number .ensures (omega arith, omega arith)) (λ x next k i t. never (group-in (c .before .before .before .o .given .0 .0) (x .0) (c .before .before .before .before .before .before .number .result / 68719476736 % 4) _ (c .before .before .before .before .before .before .number .result % 16777216) _ (told .0 ∙ k .0) (k .1 .0) (omega (arith, k .1 .1 .1 .1 .1 .1 .1 .1 .1 .0)) (i .0)))
+    let never = subst (SlotRefused (c .before .before .before .o .given .0 .0) (c .before .before .before .before .before .before .number .result / 68719476736 % 4) (c .before .before .before .before .before .before .number .result % 16777216)) (c .if2 .taken) (c .before .slot-refused .ensures) in
+    no-body KGroup (group-head (c .before .before .before .before .before .before .before .before .before .before .args .coding)) left (c .before .before .before .before .before .before .before .before .before .before .args .m .now) (c .before .before .before .before .before .before .before .before .before .before .args .p) (λ i. (c .before .before .before .before .before .before .before .before .before .shared-slice-known .given i) .fits) (c .before .before .before .before .before .before .number .ensures (omega arith, omega arith)) (λ x next k i t. never (slot-in (c .before .before .before .o .given .0 .0) (x .0) (c .before .before .before .before .before .before .number .result / 68719476736 % 4) _ (c .before .before .before .before .before .before .number .result % 16777216) _ (told .0 ∙ k .0) (k .1 .0) (omega (arith, k .1 .1 .1 .1 .1 .1 .1 .1 .1 .0)) (i .0)))
 
 add-read-text : tie.Need-add-read-text
 add-read-text c = search needs
@@ -70,8 +65,8 @@ enum-told-2 c = search needs
 returns-4 : tie.Need-returns-4
 returns-4 c =
     λ ops left.
-    let none = subst (TextAt unicode16 (c .before .before .before .before .before .before .before .before .before .before .before .before .before .args .m .now) (c .before .before .before .before .before .before .before .before .before .before .before .before .before .args .p + 5) 16) (c .enum-told2 .given .1) (c .before .before .read-text .ensures) in
-    no-body KGroup group-head left (c .before .before .before .before .before .before .before .before .before .before .before .before .before .args .m .now) (c .before .before .before .before .before .before .before .before .before .before .before .before .before .args .p) (λ i. (c .before .before .before .before .before .before .before .before .before .before .before .before .shared-slice-known .given i) .fits) (c .before .before .before .before .before .before .before .before .before .number .ensures (omega arith, omega arith)) (λ x next k i t. none (x .2 .text) next (i .1) t)
+    let none = subst (TextAt (c .before .before .before .before .before .before .before .before .before .before .before .before .before .args .coding) (c .before .before .before .before .before .before .before .before .before .before .before .before .before .args .m .now) (c .before .before .before .before .before .before .before .before .before .before .before .before .before .args .p + 5) 16) (c .enum-told2 .given .1) (c .before .before .read-text .ensures) in
+    no-body KGroup (group-head (c .before .before .before .before .before .before .before .before .before .before .before .before .before .args .coding)) left (c .before .before .before .before .before .before .before .before .before .before .before .before .before .args .m .now) (c .before .before .before .before .before .before .before .before .before .before .before .before .before .args .p) (λ i. (c .before .before .before .before .before .before .before .before .before .before .before .before .shared-slice-known .given i) .fits) (c .before .before .before .before .before .before .before .before .before .number .ensures (omega arith, omega arith)) (λ x next k i t. none (x .2 .text) next (i .1) t)
 
 flag-requires : tie.Need-flag-requires
 flag-requires c κs = search needs
@@ -85,8 +80,8 @@ flag-requires-3 c κs = search needs
 flag-requires-4 : tie.Need-flag-requires-4
 flag-requires-4 c κs = search needs
 
-cast-t27 : tie.Need-cast-t27
-cast-t27 c = search needs
+cast-t28 : tie.Need-cast-t28
+cast-t28 c = search needs
 
 cast-index : tie.Need-cast-index
 cast-index c = search needs
@@ -95,11 +90,11 @@ returns-5 : tie.Need-returns-5
 returns-5 c =
     λ ops left.
     let told = subst (OperationIs (c .before .before .before .before .before .before .before .before .before .before .before .before .before .before .number .result / 274877906944 % 4) (c .before .before .before .before .before .before .before .before .before .before .before .before .before .before .before .before .before .before .args .operations)) (c .before .before .before .before .before .before .before .before .before .before .before .o .given .1) (c .before .before .before .before .before .before .before .before .before .before .before .before .before .operation-of .ensures) in
-    let good = subst (GroupRefused (c .before .before .before .before .before .before .before .before .before .before .before .o .given .0 .0) (c .before .before .before .before .before .before .before .before .before .before .before .before .before .before .number .result / 68719476736 % 4) (c .before .before .before .before .before .before .before .before .before .before .before .before .before .before .number .result % 16777216)) (c .before .before .before .before .before .before .before .before .if2 .left) (c .before .before .before .before .before .before .before .before .before .group-refused .ensures) in
-    let z = subst (TextAt unicode16 (c .before .before .before .before .before .before .before .before .before .before .before .before .before .before .before .before .before .before .args .m .now) (c .before .before .before .before .before .before .before .before .before .before .before .before .before .before .before .before .before .before .args .p + 5) 16) (c .before .before .before .before .before .units .given .1) (c .before .before .before .before .before .before .before .read-text .ensures) in
-    the-body KGroup group-head left (c .before .before .before .before .before .before .before .before .before .before .before .before .before .before .before .before .before .before .args .m .now) (c .before .before .before .before .before .before .before .before .before .before .before .before .before .before .before .before .before .before .args .p) (λ i. (c .before .before .before .before .before .before .before .before .before .before .before .before .before .before .before .before .before .shared-slice-known .given i) .fits) (c .before .before .before .before .before .before .before .before .before .before .before .before .before .before .number .ensures (omega arith, omega arith)) ((c .before .before .before .before .before .before .before .before .before .before .before .o .given .0 .0), (record { attribute = (c .before .before .before .before .before .before .before .before .before .before .before .before .before .before .number .result / 68719476736 % 4); broadcast = c .before .before .before .flag .result; encryption = c .before .before .flag2 .result; ovcm = c .before .flag3 .result; emergency = c .flag4 .result; priority = c .before .before .before .before .before .before .before .before .before .before .before .before .before .before .number .result / 1073741824 % 4 }), record { index = c .before .before .before .before .before .before .before .before .before .before .before .before .before .before .number .result / 16777216 % 16; address = record { 0 = (c .before .before .before .before .before .before .before .before .before .before .before .before .before .before .number .result % 16777216) }; text = z .0 }) (Group (c .before .before .before .before .before .before .before .before .before .before .before .o .given .0 .0) (record { attribute = (c .before .before .before .before .before .before .before .before .before .before .before .before .before .before .number .result / 68719476736 % 4); broadcast = c .before .before .before .flag .result; encryption = c .before .before .flag2 .result; ovcm = c .before .flag3 .result; emergency = c .flag4 .result; priority = c .before .before .before .before .before .before .before .before .before .before .before .before .before .before .number .result / 1073741824 % 4 }) (record { index = c .before .before .before .before .before .before .before .before .before .before .before .before .before .before .number .result / 16777216 % 16; address = record { 0 = (c .before .before .before .before .before .before .before .before .before .before .before .before .before .before .number .result % 16777216) }; text = (c .before .before .before .before .before .units .given .0 .0) })) (c .before .before .before .before .before .units .given .0 .1 .0) (omega arith)
+    let good = subst (SlotRefused (c .before .before .before .before .before .before .before .before .before .before .before .o .given .0 .0) (c .before .before .before .before .before .before .before .before .before .before .before .before .before .before .number .result / 68719476736 % 4) (c .before .before .before .before .before .before .before .before .before .before .before .before .before .before .number .result % 16777216)) (c .before .before .before .before .before .before .before .before .if2 .left) (c .before .before .before .before .before .before .before .before .before .slot-refused .ensures) in
+    let z = text-read (c .before .before .before .before .before .before .before .before .before .before .before .before .before .before .before .before .before .before .args .coding) (c .before .before .before .before .before .before .before .before .before .before .before .before .before .before .before .before .before .before .args .m .now) (c .before .before .before .before .before .before .before .before .before .before .before .before .before .before .before .before .before .before .args .p + 5) 16 (c .before .before .before .before .before .units .given .0 .0) (c .before .before .before .before .before .units .given .0 .1 .0) (c .before .before .before .before .before .before .before .read-text .ensures) (c .before .before .before .before .before .units .given .1) in
+    the-body KGroup (group-head (c .before .before .before .before .before .before .before .before .before .before .before .before .before .before .before .before .before .before .args .coding)) left (c .before .before .before .before .before .before .before .before .before .before .before .before .before .before .before .before .before .before .args .m .now) (c .before .before .before .before .before .before .before .before .before .before .before .before .before .before .before .before .before .before .args .p) (λ i. (c .before .before .before .before .before .before .before .before .before .before .before .before .before .before .before .before .before .shared-slice-known .given i) .fits) (c .before .before .before .before .before .before .before .before .before .before .before .before .before .before .number .ensures (omega arith, omega arith)) ((c .before .before .before .before .before .before .before .before .before .before .before .o .given .0 .0), (record { attribute = (c .before .before .before .before .before .before .before .before .before .before .before .before .before .before .number .result / 68719476736 % 4); broadcast = c .before .before .before .flag .result; encryption = c .before .before .flag2 .result; ovcm = c .before .flag3 .result; emergency = c .flag4 .result; priority = c .before .before .before .before .before .before .before .before .before .before .before .before .before .before .number .result / 1073741824 % 4 }), record { index = c .before .before .before .before .before .before .before .before .before .before .before .before .before .before .number .result / 16777216 % 16; address = record { 0 = (c .before .before .before .before .before .before .before .before .before .before .before .before .before .before .number .result % 16777216) }; text = z .0 }) (Group (c .before .before .before .before .before .before .before .before .before .before .before .o .given .0 .0) (record { attribute = (c .before .before .before .before .before .before .before .before .before .before .before .before .before .before .number .result / 68719476736 % 4); broadcast = c .before .before .before .flag .result; encryption = c .before .before .flag2 .result; ovcm = c .before .flag3 .result; emergency = c .flag4 .result; priority = c .before .before .before .before .before .before .before .before .before .before .before .before .before .before .number .result / 1073741824 % 4 }) (record { index = c .before .before .before .before .before .before .before .before .before .before .before .before .before .before .number .result / 16777216 % 16; address = record { 0 = (c .before .before .before .before .before .before .before .before .before .before .before .before .before .before .number .result % 16777216) }; text = (c .before .before .before .before .before .units .given .0 .0) })) (c .before .before .before .before .before .units .given .0 .1 .0) (omega arith)
     (sym (told .0), (refl, (flag-bit (c .before .before .before .before .before .before .before .before .before .before .before .before .before .before .number .result / 34359738368) (c .before .before .before .flag .result) (c .before .before .before .flag .ensures), (flag-bit (c .before .before .before .before .before .before .before .before .before .before .before .before .before .before .number .result / 17179869184) (c .before .before .flag2 .result) (c .before .before .flag2 .ensures), (flag-bit (c .before .before .before .before .before .before .before .before .before .before .before .before .before .before .number .result / 8589934592) (c .before .flag3 .result) (c .before .flag3 .ensures), (flag-bit (c .before .before .before .before .before .before .before .before .before .before .before .before .before .before .number .result / 4294967296) (c .flag4 .result) (c .flag4 .ensures), (refl, (tt, (refl, (omega arith, tt))))))))))
-    (good, z .2) (subst (λ q. PartAt (text unicode16 (z .0)) (c .before .before .before .before .before .before .before .before .before .before .before .before .before .before .before .before .before .before .args .m .now) q (c .before .before .before .before .before .units .given .0 .1 .0)) (z .1) (z .3 .stands)) (z .0, refl, ((c .before .before .before .before .before .units .given .0 .1 .0), z .3))
+    (good, z .1) (z .3) (z .0, refl, ((c .before .before .before .before .before .units .given .0 .1 .0), z .2))
 
 pub read-group-spec : {M : Type 1} → statement M
 read-group-spec =
@@ -114,7 +109,7 @@ read-group-spec =
     returns-2
     cast-attribute
     cast-address
-    group-refused-requires
+    slot-refused-requires
     returns-3
     add-read-text
     read-text-requires
@@ -125,6 +120,6 @@ read-group-spec =
     flag-requires-2
     flag-requires-3
     flag-requires-4
-    cast-t27
+    cast-t28
     cast-index
     returns-5)

@@ -1,17 +1,12 @@
-use borrow.Author.Needs.{needs}
-use native.Mathlib.Omega.{arith}
-use Prim.Native.Nat.{_+_, _/_, _%_}
-use mathlib.Core.Path.{refl, sym, _∙_, subst}
+use Rattle.lists.proofs.Kit.{needs, arith, _+_, _/_, _%_, refl, sym, _∙_, subst}
 use Rattle.settings.proofs.BodyLaws.{no-room, no-body, the-body, flag-bit}
-use Rattle.read_bodies.proofs.SlotLaws.{individual-head, slot-op, individual-in}
+use Rattle.read_bodies.proofs.SlotLaws.{individual-head, slot-op, slot-in, slot-turn}
 use Rattle.settings.specs.declared.settings.Setting.the-variants.{Individual}
 use Rattle.writing.specs.declared.Kind.the-variants.{Individual as KIndividual}
-use Rattle.writing.specs.Settings.{unicode16}
-use Rattle.settings.specs.Rows.{OperationIs}
-use Rattle.read_fields.specs.Parts.{TextAt}
-use Rattle.read_bodies.specs.Refused.{IndividualRefused}
-use Rattle.read_fields.specs.Places.{PartAt}
-use Rattle.writing.specs.Writing.{text}
+use Rattle.settings.specs.TypeTable.{OperationIs}
+use Rattle.read_fields.specs.TextsAndNumbers.{TextAt}
+use Rattle.read_fields.proofs.TextWalk.{text-read}
+use Rattle.read_bodies.specs.Refused.{SlotRefused}
 use Rattle.read_bodies.proofs.slot_bodies.read_individual.Statement.{statement}
 use Rattle.read_bodies.proofs.slot_bodies.read_individual.Tie as tie
 
@@ -19,7 +14,7 @@ remaining-requires : tie.Need-remaining-requires
 remaining-requires c κs = search needs
 
 returns : tie.Need-returns
-returns c = λ ops left. no-room KIndividual individual-head left (c .before .before .before .args .m .now) (c .before .before .before .args .p) (λ i. (c .before .before .shared-slice-known .given i) .fits) (omega arith)
+returns c = λ ops left. no-room KIndividual (individual-head (c .before .before .before .args .coding)) left (c .before .before .before .args .m .now) (c .before .before .before .args .p) (λ i. (c .before .before .shared-slice-known .given i) .fits) (omega arith)
 
 number-requires : tie.Need-number-requires
 number-requires c κs = search needs
@@ -37,20 +32,20 @@ returns-2 : tie.Need-returns-2
 returns-2 c =
     λ ops left.
     let told = subst (OperationIs (c .before .before .before .number .result / 274877906944 % 4) (c .before .before .before .before .before .before .before .args .operations)) (c .enum-told .given .1) (c .before .before .operation-of .ensures) in
-    no-body KIndividual individual-head left (c .before .before .before .before .before .before .before .args .m .now) (c .before .before .before .before .before .before .before .args .p) (λ i. (c .before .before .before .before .before .before .shared-slice-known .given i) .fits) (c .before .before .before .number .ensures (omega arith, omega arith)) (λ x next k i t. told (x .0) (sym (k .0)) (omega (arith, slot-op (x .0) _ (i .0), k .0)))
+    no-body KIndividual (individual-head (c .before .before .before .before .before .before .before .args .coding)) left (c .before .before .before .before .before .before .before .args .m .now) (c .before .before .before .before .before .before .before .args .p) (λ i. (c .before .before .before .before .before .before .shared-slice-known .given i) .fits) (c .before .before .before .number .ensures (omega arith, omega arith)) (λ x next k i t. told (x .0) (sym (k .0)) (omega (arith, slot-op (x .0) _ (i .0), k .0)))
 
 cast-address : tie.Need-cast-address
 cast-address c = search needs
 
-individual-refused-requires : tie.Need-individual-refused-requires
-individual-refused-requires c κs = search needs
+slot-refused-requires : tie.Need-slot-refused-requires
+slot-refused-requires c κs = search needs
 
 returns-3 : tie.Need-returns-3
 returns-3 c =
     λ ops left.
     let told = subst (OperationIs (c .before .before .before .before .before .before .number .result / 274877906944 % 4) (c .before .before .before .before .before .before .before .before .before .before .args .operations)) (c .before .before .before .o .given .1) (c .before .before .before .before .before .operation-of .ensures) in
-    let never = subst (IndividualRefused (c .before .before .before .o .given .0 .0) (c .before .before .before .before .before .before .number .result % 16777216)) (c .if2 .taken) (c .before .individual-refused .ensures) in
-    no-body KIndividual individual-head left (c .before .before .before .before .before .before .before .before .before .before .args .m .now) (c .before .before .before .before .before .before .before .before .before .before .args .p) (λ i. (c .before .before .before .before .before .before .before .before .before .shared-slice-known .given i) .fits) (c .before .before .before .before .before .before .number .ensures (omega arith, omega arith)) (λ x next k i t. never (individual-in (c .before .before .before .o .given .0 .0) (x .0) (c .before .before .before .before .before .before .number .result % 16777216) _ (told .0 ∙ k .0) (omega (arith, k .1 .1 .1 .1 .1 .1 .0)) (i .0)))
+    let never = subst (SlotRefused (c .before .before .before .o .given .0 .0) 1 (c .before .before .before .before .before .before .number .result % 16777216)) (c .if2 .taken) (c .before .slot-refused .ensures) in
+    no-body KIndividual (individual-head (c .before .before .before .before .before .before .before .before .before .before .args .coding)) left (c .before .before .before .before .before .before .before .before .before .before .args .m .now) (c .before .before .before .before .before .before .before .before .before .before .args .p) (λ i. (c .before .before .before .before .before .before .before .before .before .shared-slice-known .given i) .fits) (c .before .before .before .before .before .before .number .ensures (omega arith, omega arith)) (λ x next k i t. never (slot-in (c .before .before .before .o .given .0 .0) (x .0) 1 1 (c .before .before .before .before .before .before .number .result % 16777216) (x .2 .address .0) (told .0 ∙ k .0) refl (omega (arith, k .1 .1 .1 .1 .1 .1 .0)) (slot-turn (x .0) (λ q. (λ e. omega arith, q)) (i .0))))
 
 add-read-text : tie.Need-add-read-text
 add-read-text c = search needs
@@ -67,8 +62,8 @@ enum-told-2 c = search needs
 returns-4 : tie.Need-returns-4
 returns-4 c =
     λ ops left.
-    let none = subst (TextAt unicode16 (c .before .before .before .before .before .before .before .before .before .before .before .before .before .args .m .now) (c .before .before .before .before .before .before .before .before .before .before .before .before .before .args .p + 5) 16) (c .enum-told2 .given .1) (c .before .before .read-text .ensures) in
-    no-body KIndividual individual-head left (c .before .before .before .before .before .before .before .before .before .before .before .before .before .args .m .now) (c .before .before .before .before .before .before .before .before .before .before .before .before .before .args .p) (λ i. (c .before .before .before .before .before .before .before .before .before .before .before .before .shared-slice-known .given i) .fits) (c .before .before .before .before .before .before .before .before .before .number .ensures (omega arith, omega arith)) (λ x next k i t. none (x .2 .text) next (i .1) t)
+    let none = subst (TextAt (c .before .before .before .before .before .before .before .before .before .before .before .before .before .args .coding) (c .before .before .before .before .before .before .before .before .before .before .before .before .before .args .m .now) (c .before .before .before .before .before .before .before .before .before .before .before .before .before .args .p + 5) 16) (c .enum-told2 .given .1) (c .before .before .read-text .ensures) in
+    no-body KIndividual (individual-head (c .before .before .before .before .before .before .before .before .before .before .before .before .before .args .coding)) left (c .before .before .before .before .before .before .before .before .before .before .before .before .before .args .m .now) (c .before .before .before .before .before .before .before .before .before .before .before .before .before .args .p) (λ i. (c .before .before .before .before .before .before .before .before .before .before .before .before .shared-slice-known .given i) .fits) (c .before .before .before .before .before .before .before .before .before .number .ensures (omega arith, omega arith)) (λ x next k i t. none (x .2 .text) next (i .1) t)
 
 flag-requires : tie.Need-flag-requires
 flag-requires c κs = search needs
@@ -76,8 +71,8 @@ flag-requires c κs = search needs
 flag-requires-2 : tie.Need-flag-requires-2
 flag-requires-2 c κs = search needs
 
-cast-t22 : tie.Need-cast-t22
-cast-t22 c = search needs
+cast-t23 : tie.Need-cast-t23
+cast-t23 c = search needs
 
 cast-index : tie.Need-cast-index
 cast-index c = search needs
@@ -86,11 +81,11 @@ returns-5 : tie.Need-returns-5
 returns-5 c =
     λ ops left.
     let told = subst (OperationIs (c .before .before .before .before .before .before .before .before .before .before .before .before .number .result / 274877906944 % 4) (c .before .before .before .before .before .before .before .before .before .before .before .before .before .before .before .before .args .operations)) (c .before .before .before .before .before .before .before .before .before .o .given .1) (c .before .before .before .before .before .before .before .before .before .before .before .operation-of .ensures) in
-    let good = subst (IndividualRefused (c .before .before .before .before .before .before .before .before .before .o .given .0 .0) (c .before .before .before .before .before .before .before .before .before .before .before .before .number .result % 16777216)) (c .before .before .before .before .before .before .if2 .left) (c .before .before .before .before .before .before .before .individual-refused .ensures) in
-    let z = subst (TextAt unicode16 (c .before .before .before .before .before .before .before .before .before .before .before .before .before .before .before .before .args .m .now) (c .before .before .before .before .before .before .before .before .before .before .before .before .before .before .before .before .args .p + 5) 16) (c .before .before .before .units .given .1) (c .before .before .before .before .before .read-text .ensures) in
-    the-body KIndividual individual-head left (c .before .before .before .before .before .before .before .before .before .before .before .before .before .before .before .before .args .m .now) (c .before .before .before .before .before .before .before .before .before .before .before .before .before .before .before .before .args .p) (λ i. (c .before .before .before .before .before .before .before .before .before .before .before .before .before .before .before .shared-slice-known .given i) .fits) (c .before .before .before .before .before .before .before .before .before .before .before .before .number .ensures (omega arith, omega arith)) ((c .before .before .before .before .before .before .before .before .before .o .given .0 .0), (record { encryption = c .before .flag .result; emergency = c .flag2 .result; priority = c .before .before .before .before .before .before .before .before .before .before .before .before .number .result / 17179869184 % 4 }), record { index = c .before .before .before .before .before .before .before .before .before .before .before .before .number .result / 16777216 % 16; address = record { 0 = (c .before .before .before .before .before .before .before .before .before .before .before .before .number .result % 16777216) }; text = z .0 }) (Individual (c .before .before .before .before .before .before .before .before .before .o .given .0 .0) (record { encryption = c .before .flag .result; emergency = c .flag2 .result; priority = c .before .before .before .before .before .before .before .before .before .before .before .before .number .result / 17179869184 % 4 }) (record { index = c .before .before .before .before .before .before .before .before .before .before .before .before .number .result / 16777216 % 16; address = record { 0 = (c .before .before .before .before .before .before .before .before .before .before .before .before .number .result % 16777216) }; text = (c .before .before .before .units .given .0 .0) })) (c .before .before .before .units .given .0 .1 .0) (omega arith)
+    let good = subst (SlotRefused (c .before .before .before .before .before .before .before .before .before .o .given .0 .0) 1 (c .before .before .before .before .before .before .before .before .before .before .before .before .number .result % 16777216)) (c .before .before .before .before .before .before .if2 .left) (c .before .before .before .before .before .before .before .slot-refused .ensures) in
+    let z = text-read (c .before .before .before .before .before .before .before .before .before .before .before .before .before .before .before .before .args .coding) (c .before .before .before .before .before .before .before .before .before .before .before .before .before .before .before .before .args .m .now) (c .before .before .before .before .before .before .before .before .before .before .before .before .before .before .before .before .args .p + 5) 16 (c .before .before .before .units .given .0 .0) (c .before .before .before .units .given .0 .1 .0) (c .before .before .before .before .before .read-text .ensures) (c .before .before .before .units .given .1) in
+    the-body KIndividual (individual-head (c .before .before .before .before .before .before .before .before .before .before .before .before .before .before .before .before .args .coding)) left (c .before .before .before .before .before .before .before .before .before .before .before .before .before .before .before .before .args .m .now) (c .before .before .before .before .before .before .before .before .before .before .before .before .before .before .before .before .args .p) (λ i. (c .before .before .before .before .before .before .before .before .before .before .before .before .before .before .before .shared-slice-known .given i) .fits) (c .before .before .before .before .before .before .before .before .before .before .before .before .number .ensures (omega arith, omega arith)) ((c .before .before .before .before .before .before .before .before .before .o .given .0 .0), (record { encryption = c .before .flag .result; emergency = c .flag2 .result; priority = c .before .before .before .before .before .before .before .before .before .before .before .before .number .result / 17179869184 % 4 }), record { index = c .before .before .before .before .before .before .before .before .before .before .before .before .number .result / 16777216 % 16; address = record { 0 = (c .before .before .before .before .before .before .before .before .before .before .before .before .number .result % 16777216) }; text = z .0 }) (Individual (c .before .before .before .before .before .before .before .before .before .o .given .0 .0) (record { encryption = c .before .flag .result; emergency = c .flag2 .result; priority = c .before .before .before .before .before .before .before .before .before .before .before .before .number .result / 17179869184 % 4 }) (record { index = c .before .before .before .before .before .before .before .before .before .before .before .before .number .result / 16777216 % 16; address = record { 0 = (c .before .before .before .before .before .before .before .before .before .before .before .before .number .result % 16777216) }; text = (c .before .before .before .units .given .0 .0) })) (c .before .before .before .units .given .0 .1 .0) (omega arith)
     (sym (told .0), (flag-bit (c .before .before .before .before .before .before .before .before .before .before .before .before .number .result / 137438953472) (c .before .flag .result) (c .before .flag .ensures), (flag-bit (c .before .before .before .before .before .before .before .before .before .before .before .before .number .result / 68719476736) (c .flag2 .result) (c .flag2 .ensures), (refl, (tt, (refl, (omega arith, tt)))))))
-    (good, z .2) (subst (λ q. PartAt (text unicode16 (z .0)) (c .before .before .before .before .before .before .before .before .before .before .before .before .before .before .before .before .args .m .now) q (c .before .before .before .units .given .0 .1 .0)) (z .1) (z .3 .stands)) (z .0, refl, ((c .before .before .before .units .given .0 .1 .0), z .3))
+    (slot-turn (c .before .before .before .before .before .before .before .before .before .o .given .0 .0) (λ q. q .1) good, z .1) (z .3) (z .0, refl, ((c .before .before .before .units .given .0 .1 .0), z .2))
 
 pub read-individual-spec : {M : Type 1} → statement M
 read-individual-spec =
@@ -104,7 +99,7 @@ read-individual-spec =
     enum-told
     returns-2
     cast-address
-    individual-refused-requires
+    slot-refused-requires
     returns-3
     add-read-text
     read-text-requires
@@ -113,6 +108,6 @@ read-individual-spec =
     returns-4
     flag-requires
     flag-requires-2
-    cast-t22
+    cast-t23
     cast-index
     returns-5)

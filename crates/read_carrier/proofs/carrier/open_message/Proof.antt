@@ -1,7 +1,5 @@
 -- `read_carrier::carrier::open_message` meets its contract. Assumes nothing.
-use borrow.Author.Needs.{needs}
-use native.Mathlib.Omega.{arith}
-use mathlib.Core.Path.{refl, subst}
+use Rattle.lists.proofs.Kit.{needs, arith, refl, subst}
 use Rattle.lists.specs.Bytes.{Bytes}
 use Rattle.read_carrier.specs.Message.{CarrierIs}
 use Rattle.read_carrier.proofs.CarrierLaws.{opens-in}

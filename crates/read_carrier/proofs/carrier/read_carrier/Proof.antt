@@ -1,8 +1,5 @@
 -- `read_carrier::carrier::read_carrier` meets its contract. Assumes nothing.
-use borrow.Author.Needs.{needs}
-use native.Mathlib.Omega.{arith}
-use mathlib.Core.Path.{refl, subst}
-use borrow.Author.Tests.{not-true, not-false}
+use Rattle.lists.proofs.Kit.{needs, arith, refl, subst, not-true, not-false}
 use Rattle.read_carrier.specs.Message.{StartsWith}
 use Rattle.read_carrier.proofs.CarrierLaws.{length-wrong, length-right, not-carried, carries-in}
 use Rattle.read_carrier.proofs.carrier.read_carrier.Statement.{statement}

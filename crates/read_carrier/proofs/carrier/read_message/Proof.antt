@@ -1,7 +1,5 @@
 -- `read_carrier::carrier::read_message` meets its contract. Assumes nothing.
-use borrow.Author.Needs.{needs}
-use mathlib.Core.Path.{subst}
-use mathlib.Core.Logic.{inl, inr, ⊎-elim}
+use Rattle.lists.proofs.Kit.{needs, subst, inl, inr, ⊎-elim}
 use Rattle.read_carrier.specs.Message.{OpenedIs}
 use Rattle.read_carrier.proofs.CarrierLaws.{opens-as}
 use Rattle.read_carrier.proofs.carrier.read_message.Statement.{statement}

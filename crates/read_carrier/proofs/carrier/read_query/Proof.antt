@@ -1,7 +1,5 @@
 -- `read_carrier::carrier::read_query` meets its contract. Assumes nothing.
-use borrow.Author.Needs.{needs}
-use native.Mathlib.Omega.{arith}
-use mathlib.Core.Path.{refl}
+use Rattle.lists.proofs.Kit.{needs, arith, refl}
 use Rattle.read_carrier.proofs.MessageLaws.{no-query, no-query-value, query-goes-on, the-query}
 use Rattle.read_carrier.proofs.carrier.read_query.Statement.{statement}
 use Rattle.read_carrier.proofs.carrier.read_query.Tie as tie

@@ -1,7 +1,5 @@
 -- `read_carrier::carrier::read_request` meets its contract. Assumes nothing.
-use borrow.Author.Needs.{needs}
-use native.Mathlib.Omega.{arith}
-use mathlib.Core.Path.{refl}
+use Rattle.lists.proofs.Kit.{needs, arith, refl}
 use Rattle.read_carrier.proofs.MessageLaws.{no-request, the-request}
 use Rattle.read_carrier.proofs.carrier.read_request.Statement.{statement}
 use Rattle.read_carrier.proofs.carrier.read_request.Tie as tie

@@ -1,7 +1,5 @@
 -- `read_carrier::carrier::starts` meets its contract. Assumes nothing.
-use borrow.Author.Needs.{needs}
-use native.Mathlib.Omega.{arith}
-use mathlib.Core.Path.{refl}
+use Rattle.lists.proofs.Kit.{needs, arith, refl}
 use Rattle.read_carrier.proofs.CarrierLaws.{start-out, starts-by}
 use Rattle.read_carrier.proofs.carrier.starts.Statement.{statement}
 use Rattle.read_carrier.proofs.carrier.starts.Tie as tie

@@ -1,6 +1,5 @@
 -- `read_carrier::carrier::states` meets its contract. Assumes nothing.
-use mathlib.Core.Path.{refl}
-use mathlib.Core.Logic.{inl}
+use Rattle.lists.proofs.Kit.{refl, inl}
 use Rattle.read_carrier.proofs.CarrierLaws.{length-by}
 use Rattle.read_carrier.proofs.carrier.states.Statement.{statement}
 use Rattle.read_carrier.proofs.carrier.states.Tie as tie

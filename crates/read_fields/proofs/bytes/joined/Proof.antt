@@ -1,9 +1,5 @@
 -- `read_fields::bytes::joined` meets its contract. The invariant: n is the number of the i bytes passed, and below 2 ^ (8 * i). Assumes nothing.
-use borrow.Author.Needs.{needs}
-use native.Mathlib.Omega.{arith}
-use Prim.Native.Nat.{ℕ, _≤_, _<_, _+_, _*_, _-_, _^_}
-use mathlib.Core.Path.{_≡_, refl, sym, _∙_, ap, ap₂, subst}
-use lib.ListN.{length, drop, take}
+use Rattle.lists.proofs.Kit.{needs, arith, ℕ, _≤_, _<_, _+_, _*_, _-_, _^_, _≡_, refl, sym, _∙_, ap, ap₂, subst, length, drop, take}
 use Rattle.read_fields.specs.Places.{be}
 use Rattle.read_fields.proofs.Heads.{be-64, be-room, be-turn}
 use Rattle.read_fields.proofs.bytes.joined.Statement.{statement}

@@ -1,5 +1,4 @@
-use borrow.Author.Needs.{needs}
-use native.Mathlib.Omega.{arith}
+use Rattle.lists.proofs.Kit.{needs, arith}
 use Rattle.read_fields.proofs.bytes.number.Statement.{statement}
 use Rattle.read_fields.proofs.bytes.number.Tie as tie
 

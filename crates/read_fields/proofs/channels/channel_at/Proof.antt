@@ -1,5 +1,4 @@
-use borrow.Author.Needs.{needs}
-use native.Mathlib.Omega.{arith}
+use Rattle.lists.proofs.Kit.{needs, arith}
 use Rattle.read_fields.proofs.ChannelPlace.{channel-here, here-room, even-is, odd-is}
 use Rattle.read_fields.proofs.channels.channel_at.Statement.{statement}
 use Rattle.read_fields.proofs.channels.channel_at.Tie as tie

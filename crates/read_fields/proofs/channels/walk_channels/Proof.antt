@@ -1,7 +1,4 @@
-use borrow.Author.Needs.{needs}
-use native.Mathlib.Omega.{arith}
-use Prim.Native.Nat.{_/_, _%_}
-use mathlib.Core.Path.{sym, subst}
+use Rattle.lists.proofs.Kit.{needs, arith, _/_, _%_, sym, subst}
 use Rattle.writing.specs.Ranges.{InChannel}
 use Rattle.read_fields.specs.Entries.{OutOfRange}
 use Rattle.read_fields.proofs.ChannelWalk.{ChannelsPassed, no-channel-yet, no-pair, pair-passed, channels-end, no-last, last-ends}

@@ -1,6 +1,5 @@
 -- `read_fields::hashes::read_hash` meets its contract. Assumes nothing.
-use borrow.Author.Needs.{needs}
-use native.Mathlib.Omega.{arith}
+use Rattle.lists.proofs.Kit.{needs, arith}
 use Rattle.read_fields.proofs.HashLaws.{no-code, no-value, the-value}
 use Rattle.read_fields.proofs.hashes.read_hash.Statement.{statement}
 use Rattle.read_fields.proofs.hashes.read_hash.Tie as tie

@@ -1,8 +1,5 @@
-use borrow.Author.Needs.{needs}
-use native.Mathlib.Omega.{arith}
-use Prim.Native.Nat.{_-_}
-use mathlib.Core.Path.{subst}
-use Rattle.read_fields.specs.Parts.{DigitsAre}
+use Rattle.lists.proofs.Kit.{needs, arith, _-_, subst}
+use Rattle.read_fields.specs.TextsAndNumbers.{DigitsAre}
 use Rattle.read_fields.proofs.NumberWalk.{NumberPassed, no-digit-yet, no-digit, too-many-digits, digits-passed, one-digit-ends, no-digit-ends, bad-digits}
 use Rattle.read_fields.proofs.numbers.read_number.Statement.{statement}
 use Rattle.read_fields.proofs.numbers.read_number.Tie as tie

@@ -1,18 +1,16 @@
-use borrow.Author.Needs.{needs}
-use native.Mathlib.Omega.{arith}
-use Prim.Native.Nat.{suc, _-_}
-use Rattle.read_fields.proofs.TextWalk.{TextPassed, no-unit-yet, no-unit, too-many, unit-passed, text-ended}
+use Rattle.lists.proofs.Kit.{needs, arith, suc, _-_}
+use Rattle.read_fields.proofs.TextWalk.{two, TextPassed, no-unit-yet, no-unit, too-many, unit-passed, text-ended}
 use Rattle.read_fields.proofs.texts.read_text.Statement.{statement}
 use Rattle.read_fields.proofs.texts.read_text.Tie as tie
 
 abbrev Inv-loop : tie.InvT-loop
-Inv-loop m at limit p₀ units₀ p units = TextPassed m at p units
+Inv-loop m at limit coding p₀ units₀ p units = TextPassed coding m at p units
 
 abbrev μ-loop : tie.MeasureT-loop
-μ-loop m at limit p₀ units₀ p units = suc limit - units
+μ-loop m at limit coding p₀ units₀ p units = suc limit - units
 
 loop-holds : tie.Need-loop-holds Inv-loop μ-loop
-loop-holds c = no-unit-yet _ _
+loop-holds c = no-unit-yet _ _ _
 
 remaining-requires : tie.Need-remaining-requires Inv-loop μ-loop
 remaining-requires c κs = search needs
@@ -20,21 +18,21 @@ remaining-requires c κs = search needs
 returns : tie.Need-returns Inv-loop μ-loop
 returns c =
     let l = c .before .before .before in
-    λ us next k x. no-unit _ _ _ _ (λ i. (l .before .shared-slice-known .given i) .fits) (l .loop .inv) (omega arith) us next x
+    λ us next k x. no-unit (l .before .before .args .coding) 2 (two (l .before .before .args .coding)) (omega arith) _ _ _ _ (λ i. (l .before .shared-slice-known .given i) .fits) (l .loop .inv) (omega arith) us next x
 
 number-requires : tie.Need-number-requires Inv-loop μ-loop
 number-requires c κs = search needs
 
-add-t10 : tie.Need-add-t10 Inv-loop μ-loop
-add-t10 c = omega arith
+add-t11 : tie.Need-add-t11 Inv-loop μ-loop
+add-t11 c = omega arith
 
 returns-2 : tie.Need-returns-2 Inv-loop μ-loop
 returns-2 c =
     let l = c .before .before .before .before .before in
-    text-ended _ _ _ _ (λ i. (l .before .shared-slice-known .given i) .fits) (l .loop .inv) (omega arith) (c .before .number .ensures (omega arith, omega arith)) _ (c .if2 .taken) (omega arith)
+    text-ended (l .before .before .args .coding) 2 (two (l .before .before .args .coding)) (omega arith) _ _ _ _ (λ i. (l .before .shared-slice-known .given i) .fits) (l .loop .inv) (omega arith) (c .before .number .ensures (omega arith, omega arith)) _ (c .if2 .taken) (omega arith)
 
 add-units : tie.Need-add-units Inv-loop μ-loop
-add-units c = let l = c .before .before .before .before .before in omega (arith, l .loop .inv .inside, l .loop .inv .place)
+add-units c = let l = c .before .before .before .before .before in omega (arith, l .loop .inv .place)
 
 add-p : tie.Need-add-p Inv-loop μ-loop
 add-p c = omega arith
@@ -45,10 +43,10 @@ loop-less c = omega arith
 loop-again : tie.Need-loop-again Inv-loop μ-loop
 loop-again c =
     let l = c .before .before .before .before .before in
-    unit-passed _ _ _ _ (λ i. (l .before .shared-slice-known .given i) .fits) (l .loop .inv) (omega arith) (c .before .number .ensures (omega arith, omega arith)) (c .if2 .left)
+    unit-passed (l .before .before .args .coding) 2 (two (l .before .before .args .coding)) (omega arith) _ _ _ _ (λ i. (l .before .shared-slice-known .given i) .fits) (l .loop .inv) (omega arith) (c .before .number .ensures (omega arith, omega arith)) (c .if2 .left)
 
 returns-3 : tie.Need-returns-3 Inv-loop μ-loop
-returns-3 c = let l = c .before in too-many _ _ _ _ (λ i. (l .before .shared-slice-known .given i) .fits) (l .loop .inv) _ (omega arith)
+returns-3 c = let l = c .before in too-many (l .before .before .args .coding) 2 (two (l .before .before .args .coding)) (omega arith) _ _ _ _ (λ i. (l .before .shared-slice-known .given i) .fits) (l .loop .inv) _ (omega arith)
 
 pub read-text-spec : {M : Type 1} → statement M
 read-text-spec =
@@ -60,7 +58,7 @@ read-text-spec =
     remaining-requires
     returns
     number-requires
-    add-t10
+    add-t11
     returns-2
     add-units
     add-p

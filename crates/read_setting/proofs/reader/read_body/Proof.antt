@@ -1,6 +1,5 @@
-use borrow.Author.Needs.{needs}
-use native.Mathlib.Omega.{arith}
-use Rattle.settings.proofs.RowLaws.{one-of-ten}
+use Rattle.lists.proofs.Kit.{needs, arith}
+use Rattle.settings.proofs.TypeTableLaws.{one-of-ten}
 use Rattle.read_setting.proofs.SettingLaws.{by-row}
 use Rattle.writing.specs.declared.Kind.the-variants.{Lines, Key, QuickTexts, Home, Channels, System, StatusTexts, Group, Individual, Last}
 use Rattle.read_setting.proofs.reader.read_body.Statement.{statement}
@@ -37,34 +36,34 @@ read-last-requires : tie.Need-read-last-requires
 read-last-requires c κs = search needs
 
 returns : tie.Need-returns
-returns c = λ k is. by-row Lines k (c .before .before .before .args .row) _ _ _ (c .read-lines .result) is (omega arith) (λ is. c .read-lines .ensures (is .operations) (c .before .before .before .args .left))
+returns c = λ k is. by-row (c .before .before .before .args .coding) Lines k (c .before .before .before .args .row) _ _ _ (c .read-lines .result) is (omega arith) (λ is. c .read-lines .ensures (is .operations) (c .before .before .before .args .left))
 
 returns-2 : tie.Need-returns-2
-returns-2 c = λ k is. by-row Key k (c .before .before .before .args .row) _ _ _ (c .read-key .result) is (omega arith) (λ is. c .read-key .ensures (c .before .before .before .args .left))
+returns-2 c = λ k is. by-row (c .before .before .before .args .coding) Key k (c .before .before .before .args .row) _ _ _ (c .read-key .result) is (omega arith) (λ is. c .read-key .ensures (c .before .before .before .args .coding) (c .before .before .before .args .left))
 
 returns-3 : tie.Need-returns-3
-returns-3 c = λ k is. by-row QuickTexts k (c .before .before .before .args .row) _ _ _ (c .read-quick-texts .result) is (omega arith) (λ is. c .read-quick-texts .ensures (is .operations) (c .before .before .before .args .left))
+returns-3 c = λ k is. by-row (c .before .before .before .args .coding) QuickTexts k (c .before .before .before .args .row) _ _ _ (c .read-quick-texts .result) is (omega arith) (λ is. c .read-quick-texts .ensures (is .operations) (c .before .before .before .args .left))
 
 returns-4 : tie.Need-returns-4
-returns-4 c = λ k is. by-row Home k (c .before .before .before .args .row) _ _ _ (c .read-home .result) is (omega arith) (λ is. c .read-home .ensures (c .before .before .before .args .left))
+returns-4 c = λ k is. by-row (c .before .before .before .args .coding) Home k (c .before .before .before .args .row) _ _ _ (c .read-home .result) is (omega arith) (λ is. c .read-home .ensures (c .before .before .before .args .coding) (c .before .before .before .args .left))
 
 returns-5 : tie.Need-returns-5
-returns-5 c = λ k is. by-row Channels k (c .before .before .before .args .row) _ _ _ (c .read-channels .result) is (omega arith) (λ is. c .read-channels .ensures (is .operations) (c .before .before .before .args .left))
+returns-5 c = λ k is. by-row (c .before .before .before .args .coding) Channels k (c .before .before .before .args .row) _ _ _ (c .read-channels .result) is (omega arith) (λ is. c .read-channels .ensures (is .operations) (c .before .before .before .args .left))
 
 returns-6 : tie.Need-returns-6
-returns-6 c = λ k is. by-row System k (c .before .before .before .args .row) _ _ _ (c .read-system .result) is (omega arith) (λ is. c .read-system .ensures (c .before .before .before .args .left))
+returns-6 c = λ k is. by-row (c .before .before .before .args .coding) System k (c .before .before .before .args .row) _ _ _ (c .read-system .result) is (omega arith) (λ is. c .read-system .ensures (c .before .before .before .args .coding) (c .before .before .before .args .left))
 
 returns-7 : tie.Need-returns-7
-returns-7 c = λ k is. by-row StatusTexts k (c .before .before .before .args .row) _ _ _ (c .read-status-texts .result) is (omega arith) (λ is. c .read-status-texts .ensures (is .operations) (c .before .before .before .args .left))
+returns-7 c = λ k is. by-row (c .before .before .before .args .coding) StatusTexts k (c .before .before .before .args .row) _ _ _ (c .read-status-texts .result) is (omega arith) (λ is. c .read-status-texts .ensures (is .operations) (c .before .before .before .args .left))
 
 returns-8 : tie.Need-returns-8
-returns-8 c = λ k is. by-row Group k (c .before .before .before .args .row) _ _ _ (c .read-group .result) is (omega arith) (λ is. c .read-group .ensures (is .operations) (c .before .before .before .args .left))
+returns-8 c = λ k is. by-row (c .before .before .before .args .coding) Group k (c .before .before .before .args .row) _ _ _ (c .read-group .result) is (omega arith) (λ is. c .read-group .ensures (is .operations) (c .before .before .before .args .left))
 
 returns-9 : tie.Need-returns-9
-returns-9 c = λ k is. by-row Individual k (c .before .before .before .args .row) _ _ _ (c .read-individual .result) is (omega arith) (λ is. c .read-individual .ensures (is .operations) (c .before .before .before .args .left))
+returns-9 c = λ k is. by-row (c .before .before .before .args .coding) Individual k (c .before .before .before .args .row) _ _ _ (c .read-individual .result) is (omega arith) (λ is. c .read-individual .ensures (is .operations) (c .before .before .before .args .left))
 
 returns-10 : tie.Need-returns-10
-returns-10 c = λ k is. by-row Last k (c .before .before .before .args .row) _ _ _ (c .read-last .result) is (omega arith) (λ is. c .read-last .ensures)
+returns-10 c = λ k is. by-row (c .before .before .before .args .coding) Last k (c .before .before .before .args .row) _ _ _ (c .read-last .result) is (omega arith) (λ is. c .read-last .ensures (c .before .before .before .args .coding))
 
 returns-11 : tie.Need-returns-11
 returns-11 c =

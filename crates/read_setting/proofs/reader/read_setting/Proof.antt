@@ -1,5 +1,4 @@
-use borrow.Author.Needs.{needs}
-use native.Mathlib.Omega.{arith}
+use Rattle.lists.proofs.Kit.{needs, arith}
 use Rattle.lists.specs.Bytes.{Bytes}
 use Rattle.read_setting.proofs.SettingLaws.{no-type, too-short, too-little, too-much, no-fields, behind, other-length, the-setting}
 use Rattle.read_setting.proofs.reader.read_setting.Statement.{statement}
@@ -11,11 +10,11 @@ remaining-requires c κs = search needs
 returns : tie.Need-returns
 returns c = search needs
 
-shared-slice-read-row-of : tie.Need-shared-slice-read-row-of
-shared-slice-read-row-of c = search needs
+shared-slice-read-bounds-of : tie.Need-shared-slice-read-bounds-of
+shared-slice-read-bounds-of c = search needs
 
-row-of-requires : tie.Need-row-of-requires
-row-of-requires c κs = search needs
+bounds-of-requires : tie.Need-bounds-of-requires
+bounds-of-requires c κs = search needs
 
 enum-known-found : tie.Need-enum-known-found
 enum-known-found c = search needs
@@ -26,7 +25,7 @@ enum-told c = search needs
 returns-2 : tie.Need-returns-2
 returns-2 c =
     let a = c .before .before .before .before .before .before .before .args in
-    no-type (a .left) (a .m .now) (a .at) (omega arith) (c .before .before .row-of .ensures) (c .enum-told .given .1)
+    no-type (a .coding) (a .left) (a .m .now) (a .at) (omega arith) (c .before .before .bounds-of .ensures) (c .enum-told .given .1)
 
 remaining-requires-2 : tie.Need-remaining-requires-2
 remaining-requires-2 c κs = search needs
@@ -36,7 +35,7 @@ returns-3 c =
     let f = c .before .before .before in
     let a = f .before .before .before .before .before .before .before .args in
     let bytes : Bytes (a .m .now) = λ i. (f .before .before .before .before .before .before .shared-slice-known .given i) .fits in
-    too-short _ (a .m .now) (a .at) bytes (f .found .given .0 .0) (f .before .before .row-of .ensures) (f .found .given .1) (omega arith) (omega arith)
+    too-short (a .coding) _ (a .m .now) (a .at) bytes (f .found .given .0 .0) (f .before .before .bounds-of .ensures) (f .found .given .1) (omega arith) (omega arith)
 
 add-number : tie.Need-add-number
 add-number c = search needs
@@ -52,7 +51,7 @@ returns-4 c =
     let f = c .before .before .before .before .before in
     let a = f .before .before .before .before .before .before .before .args in
     let bytes : Bytes (a .m .now) = λ i. (f .before .before .before .before .before .before .shared-slice-known .given i) .fits in
-    too-little _ (a .m .now) (a .at) bytes (f .found .given .0 .0) (f .before .before .row-of .ensures) (f .found .given .1) (c .before .number .ensures (omega arith, omega arith)) (omega arith) (omega arith)
+    too-little (a .coding) _ (a .m .now) (a .at) bytes (f .found .given .0 .0) (f .before .before .bounds-of .ensures) (f .found .given .1) (c .before .number .ensures (omega arith, omega arith)) (omega arith) (omega arith)
 
 cast-if4 : tie.Need-cast-if4
 cast-if4 c = search needs
@@ -62,7 +61,7 @@ returns-5 c =
     let f = c .before .before .before .before .before .before in
     let a = f .before .before .before .before .before .before .before .args in
     let bytes : Bytes (a .m .now) = λ i. (f .before .before .before .before .before .before .shared-slice-known .given i) .fits in
-    too-much _ (a .m .now) (a .at) bytes (f .found .given .0 .0) (f .before .before .row-of .ensures) (f .found .given .1) (c .before .before .number .ensures (omega arith, omega arith)) (omega arith) (omega arith)
+    too-much (a .coding) _ (a .m .now) (a .at) bytes (f .found .given .0 .0) (f .before .before .bounds-of .ensures) (f .found .given .1) (c .before .before .number .ensures (omega arith, omega arith)) (omega arith) (omega arith)
 
 add-read-body : tie.Need-add-read-body
 add-read-body c = search needs
@@ -81,7 +80,7 @@ returns-6 c =
     let f = c .before .before .before .before .before .before .before .before .before in
     let a = f .before .before .before .before .before .before .before .args in
     let bytes : Bytes (a .m .now) = λ i. (f .before .before .before .before .before .before .shared-slice-known .given i) .fits in
-    no-fields _ (a .m .now) (a .at) bytes (f .found .given .0 .0) (f .before .before .row-of .ensures) (f .found .given .1) (c .before .before .before .before .before .number .ensures (omega arith, omega arith)) (omega arith) (c .before .before .read-body .ensures) (c .enum-told2 .given .1)
+    no-fields (a .coding) _ (a .m .now) (a .at) bytes (f .found .given .0 .0) (f .before .before .bounds-of .ensures) (f .found .given .1) (c .before .before .before .before .before .number .ensures (omega arith, omega arith)) (omega arith) (c .before .before .read-body .ensures) (c .enum-told2 .given .1)
 
 sub-taken : tie.Need-sub-taken
 sub-taken c =
@@ -89,7 +88,7 @@ sub-taken c =
     let a = f .before .before .before .before .before .before .before .args in
     let bytes : Bytes (a .m .now) = λ i. (f .before .before .before .before .before .before .shared-slice-known .given i) .fits in
     let g = c .before .fields .given in
-    omega (arith, behind _ (a .m .now) (a .at) bytes (f .found .given .0 .0) (f .before .before .row-of .ensures) (f .found .given .1) (c .before .before .before .before .before .before .number .ensures (omega arith, omega arith)) (omega arith) (c .before .before .before .read-body .ensures) (g .0 .0) (g .0 .1 .0) (g .1))
+    omega (arith, behind (a .coding) _ (a .m .now) (a .at) bytes (f .found .given .0 .0) (f .before .before .bounds-of .ensures) (f .found .given .1) (c .before .before .before .before .before .before .number .ensures (omega arith, omega arith)) (omega arith) (c .before .before .before .read-body .ensures) (g .0 .0) (g .0 .1 .0) (g .1))
 
 sub-taken-2 : tie.Need-sub-taken-2
 sub-taken-2 c =
@@ -97,7 +96,7 @@ sub-taken-2 c =
     let a = f .before .before .before .before .before .before .before .args in
     let bytes : Bytes (a .m .now) = λ i. (f .before .before .before .before .before .before .shared-slice-known .given i) .fits in
     let g = c .before .fields .given in
-    omega (arith, behind _ (a .m .now) (a .at) bytes (f .found .given .0 .0) (f .before .before .row-of .ensures) (f .found .given .1) (c .before .before .before .before .before .before .number .ensures (omega arith, omega arith)) (omega arith) (c .before .before .before .read-body .ensures) (g .0 .0) (g .0 .1 .0) (g .1))
+    omega (arith, behind (a .coding) _ (a .m .now) (a .at) bytes (f .found .given .0 .0) (f .before .before .bounds-of .ensures) (f .found .given .1) (c .before .before .before .before .before .before .number .ensures (omega arith, omega arith)) (omega arith) (c .before .before .before .read-body .ensures) (g .0 .0) (g .0 .1 .0) (g .1))
 
 returns-7 : tie.Need-returns-7
 returns-7 c =
@@ -105,7 +104,7 @@ returns-7 c =
     let a = f .before .before .before .before .before .before .before .args in
     let bytes : Bytes (a .m .now) = λ i. (f .before .before .before .before .before .before .shared-slice-known .given i) .fits in
     let g = c .before .before .fields .given in
-    other-length _ (a .m .now) (a .at) bytes (f .found .given .0 .0) (f .before .before .row-of .ensures) (f .found .given .1) (c .before .before .before .before .before .before .before .number .ensures (omega arith, omega arith)) (omega arith) (c .before .before .before .before .read-body .ensures) (g .0 .0) (g .0 .1 .0) (g .1) (omega arith)
+    other-length (a .coding) _ (a .m .now) (a .at) bytes (f .found .given .0 .0) (f .before .before .bounds-of .ensures) (f .found .given .1) (c .before .before .before .before .before .before .before .number .ensures (omega arith, omega arith)) (omega arith) (c .before .before .before .before .read-body .ensures) (g .0 .0) (g .0 .1 .0) (g .1) (omega arith)
 
 returns-8 : tie.Need-returns-8
 returns-8 c =
@@ -113,7 +112,7 @@ returns-8 c =
     let a = f .before .before .before .before .before .before .before .args in
     let bytes : Bytes (a .m .now) = λ i. (f .before .before .before .before .before .before .shared-slice-known .given i) .fits in
     let g = c .before .before .fields .given in
-    the-setting _ (a .m .now) (a .at) bytes (f .found .given .0 .0) (f .before .before .row-of .ensures) (f .found .given .1) (c .before .before .before .before .before .before .before .number .ensures (omega arith, omega arith)) (omega arith) (c .before .before .before .before .read-body .ensures) (g .0 .0) (g .0 .1 .0) (g .1) (omega arith)
+    the-setting (a .coding) _ (a .m .now) (a .at) bytes (f .found .given .0 .0) (f .before .before .bounds-of .ensures) (f .found .given .1) (c .before .before .before .before .before .before .before .number .ensures (omega arith, omega arith)) (omega arith) (c .before .before .before .before .read-body .ensures) (g .0 .0) (g .0 .1 .0) (g .1) (omega arith)
 
 pub read-setting-spec : {M : Type 1} → statement M
 read-setting-spec =
@@ -121,8 +120,8 @@ read-setting-spec =
     (tie.spec
     remaining-requires
     returns
-    shared-slice-read-row-of
-    row-of-requires
+    shared-slice-read-bounds-of
+    bounds-of-requires
     enum-known-found
     enum-told
     returns-2

@@ -1,5 +1,4 @@
-use borrow.Author.Needs.{needs}
-use mathlib.Core.Path.{subst⁻¹}
+use Rattle.lists.proofs.Kit.{needs, subst⁻¹}
 use Rattle.settings.specs.declared.settings.Setting.{Setting as Read}
 use Rattle.requests.specs.Running.{FlagsAre}
 use Rattle.requests.proofs.Steps.{flags-last, flags-none}

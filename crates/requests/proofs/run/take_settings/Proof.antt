@@ -1,10 +1,6 @@
-use borrow.Author.Needs.{needs}
-use Prim.Native.Nat.{_≤_, _-_}
-use mathlib.Core.Path.{_≡_, refl, subst}
-use native.Mathlib.Omega.{arith}
-use lib.ListN.{length}
+use Rattle.lists.proofs.Kit.{needs, _≤_, _-_, _≡_, refl, subst, arith, length}
 use Rattle.tables.specs.Layout.{Roomy}
-use Rattle.tables.specs.Store.{Holds}
+use Rattle.tables.specs.Store.{Works}
 use Rattle.tables.specs.Tables.{Tables}
 use Rattle.requests.specs.Running.{StepIs}
 use Rattle.requests.proofs.Steps.{Along, along-start, along-on, along-fault, along-over, along-end}
@@ -13,7 +9,7 @@ use Rattle.requests.proofs.run.take_settings.Tie as tie
 
 abbrev Inv-loop : tie.InvT-loop
 Inv-loop work₀ limits m at count p₀ taken₀ flags₀ work p taken flags =
-    (length work ≡ length work₀) × (taken ≤ count) × ((was : Tables) → Roomy limits → Holds limits was work₀ → Along limits m count at was work p taken flags)
+    (length work ≡ length work₀) × (taken ≤ count) × ((was : Tables) → Roomy limits → Works limits was work₀ → Along limits m count at was work p taken flags)
 
 abbrev μ-loop : tie.MeasureT-loop
 μ-loop work₀ limits m at count p₀ taken₀ flags₀ work p taken flags =

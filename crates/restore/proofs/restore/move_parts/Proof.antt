@@ -1,43 +1,52 @@
-use borrow.Author.Needs.{needs}
-use Prim.Native.Nat.{_≤_, _-_}
-use mathlib.Core.Path.{_≡_, refl}
-use native.Mathlib.Omega.{arith}
-use lib.ListN.{length}
-use Rattle.tables.specs.Limits.{handheld}
+use Rattle.lists.proofs.Kit.{needs, _≤_, _-_, _≡_, refl, _∙_, arith, length}
+use Rattle.tables.specs.Layout.{Roomy}
 use Rattle.tables.specs.Store.{Holds}
 use Rattle.tables.specs.Tables.{Tables}
-use Rattle.restore.proofs.RestoreLaws.{SoFar, so-far-start, so-far-next, so-far-all, so-far-end}
+use Rattle.export.specs.Exportable.{Exportable}
+use Rattle.export.specs.Exported.{seven}
+use Rattle.restore.specs.Restoring.{Lent}
+use Rattle.restore.proofs.RestoreLaws.{SoFar, so-far-start, so-far-on, so-far-end}
 use Rattle.restore.proofs.restore.move_parts.Statement.{statement}
 use Rattle.restore.proofs.restore.move_parts.Tie as tie
 
 abbrev Inv-loop : tie.InvT-loop
-Inv-loop from to₀ buffer₀ reply₀ part₀ to buffer reply part =
-    (length to ≡ length to₀) × (length buffer ≡ length buffer₀) × (length reply ≡ length reply₀) × (1 ≤ part) × (part ≤ 8) × ((t u : Tables) → Holds handheld t from → Holds handheld u to₀ → 20 ≤ length reply₀ → 4096 ≤ length buffer₀ → SoFar from to₀ buffer₀ reply₀ t u (part - 1) to buffer reply)
+Inv-loop from to₀ buffer₀ reply₀ limits work₀ done₀ to buffer reply work done =
+    (length to ≡ length to₀) × (length buffer ≡ length buffer₀) × (length reply ≡ length reply₀) × (length work ≡ length work₀) × (done ≤ length seven) × ((t u : Tables) → Exportable limits → Roomy limits → Holds limits t from → Holds limits u to₀ → Lent limits buffer₀ reply₀ work₀ → SoFar limits from to₀ buffer₀ reply₀ t u done to buffer reply)
 
 abbrev μ-loop : tie.MeasureT-loop
-μ-loop from to₀ buffer₀ reply₀ part₀ to buffer reply part =
-    8 - part
+μ-loop from to₀ buffer₀ reply₀ limits work₀ done₀ to buffer reply work done =
+    length seven - done
 
 loop-holds : tie.Need-loop-holds Inv-loop μ-loop
 loop-holds c =
-    let a = c .before .before .before .before .args in
-    (refl, refl, refl, omega arith, omega arith, λ t u h i long size. so-far-start (a .from .now) (a .to .now) (a .buffer .now) (a .reply .now) t u i)
+    let a = c .before .before .before .before .before .args in
+    (refl, refl, refl, refl, omega arith, λ t u x room h i lent. so-far-start (a .limits) (a .from .now) (a .to .now) (a .buffer .now) (a .reply .now) t u i)
+
+add-move-part : tie.Need-add-move-part Inv-loop μ-loop
+add-move-part c = search needs
 
 move-part-requires : tie.Need-move-part-requires Inv-loop μ-loop
 move-part-requires c κs = search needs
 
-add-part : tie.Need-add-part Inv-loop μ-loop
-add-part c = search needs
+add-done : tie.Need-add-done Inv-loop μ-loop
+add-done c = search needs
 
 loop-less : tie.Need-loop-less Inv-loop μ-loop
 loop-less c = search needs
 
 loop-again : tie.Need-loop-again Inv-loop μ-loop
 loop-again c =
-    let a = c .before .before .before .before .before .before .before .before .before .before .before .before .before .before .before .before .args in
-    let l = c .before .before .before .before .before .before .before .before .before .before .before .loop in
-    let k = c .before .before .before .before .before .before .move-part in
-    (search needs, search needs, search needs, search needs, search needs, λ t u h i long size. so-far-next (a .from .now) (a .to .now) (a .buffer .now) (a .reply .now) t u (l .part) (l .to) (l .buffer) (l .reply) _ _ _ (l .inv .3) (c .before .before .before .before .before .before .before .before .before .before .loop-test .taken) h (l .inv .2) (l .inv .1) long size (l .inv .5 t u h i long size) (k .ensures))
+    let a = c .before .before .before .before .before .before .before .before .before .before .before .before .before .before .before .before .before .before .before .before .args in
+    let l = c .before .before .before .before .before .before .before .before .before .before .before .before .before .before .loop in
+    let k = c .before .before .before .before .before .before .before .before .move-part in (
+      search needs,
+      search needs,
+      search needs,
+      search needs,
+      search needs,
+      λ t u x room h i lent. so-far-on (a .limits) (a .from .now) (a .to .now) (a .buffer .now) (a .reply .now) t u (l .done) (l .to) (l .buffer) (l .reply) (l .work) _ _ _ (c .before .before .before .before .before .before .before .before .before .before .before .before .before .loop-test .taken) x room h
+          (record { message = omega (arith, lent .message, l .inv .1); answer = omega (arith, lent .answer, l .inv .2); copy = l .inv .3 ∙ lent .copy }) (l .inv .5 t u x room h i lent) (k .ensures),
+    )
 
 same-length : tie.Need-same-length Inv-loop μ-loop
 same-length c = search needs
@@ -48,11 +57,14 @@ same-length-2 c = search needs
 same-length-3 : tie.Need-same-length-3 Inv-loop μ-loop
 same-length-3 c = search needs
 
+same-length-4 : tie.Need-same-length-4 Inv-loop μ-loop
+same-length-4 c = search needs
+
 returns : tie.Need-returns Inv-loop μ-loop
 returns c =
-    let a = c .before .before .before .before .before .before .args in
+    let a = c .before .before .before .before .before .before .before .args in
     let l = c .before .loop in
-    λ t u h i long size. so-far-end (a .from .now) (a .to .now) (a .buffer .now) (a .reply .now) t u _ _ _ (so-far-all (a .from .now) (a .to .now) (a .buffer .now) (a .reply .now) t u (l .part) (l .to) (l .buffer) (l .reply) (l .inv .4) (c .loop-test .left) (l .inv .5 t u h i long size))
+    λ t u x room h i lent. so-far-end (a .limits) (a .from .now) (a .to .now) (a .buffer .now) (a .reply .now) t u (l .done) _ _ _ (omega (arith, l .inv .4, c .loop-test .left)) (l .inv .5 t u x room h i lent)
 
 pub move-parts-spec : {M : Type 1} → statement M
 move-parts-spec =
@@ -61,11 +73,13 @@ move-parts-spec =
     Inv-loop
     μ-loop
     loop-holds
+    add-move-part
     move-part-requires
-    add-part
+    add-done
     loop-less
     loop-again
     same-length
     same-length-2
     same-length-3
+    same-length-4
     returns)

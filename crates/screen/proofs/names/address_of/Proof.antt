@@ -1,5 +1,5 @@
 -- `screen::names::address_of` meets its contract. Assumes nothing.
-use borrow.Author.Needs.{needs}
+use Rattle.lists.proofs.Kit.{needs}
 use Rattle.screen.proofs.SlotLaws.{address-is}
 use Rattle.screen.proofs.names.address_of.Statement.{statement}
 use Rattle.screen.proofs.names.address_of.Tie as tie

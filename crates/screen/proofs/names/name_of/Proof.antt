@@ -1,8 +1,5 @@
 -- `screen::names::name_of` meets its contract. Assumes nothing.
-use mathlib.Core.Path.{refl}
-use mathlib.Core.Logic.{inl, inr}
-use borrow.Author.Needs.{needs}
-use native.Mathlib.Omega.{arith}
+use Rattle.lists.proofs.Kit.{refl, inl, inr, needs, arith}
 use Rattle.tables.proofs.AnswerLaws.{not-said, was-said}
 use Rattle.screen.proofs.RowAnswers.{name-answers}
 use Rattle.screen.proofs.names.name_of.Statement.{statement}

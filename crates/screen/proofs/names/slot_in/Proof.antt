@@ -1,6 +1,5 @@
 -- `screen::names::slot_in` meets its contract. Assumes nothing.
-use borrow.Author.Needs.{needs}
-use native.Mathlib.Omega.{arith}
+use Rattle.lists.proofs.Kit.{needs, arith}
 use Rattle.screen.proofs.SlotLaws.{slot-within}
 use Rattle.screen.proofs.names.slot_in.Statement.{statement}
 use Rattle.screen.proofs.names.slot_in.Tie as tie

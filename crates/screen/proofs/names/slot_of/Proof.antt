@@ -1,7 +1,5 @@
 -- `screen::names::slot_of` meets its contract. Assumes nothing.
-use Prim.Native.Nat.{_+_, _*_}
-use borrow.Author.Needs.{needs}
-use native.Mathlib.Omega.{arith}
+use Rattle.lists.proofs.Kit.{_+_, _*_, needs, arith}
 use Rattle.screen.specs.declared.names.SlotPlace.the-variants.{Beyond}
 use Rattle.screen.proofs.SlotLaws.{slot-row, slot-line, slot-status}
 use Rattle.screen.proofs.names.slot_of.Statement.{statement}

@@ -1,6 +1,5 @@
 -- `screen::numbers::code` meets its contract. Assumes nothing.
-use borrow.Author.Needs.{needs}
-use native.Mathlib.Omega.{arith}
+use Rattle.lists.proofs.Kit.{needs, arith}
 use Rattle.screen.proofs.NumberLaws.{ascii-low, ascii-high}
 use Rattle.screen.proofs.numbers.code.Statement.{statement}
 use Rattle.screen.proofs.numbers.code.Tie as tie

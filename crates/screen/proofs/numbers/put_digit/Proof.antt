@@ -1,9 +1,5 @@
 -- `screen::numbers::put_digit` meets its contract. Assumes nothing.
-use Prim.Native.Nat.{_*_, _+_}
-use mathlib.Core.Path.{refl}
-use borrow.Author.Needs.{needs}
-use native.Mathlib.Omega.{arith}
-use lib.ListN.{length-set}
+use Rattle.lists.proofs.Kit.{_*_, _+_, refl, needs, arith, length-set}
 use Rattle.screen.proofs.NumberLaws.{digit-put}
 use Rattle.screen.proofs.numbers.put_digit.Statement.{statement}
 use Rattle.screen.proofs.numbers.put_digit.Tie as tie

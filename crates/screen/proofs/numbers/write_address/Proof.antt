@@ -1,5 +1,5 @@
 -- `screen::numbers::write_address` meets its contract. Assumes nothing.
-use borrow.Author.Needs.{needs}
+use Rattle.lists.proofs.Kit.{needs}
 use Rattle.screen.proofs.NumberLaws.{dialled-as}
 use Rattle.screen.proofs.numbers.write_address.Statement.{statement}
 use Rattle.screen.proofs.numbers.write_address.Tie as tie

@@ -1,10 +1,5 @@
 -- `screen::numbers::write_digits` meets its contract. The loop's invariant: the digits from `left` on are written. Assumes nothing.
-use Prim.Native.Nat.{_-_, _%_}
-use mathlib.Core.Path.{_≡_, refl}
-use borrow.Author.Needs.{needs}
-use native.Mathlib.Nat.{mod-lt}
-use native.Mathlib.Omega.{arith}
-use lib.ListN.{length}
+use Rattle.lists.proofs.Kit.{_-_, _%_, _≡_, refl, needs, mod-lt, arith, length}
 use Rattle.screen.proofs.NumberLaws.{DigitsLeft, left-start, left-more, left-end}
 use Rattle.screen.proofs.numbers.write_digits.Statement.{statement}
 use Rattle.screen.proofs.numbers.write_digits.Tie as tie

@@ -1,10 +1,5 @@
 -- `screen::numbers::write_line` meets its contract. The loop's invariant: the first i digits are written, whichever they are. Assumes nothing.
-use Prim.Native.Nat.{ℕ, _*_, _-_, _≤_}
-use mathlib.Core.Path.{_≡_, refl, ap, subst}
-use mathlib.Core.List.{map}
-use borrow.Author.Needs.{needs}
-use native.Mathlib.Omega.{arith}
-use lib.ListN.{length, getD}
+use Rattle.lists.proofs.Kit.{ℕ, _*_, _-_, _≤_, _≡_, refl, ap, subst, map, needs, arith, length, getD}
 use Rattle.writing.specs.Ranges.{InNumber}
 use Rattle.writing.specs.Settings.{Number}
 use Rattle.tables.specs.Layout.{digit-bytes}

@@ -1,5 +1,5 @@
 -- `screen::rows::row_of` meets its contract. Assumes nothing.
-use native.Mathlib.Omega.{arith}
+use Rattle.lists.proofs.Kit.{arith}
 use Rattle.screen.proofs.RowLaws.{named-as, named-none}
 use Rattle.screen.proofs.rows.row_of.Statement.{statement}
 use Rattle.screen.proofs.rows.row_of.Tie as tie

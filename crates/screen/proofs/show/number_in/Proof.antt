@@ -1,5 +1,5 @@
 -- `screen::show::number_in` meets its contract. Assumes nothing.
-use borrow.Author.Needs.{needs}
+use Rattle.lists.proofs.Kit.{needs}
 use Rattle.screen.proofs.ShowLaws.{number-refused, number-shown}
 use Rattle.screen.proofs.show.number_in.Statement.{statement}
 use Rattle.screen.proofs.show.number_in.Tie as tie

@@ -1,6 +1,5 @@
 -- `screen::show::part_in` meets its contract. Assumes nothing.
-use mathlib.Core.Path.{refl}
-use borrow.Author.Needs.{needs}
+use Rattle.lists.proofs.Kit.{refl, needs}
 use Rattle.screen.proofs.ShowLaws.{part-given}
 use Rattle.screen.proofs.show.part_in.Statement.{statement}
 use Rattle.screen.proofs.show.part_in.Tie as tie

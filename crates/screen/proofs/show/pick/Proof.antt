@@ -1,10 +1,5 @@
 -- `screen::show::pick` meets its contract. Assumes nothing.
-use Prim.Native.Nat.{_+_, _-_}
-use mathlib.Core.Path.{_≡_, ap, _∙_}
-use borrow.Author.Needs.{needs}
-use native.Mathlib.Nat.{add-comm, zero-add}
-use native.Mathlib.Omega.{arith}
-use lib.ListN.{take, drop}
+use Rattle.lists.proofs.Kit.{_+_, _-_, _≡_, ap, _∙_, needs, add-comm, zero-add, arith, take, drop}
 use Rattle.screen.proofs.ShowLaws.{fits-as, block-as, offset-as, bytes-as}
 use Rattle.screen.proofs.show.pick.Statement.{statement}
 use Rattle.screen.proofs.show.pick.Tie as tie

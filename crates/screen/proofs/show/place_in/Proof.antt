@@ -1,11 +1,17 @@
 -- `screen::show::place_in` meets its contract. Assumes nothing.
-use borrow.Author.Needs.{needs}
-use native.Mathlib.Omega.{arith}
+use Rattle.lists.proofs.Kit.{needs, arith, _≡_, refl, []}
 use Rattle.screen.specs.declared.names.Name.the-variants.{Text as TextAt, Digits, Group as GroupNumber, Individual as IndividualNumber}
-use Rattle.screen.proofs.AnswerLaws.{text-placed, group-placed, individual-placed}
-use Rattle.screen.proofs.ShowLaws.{row-found, place-refused, digits-kept, digits-shown}
+use Rattle.screen.specs.declared.names.Name.{Name}
+use Rattle.screen.specs.Rows.{group, individual}
+use Rattle.plan.specs.Numbers.{Individual as IndividualPlan, Group as GroupPlan}
+use Rattle.screen.proofs.AnswerLaws.{InRow, Kept, row-found, text-placed, digits-kept, digits-placed, address-placed}
+use Rattle.screen.proofs.ShowLaws.{place-refused}
 use Rattle.screen.proofs.show.place_in.Statement.{statement}
 use Rattle.screen.proofs.show.place_in.Tie as tie
+
+-- what was found in the row, by its case
+found : (c : tie.After-name-of) (case : Name) → Kept case → c .name-of .result ≡ case → InRow (c .before .before .before .args .limits) (c .before .before .before .args .store .now) (c .before .before .before .args .scratch .now) (c .before .before .before .args .row) case
+found c case k e = row-found case k e (c .name-of .ensures)
 
 name-of-requires : tie.Need-name-of-requires
 name-of-requires c κs = search needs
@@ -21,11 +27,8 @@ enum-known-name-3 c = search needs
 
 add-end : tie.Need-add-end
 add-end c =
-    let a = c .before .before .before .before .before .before .args in
-    let n = c .before .before .before .name-of in
     let g = c .before .name3 .given in
-    let i = row-found (a .limits) (a .store .now) (a .scratch .now) (a .row) (n .result) (Digits (g .0 .0)) tt (g .1) (n .ensures) in
-    omega (arith, i .is .4)
+    omega (arith, found (c .before .before .before) (Digits (g .0 .0)) tt (g .1) .is .4)
 
 sub-write-line : tie.Need-sub-write-line
 sub-write-line c = search needs
@@ -35,19 +38,14 @@ part-write-line-start c = search needs
 
 part-write-line-end : tie.Need-part-write-line-end
 part-write-line-end c =
-    let a = c .before .before .before .before .before .before .before .args in
-    let n = c .before .before .before .before .name-of in
     let g = c .before .before .name3 .given in
-    let i = row-found (a .limits) (a .store .now) (a .scratch .now) (a .row) (n .result) (Digits (g .0 .0)) tt (g .1) (n .ensures) in
-    omega (arith, i .is .4)
+    omega (arith, found (c .before .before .before .before) (Digits (g .0 .0)) tt (g .1) .is .4)
 
 write-line-requires : tie.Need-write-line-requires
 write-line-requires c κs =
-    let a = c .before .before .before .before .before .before .before .before .args in
-    let n = c .before .before .before .before .before .name-of in
     let g = c .before .before .before .name3 .given in
-    let i = row-found (a .limits) (a .store .now) (a .scratch .now) (a .row) (n .result) (Digits (g .0 .0)) tt (g .1) (n .ensures) in
-    (i .big, digits-kept (a .limits) (a .store .now) (a .scratch .now) (a .row) (n .result) (g .0 .0) i)
+    let i = found (c .before .before .before .before .before) (Digits (g .0 .0)) tt (g .1) in
+    (i .big, digits-kept i)
 
 enum-known-name-4 : tie.Need-enum-known-name-4
 enum-known-name-4 c = search needs
@@ -57,11 +55,8 @@ dialled-of-group-requires c κs = search needs
 
 write-address-requires : tie.Need-write-address-requires
 write-address-requires c κs =
-    let a = c .before .before .before .before .before .before .before .before .args in
-    let n = c .before .before .before .before .before .name-of in
     let g = c .before .before .before .name4 .given in
-    let i = row-found (a .limits) (a .store .now) (a .scratch .now) (a .row) (n .result) (GroupNumber (g .0 .0)) tt (g .1) (n .ensures) in
-    i .big
+    found (c .before .before .before .before .before) (GroupNumber (g .0 .0)) tt (g .1) .big
 
 enum-known-name-5 : tie.Need-enum-known-name-5
 enum-known-name-5 c = search needs
@@ -71,11 +66,8 @@ dialled-of-individual-requires c κs = search needs
 
 write-address-requires-2 : tie.Need-write-address-requires-2
 write-address-requires-2 c κs =
-    let a = c .before .before .before .before .before .before .before .before .args in
-    let n = c .before .before .before .before .before .name-of in
     let g = c .before .before .before .name5 .given in
-    let i = row-found (a .limits) (a .store .now) (a .scratch .now) (a .row) (n .result) (IndividualNumber (g .0 .0)) tt (g .1) (n .ensures) in
-    i .big
+    found (c .before .before .before .before .before) (IndividualNumber (g .0 .0)) tt (g .1) .big
 
 returns : tie.Need-returns
 returns c =
@@ -86,49 +78,36 @@ returns c =
 
 returns-2 : tie.Need-returns-2
 returns-2 c =
-    let a = c .before .before .before .before .before .before .args in
-    let n = c .before .before .before .name-of in
     let g = c .before .name2 .given in
-    let i = row-found (a .limits) (a .store .now) (a .scratch .now) (a .row) (n .result) (TextAt (g .0 .0) (g .0 .1 .0)) tt (g .1) (n .ensures) in
-    text-placed (a .limits) (a .store .now) (a .scratch .now) (a .row) (g .0 .0) (g .0 .1 .0) i
+    text-placed (found (c .before .before .before) (TextAt (g .0 .0) (g .0 .1 .0)) tt (g .1))
 
 same-length : tie.Need-same-length
 same-length c = search needs
 
 returns-3 : tie.Need-returns-3
 returns-3 c =
-    let a = c .before .before .before .before .before .before .before .before .before .before .before .args in
-    let n = c .before .before .before .before .before .before .before .before .name-of in
     let g = c .before .before .before .before .before .before .name3 .given in
-    let i = row-found (a .limits) (a .store .now) (a .scratch .now) (a .row) (n .result) (Digits (g .0 .0)) tt (g .1) (n .ensures) in
-    let w = c .before .before .write-line in
-    digits-shown (a .limits) (a .store .now) (a .scratch .now) (a .row) (n .result) (g .0 .0) (w .last .0) (w .result) i (w .ensures)
+    digits-placed (found (c .before .before .before .before .before .before .before .before) (Digits (g .0 .0)) tt (g .1)) (c .before .before .write-line .ensures)
 
 same-length-2 : tie.Need-same-length-2
 same-length-2 c = search needs
 
 returns-4 : tie.Need-returns-4
 returns-4 c =
-    let a = c .before .before .before .before .before .before .before .before .before .before .before .args in
-    let n = c .before .before .before .before .before .before .before .before .name-of in
     let g = c .before .before .before .before .before .before .name4 .given in
-    let i = row-found (a .limits) (a .store .now) (a .scratch .now) (a .row) (n .result) (GroupNumber (g .0 .0)) tt (g .1) (n .ensures) in
-    let w = c .before .before .write-address in
+    let i = found (c .before .before .before .before .before .before .before .before) (GroupNumber (g .0 .0)) tt (g .1) in
     let d = c .before .before .before .dialled-of-group in
-    group-placed (a .limits) (a .store .now) (a .scratch .now) (a .row) (g .0 .0) (d .result) (w .last .0) (w .result) i (d .ensures) (w .ensures)
+    address-placed GroupPlan i (group [] (g .0 .0)) (d .result) (g .0 .0 .0) (i .is) (λ ns p. (ns, p, refl)) (d .ensures) (c .before .before .write-address .ensures)
 
 same-length-3 : tie.Need-same-length-3
 same-length-3 c = search needs
 
 returns-5 : tie.Need-returns-5
 returns-5 c =
-    let a = c .before .before .before .before .before .before .before .before .before .before .before .args in
-    let n = c .before .before .before .before .before .before .before .before .name-of in
     let g = c .before .before .before .before .before .before .name5 .given in
-    let i = row-found (a .limits) (a .store .now) (a .scratch .now) (a .row) (n .result) (IndividualNumber (g .0 .0)) tt (g .1) (n .ensures) in
-    let w = c .before .before .write-address2 in
+    let i = found (c .before .before .before .before .before .before .before .before) (IndividualNumber (g .0 .0)) tt (g .1) in
     let d = c .before .before .before .dialled-of-individual in
-    individual-placed (a .limits) (a .store .now) (a .scratch .now) (a .row) (g .0 .0) (d .result) (w .last .0) (w .result) i (d .ensures) (w .ensures)
+    address-placed IndividualPlan i (individual [] (g .0 .0)) (d .result) (g .0 .0 .0) (i .is) (λ ns p. (ns, p, refl)) (d .ensures) (c .before .before .write-address2 .ensures)
 
 pub place-in-spec : {M : Type 1} → statement M
 place-in-spec =

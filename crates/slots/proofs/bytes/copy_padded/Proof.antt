@@ -1,4 +1,4 @@
-use borrow.Author.Needs.{needs}
+use Rattle.lists.proofs.Kit.{needs}
 use Rattle.slots.proofs.Runs.{padded-done}
 use Rattle.slots.proofs.bytes.copy_padded.Statement.{statement}
 use Rattle.slots.proofs.bytes.copy_padded.Tie as tie

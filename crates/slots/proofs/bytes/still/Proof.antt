@@ -1,7 +1,4 @@
-use borrow.Author.Needs.{needs}
-use mathlib.Core.Path.{sym, ap}
-use mathlib.Core.Bool.{_&&_}
-use lib.Dec.{eqb}
+use Rattle.lists.proofs.Kit.{needs, sym, ap, _&&_, eqb}
 use Rattle.slots.proofs.bytes.still.Statement.{statement}
 use Rattle.slots.proofs.bytes.still.Tie as tie
 

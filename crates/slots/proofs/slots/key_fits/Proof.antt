@@ -1,7 +1,4 @@
-use native.Mathlib.Omega.{arith}
-use Prim.Native.Nat.{_-_, _≤_}
-use mathlib.Core.Bool.{false≢true}
-use borrow.Author.Tests.{leb-true, le-leb}
+use Rattle.lists.proofs.Kit.{arith, _-_, _≤_, false≢true, leb-true, le-leb}
 use Rattle.slots.proofs.slots.key_fits.Statement.{statement}
 use Rattle.slots.proofs.slots.key_fits.Tie as tie
 

@@ -1,16 +1,11 @@
-use borrow.Author.Needs.{needs}
-use native.Mathlib.Omega.{arith}
-use Prim.Native.Nat.{ℕ, _-_, _≤_}
-use mathlib.Core.Path.{_≡_, refl, sym, _∙_}
-use lib.ListN.{length}
-use mathlib.Core.List.{List}
+use Rattle.lists.proofs.Kit.{needs, arith, ℕ, _-_, _≤_, _≡_, refl, sym, _∙_, length, List}
 use Rattle.slots.specs.Slots.{Slots, flat, fit, KeyAt}
 use Rattle.slots.proofs.Search.{Rest, search-start, search-more, search-stop, search-end, fit-hit, fit-miss, said-of, fits-said, key-fits, key-not}
 use Rattle.slots.proofs.slots.place_of.Statement.{statement}
 use Rattle.slots.proofs.slots.place_of.Tie as tie
 
 abbrev Inv-loop : tie.InvT-loop
-Inv-loop s w o n key at₀ at = (at ≤ length s) × (KeyAt w o key × ((xs : List (List ℕ)) → Slots w xs → s ≡ flat xs → Rest (fit o key) s w at xs))
+Inv-loop s w o n key at₀ at = (at ≤ length s) × KeyAt w o key × ((xs : List (List ℕ)) → Slots w xs → s ≡ flat xs → Rest (fit o key) s w at xs)
 
 abbrev μ-loop : tie.MeasureT-loop
 μ-loop s w o n key at₀ at = length s - at
@@ -31,7 +26,7 @@ loop-holds : tie.Need-loop-holds Inv-loop μ-loop
 loop-holds c =
     let a = c .before .before .before .before .before .args in
     let f = c .before .key-fits in
-    (omega arith, (key-fits (a .w) (a .o) (a .key .now) (f .result) (fits-said (a .w) (a .o) (a .n) (a .key .now) (c .before .before .if1 .left) (f .ensures)) (c .if2 .left), search-start (fit (a .o) (a .key .now)) (a .s .now) (a .w)))
+    (omega arith, key-fits (a .w) (a .o) (a .key .now) (f .result) (fits-said (a .w) (a .o) (a .n) (a .key .now) (c .before .before .if1 .left) (f .ensures)) (c .if2 .left), search-start (fit (a .o) (a .key .now)) (a .s .now) (a .w))
 
 sub-loop : tie.Need-sub-loop Inv-loop μ-loop
 sub-loop c = search needs
@@ -65,8 +60,8 @@ returns-3 c =
     let t = fit-hit (a .s .now) (l .at) (a .w) (a .o) (a .key .now) (omega arith) (omega arith) (said-of (a .n) (a .key .now) (a .s .now) (l .at) (a .o) long (sym (c .before .alike .ensures) ∙ c .if3 .taken)) in
     record {
       within = omega arith;
-      first = λ k xs q e. search-stop (fit (a .o) (a .key .now)) (a .s .now) (a .w) (l .at) xs (l .inv .1 .1 xs q e) (omega arith) (omega arith) t;
-      cannot = λ h. absurd (h (l .inv .1 .0, c .before .before .before .before .before .before .before .if1 .left));
+      first = λ k xs q e. search-stop (fit (a .o) (a .key .now)) (a .s .now) (a .w) (l .at) xs (l .inv .2 xs q e) (omega arith) (omega arith) t;
+      cannot = λ h. absurd (h (l .inv .1, c .before .before .before .before .before .before .before .if1 .left));
     }
 
 sub-is-zeros : tie.Need-sub-is-zeros Inv-loop μ-loop
@@ -89,8 +84,8 @@ returns-4 c =
     let t = fit-miss (a .s .now) (l .at) (a .w) (a .o) (a .key .now) (omega arith) (omega arith) (said-of (a .n) (a .key .now) (a .s .now) (l .at) (a .o) long (sym (c .before .before .before .before .alike .ensures) ∙ c .before .before .before .if3 .left)) (sym (c .before .is-zeros .ensures) ∙ c .if4 .taken) in
     record {
       within = omega arith;
-      first = λ k xs q e. search-stop (fit (a .o) (a .key .now)) (a .s .now) (a .w) (l .at) xs (l .inv .1 .1 xs q e) (omega arith) (omega arith) t;
-      cannot = λ h. absurd (h (l .inv .1 .0, c .before .before .before .before .before .before .before .before .before .before .if1 .left));
+      first = λ k xs q e. search-stop (fit (a .o) (a .key .now)) (a .s .now) (a .w) (l .at) xs (l .inv .2 xs q e) (omega arith) (omega arith) t;
+      cannot = λ h. absurd (h (l .inv .1, c .before .before .before .before .before .before .before .before .before .before .if1 .left));
     }
 
 loop-less : tie.Need-loop-less Inv-loop μ-loop
@@ -102,7 +97,7 @@ loop-again c =
     let a = c .before .before .before .before .before .before .before .before .before .before .before .before .before .args in
     let long = c .before .before .before .before .before .before .before .before .before .before .if1 .left in
     let t = fit-miss (a .s .now) (l .at) (a .w) (a .o) (a .key .now) (omega arith) (omega arith) (said-of (a .n) (a .key .now) (a .s .now) (l .at) (a .o) long (sym (c .before .before .before .before .alike .ensures) ∙ c .before .before .before .if3 .left)) (sym (c .before .is-zeros .ensures) ∙ c .if4 .left) in
-    (omega arith, (l .inv .1 .0, λ xs q e. search-more (fit (a .o) (a .key .now)) (a .s .now) (a .w) (l .at) xs (l .inv .1 .1 xs q e) (omega arith) (omega arith) t))
+    (omega arith, l .inv .1, λ xs q e. search-more (fit (a .o) (a .key .now)) (a .s .now) (a .w) (l .at) xs (l .inv .2 xs q e) (omega arith) (omega arith) t)
 
 returns-5 : tie.Need-returns-5 Inv-loop μ-loop
 returns-5 c =
@@ -110,8 +105,8 @@ returns-5 c =
     let a = c .before .before .before .before .before .before .before .args in
     record {
       within = omega arith;
-      first = λ k xs q e. search-end (fit (a .o) (a .key .now)) (a .s .now) (a .w) (l .at) xs (l .inv .1 .1 xs q e) (omega arith);
-      cannot = λ h. absurd (h (l .inv .1 .0, c .before .before .before .before .if1 .left));
+      first = λ k xs q e. search-end (fit (a .o) (a .key .now)) (a .s .now) (a .w) (l .at) xs (l .inv .2 xs q e) (omega arith);
+      cannot = λ h. absurd (h (l .inv .1, c .before .before .before .before .if1 .left));
     }
 
 pub place-of-spec : {M : Type 1} → statement M

@@ -1,9 +1,4 @@
-use borrow.Author.Needs.{needs}
-use native.Mathlib.Omega.{arith}
-use Prim.Native.Nat.{ℕ, _-_, _≤_}
-use mathlib.Core.Path.{_≡_, refl, sym, _∙_}
-use lib.ListN.{length}
-use mathlib.Core.List.{List}
+use Rattle.lists.proofs.Kit.{needs, arith, ℕ, _-_, _≤_, _≡_, refl, sym, _∙_, length, List}
 use Rattle.slots.specs.Slots.{Slots, flat, KeyAt}
 use Rattle.slots.proofs.Search.{key-fits, key-not}
 use Rattle.slots.proofs.Gaps.{Gone, gone-start, gone-end, turn, turn-key, turn-miss, turn-hit}
@@ -11,7 +6,7 @@ use Rattle.slots.proofs.slots.remove_all.Statement.{statement}
 use Rattle.slots.proofs.slots.remove_all.Tie as tie
 
 abbrev Inv-loop : tie.InvT-loop
-Inv-loop s₀ w o key at₀ s at = (at ≤ length s₀) × ((length s ≡ length s₀) × (KeyAt w o key × ((xs : List (List ℕ)) → Slots w xs → s₀ ≡ flat xs → Gone w o key xs s at)))
+Inv-loop s₀ w o key at₀ s at = (at ≤ length s₀) × (length s ≡ length s₀) × KeyAt w o key × ((xs : List (List ℕ)) → Slots w xs → s₀ ≡ flat xs → Gone w o key xs s at)
 
 abbrev μ-loop : tie.MeasureT-loop
 μ-loop s₀ w o key at₀ s at = at
@@ -29,7 +24,7 @@ loop-holds : tie.Need-loop-holds Inv-loop μ-loop
 loop-holds c =
     let a = c .before .before .before .before .args in
     let f = c .before .key-fits in
-    (omega arith, (refl, (key-fits (a .w) (a .o) (a .key .now) (f .result) (f .ensures) (c .if1 .left), λ xs q e. gone-start (a .w) (a .o) (a .key .now) xs (a .s .now) e)))
+    (omega arith, refl, key-fits (a .w) (a .o) (a .key .now) (f .result) (f .ensures) (c .if1 .left), λ xs q e. gone-start (a .w) (a .o) (a .key .now) xs (a .s .now) e)
 
 add-a : tie.Need-add-a Inv-loop μ-loop
 add-a c = search needs
@@ -72,15 +67,11 @@ loop-again c =
     let d = c .before .before .before .before .if2 .taken in
     let u = c .before .before .shift in (
       search needs,
-      (
-        search needs,
-        (
-          l .inv .1 .1 .0,
-          λ xs q e.
-              let t = turn (a .w) (a .o) (a .key .now) xs (l .s) (l .at) q (omega arith) (l .inv .1 .1 .1 xs q e) (omega arith) in
-              turn-hit (a .w) (a .o) (a .key .now) xs (l .s) (l .at - a .w) t (u .last .0) (turn-key (a .w) (a .o) (a .key .now) xs (l .s) (l .at - a .w) t (omega arith) (sym y ∙ d)) (u .ensures),
-        ),
-      ),
+      search needs,
+      l .inv .2,
+      λ xs q e.
+          let t = turn (a .w) (a .o) (a .key .now) xs (l .s) (l .at) q (omega arith) (l .inv .3 xs q e) (omega arith) in
+          turn-hit (a .w) (a .o) (a .key .now) xs (l .s) (l .at - a .w) t (u .last .0) (turn-key (a .w) (a .o) (a .key .now) xs (l .s) (l .at - a .w) t (omega arith) (sym y ∙ d)) (u .ensures),
     )
 
 loop-less-2 : tie.Need-loop-less-2 Inv-loop μ-loop
@@ -91,15 +82,11 @@ loop-again-2 c =
     let l = c .before .before .before .before .before .loop in
     let a = c .before .before .before .before .before .before .before .before .before .before .args in (
       search needs,
-      (
-        search needs,
-        (
-          l .inv .1 .1 .0,
-          λ xs q e.
-              let t = turn (a .w) (a .o) (a .key .now) xs (l .s) (l .at) q (omega arith) (l .inv .1 .1 .1 xs q e) (omega arith) in
-              turn-miss (a .w) (a .o) (a .key .now) xs (l .s) (l .at - a .w) t (turn-key (a .w) (a .o) (a .key .now) xs (l .s) (l .at - a .w) t (omega arith) (sym (c .before .same .ensures) ∙ c .if2 .left)),
-        ),
-      ),
+      search needs,
+      l .inv .2,
+      λ xs q e.
+          let t = turn (a .w) (a .o) (a .key .now) xs (l .s) (l .at) q (omega arith) (l .inv .3 xs q e) (omega arith) in
+          turn-miss (a .w) (a .o) (a .key .now) xs (l .s) (l .at - a .w) t (turn-key (a .w) (a .o) (a .key .now) xs (l .s) (l .at - a .w) t (omega arith) (sym (c .before .same .ensures) ∙ c .if2 .left)),
     )
 
 same-length : tie.Need-same-length Inv-loop μ-loop
@@ -109,7 +96,7 @@ returns-2 : tie.Need-returns-2 Inv-loop μ-loop
 returns-2 c =
     let l = c .before .loop in
     let a = c .before .before .before .before .before .before .args in
-    record { gone = λ k xs q e. gone-end (a .w) (a .o) (a .key .now) xs (l .s) (l .at) q (l .inv .1 .1 .1 xs q e) (omega arith); kept = λ h. absurd (h (l .inv .1 .1 .0)) }
+    record { gone = λ k xs q e. gone-end (a .w) (a .o) (a .key .now) xs (l .s) (l .at) q (l .inv .3 xs q e) (omega arith); kept = λ h. absurd (h (l .inv .2)) }
 
 pub remove-all-spec : {M : Type 1} → statement M
 remove-all-spec =

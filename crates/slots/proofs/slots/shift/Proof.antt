@@ -1,19 +1,10 @@
-use borrow.Author.Needs.{needs}
-use native.Mathlib.Omega.{arith}
-use Prim.Native.Nat.{_+_, _-_, _≤_, _<_}
-use mathlib.Core.Path.{_≡_, refl}
-use lib.ListN.{length, getD, drop, take}
-use mathlib.Core.Logic.{⊎-elim}
-use mathlib.Core.List.{_++_}
-use native.Mathlib.Nat.{add-comm}
-use lib.ListN.{length-set, length-drop}
-use lib.Seq.{getD-drop}
+use Rattle.lists.proofs.Kit.{needs, arith, _+_, _-_, _≤_, _<_, _≡_, refl, length, getD, drop, take, ⊎-elim, _++_, add-comm, length-set, length-drop, getD-drop}
 use Rattle.slots.proofs.Runs.{copy-more, getD-past, shift-done}
 use Rattle.slots.proofs.slots.shift.Statement.{statement}
 use Rattle.slots.proofs.slots.shift.Tie as tie
 
 abbrev Inv-loop : tie.InvT-loop
-Inv-loop s₀ w n i₀ s i = (i ≤ n) × ((n ≡ length s₀ - w) × ((s ≡ take i (drop w s₀) ++ drop i s₀) × (length s ≡ length s₀)))
+Inv-loop s₀ w n i₀ s i = (i ≤ n) × (n ≡ length s₀ - w) × (s ≡ take i (drop w s₀) ++ drop i s₀) × (length s ≡ length s₀)
 
 abbrev μ-loop : tie.MeasureT-loop
 μ-loop s₀ w n i₀ s i = n - i
@@ -22,7 +13,7 @@ sub-n : tie.Need-sub-n Inv-loop μ-loop
 sub-n c = search needs
 
 loop-holds : tie.Need-loop-holds Inv-loop μ-loop
-loop-holds c = (omega arith, (⊎-elim (λ w. omega arith) (λ w. omega arith) (c .if1 .came), (refl, refl)))
+loop-holds c = (omega arith, ⊎-elim (λ w. omega arith) (λ w. omega arith) (c .if1 .came), refl, refl)
 
 add-s : tie.Need-add-s Inv-loop μ-loop
 add-s c = search needs
@@ -46,8 +37,8 @@ loop-again c =
     let w = c .before .before .before .before .before .args .w in
     let d : l .i < length (drop w s) = simp length-drop (omega arith) in
     let e : getD (l .s) (l .i + w) 0 ≡ getD (drop w s) (l .i) 0
-    = rw (l .inv .1 .1 .0, getD-past (drop w s) s (l .i) (l .i + w) (omega arith) (omega arith), getD-drop w s (l .i) 0, add-comm w (l .i)) in
-    (omega arith, (l .inv .1 .0, (rw (e, l .inv .1 .1 .0) (copy-more (drop w s) s (l .i) d (omega arith)), simp length-set (omega arith))))
+    = rw (l .inv .2, getD-past (drop w s) s (l .i) (l .i + w) (omega arith) (omega arith), getD-drop w s (l .i) 0, add-comm w (l .i)) in
+    (omega arith, l .inv .1, rw (e, l .inv .2) (copy-more (drop w s) s (l .i) d (omega arith)), simp length-set (omega arith))
 
 sub-wipe : tie.Need-sub-wipe Inv-loop μ-loop
 sub-wipe c = search needs
@@ -70,7 +61,7 @@ returns c =
     let n = c .before .before .before .before .before .before .before .if1 .n in
     let a = c .before .before .before .before .before .before .before .before .before .args in
     let e : n ≡ l .i = omega arith in
-    shift-done (a .s .now) (l .s) (c .before .before .wipe .last .0) (a .w) n (l .inv .1 .0) (rw e (l .inv .1 .1 .0)) (l .inv .1 .1 .1) (c .before .before .wipe .ensures)
+    shift-done (a .s .now) (l .s) (c .before .before .wipe .last .0) (a .w) n (l .inv .1) (rw e (l .inv .2)) (l .inv .3) (c .before .before .wipe .ensures)
 
 pub shift-spec : {M : Type 1} → statement M
 shift-spec =

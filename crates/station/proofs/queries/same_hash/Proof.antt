@@ -1,5 +1,4 @@
-use borrow.Author.Needs.{needs}
-use native.Mathlib.Omega.{arith}
+use Rattle.lists.proofs.Kit.{needs, arith}
 use Rattle.station.proofs.ReplyLaws.{size-most}
 use Rattle.station.proofs.QueryLaws.{not-kept, code-0, other-code, not-there, compared}
 use Rattle.station.proofs.queries.same_hash.Statement.{statement}

@@ -1,6 +1,5 @@
 use Rattle.station.proofs.ReplyLaws.{size-most, kept-length, room-after, reply-copied}
-use borrow.Author.Needs.{needs}
-use native.Mathlib.Omega.{arith}
+use Rattle.lists.proofs.Kit.{needs, arith}
 use Rattle.station.proofs.replies.write_reply.Statement.{statement}
 use Rattle.station.proofs.replies.write_reply.Tie as tie
 

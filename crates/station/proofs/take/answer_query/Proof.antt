@@ -1,6 +1,4 @@
-use borrow.Author.Needs.{needs}
-use native.Mathlib.Omega.{arith}
-use mathlib.Core.Logic.{inl, inr, ⊎-elim}
+use Rattle.lists.proofs.Kit.{needs, arith, inl, inr, ⊎-elim}
 use Rattle.station.proofs.TakeLaws.{queried}
 use Rattle.station.proofs.take.answer_query.Statement.{statement}
 use Rattle.station.proofs.take.answer_query.Tie as tie

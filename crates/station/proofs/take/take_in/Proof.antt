@@ -1,9 +1,4 @@
-use borrow.Author.Needs.{needs}
-use Prim.Native.Nat.{_≤_}
-use mathlib.Core.Path.{_≡_, refl, subst}
-use native.Mathlib.Omega.{arith}
-use lib.ListN.{length}
-use mathlib.Core.Logic.{inl, inr}
+use Rattle.lists.proofs.Kit.{needs, _≤_, _≡_, refl, subst, arith, length, inl, inr}
 use Rattle.read_carrier.specs.Message.{MessageIs}
 use Rattle.read_carrier.specs.declared.carrier.Message.the-variants.{Size, Carrier, «Type» as OtherType, Version, NoRequest, Request, NoQuery, Query as AQuery}
 use Rattle.tables.specs.Layout.{used-size}

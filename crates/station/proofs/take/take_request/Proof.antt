@@ -1,12 +1,11 @@
-use borrow.Author.Needs.{needs}
-use mathlib.Core.Path.{subst}
+use Rattle.lists.proofs.Kit.{needs, subst}
 use Rattle.requests.specs.Running.{RunIs}
 use Rattle.station.proofs.TakeLaws.{forgotten, request-refused, request-taken}
 use Rattle.station.proofs.take.take_request.Statement.{statement}
 use Rattle.station.proofs.take.take_request.Tie as tie
 
-copy-requires : tie.Need-copy-requires
-copy-requires c κs = search needs
+load-requires : tie.Need-load-requires
+load-requires c κs = search needs
 
 sub-clear-hash : tie.Need-sub-clear-hash
 sub-clear-hash c = search needs
@@ -32,8 +31,8 @@ turn-down-requires c κs = search needs
 enum-known-run-2 : tie.Need-enum-known-run-2
 enum-known-run-2 c = search needs
 
-copy-requires-2 : tie.Need-copy-requires-2
-copy-requires-2 c κs = search needs
+save-requires : tie.Need-save-requires
+save-requires c κs = search needs
 
 sub-write-reply : tie.Need-sub-write-reply
 sub-write-reply c = search needs
@@ -59,10 +58,15 @@ same-length-3 c = search needs
 returns : tie.Need-returns
 returns c =
     let a = c .before .before .before .before .before .before .before .before .before .before .before .before .before .before .before .before .before .before .before .before .before .before .before .before .args in
+    let (big, s, l) = c .before .before .before .before .before .before .before .before .before .before .before .before .before .before .before .before .before .before .before .before .before .before .before .before .pre in
+    let w = c .before .before .before .before .before .before .before .before .before .before .before .before .before .before .before .before .before .load in
+    let y = c .before .before .before .before .before .before .before .before .before .before .before .before .before .clear-hash in
     let k = c .before .before .before .before .before .before .before .before .before .take-settings in
-    let s = c .before .before .before .before .before .before .before .before .before .before .before .before .before .before .before .before .before .before .before .before .before .before .before .before .pre .1 in
-    let z = subst (RunIs (a .limits) (a .count) (a .m .now) (a .at) _ (k .last .0)) (c .before .before .before .before .before .run .given .1) (k .ensures) in
-    λ t h. request-refused (a .limits) (a .m .now) (a .count) (a .at) (a .store .now) (a .reply .now) s t _ (k .last .0) (forgotten (a .limits) (a .store .now) (a .work .now) (c .before .before .before .before .before .before .before .before .before .before .before .before .before .before .before .before .before .copy .last .0) s (c .before .before .before .before .before .before .before .before .before .before .before .before .before .before .before .before .before .before .before .before .before .before .before .before .pre .2) (c .before .before .before .before .before .before .before .before .before .before .before .before .before .before .before .before .before .copy .ensures) t (c .before .before .before .before .before .before .before .before .before .before .before .before .before .clear-hash .last .0) h (c .before .before .before .before .before .before .before .before .before .before .before .before .before .clear-hash .ensures)) (c .before .before .before .before .before .run .given .0 .0) _ _ (c .before .before .turn-down .result) z (c .before .before .turn-down .ensures)
+    let g = c .before .before .before .before .before .run .given in
+    let z = subst (RunIs (a .limits) (a .count) (a .m .now) (a .at) _ (k .last .0)) (g .1) (k .ensures) in
+    λ t h.
+    let f = forgotten (a .limits) t (w .last .0) (y .last .0) (s .roomy) (w .ensures l t (s .roomy) h) (y .ensures) in
+    request-refused (a .limits) (a .m .now) (a .count) (a .at) (a .store .now) (a .reply .now) s t _ (k .last .0) f (g .0 .0) _ _ (c .before .before .turn-down .result) z (c .before .before .turn-down .ensures)
 
 same-length-4 : tie.Need-same-length-4
 same-length-4 c = search needs
@@ -76,16 +80,21 @@ same-length-6 c = search needs
 returns-2 : tie.Need-returns-2
 returns-2 c =
     let a = c .before .before .before .before .before .before .before .before .before .before .before .before .before .before .before .before .before .before .before .before .before .before .before .before .before .before .before .before .before .before .before .args in
+    let (big, s, l) = c .before .before .before .before .before .before .before .before .before .before .before .before .before .before .before .before .before .before .before .before .before .before .before .before .before .before .before .before .before .before .before .pre in
+    let w = c .before .before .before .before .before .before .before .before .before .before .before .before .before .before .before .before .before .before .before .before .before .before .before .before .load in
+    let y = c .before .before .before .before .before .before .before .before .before .before .before .before .before .before .before .before .before .before .before .before .clear-hash in
     let k = c .before .before .before .before .before .before .before .before .before .before .before .before .before .before .before .before .take-settings in
-    let s = c .before .before .before .before .before .before .before .before .before .before .before .before .before .before .before .before .before .before .before .before .before .before .before .before .before .before .before .before .before .before .before .pre .1 in
-    let z = subst (RunIs (a .limits) (a .count) (a .m .now) (a .at) _ (k .last .0)) (c .before .before .before .before .before .before .before .before .before .before .before .before .run2 .given .1) (k .ensures) in
-    λ t h. request-taken (a .limits) (a .m .now) (a .count) (a .at) (a .store .now) (a .reply .now) s t _ (k .last .0) (forgotten (a .limits) (a .store .now) (a .work .now) (c .before .before .before .before .before .before .before .before .before .before .before .before .before .before .before .before .before .before .before .before .before .before .before .before .copy .last .0) s (c .before .before .before .before .before .before .before .before .before .before .before .before .before .before .before .before .before .before .before .before .before .before .before .before .before .before .before .before .before .before .before .pre .2) (c .before .before .before .before .before .before .before .before .before .before .before .before .before .before .before .before .before .before .before .before .before .before .before .before .copy .ensures) t (c .before .before .before .before .before .before .before .before .before .before .before .before .before .before .before .before .before .before .before .before .clear-hash .last .0) h (c .before .before .before .before .before .before .before .before .before .before .before .before .before .before .before .before .before .before .before .before .clear-hash .ensures)) (c .before .before .before .before .before .before .before .before .before .before .before .before .run2 .given .0 .0) _ _ _ z (c .before .before .before .before .before .before .before .before .copy2 .ensures) (c .before .before .write-reply .ensures (c .before .before .before .before .before .before .before .before .before .before .before .before .before .before .before .before .before .before .before .before .before .before .before .before .before .before .before .before .before .before .before .pre .0))
+    let g = c .before .before .before .before .before .before .before .before .before .before .before .before .run2 .given in
+    let z = subst (RunIs (a .limits) (a .count) (a .m .now) (a .at) _ (k .last .0)) (g .1) (k .ensures) in
+    λ t h.
+    let f = forgotten (a .limits) t (w .last .0) (y .last .0) (s .roomy) (w .ensures l t (s .roomy) h) (y .ensures) in
+    request-taken (a .limits) (a .m .now) (a .count) (a .at) (a .store .now) (a .reply .now) s t _ (k .last .0) f (g .0 .0) _ _ _ z (c .before .before .before .before .before .before .before .before .save .ensures) (c .before .before .write-reply .ensures big)
 
 pub take-request-spec : {M : Type 1} → statement M
 take-request-spec =
     tie.close
     (tie.spec
-    copy-requires
+    load-requires
     sub-clear-hash
     part-clear-hash-start
     part-clear-hash-end
@@ -94,7 +103,7 @@ take-request-spec =
     enum-known-run
     turn-down-requires
     enum-known-run-2
-    copy-requires-2
+    save-requires
     sub-write-reply
     part-write-reply-start
     part-write-reply-end

@@ -1,7 +1,4 @@
-use borrow.Author.Needs.{needs}
-use native.Mathlib.Omega.{arith}
-use mathlib.Core.Path.{refl}
-use mathlib.Core.Bool.{true, false}
+use Rattle.lists.proofs.Kit.{needs, arith, refl, true, false}
 use Rattle.tables.specs.Tables.{no-hash}
 use Rattle.station.proofs.TakeLaws.{no-hash-ok, replied}
 use Rattle.station.proofs.take.turn_down.Statement.{statement}

@@ -1,4 +1,4 @@
-use borrow.Author.Needs.{needs}
+use Rattle.lists.proofs.Kit.{needs}
 use Rattle.tables.proofs.AnswerLaws.{refused, not-said, was-said, turned}
 use Rattle.store_check.proofs.checks.is_store.Statement.{statement}
 use Rattle.store_check.proofs.checks.is_store.Tie as tie

@@ -1,7 +1,4 @@
-use borrow.Author.Needs.{needs}
-use native.Mathlib.Omega.{arith}
-use Prim.Native.Nat.{_+_, _*_}
-use mathlib.Core.Path.{sym, _∙_}
+use Rattle.lists.proofs.Kit.{needs, arith, _+_, _*_, sym, _∙_}
 use Rattle.slots.proofs.Tables.{slot-wide}
 use Rattle.tables.proofs.AnswerLaws.{refused, not-said, was-said}
 use Rattle.store_check.proofs.StoreChecks.{store-is}
@@ -60,8 +57,8 @@ channels-ok-requires c κs = search needs
 returns-3 : tie.Need-returns-3
 returns-3 c =
     let s = c .before .before .before .before .before .before .before .before .before .before .before .args .store .now in
-    let m = c .before .before .before .before .before .before .before .before .before .before .before .args .limits in
-    refused (λ x. not-said (c .before .channels-ok .result) (c .before .channels-ok .ensures (m .channels) (slot-wide s lists-at (m .channels * 2) (omega arith))) (c .if3 .taken) (store-is m s (c .before .before .before .before .before .before .before .before .before .before .before .pre .0) (c .before .before .before .before .before .before .before .before .before .before .before .pre .1) .1 x .1 .1 .0))
+    let lim = c .before .before .before .before .before .before .before .before .before .before .before .args .limits in
+    refused (λ x. not-said (c .before .channels-ok .result) (c .before .channels-ok .ensures (lim .channels) (slot-wide s lists-at (lim .channels * 2) (omega arith))) (c .if3 .taken) (store-is lim s (c .before .before .before .before .before .before .before .before .before .before .before .pre .0) (c .before .before .before .before .before .before .before .before .before .before .before .pre .1) .1 x .1 .1 .0))
 
 mul-spare : tie.Need-mul-spare
 mul-spare c = search needs
@@ -84,8 +81,8 @@ lines-ok-requires c κs = search needs
 returns-4 : tie.Need-returns-4
 returns-4 c =
     let s = c .before .before .before .before .before .before .before .before .before .before .before .before .before .before .before .args .store .now in
-    let m = c .before .before .before .before .before .before .before .before .before .before .before .before .before .before .before .args .limits in
-    refused (λ x. not-said (c .before .lines-ok .result) (c .before .lines-ok .ensures (m .lines) (slot-wide s (lists-at + m .channels * 2) (m .lines * line-width) (omega arith))) (c .if4 .taken) (store-is m s (c .before .before .before .before .before .before .before .before .before .before .before .before .before .before .before .pre .0) (c .before .before .before .before .before .before .before .before .before .before .before .before .before .before .before .pre .1) .1 x .1 .1 .1 .0))
+    let lim = c .before .before .before .before .before .before .before .before .before .before .before .before .before .before .before .args .limits in
+    refused (λ x. not-said (c .before .lines-ok .result) (c .before .lines-ok .ensures (lim .lines) (slot-wide s (lists-at + lim .channels * 2) (lim .lines * line-width) (omega arith))) (c .if4 .taken) (store-is lim s (c .before .before .before .before .before .before .before .before .before .before .before .before .before .before .before .pre .0) (c .before .before .before .before .before .before .before .before .before .before .before .before .before .before .before .pre .1) .1 x .1 .1 .1 .0))
 
 sub-is-clear : tie.Need-sub-is-clear
 sub-is-clear c = search needs
@@ -102,12 +99,12 @@ is-clear-requires c κs = search needs
 returns-5 : tie.Need-returns-5
 returns-5 c =
     let s = c .before .before .before .before .before .before .before .before .before .before .before .before .before .before .before .before .before .args .store .now in
-    let m = c .before .before .before .before .before .before .before .before .before .before .before .before .before .before .before .before .before .args .limits in
-    let t = store-is m s (c .before .before .before .before .before .before .before .before .before .before .before .before .before .before .before .before .before .pre .0) (c .before .before .before .before .before .before .before .before .before .before .before .before .before .before .before .before .before .pre .1) in
+    let lim = c .before .before .before .before .before .before .before .before .before .before .before .before .before .before .before .before .before .args .limits in
+    let t = store-is lim s (c .before .before .before .before .before .before .before .before .before .before .before .before .before .before .before .before .before .pre .0) (c .before .before .before .before .before .before .before .before .before .before .before .before .before .before .before .before .before .pre .1) in
     let f = was-said (c .before .before .before .before .before .before .before .before .before .before .before .before .before .before .fixed-ok .result) (c .before .before .before .before .before .before .before .before .before .before .before .before .before .before .fixed-ok .ensures) (c .before .before .before .before .before .before .before .before .before .before .before .before .before .if1 .left) in
     let i = was-said (c .before .before .before .before .before .before .before .before .before .before .before .indexed-ok .result) (c .before .before .before .before .before .before .before .before .before .before .before .indexed-ok .ensures) (c .before .before .before .before .before .before .before .before .before .before .if2 .left) in
-    let h = was-said (c .before .before .before .before .before .before .before .channels-ok .result) (c .before .before .before .before .before .before .before .channels-ok .ensures (m .channels) (slot-wide s lists-at (m .channels * 2) (omega arith))) (c .before .before .before .before .before .before .if3 .left) in
-    let l = was-said (c .before .before .before .lines-ok .result) (c .before .before .before .lines-ok .ensures (m .lines) (slot-wide s (lists-at + m .channels * 2) (m .lines * line-width) (omega arith))) (c .before .before .if4 .left) in
+    let h = was-said (c .before .before .before .before .before .before .before .channels-ok .result) (c .before .before .before .before .before .before .before .channels-ok .ensures (lim .channels) (slot-wide s lists-at (lim .channels * 2) (omega arith))) (c .before .before .before .before .before .before .if3 .left) in
+    let l = was-said (c .before .before .before .lines-ok .result) (c .before .before .before .lines-ok .ensures (lim .lines) (slot-wide s (lists-at + lim .channels * 2) (lim .lines * line-width) (omega arith))) (c .before .before .if4 .left) in
     (λ e. t .0 (f, (i, (h, (l, sym (c .is-clear .ensures) ∙ e)))), λ x. c .is-clear .ensures ∙ t .1 x .1 .1 .1 .1)
 
 pub parts-ok-spec : {M : Type 1} → statement M

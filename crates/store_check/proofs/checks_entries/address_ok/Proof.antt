@@ -1,5 +1,4 @@
-use borrow.Author.Needs.{needs}
-use native.Mathlib.Omega.{arith}
+use Rattle.lists.proofs.Kit.{needs, arith}
 use Rattle.tables.proofs.AnswerLaws.{refused}
 use Rattle.store_check.proofs.EntryChecks.{address-low, address-high}
 use Rattle.store_check.proofs.checks_entries.address_ok.Statement.{statement}

@@ -1,8 +1,4 @@
-use borrow.Author.Needs.{needs}
-use native.Mathlib.Omega.{arith}
-use Prim.Native.Nat.{_-_, _≤_}
-use lib.ListN.{length, drop, drop-of-length-le}
-use mathlib.Core.Logic.{_↔_}
+use Rattle.lists.proofs.Kit.{needs, arith, _-_, _≤_, length, drop, drop-of-length-le, _↔_}
 use Rattle.lists.specs.Every.{All, All}
 use Rattle.lists.proofs.Every.{all-from}
 use Rattle.tables.proofs.AnswerLaws.{refused, granted}

@@ -1,5 +1,4 @@
-use borrow.Author.Needs.{needs}
-use native.Mathlib.Omega.{arith}
+use Rattle.lists.proofs.Kit.{needs, arith}
 use Rattle.tables.proofs.AnswerLaws.{refused, not-said, was-said, turned}
 use Rattle.store_check.proofs.EntryChecks.{line-is}
 use Rattle.slots.proofs.Tables.{slot-wide}
@@ -11,6 +10,12 @@ shared-slice-read-if1 c = search needs
 
 returns : tie.Need-returns
 returns c = refused (λ x. omega (arith, line-is (c .before .before .before .args .s .now) (c .before .before .before .pre) .1 x .0))
+
+shared-slice-read-if2 : tie.Need-shared-slice-read-if2
+shared-slice-read-if2 c = search needs
+
+returns-2 : tie.Need-returns-2
+returns-2 c = refused (λ x. omega (arith, line-is (c .before .before .before .before .before .args .s .now) (c .before .before .before .before .before .pre) .1 x .1 .0))
 
 sub-digits-ok : tie.Need-sub-digits-ok
 sub-digits-ok c = search needs
@@ -24,9 +29,9 @@ part-digits-ok-end c = search needs
 digits-ok-requires : tie.Need-digits-ok-requires
 digits-ok-requires c κs = search needs
 
-returns-2 : tie.Need-returns-2
-returns-2 c =
-    refused (λ x. not-said (c .before .digits-ok .result) (c .before .digits-ok .ensures) (c .if2 .taken) (line-is (c .before .before .before .before .before .before .args .s .now) (c .before .before .before .before .before .before .pre) .1 x .1 .0))
+returns-3 : tie.Need-returns-3
+returns-3 c =
+    refused (λ x. not-said (c .before .digits-ok .result) (c .before .digits-ok .ensures) (c .if3 .taken) (line-is (c .before .before .before .before .before .before .before .before .args .s .now) (c .before .before .before .before .before .before .before .before .pre) .1 x .1 .1 .0))
 
 sub-text-ok : tie.Need-sub-text-ok
 sub-text-ok c = search needs
@@ -40,11 +45,12 @@ part-text-ok-end c = search needs
 text-ok-requires : tie.Need-text-ok-requires
 text-ok-requires c κs = search needs
 
-returns-3 : tie.Need-returns-3
-returns-3 c =
-    let t = line-is (c .before .before .before .before .before .before .before .before .args .s .now) (c .before .before .before .before .before .before .before .before .pre) in
-    let d = was-said (c .before .before .before .digits-ok .result) (c .before .before .before .digits-ok .ensures) (c .before .before .if2 .left) in
-    turned (c .text-ok .result) (c .text-ok .ensures 16 (slot-wide (c .before .before .before .before .before .before .before .before .args .s .now) 19 32 (omega arith))) (λ x. t .0 (omega arith, (d, x))) (λ x. t .1 x .1 .1)
+returns-4 : tie.Need-returns-4
+returns-4 c =
+    let a = c .before .before .before .before .before .before .before .before .before .before in
+    let t = line-is (a .args .s .now) (a .pre) in
+    let d = was-said (c .before .before .before .digits-ok .result) (c .before .before .before .digits-ok .ensures) (c .before .before .if3 .left) in
+    turned (c .text-ok .result) (c .text-ok .ensures 16 (slot-wide (a .args .s .now) 20 32 (omega arith))) (λ x. t .0 (omega arith, (omega arith, (d, x)))) (λ x. t .1 x .1 .1 .1)
 
 pub line-ok-spec : {M : Type 1} → statement M
 line-ok-spec =
@@ -52,13 +58,15 @@ line-ok-spec =
     (tie.spec
     shared-slice-read-if1
     returns
+    shared-slice-read-if2
+    returns-2
     sub-digits-ok
     part-digits-ok-start
     part-digits-ok-end
     digits-ok-requires
-    returns-2
+    returns-3
     sub-text-ok
     part-text-ok-start
     part-text-ok-end
     text-ok-requires
-    returns-3)
+    returns-4)

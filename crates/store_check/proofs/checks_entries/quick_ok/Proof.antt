@@ -1,6 +1,4 @@
-use borrow.Author.Needs.{needs}
-use mathlib.Core.Path.{sym, _∙_}
-use mathlib.Core.Bool.{true≢false}
+use Rattle.lists.proofs.Kit.{needs, sym, _∙_, true≢false}
 use Rattle.tables.proofs.AnswerLaws.{refused, turned}
 use Rattle.store_check.proofs.EntryChecks.{quick-is}
 use Rattle.store_check.proofs.checks_entries.quick_ok.Statement.{statement}

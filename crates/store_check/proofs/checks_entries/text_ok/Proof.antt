@@ -1,4 +1,4 @@
-use borrow.Author.Needs.{needs}
+use Rattle.lists.proofs.Kit.{needs}
 use Rattle.store_check.proofs.TextChecks.{text-is}
 use Rattle.store_check.proofs.checks_entries.text_ok.Statement.{statement}
 use Rattle.store_check.proofs.checks_entries.text_ok.Tie as tie

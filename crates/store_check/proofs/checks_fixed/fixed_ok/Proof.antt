@@ -1,4 +1,4 @@
-use borrow.Author.Needs.{needs}
+use Rattle.lists.proofs.Kit.{needs}
 use Rattle.tables.proofs.AnswerLaws.{refused, not-said, was-said, turned}
 use Rattle.store_check.proofs.FixedChecks.{fixed-is}
 use Rattle.store_check.proofs.checks_fixed.fixed_ok.Statement.{statement}

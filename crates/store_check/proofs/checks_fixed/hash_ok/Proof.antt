@@ -1,4 +1,4 @@
-use borrow.Author.Needs.{needs}
+use Rattle.lists.proofs.Kit.{needs}
 use Rattle.tables.proofs.AnswerLaws.{refused, granted}
 use Rattle.store_check.proofs.FixedChecks.{hash-0, hash-1, hash-2, hash-other}
 use Rattle.store_check.proofs.checks_fixed.hash_ok.Statement.{statement}

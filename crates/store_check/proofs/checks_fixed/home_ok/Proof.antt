@@ -1,5 +1,4 @@
-use borrow.Author.Needs.{needs}
-use native.Mathlib.Omega.{arith}
+use Rattle.lists.proofs.Kit.{needs, arith}
 use Rattle.tables.proofs.AnswerLaws.{refused}
 use Rattle.store_check.proofs.FixedChecks.{home-wide, home-np}
 use Rattle.store_check.proofs.checks_fixed.home_ok.Statement.{statement}

@@ -1,4 +1,4 @@
-use borrow.Author.Needs.{needs}
+use Rattle.lists.proofs.Kit.{needs}
 use Rattle.slots.specs.Slots.{u16}
 use Rattle.writing.specs.Ranges.{InChannel}
 use Rattle.tables.proofs.AnswerLaws.{turned}

@@ -1,9 +1,5 @@
-use borrow.Author.Needs.{needs}
-use native.Mathlib.Omega.{arith}
-use Prim.Native.Nat.{ℕ, _-_, _≤_}
-use lib.ListN.{length}
+use Rattle.lists.proofs.Kit.{needs, arith, ℕ, _-_, _≤_, length, List}
 use Rattle.slots.specs.Slots.{Listed}
-use mathlib.Core.List.{List}
 use Rattle.tables.specs.Allowed.{LineOk}
 use Rattle.tables.specs.Layout.{line-bytes, line-width}
 use Rattle.tables.specs.Tables.{Line}

@@ -1,4 +1,4 @@
-use borrow.Author.Needs.{needs}
+use Rattle.lists.proofs.Kit.{needs}
 use Rattle.tables.proofs.AnswerLaws.{refused, not-said, was-said}
 use Rattle.store_check.proofs.StoreChecks.{lines-list, lines-decided}
 use Rattle.store_check.proofs.checks_lists.lines_ok.Statement.{statement}

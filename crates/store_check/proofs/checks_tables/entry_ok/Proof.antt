@@ -1,6 +1,5 @@
-use mathlib.Core.Path.{ap, _∙_}
+use Rattle.lists.proofs.Kit.{ap, _∙_, needs}
 use Rattle.store_check.specs.Checks.{width-in}
-use borrow.Author.Needs.{needs}
 use Rattle.store_check.proofs.TableChecks.{entry-told}
 use Rattle.store_check.specs.declared.checks_tables.Table.the-variants.{QuickTexts, StatusTexts, Groups, Individuals, Channels, Lines}
 use Rattle.store_check.proofs.checks_tables.entry_ok.Statement.{statement}

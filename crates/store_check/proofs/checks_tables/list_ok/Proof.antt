@@ -1,4 +1,4 @@
-use borrow.Author.Needs.{needs}
+use Rattle.lists.proofs.Kit.{needs}
 use Rattle.tables.proofs.AnswerLaws.{refused, not-said, was-said}
 use Rattle.store_check.proofs.TableChecks.{list-is}
 use Rattle.store_check.specs.Checks.{OkIn, width-in, bytes-in}

@@ -1,12 +1,7 @@
-use borrow.Author.Needs.{needs}
-use native.Mathlib.Omega.{arith}
-use Prim.Native.Nat.{_-_, _≤_}
-use mathlib.Core.Path.{_≡_, sym, _∙_}
-use lib.ListN.{length}
+use Rattle.lists.proofs.Kit.{needs, arith, _-_, _≤_, _≡_, sym, _∙_, length, not-true, not-false}
 use Rattle.slots.specs.Slots.{PlacesOf}
 use Rattle.slots.proofs.Tables.{slot-wide}
 use Rattle.slots.proofs.Walks.{left-start}
-use borrow.Author.Tests.{not-true, not-false}
 use Rattle.store_check.specs.Checks.{OkIn, width-in, bytes-in}
 use Rattle.tables.proofs.AnswerLaws.{refused, granted, not-said, was-said}
 use Rattle.store_check.proofs.TableChecks.{LeftIn, wide-in, pass-empty, pass-entry, pass-stop, pass-end}

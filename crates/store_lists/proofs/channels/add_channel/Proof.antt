@@ -1,5 +1,4 @@
-use borrow.Author.Needs.{needs}
-use native.Mathlib.Omega.{arith}
+use Rattle.lists.proofs.Kit.{needs, arith}
 use Rattle.store_lists.proofs.ChannelLaws.{channel-added, channel-refused}
 use Rattle.store_lists.proofs.channels.add_channel.Statement.{statement}
 use Rattle.store_lists.proofs.channels.add_channel.Tie as tie
@@ -17,7 +16,7 @@ returns : tie.Need-returns
 returns c =
     let a = c .before .before .before .before .args in
     let u = c .before .used in
-    channel-refused (a .part .now) (a .n) (u .result) (u .ensures) (omega arith)
+    channel-refused (a .list .now) (a .n) (u .result) (u .ensures) (omega arith)
 
 channel-slot-requires : tie.Need-channel-slot-requires
 channel-slot-requires c κs = search needs
@@ -49,7 +48,7 @@ returns-2 c =
     let u = c .before .before .before .before .before .before .before .used in
     let b = c .before .before .before .before .before .channel-slot in
     let k = c .before .before .copy in
-    channel-added (a .part .now) (b .result) (k .last .0) (a .n) (u .result) (u .ensures) (λ h. omega arith) (b .ensures) (k .ensures)
+    channel-added (a .list .now) (b .result) (k .last .0) (a .n) (u .result) (u .ensures) (λ h. omega arith) (b .ensures) (k .ensures)
 
 pub add-channel-spec : {M : Type 1} → statement M
 add-channel-spec =

@@ -1,4 +1,4 @@
-use borrow.Author.Needs.{needs}
+use Rattle.lists.proofs.Kit.{needs}
 use Rattle.store_lists.proofs.channels.apply_channels.Statement.{statement}
 use Rattle.store_lists.proofs.channels.apply_channels.Tie as tie
 

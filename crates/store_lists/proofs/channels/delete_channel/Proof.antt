@@ -1,4 +1,4 @@
-use borrow.Author.Needs.{needs}
+use Rattle.lists.proofs.Kit.{needs}
 use Rattle.store_lists.proofs.ChannelLaws.{channel-deleted}
 use Rattle.store_lists.proofs.channels.delete_channel.Statement.{statement}
 use Rattle.store_lists.proofs.channels.delete_channel.Tie as tie
@@ -20,7 +20,7 @@ returns c =
     let a = c .before .before .before .before .before .before .before .args in
     let b = c .before .before .before .before .before .channel-slot in
     let k = c .before .before .remove-all in
-    channel-deleted (a .part .now) (k .last .0) (b .result) (a .n) (b .ensures) (k .ensures)
+    channel-deleted (a .list .now) (k .last .0) (b .result) (a .n) (b .ensures) (k .ensures)
 
 pub delete-channel-spec : {M : Type 1} → statement M
 delete-channel-spec =

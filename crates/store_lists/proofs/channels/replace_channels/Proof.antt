@@ -1,22 +1,18 @@
-use borrow.Author.Needs.{needs}
-use native.Mathlib.Omega.{arith}
-use Prim.Native.Nat.{_-_}
-use mathlib.Core.Path.{_≡_, refl}
-use lib.ListN.{length}
+use Rattle.lists.proofs.Kit.{needs, arith, _-_, _≡_, refl, length}
 use Rattle.store_lists.proofs.ChannelLaws.{ChannelsPut, replace-full, replace-start, replace-on, replace-end}
 use Rattle.store_lists.proofs.channels.replace_channels.Statement.{statement}
 use Rattle.store_lists.proofs.channels.replace_channels.Tie as tie
 
 abbrev Inv-loop : tie.InvT-loop
-Inv-loop part₀ m entries i₀ part i = (length part ≡ length part₀) × ChannelsPut m entries part₀ i part
+Inv-loop list₀ m entries i₀ list i = (length list ≡ length list₀) × ChannelsPut m entries list₀ i list
 
 abbrev μ-loop : tie.MeasureT-loop
-μ-loop part₀ m entries i₀ part i = entries .count - i
+μ-loop list₀ m entries i₀ list i = entries .count - i
 
 returns : tie.Need-returns Inv-loop μ-loop
 returns c =
     let a = c .before .before .before .before .args in
-    replace-full (a .m .now) (a .entries) (a .part .now) (omega arith)
+    replace-full (a .m .now) (a .entries) (a .list .now) (omega arith)
 
 wipe-requires : tie.Need-wipe-requires Inv-loop μ-loop
 wipe-requires c κs = search needs
@@ -67,7 +63,7 @@ loop-again c =
     let h = c .before .before .before .before .before .before .channel-at in
     let b = c .before .before .before .before .before .channel-slot in
     let k = c .before .before .copy in
-    (search needs, replace-on (a .m .now) (a .entries) (a .part .now) (w .last .0) (w .ensures) (omega arith) (l .i) (h .result) (l .part) (b .result) (k .last .0) (l .inv .0) (omega arith) (l .inv .1) (h .ensures) (b .ensures) (k .ensures))
+    (search needs, replace-on (a .m .now) (a .entries) (a .list .now) (w .last .0) (w .ensures) (omega arith) (l .i) (h .result) (l .list) (b .result) (k .last .0) (l .inv .0) (omega arith) (l .inv .1) (h .ensures) (b .ensures) (k .ensures))
 
 same-length : tie.Need-same-length Inv-loop μ-loop
 same-length c = search needs
@@ -77,7 +73,7 @@ returns-2 c =
     let a = c .before .before .before .before .before .before .before .before .before .before .before .args in
     let w = c .before .before .before .before .before .wipe in
     let l = c .before .before .loop in
-    replace-end (a .m .now) (a .entries) (a .part .now) (w .last .0) (w .ensures) (omega arith) (l .i) (l .part) (omega arith) (l .inv .1)
+    replace-end (a .m .now) (a .entries) (a .list .now) (w .last .0) (w .ensures) (omega arith) (l .i) (l .list) (omega arith) (l .inv .1)
 
 pub replace-channels-spec : {M : Type 1} → statement M
 replace-channels-spec =

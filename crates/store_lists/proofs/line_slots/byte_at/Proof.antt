@@ -1,8 +1,4 @@
-use borrow.Author.Needs.{needs}
-use native.Mathlib.Omega.{arith}
-use Prim.Native.Nat.{_+_}
-use mathlib.Core.Path.{sym}
-use lib.ListN.{List·getD-eq-default}
+use Rattle.lists.proofs.Kit.{needs, arith, _+_, sym, List·getD-eq-default}
 use Rattle.store_lists.proofs.line_slots.byte_at.Statement.{statement}
 use Rattle.store_lists.proofs.line_slots.byte_at.Tie as tie
 

@@ -1,4 +1,4 @@
-use borrow.Author.Needs.{needs}
+use Rattle.lists.proofs.Kit.{needs}
 use Rattle.store_lists.proofs.DigitLaws.{digit-even, digit-odd}
 use Rattle.store_lists.proofs.line_slots.digit_at.Statement.{statement}
 use Rattle.store_lists.proofs.line_slots.digit_at.Tie as tie

@@ -1,5 +1,4 @@
-use borrow.Author.Needs.{needs}
-use native.Mathlib.Omega.{arith}
+use Rattle.lists.proofs.Kit.{needs, arith}
 use Rattle.store_lists.proofs.DigitLaws.{digit-more, digit-past}
 use Rattle.store_lists.proofs.line_slots.kept_digit.Statement.{statement}
 use Rattle.store_lists.proofs.line_slots.kept_digit.Tie as tie

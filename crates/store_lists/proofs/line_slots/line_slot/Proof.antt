@@ -1,4 +1,4 @@
-use borrow.Author.Needs.{needs}
+use Rattle.lists.proofs.Kit.{needs}
 use Rattle.store_lists.proofs.LineLaws.{slot-room, slot-made}
 use Rattle.store_lists.proofs.line_slots.line_slot.Statement.{statement}
 use Rattle.store_lists.proofs.line_slots.line_slot.Tie as tie
@@ -8,6 +8,12 @@ line-flag-byte-requires c κs = search needs
 
 array-write-slot : tie.Need-array-write-slot
 array-write-slot c = search needs
+
+bit-of-requires : tie.Need-bit-of-requires
+bit-of-requires c κs = search needs
+
+array-write-slot-2 : tie.Need-array-write-slot-2
+array-write-slot-2 c = search needs
 
 sub-put-digits : tie.Need-sub-put-digits
 sub-put-digits c = search needs
@@ -28,15 +34,18 @@ part-slot-start-2 : tie.Need-part-slot-start-2
 part-slot-start-2 c = search needs
 
 part-slot-end-2 : tie.Need-part-slot-end-2
-part-slot-end-2 c = slot-room (c .before .before .before .line-flag-byte .result) (c .before .put-digits .last .0) (c .slot2 .given)
+part-slot-end-2 c = slot-room (c .before .before .before .before .line-flag-byte .result) (c .before .before .before .bit-of .result) (c .before .put-digits .last .0) (c .slot2 .given)
 
 put-text-requires : tie.Need-put-text-requires
 put-text-requires c κs = search needs
 
 returns : tie.Need-returns
 returns c =
-    let a = c .before .before .before .before .before .before .before .before .args in
-    slot-made (a .m .now) (a .flags) (a .place) (c .before .before .before .before .before .before .line-flag-byte .result) (c .before .before .before .before .put-digits .last .0) (c .before .put-text .last .0) (c .before .before .before .before .before .before .line-flag-byte .ensures) (c .before .before .before .before .put-digits .ensures) (c .before .put-text .ensures)
+    let a = c .before .before .before .before .before .before .before .before .before .args in
+    let f = c .before .before .before .before .before .before .before .line-flag-byte in
+    let k = c .before .before .before .before .before .before .bit-of in
+    let d = c .before .before .before .before .put-digits in
+    slot-made (a .m .now) (a .flags) (a .place) (f .result) (k .result) (d .last .0) (c .before .put-text .last .0) (f .ensures) (k .ensures .0) (d .ensures) (c .before .put-text .ensures)
 
 pub line-slot-spec : {M : Type 1} → statement M
 line-slot-spec =
@@ -44,6 +53,8 @@ line-slot-spec =
     (tie.spec
     line-flag-byte-requires
     array-write-slot
+    bit-of-requires
+    array-write-slot-2
     sub-put-digits
     part-slot-start
     part-slot-end

@@ -1,8 +1,4 @@
-use borrow.Author.Needs.{needs}
-use native.Mathlib.Omega.{arith}
-use Prim.Native.Nat.{_-_, _≤_}
-use mathlib.Core.Path.{_≡_, refl}
-use lib.ListN.{length}
+use Rattle.lists.proofs.Kit.{needs, arith, _-_, _≤_, _≡_, refl, length}
 use Rattle.store_lists.proofs.DigitLaws.{DigitsSoFar, digits-more, digits-put}
 use Rattle.store_lists.proofs.line_slots.put_digits.Statement.{statement}
 use Rattle.store_lists.proofs.line_slots.put_digits.Tie as tie

@@ -1,65 +1,111 @@
-use borrow.Author.Needs.{needs}
-use Rattle.store_lists.proofs.LineLaws.{lines-replaced}
+use Rattle.lists.proofs.Kit.{needs, arith, _-_, _≡_, refl, length, true, false, not-true, not-false}
+use Rattle.tables.specs.Apply.{line-of}
+use Rattle.store_lists.proofs.LineLaws.{LinesLeft, lines-start, lines-end, lines-stuck, lines-on, lines-full, lines-applied}
 use Rattle.store_lists.proofs.lines.apply_lines.Statement.{statement}
 use Rattle.store_lists.proofs.lines.apply_lines.Tie as tie
 
-enum-told : tie.Need-enum-told
+abbrev Inv-loop : tie.InvT-loop
+Inv-loop list₀ m operation flags entries coding p₀ i₀ list p i = (length list ≡ length list₀) × LinesLeft operation m flags entries list₀ p i list
+
+abbrev μ-loop : tie.MeasureT-loop
+μ-loop list₀ m operation flags entries coding p₀ i₀ list p i = entries .count - i
+
+empty-to-replace-requires : tie.Need-empty-to-replace-requires Inv-loop μ-loop
+empty-to-replace-requires c κs = search needs
+
+loop-holds : tie.Need-loop-holds Inv-loop μ-loop
+loop-holds c =
+    let a = c .before .before .before .before .before .before .args in
+    (refl, lines-start (a .operation) (a .m .now) (a .flags) (a .entries) _)
+
+read-contact-requires : tie.Need-read-contact-requires Inv-loop μ-loop
+read-contact-requires c κs = search needs
+
+enum-known-here : tie.Need-enum-known-here Inv-loop μ-loop
+enum-known-here c = search needs
+
+enum-told : tie.Need-enum-told Inv-loop μ-loop
 enum-told c = search needs
 
-put-lines-requires : tie.Need-put-lines-requires
-put-lines-requires c κs = search needs
-
-enum-told-2 : tie.Need-enum-told-2
-enum-told-2 c = search needs
-
-drop-lines-requires : tie.Need-drop-lines-requires
-drop-lines-requires c κs = search needs
-
-enum-told-3 : tie.Need-enum-told-3
-enum-told-3 c = search needs
-
-wipe-requires : tie.Need-wipe-requires
-wipe-requires c κs = search needs
-
-put-lines-requires-2 : tie.Need-put-lines-requires-2
-put-lines-requires-2 c κs = search needs
-
-same-length : tie.Need-same-length
+same-length : tie.Need-same-length Inv-loop μ-loop
 same-length c = search needs
 
-returns : tie.Need-returns
-returns c = rw (c .before .before .before .before .enum-told .given .1) (c .before .before .put-lines .ensures)
+returns : tie.Need-returns Inv-loop μ-loop
+returns c =
+    let a = c .before .before .before .before .before .before .before .before .before .before .before .before .args in
+    let z = c .before .before .before .before .before .before .before .before .empty-to-replace in
+    let l = c .before .before .before .before .before .loop in
+    lines-applied (a .operation) (a .m .now) (a .flags) (a .entries) (a .list .now) (z .last .0) (l .list) false (z .ensures)
+    (lines-stuck (a .operation) (a .m .now) (a .flags) (a .entries) (z .last .0) (l .p) (l .i) (l .list) (omega arith) (l .inv .1) (c .before .before .read-contact .ensures) (l .list) false (c .enum-told .given .1))
 
-same-length-2 : tie.Need-same-length-2
+line-slot-requires : tie.Need-line-slot-requires Inv-loop μ-loop
+line-slot-requires c κs = search needs
+
+slice-aggregate-step-line : tie.Need-slice-aggregate-step-line Inv-loop μ-loop
+slice-aggregate-step-line c = search needs
+
+step-line-requires : tie.Need-step-line-requires Inv-loop μ-loop
+step-line-requires c κs = search needs
+
+same-length-2 : tie.Need-same-length-2 Inv-loop μ-loop
 same-length-2 c = search needs
 
-returns-2 : tie.Need-returns-2
-returns-2 c = rw (c .before .before .before .before .enum-told2 .given .1) (c .before .before .drop-lines .ensures)
+returns-2 : tie.Need-returns-2 Inv-loop μ-loop
+returns-2 c =
+    let a = c .before .before .before .before .before .before .before .before .before .before .before .before .before .before .before .before .before .before .before .before .args in
+    let z = c .before .before .before .before .before .before .before .before .before .before .before .before .before .before .before .before .empty-to-replace in
+    let l = c .before .before .before .before .before .before .before .before .before .before .before .before .before .loop in
+    let x = c .before .before .before .before .before .before .line-slot in
+    let k = c .before .before .before .step-line in
+    lines-applied (a .operation) (a .m .now) (a .flags) (a .entries) (a .list .now) (z .last .0) (k .last .0) false (z .ensures)
+    (lines-full (a .operation) (a .m .now) (a .flags) (a .entries) (z .last .0) (l .p) (l .i) (l .list) (omega arith) (l .inv .1) (c .before .before .before .before .before .before .before .before .before .before .read-contact .ensures) (λ j. (c .before .before .before .before .before .before .before .before .before .before .before .before .before .before .before .before .before .before .shared-slice-known .given j) .fits) _ _ (c .before .before .before .before .before .before .before .before .here .given .1) (x .result) (x .ensures) (k .last .0) (k .result) (λ e ok is n ls t. k .ensures n ls (line-of (a .flags) e) t ok is) (not-true (k .result) (c .if2 .taken)))
 
-same-length-3 : tie.Need-same-length-3
+add-i : tie.Need-add-i Inv-loop μ-loop
+add-i c = search needs
+
+loop-less : tie.Need-loop-less Inv-loop μ-loop
+loop-less c = search needs
+
+loop-again : tie.Need-loop-again Inv-loop μ-loop
+loop-again c =
+    let a = c .before .before .before .before .before .before .before .before .before .before .before .before .before .before .before .before .before .before .before .before .args in
+    let z = c .before .before .before .before .before .before .before .before .before .before .before .before .before .before .before .before .empty-to-replace in
+    let l = c .before .before .before .before .before .before .before .before .before .before .before .before .before .loop in
+    let x = c .before .before .before .before .before .before .line-slot in
+    let k = c .before .before .before .step-line in
+    (search needs, lines-on (a .operation) (a .m .now) (a .flags) (a .entries) (z .last .0) (l .p) (l .i) (l .list) (omega arith) (l .inv .1) (c .before .before .before .before .before .before .before .before .before .before .read-contact .ensures) (λ j. (c .before .before .before .before .before .before .before .before .before .before .before .before .before .before .before .before .before .before .shared-slice-known .given j) .fits) _ _ (c .before .before .before .before .before .before .before .before .here .given .1) (x .result) (x .ensures) (k .last .0) (k .result) (λ e ok is n ls t. k .ensures n ls (line-of (a .flags) e) t ok is) (not-false (k .result) (c .if2 .left)))
+
+same-length-3 : tie.Need-same-length-3 Inv-loop μ-loop
 same-length-3 c = search needs
 
-returns-3 : tie.Need-returns-3
+returns-3 : tie.Need-returns-3 Inv-loop μ-loop
 returns-3 c =
-    let a = c .before .before .before .before .before .before .before .before .before .before .before .before .args in
-    let w = c .before .before .before .before .before .before .wipe in
-    let k = c .before .before .put-lines2 in
-    rw (c .before .before .before .before .before .before .before .before .enum-told3 .given .1) (lines-replaced (a .m .now) (a .flags) (a .entries) (a .part .now) (w .last .0) (k .last .0) (k .result) (w .ensures) (k .ensures))
+    let a = c .before .before .before .before .before .before .before .before .before .args in
+    let z = c .before .before .before .before .before .empty-to-replace in
+    let l = c .before .before .loop in
+    lines-applied (a .operation) (a .m .now) (a .flags) (a .entries) (a .list .now) (z .last .0) (l .list) true (z .ensures)
+    (lines-end (a .operation) (a .m .now) (a .flags) (a .entries) (z .last .0) (l .p) (l .i) (l .list) (omega arith) (l .inv .1))
 
 pub apply-lines-spec : {M : Type 1} → statement M
 apply-lines-spec =
     tie.close
     (tie.spec
+    Inv-loop
+    μ-loop
+    empty-to-replace-requires
+    loop-holds
+    read-contact-requires
+    enum-known-here
     enum-told
-    put-lines-requires
-    enum-told-2
-    drop-lines-requires
-    enum-told-3
-    wipe-requires
-    put-lines-requires-2
     same-length
     returns
+    line-slot-requires
+    slice-aggregate-step-line
+    step-line-requires
     same-length-2
     returns-2
+    add-i
+    loop-less
+    loop-again
     same-length-3
     returns-3)

@@ -1,4 +1,4 @@
-use borrow.Author.Needs.{needs}
+use Rattle.lists.proofs.Kit.{needs}
 use Rattle.store_lists.proofs.LineLaws.{line-dropped}
 use Rattle.store_lists.proofs.lines.drop_line.Statement.{statement}
 use Rattle.store_lists.proofs.lines.drop_line.Tie as tie
@@ -22,7 +22,7 @@ returns : tie.Need-returns
 returns c =
     let a = c .before .before .before .before .before .before .before .args in
     let k = c .before .before .remove-all in
-    line-dropped (a .slot .now) (a .part .now) (k .last .0) (k .ensures)
+    line-dropped (a .slot .now) (a .list .now) (k .last .0) (k .ensures)
 
 pub drop-line-spec : {M : Type 1} → statement M
 drop-line-spec =

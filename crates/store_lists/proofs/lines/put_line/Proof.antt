@@ -1,5 +1,4 @@
-use borrow.Author.Needs.{needs}
-use native.Mathlib.Omega.{arith}
+use Rattle.lists.proofs.Kit.{needs, arith}
 use Rattle.store_lists.proofs.LineLaws.{line-added, line-refused}
 use Rattle.store_lists.proofs.lines.put_line.Statement.{statement}
 use Rattle.store_lists.proofs.lines.put_line.Tie as tie
@@ -26,7 +25,7 @@ returns : tie.Need-returns
 returns c =
     let a = c .before .before .before .before .before .before .args in
     let k = c .before .place-of in
-    line-refused (a .slot .now) (a .part .now) (k .result) (omega arith) (k .ensures) (omega arith)
+    line-refused (a .slot .now) (a .list .now) (k .result) (omega arith) (k .ensures) (omega arith)
 
 add-e : tie.Need-add-e
 add-e c = search needs
@@ -51,7 +50,7 @@ returns-2 c =
     let a = c .before .before .before .before .before .before .before .before .before .before .args in
     let k = c .before .before .before .before .before .place-of in
     let d = c .before .before .copy in
-    line-added (a .slot .now) (a .part .now) (k .result) (omega arith) (k .ensures) (d .last .0) (λ h. omega arith) (d .ensures)
+    line-added (a .slot .now) (a .list .now) (k .result) (omega arith) (k .ensures) (d .last .0) (λ h. omega arith) (d .ensures)
 
 pub put-line-spec : {M : Type 1} → statement M
 put-line-spec =

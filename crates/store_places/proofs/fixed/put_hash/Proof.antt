@@ -1,5 +1,4 @@
-use borrow.Author.Needs.{needs}
-use native.Mathlib.Omega.{arith}
+use Rattle.lists.proofs.Kit.{needs, arith}
 use Rattle.store_places.proofs.FixedLaws.{hash-none, hash-outside, hash-put}
 use Rattle.store_places.proofs.fixed.put_hash.Statement.{statement}
 use Rattle.store_places.proofs.fixed.put_hash.Tie as tie
@@ -18,13 +17,13 @@ returns c =
     let a = c .before .before .before .before .before .before .before .before .args in
     let z = c .before .before .before .before .before .hash-size in
     let y = c .before .before .clear-hash in
-    hash-none (a .m .now) (λ i. (c .before .before .before .before .before .before .shared-slice-known .given i) .fits) (a .place) (z .result) (z .ensures) (a .part .now) (y .last .0) (omega arith) (y .ensures)
+    hash-none (a .m .now) (λ i. (c .before .before .before .before .before .before .shared-slice-known .given i) .fits) (a .place) (z .result) (z .ensures) (a .region .now) (y .last .0) (omega arith) (y .ensures)
 
 returns-2 : tie.Need-returns-2
 returns-2 c =
     let a = c .before .before .before .before .before .args in
     let z = c .before .before .hash-size in
-    hash-outside (a .m .now) (λ i. (c .before .before .before .shared-slice-known .given i) .fits) (a .place) (z .result) (z .ensures) (a .part .now) (a .part .now) (omega arith)
+    hash-outside (a .m .now) (λ i. (c .before .before .before .shared-slice-known .given i) .fits) (a .place) (z .result) (z .ensures) (a .region .now) (a .region .now) (omega arith)
 
 sub-if3 : tie.Need-sub-if3
 sub-if3 c = search needs
@@ -33,7 +32,7 @@ returns-3 : tie.Need-returns-3
 returns-3 c =
     let a = c .before .before .before .before .before .before .args in
     let z = c .before .before .before .hash-size in
-    hash-outside (a .m .now) (λ i. (c .before .before .before .before .shared-slice-known .given i) .fits) (a .place) (z .result) (z .ensures) (a .part .now) (a .part .now) (omega arith)
+    hash-outside (a .m .now) (λ i. (c .before .before .before .before .shared-slice-known .given i) .fits) (a .place) (z .result) (z .ensures) (a .region .now) (a .region .now) (omega arith)
 
 returns-4 : tie.Need-returns-4
 returns-4 c = λ v k x n. absurd (omega (arith, n))
@@ -62,8 +61,8 @@ part-copy-padded-end-2 c = search needs
 copy-padded-requires : tie.Need-copy-padded-requires
 copy-padded-requires c κs = search needs
 
-slice-write-part : tie.Need-slice-write-part
-slice-write-part c = search needs
+slice-write-region : tie.Need-slice-write-region
+slice-write-region c = search needs
 
 same-length-2 : tie.Need-same-length-2
 same-length-2 c = search needs
@@ -73,7 +72,7 @@ returns-5 c =
     let a = c .before .before .before .before .before .before .before .before .before .before .before .before .args in
     let z = c .before .before .before .before .before .before .before .before .before .hash-size in
     let y = c .before .before .copy-padded in
-    hash-put (a .m .now) (λ i. (c .before .before .before .before .before .before .before .before .before .before .shared-slice-known .given i) .fits) (a .place) (z .result) (z .ensures) (a .part .now) (y .last .0) (y .ensures)
+    hash-put (a .m .now) (λ i. (c .before .before .before .before .before .before .before .before .before .before .shared-slice-known .given i) .fits) (a .place) (z .result) (z .ensures) (a .region .now) (y .last .0) (y .ensures)
 
 pub put-hash-spec : {M : Type 1} → statement M
 put-hash-spec =
@@ -95,6 +94,6 @@ put-hash-spec =
     part-copy-padded-start-2
     part-copy-padded-end-2
     copy-padded-requires
-    slice-write-part
+    slice-write-region
     same-length-2
     returns-5)

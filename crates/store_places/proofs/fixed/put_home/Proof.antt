@@ -1,4 +1,4 @@
-use borrow.Author.Needs.{needs}
+use Rattle.lists.proofs.Kit.{needs}
 use Rattle.store_places.proofs.FixedLaws.{copied}
 use Rattle.store_places.proofs.fixed.put_home.Statement.{statement}
 use Rattle.store_places.proofs.fixed.put_home.Tie as tie
@@ -28,7 +28,7 @@ returns : tie.Need-returns
 returns c =
     let a = c .before .before .before .before .before .before .before .before .before .before .args in
     let y = c .before .before .copy in
-    λ n. copied _ (a .part .now) (y .last .0) n (y .ensures)
+    λ n. copied _ (a .region .now) (y .last .0) n (y .ensures)
 
 pub put-home-spec : {M : Type 1} → statement M
 put-home-spec =

@@ -1,4 +1,4 @@
-use borrow.Author.Needs.{needs}
+use Rattle.lists.proofs.Kit.{needs}
 use Rattle.store_places.proofs.FixedLaws.{key-put}
 use Rattle.store_places.proofs.fixed.put_key.Statement.{statement}
 use Rattle.store_places.proofs.fixed.put_key.Tie as tie
@@ -55,7 +55,7 @@ returns c =
     let d = c .before .before .before .before .before .before .target-address in
     let h = c .before .before .before .before .before .head-of in
     let y = c .before .before .copy in
-    key-put (a .target) (a .flags) (a .part .now) (y .last .0) (h .result) (r .result) (v .result) (w .result) (x .result) (d .result) (r .ensures) (v .ensures .0) (w .ensures .0) (x .ensures .0) (d .ensures) (h .ensures) (y .ensures)
+    key-put (a .target) (a .flags) (a .region .now) (y .last .0) (h .result) (r .result) (v .result) (w .result) (x .result) (d .result) (r .ensures) (v .ensures .0) (w .ensures .0) (x .ensures .0) (d .ensures) (h .ensures) (y .ensures)
 
 pub put-key-spec : {M : Type 1} → statement M
 put-key-spec =

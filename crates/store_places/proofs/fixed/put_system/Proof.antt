@@ -1,4 +1,4 @@
-use borrow.Author.Needs.{needs}
+use Rattle.lists.proofs.Kit.{needs}
 use Rattle.store_places.proofs.FixedLaws.{system-put}
 use Rattle.store_places.proofs.fixed.put_system.Statement.{statement}
 use Rattle.store_places.proofs.fixed.put_system.Tie as tie
@@ -38,7 +38,7 @@ returns c =
     let a = c .before .before .before .before .before .before .before .before .before .before .before .args in
     let b = c .before .before .before .before .before .bit-of in
     let y = c .before .before .copy in
-    system-put (a .s) (a .part .now) (y .last .0) (b .result) (b .ensures .0) (y .ensures)
+    system-put (a .s) (a .region .now) (y .last .0) (b .result) (b .ensures .0) (y .ensures)
 
 pub put-system-spec : {M : Type 1} → statement M
 put-system-spec =

@@ -1,4 +1,4 @@
-use borrow.Author.Needs.{needs}
+use Rattle.lists.proofs.Kit.{needs}
 use Rattle.store_places.proofs.FixedLaws.{current-bits, group-bits, individual-bits}
 use Rattle.store_places.proofs.fixed.target_bits.Statement.{statement}
 use Rattle.store_places.proofs.fixed.target_bits.Tie as tie

@@ -1,38 +1,22 @@
-use borrow.Author.Needs.{needs}
-use Rattle.store_places.proofs.MemberLaws.{group-applied}
+use Rattle.lists.proofs.Kit.{needs, refl}
+use Rattle.tables.specs.declared.members.Members.the-variants.{OfGroups}
 use Rattle.store_places.proofs.members.apply_group.Statement.{statement}
 use Rattle.store_places.proofs.members.apply_group.Tie as tie
 
 group-flag-byte-requires : tie.Need-group-flag-byte-requires
 group-flag-byte-requires c κs = search needs
 
-head-of-requires : tie.Need-head-of-requires
-head-of-requires c κs = search needs
-
-slice-aggregate-set-place : tie.Need-slice-aggregate-set-place
-slice-aggregate-set-place c = search needs
-
-set-place-requires : tie.Need-set-place-requires
-set-place-requires c κs = search needs
+set-member-requires : tie.Need-set-member-requires
+set-member-requires c κs = search needs
 
 same-length : tie.Need-same-length
 same-length c = search needs
 
 returns : tie.Need-returns
 returns c =
-    let a = c .before .before .before .before .before .before .before .before .before .args in
-    let f = c .before .before .before .before .before .before .group-flag-byte in
-    let h = c .before .before .before .before .before .head-of in
-    let y = c .before .before .set-place in
-    group-applied (a .m .now) (a .operation) (a .part .now) (y .last .0) (h .result) (h .ensures .0) (f .result) (a .flags) (a .place) (f .ensures) (h .ensures .1) (y .ensures)
+    let a = c .before .before .before .before .before .before .before .args in
+    c .before .before .set-member .ensures OfGroups (a .flags) (a .place .address) (λ us ok. c .before .before .before .before .group-flag-byte .ensures (ok .attribute .1) (ok .priority)) refl
 
 pub apply-group-spec : {M : Type 1} → statement M
 apply-group-spec =
-    tie.close
-    (tie.spec
-    group-flag-byte-requires
-    head-of-requires
-    slice-aggregate-set-place
-    set-place-requires
-    same-length
-    returns)
+    tie.close (tie.spec group-flag-byte-requires set-member-requires same-length returns)

@@ -1,5 +1,4 @@
-use borrow.Author.Needs.{needs}
-use native.Mathlib.Omega.{arith}
+use Rattle.lists.proofs.Kit.{needs, arith}
 use Rattle.store_places.proofs.OverwriteLaws.{small-place, place-lent}
 use Rattle.store_places.proofs.overwriting.set_place.Statement.{statement}
 use Rattle.store_places.proofs.overwriting.set_place.Tie as tie
@@ -36,7 +35,7 @@ returns-2 : tie.Need-returns-2
 returns-2 c =
     let a = c .before .before .before .before .before .before .before .before .args in
     let y = c .before .before .set-slot in
-    λ h. place-lent (a .m .now) (a .operation) (a .text) (a .head .now) (a .w) (a .k) (a .part .now) (y .last .0) (y .ensures)
+    λ h. place-lent (a .keep) (a .m .now) (a .operation) (a .text) (a .head .now) (a .w) (a .k) (a .region .now) (y .last .0) (y .ensures)
 
 pub set-place-spec : {M : Type 1} → statement M
 set-place-spec =

@@ -1,5 +1,4 @@
-use borrow.Author.Needs.{needs}
-use Rattle.store_places.proofs.OverwriteLaws.{set-added, set-deleted, set-replaced}
+use Rattle.lists.proofs.Kit.{needs}
 use Rattle.store_places.proofs.overwriting.set_slot.Statement.{statement}
 use Rattle.store_places.proofs.overwriting.set_slot.Tie as tie
 
@@ -25,28 +24,19 @@ same-length : tie.Need-same-length
 same-length c = search needs
 
 returns : tie.Need-returns
-returns c =
-    let a = c .before .before .before .before .before .before .before .before .before .args in
-    let y = c .before .before .put-slot in
-    set-added (a .m .now) (a .text) (a .head .now) (a .slot .now) (a .operation) (y .last .0) (c .before .before .before .before .enum-told .given .1) (y .ensures)
+returns c = rw (c .before .before .before .before .enum-told .given .1) (c .before .before .put-slot .ensures)
 
 same-length-2 : tie.Need-same-length-2
 same-length-2 c = search needs
 
 returns-2 : tie.Need-returns-2
-returns-2 c =
-    let a = c .before .before .before .before .before .before .before .before .before .args in
-    let y = c .before .before .wipe in
-    set-deleted (a .m .now) (a .text) (a .head .now) (a .slot .now) (a .operation) (y .last .0) (c .before .before .before .before .enum-told2 .given .1) (y .ensures)
+returns-2 c = rw (c .before .before .before .before .enum-told2 .given .1) (c .before .before .wipe .ensures)
 
 same-length-3 : tie.Need-same-length-3
 same-length-3 c = search needs
 
 returns-3 : tie.Need-returns-3
-returns-3 c =
-    let a = c .before .before .before .before .before .before .before .before .before .args in
-    let y = c .before .before .put-slot2 in
-    set-replaced (a .m .now) (a .text) (a .head .now) (a .slot .now) (a .operation) (y .last .0) (c .before .before .before .before .enum-told3 .given .1) (y .ensures)
+returns-3 c = rw (c .before .before .before .before .enum-told3 .given .1) (c .before .before .put-slot2 .ensures)
 
 pub set-slot-spec : {M : Type 1} → statement M
 set-slot-spec =

@@ -1,5 +1,4 @@
-use mathlib.Core.Path.{refl}
-use borrow.Author.Needs.{needs}
+use Rattle.lists.proofs.Kit.{refl, needs}
 use Rattle.tables.proofs.HeadLaws.{address-cut}
 use Rattle.tables.proofs.heads.head_of.Statement.{statement}
 use Rattle.tables.proofs.heads.head_of.Tie as tie

@@ -1,5 +1,4 @@
-use borrow.Author.Needs.{needs}
-use native.Mathlib.Omega.{arith}
+use Rattle.lists.proofs.Kit.{needs, arith}
 use Rattle.tables.proofs.AnswerLaws.{refused}
 use Rattle.tables.proofs.StartLaws.{room-is}
 use Rattle.tables.proofs.limits.roomy.Statement.{statement}

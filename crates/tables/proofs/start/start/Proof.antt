@@ -1,9 +1,4 @@
-use borrow.Author.Needs.{needs}
-use native.Mathlib.Omega.{arith}
-use mathlib.Core.Path.{refl, ap}
-use mathlib.Core.Logic.{inl, inr}
-use mathlib.Core.List.{List}
-use Prim.Native.Nat.{ℕ}
+use Rattle.lists.proofs.Kit.{needs, arith, refl, ap, inl, inr, List, ℕ}
 use Rattle.tables.specs.Layout.{Roomy}
 use Rattle.tables.specs.Store.{Begun}
 use Rattle.tables.proofs.AnswerLaws.{not-said, was-said}

@@ -1,5 +1,4 @@
-use borrow.Author.Needs.{needs}
-use native.Mathlib.Omega.{arith}
+use Rattle.lists.proofs.Kit.{needs, arith}
 use Rattle.tables.proofs.TextLaws.{text-absent, text-put}
 use Rattle.tables.proofs.texts.put_text.Statement.{statement}
 use Rattle.tables.proofs.texts.put_text.Tie as tie

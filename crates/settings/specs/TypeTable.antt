@@ -1,0 +1,57 @@
+-- What asking the table of the ten types answers: document 01's row of a type byte, and the operations that it allows.
+use Prim.Native.Nat.{ℕ, _≤_, _<_}
+use mathlib.Core.Path.{_≡_}
+use mathlib.Core.List.{List, [], _∷_, map}
+use mathlib.Core.Option.{Option, none, some}
+use lib.ListN.{getD}
+use Rattle.writing.specs.declared.Kind.{Kind}
+use Rattle.writing.specs.declared.Kind.the-variants.{Lines, Key, QuickTexts, Home, Channels, System, StatusTexts, Group, Individual, Last}
+use Rattle.writing.specs.declared.Operation.{Operation}
+use Rattle.writing.specs.declared.Operations.{Operations}
+use Rattle.writing.specs.declared.Operations.the-variants.{NoOperation, AnyOperation, AddOrDelete}
+use Rattle.writing.specs.Ranges.{text-limits}
+use Rattle.writing.specs.Bounds.{bounds}
+use Rattle.writing.specs.Settings.{unicode16}
+use Rattle.writing.specs.Writing.{type-byte, op-code}
+use Rattle.settings.specs.declared.type_table.Bounds.{Bounds}
+use Rattle.settings.specs.declared.type_table.BoundsRead.{BoundsRead}
+use Rattle.settings.specs.declared.type_table.BoundsRead.the-variants.{Found, Unknown}
+use Rattle.settings.specs.declared.type_table.OperationRead.{OperationRead}
+use Rattle.settings.specs.declared.type_table.OperationRead.the-variants.{Is, NoSuch}
+
+-- the most of a row, 65535 where it has none
+abbrev pub most-of : Option ℕ → ℕ
+most-of none = 65535
+most-of (some n) = n
+
+-- the largest operation code of a row, 0 where it has no operation
+abbrev pub largest : Operations → ℕ
+largest NoOperation = 0
+largest AnyOperation = 3
+largest AddOrDelete = 2
+
+-- the code's row is document 01's row of this kind
+pub record BoundsAre (k : Kind) (r : Bounds) : Type 0 where
+  pub type : r .«type_byte» ≡ type-byte k
+  pub least : r .least ≡ bounds unicode16 text-limits k .least
+  pub most : r .most ≡ most-of (bounds unicode16 text-limits k .most)
+  pub operations : r .operations ≡ largest (bounds unicode16 text-limits k .operations)
+
+-- the ten, in the order of the table
+abbrev pub kinds : List Kind
+kinds = Lines ∷ Key ∷ QuickTexts ∷ Home ∷ Channels ∷ System ∷ StatusTexts ∷ Group ∷ Individual ∷ Last ∷ []
+
+-- the place of a type byte among the ten, or 10 where it is none of them
+pub record PlaceIs (b place : ℕ) : Type 0 where
+  pub found : place < 10 → type-byte (getD kinds place Last) ≡ b
+  pub none : 10 ≤ place → (k : Kind) → type-byte k ≡ b → ⊥
+
+-- the row of a type byte, or that it is none of the ten
+abbrev pub BoundsAt : ℕ → BoundsRead → Type 0
+BoundsAt b (Found r) = (k : Kind) × (type-byte k ≡ b) × BoundsAre k r
+BoundsAt b Unknown = (k : Kind) → type-byte k ≡ b → ⊥
+
+-- the operation of a code among those allowed, or that there is none
+abbrev pub OperationIs : ℕ → ℕ → OperationRead → Type 0
+OperationIs code most (Is o) = (op-code o ≡ code) × (code ≤ most)
+OperationIs code most NoSuch = (o : Operation) → op-code o ≡ code → code ≤ most → ⊥

@@ -1,0 +1,99 @@
+//! The stored test of the program `shift`: its input is what the binary `shift` writes, and its output what the reference shows of it.
+
+use otap_reference::records::{Record, Records};
+use otap_reference::reference::screen::{row_part, Row, Shown, SCRATCH_ROOM};
+use otap_reference::reference::tables::Set;
+use otap_reference::reference::take::{take, Answer, REPLY_ROOM};
+use std::fs::read;
+use std::process::Command;
+
+fn stored(part: &str) -> Vec<u8> {
+    read(format!("{}/../../crates/shift/{part}", env!("CARGO_MANIFEST_DIR")))
+        .expect("the program has a stored test")
+}
+
+/// A row as the screen shows it; a surrogate that is in no pair is U+FFFD.
+fn shown(row: Row, set: &Set) -> Option<String> {
+    match row_part(row, true, set, &mut [0; SCRATCH_ROOM]) {
+        Shown::Nothing => None,
+        Shown::Stored(units) | Shown::Scratch(units) => Some(String::from_utf16_lossy(&units)),
+    }
+}
+
+/// The row of a table at a place.
+type RowAt = fn(usize) -> Row;
+
+/// A line for each table that has rows.
+fn rows(set: &Set) -> String {
+    let tables: [(&str, RowAt); 5] = [
+        ("lines", Row::Line),
+        ("quick texts", Row::Quick),
+        ("status texts", Row::Status),
+        ("groups", Row::Group),
+        ("individuals", Row::Individual),
+    ];
+    let mut out = String::new();
+    for (name, row) in tables {
+        let there = |place| shown(row(place), set).map(|text| format!("{place} {text}"));
+        let shown: Vec<String> = (0..256).filter_map(there).collect();
+        if !shown.is_empty() {
+            out.push_str(&format!("  {name:<14}{}\n", shown.join(", ")));
+        }
+    }
+    if out.is_empty() {
+        "  no rows\n".to_string()
+    } else {
+        out
+    }
+}
+
+fn words(answer: &Answer, query: bool) -> &'static str {
+    match answer.number {
+        0 if query => "the hash matches",
+        0 => "taken",
+        4 => "refused: bad field",
+        14 => "refused: not a request",
+        other => panic!("the stored shift has no {other}"),
+    }
+}
+
+fn message_lines(answer: &Answer, query: bool, reply: &[u8]) -> String {
+    let mut out = format!("{}, {}", answer.number, words(answer, query));
+    if answer.failed != 0 {
+        out.push_str(&format!("; failed ID {}", answer.failed));
+    }
+    if answer.length == 0 {
+        return out + "; no reply; no restart\n";
+    }
+    let send = if answer.send { "send" } else { "keep" };
+    let restart = if answer.reboot { "restart" } else { "no restart" };
+    let hex: Vec<String> =
+        reply[..answer.length].iter().map(|byte| format!("{byte:02X}")).collect();
+    out + &format!("; {send} the reply; {restart}\n  reply         {}\n", hex.join(" "))
+}
+
+fn shift_prints(input: &[u8]) -> String {
+    let mut set = Set::default();
+    let mut out = format!("A fresh store\n{}", rows(&set));
+    for (place, record) in Records::new(input).enumerate() {
+        let Record::Whole { message, .. } = record else {
+            panic!("the stored shift has whole records")
+        };
+        let mut reply = [0; REPLY_ROOM];
+        let answer = take(message, &mut set, &mut reply);
+        let told = message_lines(&answer, message[6] & 7 == 5, &reply);
+        out.push_str(&format!("\nMessage {}: {told}{}", place + 1, rows(&set)));
+    }
+    out
+}
+
+#[test]
+fn the_input_is_what_the_binary_writes() {
+    let run = Command::new(env!("CARGO_BIN_EXE_shift")).output().expect("the binary runs");
+    assert!(run.stdout == stored("stdin"));
+}
+
+#[test]
+fn the_output_is_what_the_reference_shows() {
+    assert_eq!(shift_prints(&stored("stdin")), String::from_utf8_lossy(&stored("stdout")));
+}

@@ -1,0 +1,165 @@
+//! What a call answers, with the numbers of document 01.
+
+use core::fmt;
+
+/// Why a call did nothing: no byte of any buffer was touched.
+#[derive(Clone, Copy, Debug, PartialEq, Eq)]
+#[non_exhaustive]
+pub enum Refusal {
+    /// 10: the reply buffer has fewer than 20 bytes.
+    ReplyShort,
+    /// 11: the bytes lent are not 12,288, or not a store.
+    NotAStore,
+    /// 12: the message has fewer than 7 or more than 4,096 bytes.
+    MessageLength,
+    /// 13: a carrier field or the stated length is wrong.
+    WrongCarrier,
+    /// 14: the message is neither a request nor a result query.
+    WrongMessageType,
+    /// 15: the scratch has fewer than 36 bytes, or the export buffer fewer than 4,096.
+    BufferShort,
+    /// 16: there is no such part to export; a [`Part`](crate::Part) is always one.
+    NoSuchPart,
+    /// 17: there is no such row.
+    NoSuchRow,
+    /// 20: the dialled number is outside the plan.
+    OutsidePlan,
+    /// 21: the address is outside its kind's plan.
+    OutsideKind,
+    /// 22: there is no such channel.
+    NoSuchChannel,
+    /// A number that document 01 does not list; the contracts of crate `otap_handheld` allow none.
+    Unlisted(u8),
+}
+
+const LISTED: [(u8, Refusal, &str); 11] = [
+    (10, Refusal::ReplyShort, "the reply buffer is under 20 bytes"),
+    (11, Refusal::NotAStore, "the bytes lent are not a store"),
+    (12, Refusal::MessageLength, "the message is under 7 or over 4,096 bytes"),
+    (13, Refusal::WrongCarrier, "a carrier field or the length is wrong"),
+    (14, Refusal::WrongMessageType, "the message is neither a request nor a result query"),
+    (15, Refusal::BufferShort, "the buffer lent is too short"),
+    (16, Refusal::NoSuchPart, "there is no such part"),
+    (17, Refusal::NoSuchRow, "there is no such row"),
+    (20, Refusal::OutsidePlan, "the dialled number is outside the plan"),
+    (21, Refusal::OutsideKind, "the address is outside its kind's plan"),
+    (22, Refusal::NoSuchChannel, "there is no such channel"),
+];
+
+impl Refusal {
+    /// The number of document 01.
+    pub fn number(self) -> u8 {
+        match self {
+            Refusal::Unlisted(number) => number,
+            listed => LISTED.iter().find(|row| row.1 == listed).map_or(0, |row| row.0),
+        }
+    }
+
+    pub(crate) fn from_number(number: u8) -> Refusal {
+        LISTED.iter().find(|row| row.0 == number).map_or(Refusal::Unlisted(number), |row| row.1)
+    }
+
+    /// As `from_number`, for the calls that answer nothing else.
+    pub(crate) fn from_word(number: u32) -> Refusal {
+        Refusal::from_number(u8::try_from(number).unwrap_or(u8::MAX))
+    }
+}
+
+impl fmt::Display for Refusal {
+    fn fmt(&self, to: &mut fmt::Formatter) -> fmt::Result {
+        let said = LISTED.iter().find(|row| row.1 == *self).map_or("not listed", |row| row.2);
+        write!(to, "{}: {said}", self.number())
+    }
+}
+
+impl core::error::Error for Refusal {}
+
+/// What a message came to.
+#[derive(Clone, Copy, Debug, PartialEq, Eq)]
+pub enum Outcome {
+    /// 0: the request was taken, or the query matches the hash kept.
+    Taken,
+    /// 1: OTAPVer is not 1.
+    WrongVersion,
+    /// 2: a table has no room.
+    NoRoom,
+    /// 3: a setting's type is not among the ten.
+    UnknownType,
+    /// 4: a field, a length or a count is wrong.
+    BadField,
+    /// 5: the query asks for no hash, or not for the one kept.
+    NoMatch,
+    /// 10 to 14: nothing was touched and there is no reply.
+    Refused(Refusal),
+}
+
+impl Outcome {
+    /// The number of document 01.
+    pub fn number(self) -> u8 {
+        match self {
+            Outcome::Taken => 0,
+            Outcome::WrongVersion => 1,
+            Outcome::NoRoom => 2,
+            Outcome::UnknownType => 3,
+            Outcome::BadField => 4,
+            Outcome::NoMatch => 5,
+            Outcome::Refused(refusal) => refusal.number(),
+        }
+    }
+
+    fn from_number(number: u8) -> Outcome {
+        match number {
+            0 => Outcome::Taken,
+            1 => Outcome::WrongVersion,
+            2 => Outcome::NoRoom,
+            3 => Outcome::UnknownType,
+            4 => Outcome::BadField,
+            5 => Outcome::NoMatch,
+            other => Outcome::Refused(Refusal::from_number(other)),
+        }
+    }
+}
+
+/// The answer to a message. Only a request that came to [`Outcome::Taken`] changed the store.
+#[derive(Clone, Copy, Debug, PartialEq, Eq)]
+pub struct Answer<'r> {
+    /// What the message came to.
+    pub outcome: Outcome,
+    /// The first setting at fault, counted from 1; 0 where none is named.
+    pub failed_id: u8,
+    /// Whether the reply is to be sent.
+    pub send: bool,
+    /// Whether the set is to be started again.
+    pub reboot: bool,
+    /// The reply, at the start of the buffer lent; empty where nothing was touched.
+    pub reply: &'r [u8],
+}
+
+impl<'r> Answer<'r> {
+    /// The number of document 01.
+    pub fn number(&self) -> u8 {
+        self.outcome.number()
+    }
+
+    pub(crate) fn unpack(packed: u64, reply: &'r [u8]) -> Answer<'r> {
+        let length = byte(packed, 24);
+        Answer {
+            outcome: Outcome::from_number(byte(packed, 0)),
+            failed_id: byte(packed, 8),
+            send: packed >> 16 & 1 == 1,
+            reboot: packed >> 17 & 1 == 1,
+            // Crate `otap_handheld` proves that the length is within the buffer; `get` does not rely on it.
+            reply: reply.get(..usize::from(length)).unwrap_or_default(),
+        }
+    }
+}
+
+/// The eight bits from `place` on.
+pub(crate) fn byte(packed: u64, place: u32) -> u8 {
+    (packed >> place) as u8
+}
+
+/// The sixteen bits from `place` on.
+pub(crate) fn half(packed: u64, place: u32) -> usize {
+    usize::from((packed >> place) as u16)
+}

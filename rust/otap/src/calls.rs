@@ -1,0 +1,82 @@
+//! The C functions of the verified archive, and all of this crate's unsafe code.
+//!
+//! What each bit of an answer means is said in crate `packing`; the contracts of `otap_handheld` determine
+//! every byte that a call writes. Every call takes slices of any length and content.
+#![allow(unsafe_code)]
+
+unsafe extern "C" {
+    fn otap_start(store: *mut u8, store_length: u64) -> u32;
+    fn otap_take(
+        message: *const u8,
+        message_length: u64,
+        store: *mut u8,
+        store_length: u64,
+        reply: *mut u8,
+        reply_length: u64,
+    ) -> u64;
+    fn otap_export(
+        part: u32,
+        store: *const u8,
+        store_length: u64,
+        buffer: *mut u8,
+        buffer_length: u64,
+    ) -> u64;
+    fn otap_row_number(
+        table: u32,
+        row: u32,
+        store: *const u8,
+        store_length: u64,
+        scratch: *const u8,
+        scratch_length: u64,
+    ) -> u32;
+    fn otap_row_part(
+        table: u32,
+        row: u32,
+        store: *const u8,
+        store_length: u64,
+        scratch: *mut u8,
+        scratch_length: u64,
+    ) -> u64;
+    // These have no buffers, so that every call is sound.
+    pub safe fn otap_individual_of_dialled(dialled: u32) -> u64;
+    pub safe fn otap_group_of_dialled(dialled: u32) -> u64;
+    pub safe fn otap_dialled_of_individual(address: u32) -> u64;
+    pub safe fn otap_dialled_of_group(address: u32) -> u64;
+    pub safe fn otap_transmit(channel: u32) -> u64;
+    pub safe fn otap_receive(channel: u32) -> u64;
+    pub safe fn otap_channel_of_transmit(frequency: u32) -> u64;
+}
+
+/// The archive takes every length as 64 bits, on every processor.
+fn length(lent: &[u8]) -> u64 {
+    lent.len() as u64
+}
+
+pub fn start(store: &mut [u8]) -> u32 {
+    // SAFETY: the slice is live and ours alone for the call, which stays within its length.
+    unsafe { otap_start(store.as_mut_ptr(), length(store)) }
+}
+
+pub fn take(message: &[u8], store: &mut [u8], reply: &mut [u8]) -> u64 {
+    let (m, s, r) = (message.as_ptr(), store.as_mut_ptr(), reply.as_mut_ptr());
+    // SAFETY: the slices are live for the call, and no borrow overlaps one that may be written.
+    unsafe { otap_take(m, length(message), s, length(store), r, length(reply)) }
+}
+
+pub fn export(part: u32, store: &[u8], buffer: &mut [u8]) -> u64 {
+    let (s, b) = (store.as_ptr(), buffer.as_mut_ptr());
+    // SAFETY: the slices are live for the call, and the store, only read, does not overlap the buffer.
+    unsafe { otap_export(part, s, length(store), b, length(buffer)) }
+}
+
+pub fn row_number(table: u32, row: u32, store: &[u8], scratch: &[u8]) -> u32 {
+    let (s, w) = (store.as_ptr(), scratch.as_ptr());
+    // SAFETY: the slices are live for the call, which only reads them.
+    unsafe { otap_row_number(table, row, s, length(store), w, length(scratch)) }
+}
+
+pub fn row_part(table: u32, row: u32, store: &[u8], scratch: &mut [u8]) -> u64 {
+    let (s, w) = (store.as_ptr(), scratch.as_mut_ptr());
+    // SAFETY: the slices are live for the call, and the store, only read, does not overlap the scratch.
+    unsafe { otap_row_part(table, row, s, length(store), w, length(scratch)) }
+}

@@ -1,0 +1,38 @@
+//! Over-the-air settings of a PDT radio (document 01): the safe face of the verified archive `libotap_handheld.a`.
+//!
+//! A [`Store`] stands over bytes that the firmware lends and keeps nothing else; conversions of numbers,
+//! addresses and channels need none. No std, no allocation, no panic. `build.rs` finds the archive of the
+//! target where `./archive` writes it, or in the folder that `OTAP_ARCHIVE_DIR` names.
+//!
+//! ```
+//! # fn main() -> Result<(), otap::Refusal> {
+//! let mut bytes = [0; otap::STORE_SIZE];
+//! let store = otap::Store::start(&mut bytes)?;
+//! let mut scratch = [0; otap::SCRATCH_ROOM];
+//! let none = store.row(otap::Table::Groups, 0, &mut scratch);
+//! assert_eq!(none, Err(otap::Refusal::NoSuchRow));
+//! # Ok(())
+//! # }
+//! ```
+#![no_std]
+#![deny(unsafe_code)]
+#![warn(missing_docs)]
+
+mod answer;
+mod calls;
+mod conversions;
+mod row;
+mod store;
+
+pub use answer::{Answer, Outcome, Refusal};
+pub use conversions::{
+    channel_of_transmit, dialled_of_group, dialled_of_individual, group_of_dialled,
+    individual_of_dialled, receive, transmit, GroupAddress, IndividualAddress,
+};
+pub use row::{Row, Slice, Table};
+pub use store::{Part, Store, EXPORT_ROOM, LONGEST_MESSAGE, REPLY_ROOM, SCRATCH_ROOM, STORE_SIZE};
+
+// The README's snippet is compiled and run with the doc examples.
+#[cfg(doctest)]
+#[doc = include_str!("../../../README.md")]
+struct Readme;

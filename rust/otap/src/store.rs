@@ -1,0 +1,229 @@
+//! A set's store, over bytes that the firmware lends.
+
+use crate::answer::{byte, half, Answer, Refusal};
+use crate::calls;
+use crate::row::{Row, Table};
+
+/// A store has exactly so many bytes.
+pub const STORE_SIZE: usize = 12_288;
+/// A reply buffer has at least so many bytes.
+pub const REPLY_ROOM: usize = 20;
+/// An export buffer has at least so many bytes.
+pub const EXPORT_ROOM: usize = 4_096;
+/// A scratch has at least so many bytes.
+pub const SCRATCH_ROOM: usize = 36;
+/// A message has at most so many bytes.
+pub const LONGEST_MESSAGE: usize = 4_096;
+
+/// A part of an export.
+#[derive(Clone, Copy, Debug, PartialEq, Eq, Hash)]
+#[non_exhaustive]
+#[repr(u32)]
+pub enum Part {
+    /// Line contacts.
+    Lines = 1,
+    /// Emergency key, home numbers and system code.
+    KeyHomeSystem = 2,
+    /// Quick texts.
+    QuickTexts = 3,
+    /// Scan channels.
+    Channels = 4,
+    /// Status texts.
+    StatusTexts = 5,
+    /// Group slots.
+    Groups = 6,
+    /// Individual slots.
+    Individuals = 7,
+}
+
+impl Part {
+    /// Each of them; taken in this order they give any other set the same tables.
+    pub const ALL: &'static [Part] = &[
+        Part::Lines,
+        Part::KeyHomeSystem,
+        Part::QuickTexts,
+        Part::Channels,
+        Part::StatusTexts,
+        Part::Groups,
+        Part::Individuals,
+    ];
+
+    /// The number of document 01.
+    pub fn number(self) -> u32 {
+        self as u32
+    }
+
+    /// The part with this number.
+    ///
+    /// ```
+    /// assert_eq!(otap::Part::from_number(4), Some(otap::Part::Channels));
+    /// assert_eq!(otap::Part::from_number(0), None);
+    /// ```
+    pub fn from_number(number: u32) -> Option<Part> {
+        Part::ALL.iter().copied().find(|part| part.number() == number)
+    }
+}
+
+/// The settings of one set. It keeps nothing outside the bytes lent.
+#[derive(Debug)]
+pub struct Store<'s> {
+    bytes: &'s mut [u8],
+}
+
+impl<'s> Store<'s> {
+    /// Makes 12,288 bytes a fresh store, whatever they held; another length is refused with 11.
+    ///
+    /// ```
+    /// use otap::{Refusal, Store, STORE_SIZE};
+    /// assert!(Store::start(&mut [0xFF; STORE_SIZE]).is_ok());
+    /// assert_eq!(Store::start(&mut [0; 100]).err(), Some(Refusal::NotAStore));
+    /// ```
+    pub fn start(bytes: &'s mut [u8]) -> Result<Store<'s>, Refusal> {
+        match calls::start(bytes) {
+            0 => Ok(Store { bytes }),
+            number => Err(Refusal::from_word(number)),
+        }
+    }
+
+    /// Bytes that were a store before, as from flash; every call judges them and refuses others with 11.
+    ///
+    /// At power-on, any row tells whether they are one: with a scratch of its size, 11 is answered exactly where they are not.
+    ///
+    /// ```
+    /// use otap::{Refusal, Store, Table, SCRATCH_ROOM, STORE_SIZE};
+    /// let mut saved = [0xFF; STORE_SIZE]; // empty flash
+    /// let judged = Store::lent(&mut saved).check_row(Table::Lines, 0, &[0; SCRATCH_ROOM]);
+    /// assert_eq!(judged, Err(Refusal::NotAStore));
+    /// ```
+    pub fn lent(bytes: &'s mut [u8]) -> Store<'s> {
+        Store { bytes }
+    }
+
+    /// The store's bytes, to be kept.
+    pub fn bytes(&self) -> &[u8] {
+        self.bytes
+    }
+
+    /// Takes one message, whole or not at all, and writes the reply to the start of the buffer.
+    ///
+    /// ```
+    /// # fn main() -> Result<(), otap::Refusal> {
+    /// let mut bytes = [0; otap::STORE_SIZE];
+    /// let mut store = otap::Store::start(&mut bytes)?;
+    /// // Replaces the scan channels by 241 and 640.
+    /// let message = [2, 2, 0, 12, 8, 7, 8, 1, 0xCE, 0, 7, 0xC0, 2, 0x0F, 0x12, 0x80];
+    /// let mut buffer = [0; otap::REPLY_ROOM];
+    /// let answer = store.take(&message, &mut buffer);
+    /// assert_eq!((answer.outcome, answer.send, answer.reboot), (otap::Outcome::Taken, false, false));
+    /// assert_eq!(answer.reply, [2, 2, 0, 6, 8, 0, 9, 0, 0, 0]);
+    /// # Ok(())
+    /// # }
+    /// ```
+    pub fn take<'r>(&mut self, message: &[u8], reply: &'r mut [u8]) -> Answer<'r> {
+        let packed = calls::take(message, self.bytes, reply);
+        Answer::unpack(packed, reply)
+    }
+
+    /// Writes a part's request to the start of the buffer; refused with 15 or 11.
+    ///
+    /// ```
+    /// # fn main() -> Result<(), otap::Refusal> {
+    /// use otap::{Outcome, Part, Store, EXPORT_ROOM, REPLY_ROOM, STORE_SIZE};
+    /// let (mut one, mut other, mut buffer) = ([0; STORE_SIZE], [0; STORE_SIZE], [0; EXPORT_ROOM]);
+    /// let from = Store::start(&mut one)?;
+    /// let mut to = Store::start(&mut other)?;
+    /// for part in Part::ALL {
+    ///     let request = from.export(*part, &mut buffer)?;
+    ///     assert_eq!(to.take(request, &mut [0; REPLY_ROOM]).outcome, Outcome::Taken);
+    /// }
+    /// assert_eq!(from.bytes(), to.bytes());
+    /// # Ok(())
+    /// # }
+    /// ```
+    pub fn export<'b>(&self, part: Part, buffer: &'b mut [u8]) -> Result<&'b [u8], Refusal> {
+        let packed = calls::export(part.number(), self.bytes, buffer);
+        match byte(packed, 0) {
+            // Crate `otap_handheld` proves that the length is within the buffer; `get` does not rely on it.
+            0 => Ok(buffer.get(..half(packed, 16)).unwrap_or_default()),
+            number => Err(Refusal::from_number(number)),
+        }
+    }
+
+    /// What the screen draws for a row: its text, or its number where it has none; refused with
+    /// 15, 11 or 17.
+    ///
+    /// A row borrows the store. Dispatch renames a group in the middle of a shift, while an
+    /// officer picks the row by its name and presses PTT: here the screen is done with the old
+    /// name before the store takes the new one, and asks again for what it then draws.
+    ///
+    /// ```
+    /// # use otap::{Outcome, Store, Table, REPLY_ROOM, SCRATCH_ROOM, STORE_SIZE};
+    /// # fn main() -> Result<(), otap::Refusal> {
+    /// // Both name group 32820900, in slot 0: first A1, then B2.
+    /// const NAME: [u8; 22] = *b"\x02\x02\0\x12\x08\x07\x08\x01\xD1\0\x0D\x60\0\x10\0\x01\0A\01\0\0";
+    /// const RENAME: [u8; 22] = *b"\x02\x02\0\x12\x08\x07\x08\x01\xD1\0\x0D\x60\0\x10\0\x01\0B\02\0\0";
+    /// let (mut bytes, mut reply, mut scratch) = ([0; STORE_SIZE], [0; REPLY_ROOM], [0; SCRATCH_ROOM]);
+    /// let mut store = Store::start(&mut bytes)?;
+    /// assert_eq!(store.take(&NAME, &mut reply).outcome, Outcome::Taken);
+    /// let row = store.row(Table::Groups, 0, &mut scratch)?;
+    /// assert_eq!(row.bytes(), b"\0A\01");
+    /// assert_eq!(store.take(&RENAME, &mut reply).outcome, Outcome::Taken);
+    /// let row = store.row(Table::Groups, 0, &mut scratch)?;
+    /// assert_eq!(row.bytes(), b"\0B\02");
+    /// # Ok(())
+    /// # }
+    /// ```
+    ///
+    /// The accident does not compile: a row that is still held while the store takes a message,
+    /// so that the screen would read bytes that are another name by then.
+    ///
+    /// ```compile_fail,E0502
+    /// # use otap::{Outcome, Store, Table, REPLY_ROOM, SCRATCH_ROOM, STORE_SIZE};
+    /// # fn main() -> Result<(), otap::Refusal> {
+    /// # const NAME: [u8; 22] = *b"\x02\x02\0\x12\x08\x07\x08\x01\xD1\0\x0D\x60\0\x10\0\x01\0A\01\0\0";
+    /// # const RENAME: [u8; 22] = *b"\x02\x02\0\x12\x08\x07\x08\x01\xD1\0\x0D\x60\0\x10\0\x01\0B\02\0\0";
+    /// # let (mut bytes, mut reply, mut scratch) = ([0; STORE_SIZE], [0; REPLY_ROOM], [0; SCRATCH_ROOM]);
+    /// # let mut store = Store::start(&mut bytes)?;
+    /// # assert_eq!(store.take(&NAME, &mut reply).outcome, Outcome::Taken);
+    /// let row = store.row(Table::Groups, 0, &mut scratch)?;
+    /// assert_eq!(store.take(&RENAME, &mut reply).outcome, Outcome::Taken);
+    /// assert_eq!(row.bytes(), b"\0A\01");
+    /// # Ok(())
+    /// # }
+    /// ```
+    ///
+    /// Nor does its other form: a scratch that is used again while a row in it is still held.
+    ///
+    /// ```compile_fail,E0499
+    /// # use otap::{Store, Table, SCRATCH_ROOM, STORE_SIZE};
+    /// # fn main() -> Result<(), otap::Refusal> {
+    /// # let (mut bytes, mut scratch) = ([0; STORE_SIZE], [0; SCRATCH_ROOM]);
+    /// # let store = Store::start(&mut bytes)?;
+    /// let first = store.row(Table::Groups, 0, &mut scratch)?;
+    /// let second = store.row(Table::Groups, 1, &mut scratch)?;
+    /// assert_eq!(first.bytes(), second.bytes());
+    /// # Ok(())
+    /// # }
+    /// ```
+    pub fn row<'a>(
+        &'a self,
+        table: Table,
+        row: u32,
+        scratch: &'a mut [u8],
+    ) -> Result<Row<'a>, Refusal> {
+        let packed = calls::row_part(table.number(), row, self.bytes, scratch);
+        // A refusal's part is 0; only then is the number asked for.
+        if packed == 0 {
+            self.check_row(table, row, scratch)?;
+        }
+        Ok(Row::unpack(packed, self.bytes, scratch))
+    }
+
+    /// Whether the screen has such a row, without writing the scratch; refused as [`Store::row`] is.
+    pub fn check_row(&self, table: Table, row: u32, scratch: &[u8]) -> Result<(), Refusal> {
+        match calls::row_number(table.number(), row, self.bytes, scratch) {
+            0 => Ok(()),
+            number => Err(Refusal::from_word(number)),
+        }
+    }
+}

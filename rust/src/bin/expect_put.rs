@@ -1,9 +1,0 @@
-//! Writes the seven records that document 01's program `put` must write for the records on standard input.
-
-use std::io::{self, Read, Write};
-
-fn main() -> io::Result<()> {
-    let mut input = Vec::new();
-    io::stdin().read_to_end(&mut input)?;
-    io::stdout().write_all(&otap::programs::put_writes(&input))
-}

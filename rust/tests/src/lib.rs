@@ -1,0 +1,76 @@
+//! Small helpers shared by the tests.
+#![deny(unsafe_code)]
+
+pub mod pair;
+pub mod raw;
+
+use otap_reference::reference::message;
+use otap_reference::reference::settings::{LineEntry, LineFlags, Operation, Setting, TextEntry};
+use otap_reference::reference::tables::Set;
+use otap_reference::reference::take::{take, REPLY_ROOM};
+
+pub fn bytes(hex: &str) -> Vec<u8> {
+    hex.split_whitespace()
+        .map(|word| u8::from_str_radix(word, 16).expect("two hex digits"))
+        .collect()
+}
+
+pub fn request(settings: &[Vec<u8>]) -> Vec<u8> {
+    message::request(settings)
+}
+
+/// A request with these settings in hex.
+pub fn hex_request(settings: &[&str]) -> Vec<u8> {
+    let settings: Vec<_> = settings.iter().map(|setting| bytes(setting)).collect();
+    message::request(&settings)
+}
+
+/// Number and failed ID of a message to a fresh set.
+pub fn number_of(message: &[u8]) -> (u8, u8) {
+    number_in(message, &mut Set::default())
+}
+
+pub fn number_in(message: &[u8], set: &mut Set) -> (u8, u8) {
+    let answer = take(message, set, &mut [0; REPLY_ROOM]);
+    (answer.number, answer.failed)
+}
+
+/// The set after a message that must be taken.
+pub fn taken(message: &[u8]) -> Set {
+    let mut set = Set::default();
+    assert_eq!(number_in(message, &mut set), (0, 0));
+    set
+}
+
+pub fn lines(operation: Operation, keys: &[&[u8]]) -> Vec<u8> {
+    let entries =
+        keys.iter().map(|key| LineEntry { digits: key.to_vec(), text: Vec::new() }).collect();
+    Setting::Lines { operation, flags: LineFlags::default(), entries }.write()
+}
+
+pub fn lines_add(keys: &[&[u8]]) -> Vec<u8> {
+    lines(Operation::Add, keys)
+}
+
+pub fn channels(operation: Operation, channels: &[u16]) -> Vec<u8> {
+    Setting::Channels { operation, channels: channels.to_vec() }.write()
+}
+
+pub fn quick(operation: Operation, entries: &[(u8, &str)]) -> Vec<u8> {
+    Setting::QuickTexts { operation, entries: text_entries(entries) }.write()
+}
+
+pub fn status(operation: Operation, entries: &[(u8, &str)]) -> Vec<u8> {
+    Setting::StatusTexts { operation, entries: text_entries(entries) }.write()
+}
+
+fn text_entries(entries: &[(u8, &str)]) -> Vec<TextEntry> {
+    entries
+        .iter()
+        .map(|&(key, text)| TextEntry { key, text: text.encode_utf16().collect() })
+        .collect()
+}
+
+pub fn units(text: &str) -> Vec<u16> {
+    text.encode_utf16().collect()
+}

@@ -1,0 +1,173 @@
+//! A store behind the face and a set of the reference, which get the same calls and must stay alike.
+
+use crate::raw;
+use otap::{Part, Refusal, Row, Slice, Store, Table, STORE_SIZE};
+use otap_reference::layout;
+use otap_reference::reference::export::{export, Exported};
+use otap_reference::reference::screen::{self, row_number, row_part, Shown};
+use otap_reference::reference::tables::Set;
+use otap_reference::reference::take::take_from;
+
+pub struct Pair {
+    pub bytes: Vec<u8>,
+    pub set: Set,
+}
+
+impl Pair {
+    pub fn fresh() -> Pair {
+        let mut bytes = patterned(STORE_SIZE);
+        Store::start(&mut bytes).expect("any bytes of the size become a store");
+        Pair { bytes, set: Set::default() }
+    }
+
+    pub fn take(&mut self, message: &[u8]) -> u8 {
+        self.take_into(message, otap::REPLY_ROOM)
+    }
+
+    /// Both take the message: the same answer, reply buffer and change or stay.
+    pub fn take_into(&mut self, message: &[u8], room: usize) -> u8 {
+        let (bytes, set) = (self.bytes.clone(), self.set.clone());
+        let (mut reply, mut expected) = (patterned(room), patterned(room));
+        let answer = Store::lent(&mut self.bytes).take(message, &mut reply);
+        let is_store = bytes.len() == STORE_SIZE;
+        let wanted = take_from(message, is_store, &mut self.set, &mut expected);
+        let number = answer.number();
+        let said = (number, answer.failed_id, answer.send, answer.reboot, answer.reply.len());
+        let want = (wanted.number, wanted.failed, wanted.send, wanted.reboot, wanted.length);
+        assert_eq!(said, want, "{message:02X?}");
+        assert_eq!(answer.reply, &expected[..wanted.length]);
+        assert!(reply == expected, "the whole reply buffer after {message:02X?}");
+        // Equal contents are equal bytes, so that one stays exactly where the other does.
+        assert_eq!(self.bytes == bytes, self.set == set, "{message:02X?}");
+        assert!(number == 0 || self.bytes == bytes, "refused, so the store stays");
+        assert!(
+            !is_store || self.bytes == layout::bytes(&self.set),
+            "the store's bytes after {message:02X?}"
+        );
+        number
+    }
+
+    pub fn export_into(&mut self, part: u32, room: usize) -> u8 {
+        let before = self.bytes.clone();
+        let (mut buffer, mut expected) = (patterned(room), patterned(room));
+        let is_store = before.len() == STORE_SIZE;
+        let known = u8::try_from(part).unwrap_or(0);
+        let wanted = export(known, is_store, &self.set, &mut expected);
+        let (number, length) = exported(part, &mut self.bytes, &mut buffer);
+        assert_eq!(Exported { number, length }, wanted, "part {part}");
+        assert!(buffer == expected, "the whole buffer of part {part}");
+        assert!(self.bytes == before, "an export only reads");
+        number
+    }
+
+    /// The number by both calls, which slice, its bytes, and the scratch around a written number.
+    pub fn show_into(&mut self, table: u32, row: u32, room: usize) -> u8 {
+        let (mut scratch, mut expected) = (patterned(room), patterned(room));
+        let is_store = self.bytes.len() == STORE_SIZE;
+        let (number, shown) = match reference_row(table, row) {
+            Some(row) => {
+                let number = row_number(row, is_store, &self.set, &expected);
+                (number, row_part(row, is_store, &self.set, &mut expected))
+            }
+            None => (absent_number(is_store, room), Shown::Nothing),
+        };
+        let before = self.bytes.clone();
+        if let Some(named) = Table::from_number(table) {
+            let store = Store::lent(&mut self.bytes);
+            let checked = store.check_row(named, row, &scratch);
+            assert_eq!(number_of(&checked), number, "table {table} row {row}");
+            let given = store.row(named, row, &mut scratch);
+            assert_eq!(number_of(&given), number, "table {table} row {row}");
+            if let Ok(part) = given {
+                assert_same(part, &shown, table, row);
+            }
+        } else {
+            assert_eq!(raw::row_number(table, row, &self.bytes, &scratch), u32::from(number));
+            assert_eq!(raw::row_part(table, row, &self.bytes, &mut scratch), 0);
+        }
+        assert!(scratch == expected, "the whole scratch of table {table} row {row}");
+        assert!(self.bytes == before, "the screen only reads");
+        number
+    }
+
+    pub fn compare_exports(&mut self) {
+        for part in 0..=Part::ALL.len() as u32 + 1 {
+            self.export_into(part, otap::EXPORT_ROOM + part as usize);
+        }
+    }
+
+    /// Every row of every table, and absent ones on either side; says how many were shown.
+    pub fn compare_rows(&mut self) -> usize {
+        let rooms = otap::SCRATCH_ROOM;
+        let most = [(0, 2), (1, 34), (2, 66), (3, 130), (4, 18), (5, 18), (6, 2)];
+        most.iter()
+            .flat_map(|&(table, rows)| (0..rows).map(move |row| (table, row)))
+            .filter(|&(table, row)| self.show_into(table, row, rooms + row as usize) == 0)
+            .count()
+    }
+}
+
+/// Number and length, by the face where it has a name for the part.
+fn exported(part: u32, bytes: &mut [u8], buffer: &mut [u8]) -> (u8, usize) {
+    let Some(named) = Part::from_number(part) else {
+        let packed = raw::export(part, bytes, buffer);
+        return (packed as u8, usize::from((packed >> 16) as u16));
+    };
+    let exported = Store::lent(bytes).export(named, buffer);
+    (number_of(&exported), exported.map_or(0, <[u8]>::len))
+}
+
+fn assert_same(part: Row, shown: &Shown, table: u32, row: u32) {
+    let (slice, offset, units) = match shown {
+        Shown::Stored(units) => (Slice::Store, text_offset(table, row), units),
+        Shown::Scratch(units) => (Slice::Scratch, 0, units),
+        Shown::Nothing => panic!("table {table} row {row} is not there"),
+    };
+    assert_eq!(part.slice(), slice, "table {table} row {row}");
+    assert_eq!(part.offset(), offset, "table {table} row {row}");
+    let bytes: Vec<u8> = units.iter().flat_map(|unit| unit.to_be_bytes()).collect();
+    assert_eq!(part.bytes(), bytes, "table {table} row {row}");
+    assert!(part.units().eq(units.iter().copied()));
+}
+
+/// Where docs/STORE.md says that a row's text stands.
+fn text_offset(table: u32, row: u32) -> usize {
+    let row = row as usize;
+    match table {
+        1 => 7_414 + 52 * row + 20,
+        2 => 22 + 46 * row,
+        3 => 2_966 + 33 * (row - 32) + 1,
+        4 => 6_134 + 36 * row + 4,
+        _ => 6_710 + 36 * row + 4,
+    }
+}
+
+/// The reference names rows by table; a table outside the five has none.
+fn reference_row(table: u32, row: u32) -> Option<screen::Row> {
+    let row = row as usize;
+    match table {
+        1 => Some(screen::Row::Line(row)),
+        2 => Some(screen::Row::Quick(row)),
+        3 => Some(screen::Row::Status(row)),
+        4 => Some(screen::Row::Group(row)),
+        5 => Some(screen::Row::Individual(row)),
+        _ => None,
+    }
+}
+
+fn absent_number(is_store: bool, room: usize) -> u8 {
+    match (room < otap::SCRATCH_ROOM, is_store) {
+        (true, _) => 15,
+        (false, false) => 11,
+        (false, true) => 17,
+    }
+}
+
+pub fn number_of<T>(answer: &Result<T, Refusal>) -> u8 {
+    answer.as_ref().map_or_else(|refusal| refusal.number(), |_| 0)
+}
+
+/// Bytes that no call would write by chance.
+pub fn patterned(length: usize) -> Vec<u8> {
+    (0..length).map(|place| (place * 7 % 251) as u8 ^ 0xA5).collect()
+}

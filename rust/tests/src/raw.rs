@@ -1,0 +1,46 @@
+//! C functions themselves, for the numbers of parts and tables that the face has no name for.
+#![allow(unsafe_code)]
+
+unsafe extern "C" {
+    fn otap_export(
+        part: u32,
+        store: *const u8,
+        store_length: u64,
+        buffer: *mut u8,
+        length: u64,
+    ) -> u64;
+    fn otap_row_number(
+        table: u32,
+        row: u32,
+        store: *const u8,
+        store_length: u64,
+        scratch: *const u8,
+        length: u64,
+    ) -> u32;
+    fn otap_row_part(
+        table: u32,
+        row: u32,
+        store: *const u8,
+        store_length: u64,
+        scratch: *mut u8,
+        length: u64,
+    ) -> u64;
+}
+
+pub fn export(part: u32, store: &[u8], buffer: &mut [u8]) -> u64 {
+    let (store_length, length) = (store.len() as u64, buffer.len() as u64);
+    // SAFETY: the slices are live for the call and do not overlap.
+    unsafe { otap_export(part, store.as_ptr(), store_length, buffer.as_mut_ptr(), length) }
+}
+
+pub fn row_number(table: u32, row: u32, store: &[u8], scratch: &[u8]) -> u32 {
+    let (store_length, length) = (store.len() as u64, scratch.len() as u64);
+    // SAFETY: the slices are live for the call, which only reads them.
+    unsafe { otap_row_number(table, row, store.as_ptr(), store_length, scratch.as_ptr(), length) }
+}
+
+pub fn row_part(table: u32, row: u32, store: &[u8], scratch: &mut [u8]) -> u64 {
+    let (store_length, length) = (store.len() as u64, scratch.len() as u64);
+    // SAFETY: the slices are live for the call and do not overlap.
+    unsafe { otap_row_part(table, row, store.as_ptr(), store_length, scratch.as_mut_ptr(), length) }
+}

@@ -1,0 +1,53 @@
+//! Exports and what they give to another set.
+
+use otap::{Outcome, Part, Store, EXPORT_ROOM, REPLY_ROOM};
+use otap_reference::inputs::Inputs;
+use otap_tests::pair::Pair;
+
+#[test]
+fn every_part_of_many_stores() {
+    for seed in 2_000..2_060 {
+        let mut inputs = Inputs::new(seed);
+        let mut pair = Pair::fresh();
+        for _ in 0..60 {
+            pair.take(&inputs.message());
+            pair.compare_exports();
+        }
+    }
+}
+
+/// The seven parts give another store the same tables, whatever it held: then all its parts are the same.
+#[test]
+fn the_seven_parts_give_the_same_tables() {
+    let mut other = Pair::fresh();
+    for seed in 2_100..2_140 {
+        let mut inputs = Inputs::new(seed);
+        let mut pair = Pair::fresh();
+        for _ in 0..40 {
+            pair.take(&inputs.message());
+        }
+        for &part in Part::ALL {
+            let mut buffer = [0; EXPORT_ROOM];
+            let store = Store::lent(&mut pair.bytes);
+            let message = store.export(part, &mut buffer).expect("a part of a store");
+            assert_eq!(other.take(message), 0);
+        }
+        assert_eq!(other.set.tables, pair.set.tables);
+        other.compare_exports();
+        other.compare_rows();
+    }
+}
+
+#[test]
+fn a_fresh_store_exports_to_itself() {
+    let mut pair = Pair::fresh();
+    let fresh = pair.bytes.clone();
+    let mut buffer = [0; EXPORT_ROOM];
+    for &part in Part::ALL {
+        let mut store = Store::lent(&mut pair.bytes);
+        let message = store.export(part, &mut buffer).expect("a part of a store");
+        let answer = store.take(message, &mut [0; REPLY_ROOM]).outcome;
+        assert_eq!(answer, Outcome::Taken);
+    }
+    assert!(pair.bytes == fresh);
+}

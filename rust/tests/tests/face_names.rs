@@ -1,0 +1,122 @@
+//! Every outcome and refusal by its name and its number in document 01, each from a call made by hand.
+
+use otap::{Outcome, Part, Refusal, Store, Table};
+use otap::{EXPORT_ROOM, REPLY_ROOM, SCRATCH_ROOM, STORE_SIZE};
+use otap_tests::raw;
+
+/// Home numbers NZI 15, NP 806.
+const HOME: [u8; 14] = [2, 2, 0, 10, 8, 7, 8, 1, 0xCD, 0, 5, 0x07, 0xE4, 0xC0];
+
+/// `HOME` with one byte changed.
+fn changed(place: usize, byte: u8) -> [u8; 14] {
+    let mut message = HOME;
+    message[place] = byte;
+    message
+}
+
+/// A replace of the scan channels by 65, one more than there is room for.
+fn too_many_channels() -> Vec<u8> {
+    let mut message = vec![2, 2, 0, 0, 8, 7, 8, 1, 0xCE, 0, 102, 0xC0, 65];
+    message.extend([0x0F, 0x10, 0xF1].repeat(32));
+    message.extend([0x0F, 0x1F]);
+    message
+}
+
+fn outcome(message: &[u8]) -> (Outcome, u8) {
+    let mut bytes = vec![0; STORE_SIZE];
+    let mut store = Store::start(&mut bytes).expect("the size is right");
+    let mut reply = [0; REPLY_ROOM];
+    let answer = store.take(message, &mut reply);
+    assert_eq!(answer.number(), answer.outcome.number());
+    (answer.outcome, answer.number())
+}
+
+#[test]
+fn outcomes_with_a_reply() {
+    assert_eq!(outcome(&HOME), (Outcome::Taken, 0));
+    assert_eq!(outcome(&changed(6, 0x10)), (Outcome::WrongVersion, 1));
+    assert_eq!(outcome(&too_many_channels()), (Outcome::NoRoom, 2));
+    assert_eq!(outcome(&changed(8, 0xD4)), (Outcome::UnknownType, 3));
+    assert_eq!(outcome(&changed(13, 0xE0)), (Outcome::BadField, 4));
+    assert_eq!(outcome(&[2, 2, 0, 0, 8, 0, 0x0D, 0]), (Outcome::NoMatch, 5));
+}
+
+#[test]
+fn outcomes_without_a_reply() {
+    let refused = |refusal, number| (Outcome::Refused(refusal), number);
+    assert_eq!(outcome(&HOME[..6]), refused(Refusal::MessageLength, 12));
+    assert_eq!(outcome(&changed(4, 9)), refused(Refusal::WrongCarrier, 13));
+    assert_eq!(outcome(&changed(6, 9)), refused(Refusal::WrongMessageType, 14));
+    let mut bytes = vec![0; STORE_SIZE];
+    let mut store = Store::lent(&mut bytes);
+    let short = store.take(&HOME, &mut [0; REPLY_ROOM - 1]).outcome;
+    assert_eq!((short, short.number()), refused(Refusal::ReplyShort, 10));
+    let zeros = store.take(&HOME, &mut [0; REPLY_ROOM]).outcome;
+    assert_eq!((zeros, zeros.number()), refused(Refusal::NotAStore, 11));
+}
+
+fn refused<T>(answer: Result<T, Refusal>) -> (Refusal, u8) {
+    let refusal = answer.err().expect("the call is refused");
+    (refusal, refusal.number())
+}
+
+#[test]
+fn refusals_of_stores_exports_and_rows() {
+    assert_eq!(refused(Store::start(&mut [0; 3])), (Refusal::NotAStore, 11));
+    let mut bytes = vec![0; STORE_SIZE];
+    let store = Store::start(&mut bytes).expect("the size is right");
+    let (mut buffer, mut scratch) = ([0; EXPORT_ROOM], [0; SCRATCH_ROOM]);
+    let no_part = Part::ALL.len() as u32 + 1;
+    let (short_buffer, short_scratch) = (&mut buffer[1..], &mut scratch[1..]);
+    assert_eq!(refused(store.export(Part::Lines, short_buffer)), (Refusal::BufferShort, 15));
+    assert_eq!(refused(store.row(Table::Lines, 0, short_scratch)), (Refusal::BufferShort, 15));
+    assert_eq!(raw::export(no_part, store.bytes(), &mut buffer), 16);
+    assert_eq!(Refusal::NoSuchPart.number(), 16);
+    assert_eq!(refused(store.row(Table::Lines, 0, &mut scratch)), (Refusal::NoSuchRow, 17));
+    assert_eq!(refused(store.check_row(Table::Lines, 0, &scratch)), (Refusal::NoSuchRow, 17));
+    assert_eq!(Refusal::NoSuchRow.to_string(), "17: there is no such row");
+}
+
+#[test]
+fn refusals_of_conversions() {
+    let (nobody, no_group) = (otap::IndividualAddress(0), otap::GroupAddress(0));
+    assert_eq!(refused(otap::individual_of_dialled(0)), (Refusal::OutsidePlan, 20));
+    assert_eq!(refused(otap::group_of_dialled(0)), (Refusal::OutsidePlan, 20));
+    assert_eq!(refused(otap::dialled_of_individual(nobody)), (Refusal::OutsideKind, 21));
+    assert_eq!(refused(otap::dialled_of_group(no_group)), (Refusal::OutsideKind, 21));
+    assert_eq!(refused(otap::transmit(0)), (Refusal::NoSuchChannel, 22));
+    assert_eq!(refused(otap::receive(641)), (Refusal::NoSuchChannel, 22));
+    assert_eq!(refused(otap::channel_of_transmit(0)), (Refusal::NoSuchChannel, 22));
+}
+
+/// The tables and parts by their names: each text and each setting's type where its name says.
+#[test]
+fn tables_and_parts() {
+    let mut bytes = vec![0; STORE_SIZE];
+    let mut store = Store::start(&mut bytes).expect("the size is right");
+    let settings: [&[u8]; 5] = [
+        &[0xCA, 0, 10, 0x40, 1, 0x12, 0x3F, 0, b'L', 0, 0],
+        &[0xCC, 0, 8, 0x41, 0, 0, b'Q', 0, 0],
+        &[0xD0, 0, 9, 0x40, 1, 32, 0, b'S', 0, 0],
+        &[0xD1, 0, 11, 0x60, 0, 0x10, 0, 1, 0, b'G', 0, 0],
+        &[0xD2, 0, 11, 0x40, 0, 0x10, 0, 1, 0, b'I', 0, 0],
+    ];
+    let message = [&[2, 2, 0, 0, 8, 7, 8, 5], &settings.concat()[..]].concat();
+    assert_eq!(store.take(&message, &mut [0; REPLY_ROOM]).outcome, Outcome::Taken);
+    let rows = [
+        (Table::Lines, 0, b'L'),
+        (Table::QuickTexts, 0, b'Q'),
+        (Table::StatusTexts, 32, b'S'),
+        (Table::Groups, 0, b'G'),
+        (Table::Individuals, 0, b'I'),
+    ];
+    for (table, row, unit) in rows {
+        let mut scratch = [0; SCRATCH_ROOM];
+        let shown = store.row(table, row, &mut scratch).expect("the row is there");
+        assert_eq!(shown.bytes(), [0, unit]);
+    }
+    for (part, kind) in Part::ALL.iter().zip([0xCA, 0xCB, 0xCC, 0xCE, 0xD0, 0xD1, 0xD2]) {
+        let mut buffer = [0; EXPORT_ROOM];
+        assert_eq!(store.export(*part, &mut buffer).expect("a part")[8], kind);
+    }
+}

@@ -1,0 +1,89 @@
+//! Buffers of a wrong size: the number, the order of the refusals, and that nothing is touched.
+
+use otap::{Store, EXPORT_ROOM, REPLY_ROOM, SCRATCH_ROOM, STORE_SIZE};
+use otap_reference::inputs::calls::{Call, Calls};
+use otap_tests::pair::{number_of, patterned, Pair};
+use std::collections::BTreeMap;
+
+const SIZES: [usize; 8] =
+    [0, 1, SCRATCH_ROOM - 1, EXPORT_ROOM, STORE_SIZE - 1, STORE_SIZE + 1, 2 * STORE_SIZE, 65_536];
+
+fn call(pair: &mut Pair, call: &Call) -> u8 {
+    match call {
+        Call::Take { message, room } => pair.take_into(message, *room),
+        Call::Export { part, room } => pair.export_into(*part, *room),
+        Call::Row { table, row, room } => pair.show_into(*table, *row, *room),
+    }
+}
+
+/// Calls of every kind, with every number that they can answer among the answers.
+#[test]
+fn calls_of_every_kind_and_size() {
+    let mut counts: BTreeMap<u8, usize> = BTreeMap::new();
+    for seed in 4_000..4_200 {
+        let mut calls = Calls::new(seed);
+        let mut pair = Pair::fresh();
+        for _ in 0..200 {
+            let size = calls.store_size(STORE_SIZE);
+            let number = if size == STORE_SIZE {
+                call(&mut pair, &calls.call())
+            } else {
+                let mut bytes = pair.bytes.clone();
+                bytes.resize(size, 0);
+                let mut other = Pair { bytes, set: pair.set.clone() };
+                call(&mut other, &calls.call())
+            };
+            *counts.entry(number).or_default() += 1;
+        }
+    }
+    println!("{counts:?}");
+    for number in (0..=5).chain(10..=17) {
+        assert!(counts.get(&number).is_some_and(|&count| count > 100), "number {number}");
+    }
+}
+
+#[test]
+fn starting_takes_only_the_right_size() {
+    for size in SIZES {
+        let mut bytes = patterned(size);
+        assert_eq!(number_of(&Store::start(&mut bytes)), 11, "{size} bytes");
+        assert!(bytes == patterned(size), "refused, so the bytes stay");
+    }
+    let fresh = Pair::fresh().bytes;
+    for fill in [0, 1, 0xFF] {
+        let mut bytes = vec![fill; STORE_SIZE];
+        assert!(Store::start(&mut bytes).is_ok());
+        assert!(bytes == fresh, "any bytes become the same fresh store");
+    }
+}
+
+#[test]
+fn a_store_of_another_size_is_none() {
+    for size in SIZES {
+        let mut pair = Pair::fresh();
+        pair.bytes.resize(size, 0);
+        assert_eq!(pair.take(&otap_tests::hex_request(&["CD 00 05 07 E4 C0"])), 11);
+        assert_eq!(pair.export_into(1, EXPORT_ROOM), 11);
+        assert_eq!(pair.show_into(1, 0, SCRATCH_ROOM), 11);
+    }
+}
+
+#[test]
+fn short_buffers_come_first() {
+    let good = otap_tests::hex_request(&["CD 00 05 07 E4 C0"]);
+    for size in [STORE_SIZE, 5] {
+        for message in [&good[..], &good[..3]] {
+            let mut pair = Pair::fresh();
+            pair.bytes.resize(size, 0);
+            for room in 0..REPLY_ROOM {
+                assert_eq!(pair.take_into(message, room), 10);
+            }
+            for room in (0..EXPORT_ROOM).step_by(97).chain([EXPORT_ROOM - 1]) {
+                assert_eq!(pair.export_into(u32::MAX, room), 15);
+            }
+            for room in 0..SCRATCH_ROOM {
+                assert_eq!(pair.show_into(u32::MAX, 9, room), 15);
+            }
+        }
+    }
+}

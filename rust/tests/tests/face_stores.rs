@@ -1,0 +1,161 @@
+//! Which bytes are a store: those that messages make, those that docs/STORE.md allows, and no others.
+
+use otap::{Outcome, Part, Store, Table, EXPORT_ROOM, REPLY_ROOM, SCRATCH_ROOM, STORE_SIZE};
+use otap_reference::inputs::random::Random;
+use otap_reference::inputs::Inputs;
+use otap_reference::layout;
+use otap_reference::reference::message::{query, request, Hash};
+use otap_reference::reference::settings::{LastItem, Setting};
+use otap_tests::pair::{number_of, patterned, Pair};
+
+/// The numbers of every kind of call on these bytes, which must agree on whether they are a store.
+fn is_store(bytes: &mut [u8]) -> bool {
+    let before = bytes.to_vec();
+    let mut store = Store::lent(bytes);
+    let taken = store.take(&query(&Hash::Nothing), &mut [0; REPLY_ROOM]).number();
+    let export = |part: &Part| number_of(&store.export(*part, &mut [0; EXPORT_ROOM]));
+    let exports: Vec<u8> = Part::ALL.iter().map(export).collect();
+    let shown = number_of(&store.row(Table::Lines, 40, &mut [0; SCRATCH_ROOM]));
+    let checked = number_of(&store.check_row(Table::Lines, 40, &[0; SCRATCH_ROOM]));
+    let (exported, number) = if taken == 11 { (11, 11) } else { (0, 17) };
+    assert_eq!((exports, shown, checked), (vec![exported; Part::ALL.len()], number, number));
+    assert!(*bytes == before, "none of these calls changes the bytes");
+    assert_eq!(taken, if layout::is_store(bytes) { 5 } else { 11 });
+    taken == 5
+}
+
+/// The hash kept, as the reply to a query without one carries it.
+fn kept_hash(store: &mut Store) -> Hash {
+    let mut buffer = [0; REPLY_ROOM];
+    let answer = store.take(&query(&Hash::Nothing), &mut buffer);
+    let value = &answer.reply[10..];
+    match answer.reply[9] {
+        0 => Hash::Nothing,
+        1 => Hash::Crc(value.try_into().expect("4 bytes")),
+        _ => Hash::Stamped(value.try_into().expect("10 bytes")),
+    }
+}
+
+/// The only bytes with the same contents: a fresh store that takes the exported parts and keeps the same hash.
+fn made_again(bytes: &mut [u8]) -> Vec<u8> {
+    let mut store = Store::lent(bytes);
+    let mut again = patterned(STORE_SIZE);
+    let mut other = Store::start(&mut again).expect("the size is right");
+    for &part in Part::ALL {
+        let mut buffer = [0; EXPORT_ROOM];
+        let message = store.export(part, &mut buffer).expect("a part of a store");
+        assert_eq!(other.take(message, &mut [0; REPLY_ROOM]).outcome, Outcome::Taken);
+    }
+    let last = LastItem { reboot: false, reply: false, hash: kept_hash(&mut store) };
+    let message = request(&[Setting::Last(last).write()]);
+    assert_eq!(other.take(&message, &mut [0; REPLY_ROOM]).outcome, Outcome::Taken);
+    again
+}
+
+fn grown(seed: u64, messages: usize) -> Pair {
+    let mut inputs = Inputs::new(seed);
+    let mut pair = Pair::fresh();
+    for _ in 0..messages {
+        pair.take(&inputs.message());
+    }
+    pair
+}
+
+#[test]
+fn what_messages_make_is_a_store_and_made_again() {
+    for seed in 5_000..5_100 {
+        let mut pair = grown(seed, 30);
+        assert!(is_store(&mut pair.bytes));
+        assert!(made_again(&mut pair.bytes) == pair.bytes, "seed {seed}");
+    }
+}
+
+/// A damaged store is refused by every call, or it is exactly the bytes of the contents that it shows.
+#[test]
+fn damaged_bytes_are_refused_or_are_a_store() {
+    let mut random = Random::new(5);
+    let (mut stores, mut refused) = (0, 0);
+    for seed in 5_200..5_230 {
+        let pair = grown(seed, 40);
+        for _ in 0..1_000 {
+            let mut bytes = pair.bytes.clone();
+            let place = random.below(STORE_SIZE);
+            bytes[place] = match random.below(4) {
+                0 => bytes[place] ^ 1 << random.below(8),
+                1 => random.pick(&[0, 1, 2, 0xFF]),
+                2 => bytes[place].wrapping_add(1),
+                _ => random.bits(8) as u8,
+            };
+            if is_store(&mut bytes) {
+                assert!(made_again(&mut bytes) == bytes, "seed {seed} byte {place}");
+                stores += 1;
+            } else {
+                refused += 1;
+            }
+        }
+    }
+    println!("{stores} still a store, {refused} refused");
+    assert!(stores > 1_000 && refused > 1_000);
+}
+
+/// First byte, slots and size of each part that has slots.
+const SLOTS: [(usize, usize, usize); 6] = [
+    (22, 64, 46),
+    (2_966, 96, 33),
+    (6_134, 16, 36),
+    (6_710, 16, 36),
+    (7_286, 64, 2),
+    (7_414, 32, 52),
+];
+
+/// Slots copied over others, emptied or exchanged: gaps, equal keys, and entries of another order.
+#[test]
+fn damaged_slots_are_refused_or_are_a_store() {
+    let mut random = Random::new(6);
+    let (mut stores, mut refused) = (0, 0);
+    for seed in 5_300..5_330 {
+        let pair = grown(seed, 40);
+        for _ in 0..300 {
+            let mut bytes = pair.bytes.clone();
+            let (first, slots, size) = random.pick(&SLOTS);
+            let from = first + random.below(slots) * size;
+            let to = first + random.below(slots) * size;
+            match random.below(3) {
+                0 => bytes.copy_within(from..from + size, to),
+                1 => bytes[to..to + size].fill(0),
+                _ => (0..size).for_each(|place| bytes.swap(from + place, to + place)),
+            }
+            if is_store(&mut bytes) {
+                assert!(made_again(&mut bytes) == bytes, "seed {seed} slots at {from} and {to}");
+                stores += 1;
+            } else {
+                refused += 1;
+            }
+        }
+    }
+    println!("{stores} still a store, {refused} refused");
+    assert!(stores > 1_000 && refused > 500);
+}
+
+/// Every byte of a fresh store changed: a store only where made again it is the same.
+#[test]
+fn every_byte_of_a_fresh_store() {
+    let fresh = Pair::fresh().bytes;
+    for place in 0..STORE_SIZE {
+        for value in [1, 0x10, 0xFF] {
+            let mut bytes = fresh.clone();
+            bytes[place] ^= value;
+            if is_store(&mut bytes) {
+                assert!(made_again(&mut bytes) == bytes, "byte {place}");
+            }
+        }
+    }
+}
+
+#[test]
+fn bytes_of_no_store() {
+    for fill in [0, 1, 0x10, 0x7F, 0xFF] {
+        assert!(!is_store(&mut vec![fill; STORE_SIZE]));
+    }
+    assert!(!is_store(&mut patterned(STORE_SIZE)));
+}

@@ -1,0 +1,77 @@
+//! Taking messages: the archive behind the face against the reference.
+
+use otap_reference::inputs::sweep::{sweep, BASES};
+use otap_reference::inputs::Inputs;
+use otap_reference::reference::message::LONGEST;
+use otap_tests::pair::Pair;
+use std::collections::BTreeMap;
+
+const SEEDS: u64 = 150;
+const MESSAGES: usize = 150;
+
+#[test]
+fn sequences_of_messages() {
+    let mut counts: BTreeMap<u8, usize> = BTreeMap::new();
+    for seed in 1_000..1_000 + SEEDS {
+        let mut inputs = Inputs::new(seed);
+        let mut pair = Pair::fresh();
+        for place in 0..MESSAGES {
+            let number = pair.take_into(&inputs.message(), otap::REPLY_ROOM + place % 30);
+            *counts.entry(number).or_default() += 1;
+        }
+        pair.compare_exports();
+        pair.compare_rows();
+    }
+    println!("{counts:?}");
+    for number in [0, 1, 2, 3, 4, 5, 12, 13, 14] {
+        assert!(counts.get(&number).is_some_and(|&count| count > 200), "number {number}");
+    }
+}
+
+/// Every one-byte change of small messages, every cut and every extension by one.
+#[test]
+fn changes_of_one_byte() {
+    for base in BASES {
+        let mut pair = Pair::fresh();
+        for message in sweep(base) {
+            pair.take(&message);
+        }
+        pair.compare_exports();
+    }
+}
+
+/// A message of any length is cut at every place, with the length left out so that it is judged on.
+#[test]
+fn long_messages_cut_anywhere() {
+    let mut cuts = 0;
+    for seed in 0..400 {
+        let mut inputs = Inputs::new(seed);
+        let mut message = inputs.message();
+        if !(3_000..=LONGEST).contains(&message.len()) {
+            continue;
+        }
+        message[2..4].fill(0);
+        let mut pair = Pair::fresh();
+        for length in (0..message.len()).step_by(61) {
+            pair.take(&message[..length]);
+            cuts += 1;
+        }
+        pair.take(&message);
+        pair.compare_exports();
+    }
+    assert!(cuts > 500, "{cuts} cuts");
+}
+
+/// The longest message is taken or judged; one byte more is not read at all.
+#[test]
+fn the_longest_message_and_one_more() {
+    let mut pair = Pair::fresh();
+    let mut message = otap_tests::hex_request(&["CD 00 05 07 E4 C0"]);
+    message[2..4].fill(0);
+    message.resize(LONGEST, 0);
+    assert_eq!(pair.take(&message), 4);
+    message.push(0);
+    assert_eq!(pair.take(&message), 12);
+    message.resize(100_000, 0);
+    assert_eq!(pair.take(&message), 12);
+}

@@ -1,0 +1,239 @@
+//! Properties of the reference itself: conversions both ways, writing and reading, exports.
+
+use otap_reference::inputs::random::Random;
+use otap_reference::inputs::Inputs;
+use otap_reference::reference::export::{export, part_bytes, Exported, EXPORT_ROOM, PARTS};
+use otap_reference::reference::message::LONGEST;
+use otap_reference::reference::numbers::*;
+use otap_reference::reference::plan::*;
+use otap_reference::reference::screen::{row_number, row_part, Row, Shown, SCRATCH_ROOM};
+use otap_reference::reference::settings::{parse, Operation};
+use otap_reference::reference::tables::Set;
+use otap_reference::reference::take::{take, REPLY_ROOM};
+use otap_tests::{number_in, request, taken, units};
+use std::collections::HashSet;
+
+#[test]
+fn every_address_and_back() {
+    let (mut individuals, mut groups) = (0, 0);
+    for address in 0..=0xFF_FFFF {
+        match dialled_individual(IndividualAddress(address)) {
+            Ok(number) => {
+                individuals += 1;
+                assert_eq!(individual(number), Ok(IndividualAddress(address)));
+            }
+            Err(number) => assert_eq!(number, NOT_IN_KIND),
+        }
+        match dialled_group(GroupAddress(address)) {
+            Ok(number) => {
+                groups += 1;
+                assert_eq!(group(number), Ok(GroupAddress(address)));
+            }
+            Err(number) => assert_eq!(number, NOT_IN_KIND),
+        }
+    }
+    assert_eq!(individuals, 479 * (22 * 700 + 48 * 350));
+    assert_eq!(groups, 479 * 70 * 100);
+}
+
+#[test]
+fn every_dialled_number_and_back() {
+    let (mut individuals, mut groups) = (0, 0);
+    for number in 0..=100_000_000 {
+        if let Ok(address) = individual(number) {
+            individuals += 1;
+            assert_eq!(dialled_individual(address), Ok(number));
+        }
+        if let Ok(address) = group(number) {
+            groups += 1;
+            assert_eq!(dialled_group(address), Ok(number));
+        }
+    }
+    assert_eq!(individuals, 479 * (22 * 700 + 48 * 350));
+    assert_eq!(groups, 479 * 70 * 100);
+}
+
+#[test]
+fn every_channel_and_back() {
+    let values: HashSet<u32> = (1..=640).map(|number| transmit(number).unwrap()).collect();
+    assert_eq!(values.len(), 640);
+    for number in 1..=640 {
+        assert_eq!(channel(transmit(number).unwrap()), Ok(number));
+        let distance = if number <= 240 { 0 } else { 100_000 };
+        assert_eq!(receive(number).unwrap(), transmit(number).unwrap() + distance);
+    }
+    for value in 3_500_000..3_720_000 {
+        assert_eq!(channel(value).is_ok(), values.contains(&value));
+    }
+    for number in [0, 641, 4_095, u32::MAX] {
+        assert_eq!((transmit(number), receive(number)), (Err(22), Err(22)));
+    }
+}
+
+/// Reaches a state from random messages, and hands it on after each.
+fn for_each_state(seeds: u64, messages: usize, mut check: impl FnMut(&Set)) {
+    for seed in 0..seeds {
+        let mut inputs = Inputs::new(seed);
+        let mut set = Set::default();
+        for _ in 0..messages {
+            take(&inputs.message(), &mut set, &mut [0; REPLY_ROOM]);
+            check(&set);
+        }
+    }
+}
+
+fn take_exports(from: &Set, into: &mut Set) {
+    for part in 1..=PARTS {
+        let message = part_bytes(part, from).unwrap();
+        assert!(message.len() <= LONGEST);
+        assert_eq!(number_in(&message, into), (TAKEN, 0));
+    }
+}
+
+#[test]
+fn the_seven_exports_give_the_same_tables() {
+    let mut other = Set::default();
+    for_each_state(30, 100, |set| {
+        take_exports(set, &mut other);
+        assert_eq!(other.tables, set.tables);
+        let mut fresh = Set::default();
+        take_exports(set, &mut fresh);
+        assert_eq!(fresh.tables, set.tables);
+    });
+}
+
+#[test]
+fn a_full_set_is_exported_whole() {
+    let long = "y".repeat(23);
+    let quick: Vec<(u8, &str)> = (0..63).map(|index| (index, long.as_str())).collect();
+    let status: Vec<(u8, &str)> = (32..128).map(|code| (code, &long[..16])).collect();
+    let mut set = taken(&request(&[
+        otap_tests::quick(Operation::Add, &quick),
+        otap_tests::quick(Operation::Add, &[(63, &long)]),
+    ]));
+    let status = otap_tests::status(Operation::Add, &status);
+    assert_eq!(number_in(&request(&[status]), &mut set), (TAKEN, 0));
+    let part = part_bytes(3, &set).unwrap();
+    assert_eq!((part.len(), part[7]), (8 + 4 + 63 * 49 + 4 + 49, 2));
+    let mut other = Set::default();
+    take_exports(&set, &mut other);
+    assert_eq!(other.tables, set.tables);
+}
+
+#[test]
+fn exports_of_a_fresh_set() {
+    let set = Set::default();
+    let expected = [
+        (1, "02 02 00 09 08 07 08 01 CA 00 04 C0 00"),
+        (2, "02 02 00 14 08 07 08 03 CB 00 03 80 CD 00 05 00 00 00 CF 00 05 00 00 00"),
+        (3, "02 02 00 08 08 07 08 01 CC 00 03 C0"),
+        (4, "02 02 00 09 08 07 08 01 CE 00 04 C0 00"),
+        (5, "02 02 00 09 08 07 08 01 D0 00 04 C0 00"),
+    ];
+    for (part, hex) in expected {
+        assert_eq!(part_bytes(part, &set), Some(otap_tests::bytes(hex)));
+    }
+    for (part, kind) in [(6, 0xD1), (7, 0xD2)] {
+        let message = part_bytes(part, &set).unwrap();
+        assert_eq!((message.len(), message[7]), (168, 16));
+        for (index, setting) in (0..16).zip(message[8..].chunks(10)) {
+            assert_eq!(setting, [kind, 0, 9, 0x80, index, 0, 0, 0, 0, 0]);
+        }
+    }
+}
+
+#[test]
+fn export_refusals_touch_nothing() {
+    let set = Set::default();
+    let refused = |number| Exported { number, length: 0 };
+    let mut buffer = vec![0xEE; EXPORT_ROOM];
+    assert_eq!(export(PARTS + 2, false, &set, &mut buffer[1..]), refused(BUFFER_SHORT));
+    assert_eq!(export(PARTS + 2, false, &set, &mut buffer), refused(NOT_A_STORE));
+    assert_eq!(export(0, true, &set, &mut buffer), refused(NO_SUCH_PART));
+    assert_eq!(export(PARTS + 1, true, &set, &mut buffer), refused(NO_SUCH_PART));
+    assert!(buffer.iter().all(|&byte| byte == 0xEE));
+    assert_eq!(export(3, true, &set, &mut buffer), Exported { number: TAKEN, length: 12 });
+    assert!(buffer[12..].iter().all(|&byte| byte == 0xEE));
+}
+
+/// Every setting of a taken request can be written and read again to the same.
+#[test]
+fn writing_and_reading_agree() {
+    let mut settings = 0;
+    for seed in 0..40 {
+        let mut inputs = Inputs::new(seed);
+        for _ in 0..50 {
+            let message = inputs.message();
+            let mut rest = message.get(8..).unwrap_or(&[]);
+            while let Ok((setting, length)) = parse(rest, true) {
+                let written = setting.write();
+                assert_eq!(parse(&written, true), Ok((setting, written.len())));
+                rest = &rest[length..];
+                settings += 1;
+            }
+        }
+    }
+    assert!(settings > 5_000, "{settings} settings");
+}
+
+/// A refusal leaves the set, whatever the message.
+#[test]
+fn only_a_taken_request_changes_the_set() {
+    let mut random = Random::new(7);
+    for seed in 0..20 {
+        let mut inputs = Inputs::new(seed);
+        let mut set = Set::default();
+        for _ in 0..100 {
+            let before = set.clone();
+            let message = inputs.message();
+            let fill = random.bits(8) as u8;
+            let mut reply = [fill; 30];
+            let answer = take(&message, &mut set, &mut reply);
+            if answer.number != TAKEN {
+                assert_eq!(set, before);
+            }
+            assert!(reply[answer.length..].iter().all(|&byte| byte == fill));
+            assert_eq!(answer.length > 0, answer.number <= NO_MATCH);
+        }
+    }
+}
+
+#[test]
+fn screen_rows() {
+    let set = taken(&otap_tests::hex_request(&[
+        "CA 00 0F 40 02 23 45 FF 00 00 12 3F 00 41 00 00",
+        "D0 00 07 40 01 20 00 00",
+        "D1 00 09 60 00 10 00 01 00 00",
+        "D1 00 09 60 01 10 1B 59 00 00",
+        "D1 00 0B 60 02 10 00 01 4E 2D 00 00",
+        "D2 00 09 40 00 10 00 01 00 00",
+        "D2 00 09 40 0F FF 7D C9 00 00",
+    ]));
+    let shown = |row| row_part(row, true, &set, &mut [0; SCRATCH_ROOM]);
+    assert_eq!(shown(Row::Line(0)), Shown::Scratch(units("2345")));
+    assert_eq!(shown(Row::Line(1)), Shown::Stored(units("A")));
+    assert_eq!(shown(Row::Line(2)), Shown::Nothing);
+    assert_eq!(shown(Row::Status(32)), Shown::Stored(Vec::new()));
+    assert_eq!(shown(Row::Status(31)), Shown::Nothing);
+    assert_eq!(shown(Row::Quick(0)), Shown::Nothing);
+    assert_eq!(shown(Row::Group(0)), Shown::Scratch(units("32820900")));
+    assert_eq!(shown(Row::Group(1)), Shown::Scratch(units("101B59")));
+    assert_eq!(shown(Row::Group(2)), Shown::Stored(vec![0x4E2D]));
+    assert_eq!(shown(Row::Individual(0)), Shown::Scratch(units("32820200")));
+    assert_eq!(shown(Row::Individual(15)), Shown::Scratch(units("FF7DC9")));
+    assert_eq!(shown(Row::Individual(16)), Shown::Nothing);
+    let number = |row, is_store, room| row_number(row, is_store, &set, &vec![0; room]);
+    assert_eq!(number(Row::Line(9), false, SCRATCH_ROOM - 1), BUFFER_SHORT);
+    assert_eq!(number(Row::Line(9), false, SCRATCH_ROOM), NOT_A_STORE);
+    assert_eq!(number(Row::Line(9), true, SCRATCH_ROOM), NO_SUCH_ROW);
+    assert_eq!(number(Row::Status(32), true, SCRATCH_ROOM), TAKEN);
+}
+
+#[test]
+fn a_shown_number_stands_at_the_start_of_the_scratch() {
+    let set = taken(&otap_tests::hex_request(&["CA 00 09 40 01 23 45 FF 00 00"]));
+    let mut scratch = [0xEE; 40];
+    row_part(Row::Line(0), true, &set, &mut scratch);
+    assert_eq!(scratch[..8], [0, b'2', 0, b'3', 0, b'4', 0, b'5']);
+    assert!(scratch[8..].iter().all(|&byte| byte == 0xEE));
+}

@@ -1,0 +1,203 @@
+/* The header's constants and the archive's answers: each number of document 01's table is provoked, and is the constant that is named after it. */
+#include "otap.h"
+#include "messages.h"
+
+#include <stdio.h>
+#include <stdlib.h>
+
+static uint8_t store[OTAP_STORE_BYTES + 1], reply[OTAP_REPLY_BYTES], buffer[OTAP_EXPORT_BYTES], scratch[OTAP_SCRATCH_BYTES];
+static Message said;
+
+/* The number in the table, the constant, and what the archive answers. */
+static void same(const char *what, uint64_t number, uint64_t constant, uint64_t answer)
+{
+    if (number != constant || number != answer) {
+        fprintf(stderr, "%s: document %lu, header %lu, archive %lu\n", what, (unsigned long)number, (unsigned long)constant,
+                (unsigned long)answer);
+        exit(1);
+    }
+}
+
+static uint64_t take(void)
+{
+    return otap_take(said.bytes, said.length, store, OTAP_STORE_BYTES, reply, sizeof reply);
+}
+
+static void fill(void)
+{
+    unsigned each;
+    same("start", 0, OTAP_OK, otap_start(store, OTAP_STORE_BYTES));
+    for (each = 0; each < FILLING_MESSAGES; each++) {
+        write_filling(&said, each, 0);
+        same("taken", 0, OTAP_OK, otap_answer_number(take()));
+    }
+}
+
+/* 0 to 5: a reply is written. The last byte of the answer's low 32 bits is its length; bit 16 says send. */
+static void replied(void)
+{
+    write_message(&said, 0, 0);
+    said.bytes[6] = 0x10;
+    same("version", 1, OTAP_BAD_VERSION, otap_answer_number(take()));
+    write_message(&said, 9, 0);
+    same("room", 2, OTAP_NO_ROOM, otap_answer_number(take()));
+    same("room, packed", 0x0A010102, take(), 0x0A010102);
+    write_message(&said, 0, 0);
+    said.bytes[8] = 0xD4;
+    same("type", 3, OTAP_UNKNOWN_TYPE, otap_answer_number(take()));
+    said.bytes[8] = 0xCB;
+    same("field", 4, OTAP_BAD_FIELD, otap_answer_number(take()));
+    write_query(&said, 1);
+    same("query", 5, OTAP_NO_MATCH, otap_answer_number(take()));
+    same("query, packed", 0x14010005, take(), 0x14010005);
+    write_query(&said, 2);
+    same("query that matches", 0, OTAP_OK, otap_answer_number(take()));
+}
+
+/* 10 to 14: the number is the whole answer. */
+static void untouched(void)
+{
+    write_message(&said, 0, 0);
+    same("reply", 10, OTAP_SHORT_REPLY, otap_take(said.bytes, said.length, store, OTAP_STORE_BYTES, reply, OTAP_REPLY_BYTES - 1));
+    same("store", 11, OTAP_NO_STORE, otap_take(said.bytes, said.length, store, OTAP_STORE_BYTES - 1, reply, OTAP_REPLY_BYTES));
+    same("store", 11, OTAP_NO_STORE, otap_start(store, OTAP_STORE_BYTES + 1));
+    said.length = 6;
+    same("short message", 12, OTAP_MESSAGE_LENGTH, take());
+    said.length = OTAP_MESSAGE_BYTES + 1;
+    same("long message", 12, OTAP_MESSAGE_LENGTH, take());
+    said.length = OTAP_MESSAGE_BYTES;
+    same("longest message", 4, OTAP_BAD_FIELD, otap_answer_number(take()));
+    said.bytes[0] = 3;
+    same("carrier", 13, OTAP_BAD_CARRIER, take());
+    said.bytes[0] = 2;
+    said.bytes[6] = 0x09;
+    same("reply as a message", 14, OTAP_OTHER_MESSAGE, take());
+}
+
+static void exported(void)
+{
+    static const uint8_t types[OTAP_EXPORT_PARTS + 1] = {0, 0xCA, 0xCB, 0xCC, 0xCE, 0xD0, 0xD1, 0xD2};
+    static const uint8_t parts[OTAP_EXPORT_PARTS + 1] = {0, OTAP_EXPORT_LINES, OTAP_EXPORT_FIXED, OTAP_EXPORT_QUICK_TEXTS, OTAP_EXPORT_CHANNELS,
+                                                         OTAP_EXPORT_STATUS_TEXTS, OTAP_EXPORT_GROUPS, OTAP_EXPORT_INDIVIDUALS};
+    uint32_t part;
+    for (part = 1; part <= OTAP_EXPORT_PARTS; part++) {
+        uint64_t answer = otap_export(part, store, OTAP_STORE_BYTES, buffer, sizeof buffer);
+        same("export", 0, OTAP_OK, otap_answer_number(answer));
+        same("part", part, parts[part], part);
+        same("part's first setting", types[part], types[part], buffer[8]);
+        same("part's length", otap_export_length(answer), buffer[2] * 256u + buffer[3] + 4u, answer >> 16);
+    }
+    same("short buffer", 15, OTAP_SHORT_BUFFER, otap_export(1, store, OTAP_STORE_BYTES, buffer, OTAP_EXPORT_BYTES - 1));
+    same("part", 16, OTAP_NO_PART, otap_export(OTAP_EXPORT_PARTS + 1, store, OTAP_STORE_BYTES, buffer, OTAP_EXPORT_BYTES));
+    same("part", 16, OTAP_NO_PART, otap_export(0, store, OTAP_STORE_BYTES, buffer, OTAP_EXPORT_BYTES));
+}
+
+static uint32_t row(uint32_t table, uint32_t at)
+{
+    return otap_row_number(table, at, store, OTAP_STORE_BYTES, scratch, sizeof scratch);
+}
+
+/* Each table's first and last row is there, and none beside them; store offsets are those of docs/STORE.md. */
+static void rows(void)
+{
+    static const struct { uint32_t table, number, first, last; size_t offset; } tables[OTAP_TABLES] = {
+        {OTAP_LINES, 1, 0, OTAP_LINE_ROWS - 1, 7414 + 20},
+        {OTAP_QUICK_TEXTS, 2, 0, OTAP_QUICK_ROWS - 1, 22},
+        {OTAP_STATUS_TEXTS, 3, OTAP_STATUS_FIRST, OTAP_STATUS_LAST, 2966 + 1},
+        {OTAP_GROUPS, 4, 0, OTAP_SLOT_ROWS - 1, 6134 + 4},
+        {OTAP_INDIVIDUALS, 5, 0, OTAP_SLOT_ROWS - 1, 6710 + 4}
+    };
+    size_t each;
+    for (each = 0; each < OTAP_TABLES; each++) {
+        uint64_t part = otap_row_part(tables[each].table, tables[each].first, store, OTAP_STORE_BYTES, scratch, sizeof scratch);
+        same("table", tables[each].number, tables[each].table, tables[each].table);
+        same("first row", 0, OTAP_OK, row(tables[each].table, tables[each].first));
+        same("last row", 0, OTAP_OK, row(tables[each].table, tables[each].last));
+        same("row before", 17, OTAP_NO_ROW, row(tables[each].table, tables[each].first - 1));
+        same("row after", 17, OTAP_NO_ROW, row(tables[each].table, tables[each].last + 1));
+        same("place", tables[each].offset, otap_part_offset(part), part >> 16 & 0xFFFF);
+        same("in the store", 0, (uint64_t)otap_part_in_scratch(part), part & 1);
+        same("units", tables[each].table == OTAP_QUICK_TEXTS ? OTAP_ROW_BYTES : 32, otap_part_length(part), part >> 32);
+    }
+    same("short scratch", 15, OTAP_SHORT_BUFFER, otap_row_number(1, 0, store, OTAP_STORE_BYTES, scratch, OTAP_SCRATCH_BYTES - 1));
+}
+
+/* Eighteen digits fill the scratch; an address outside the plan is six hex digits. */
+static void numbers_shown(void)
+{
+    uint64_t line = otap_row_part(OTAP_LINES, 16, store, OTAP_STORE_BYTES, scratch, sizeof scratch);
+    same("line's number", 1 | (uint64_t)OTAP_SCRATCH_BYTES << 32, line, line);
+    same("its last digit", '6', scratch[OTAP_SCRATCH_BYTES - 1], otap_part_bytes(line, store, scratch)[OTAP_SCRATCH_BYTES - 1]);
+    line = otap_row_part(OTAP_GROUPS, 15, store, OTAP_STORE_BYTES, scratch, sizeof scratch);
+    same("group's number", 1 | (uint64_t)12 << 32, line, line);
+    same("its digits", 0, (uint64_t)memcmp(scratch, "\0F\0F\0F\0F\0" "1\0" "0", 12), 0);
+}
+
+/* One call is enough for a row: otap_row_part answers 0 exactly where otap_row_number does not. */
+static void asked_once(const uint8_t *bytes, size_t room)
+{
+    uint32_t table, at;
+    for (table = 0; table <= OTAP_TABLES + 1; table++) {
+        for (at = 0; at <= OTAP_STATUS_LAST + 1; at++) {
+            uint32_t number = otap_row_number(table, at, bytes, OTAP_STORE_BYTES, scratch, room);
+            uint64_t part = otap_row_part(table, at, bytes, OTAP_STORE_BYTES, scratch, room);
+            same("a row that is shown", number == OTAP_OK, part != 0, part != 0);
+        }
+    }
+}
+
+static void asked_of_stores(void)
+{
+    static uint8_t fresh[OTAP_STORE_BYTES], none[OTAP_STORE_BYTES];
+    same("start", 0, OTAP_OK, otap_start(fresh, sizeof fresh));
+    memset(none, 0xFF, sizeof none);
+    asked_once(store, OTAP_SCRATCH_BYTES);
+    asked_once(store, OTAP_SCRATCH_BYTES - 1);
+    asked_once(fresh, OTAP_SCRATCH_BYTES);
+    asked_once(none, OTAP_SCRATCH_BYTES);
+}
+
+/* The bytes of the full store, summed (FNV-1a). If the layout has changed, OTAP_LAYOUT must be another number, and this sum too. */
+static void layout(void)
+{
+    uint32_t sum = 2166136261u;
+    size_t at;
+    for (at = 0; at < OTAP_STORE_BYTES; at++) {
+        sum = (sum ^ store[at]) * 16777619u;
+    }
+    same("layout", 2, OTAP_LAYOUT, 2);
+    same("sum of a full store of layout 2", 0xFC993133u, sum, sum);
+}
+
+static void conversions(void)
+{
+    same("32820200", 0x100001, otap_value(otap_individual_of_dialled(32820200)), otap_individual_of_dialled(32820200) >> 8);
+    same("80689999", 0xFF1B58, otap_value(otap_group_of_dialled(80689999)), otap_group_of_dialled(80689999) >> 8);
+    same("103C28", 32841899, otap_value(otap_dialled_of_individual(0x103C28)), otap_dialled_of_individual(0x103C28) >> 8);
+    same("100001", 32820900, otap_value(otap_dialled_of_group(0x100001)), otap_dialled_of_group(0x100001) >> 8);
+    same("channel 640", 3560000, otap_value(otap_transmit(640)), otap_transmit(640) >> 8);
+    same("channel 640", 3660000, otap_value(otap_receive(640)), otap_receive(640) >> 8);
+    same("3610000", 240, otap_value(otap_channel_of_transmit(3610000)), otap_channel_of_transmit(3610000) >> 8);
+    same("32819200", 20, OTAP_OUTSIDE_PLAN, otap_individual_of_dialled(32819200));
+    same("group 32820200", 20, OTAP_OUTSIDE_PLAN, otap_group_of_dialled(32820200));
+    same("100000", 21, OTAP_OUTSIDE_KIND, otap_dialled_of_individual(0x100000));
+    same("group 101B59", 21, OTAP_OUTSIDE_KIND, otap_dialled_of_group(0x101B59));
+    same("channel 0", 22, OTAP_NO_CHANNEL, otap_transmit(0));
+    same("channel 641", 22, OTAP_NO_CHANNEL, otap_receive(641));
+    same("3510126", 22, OTAP_NO_CHANNEL, otap_channel_of_transmit(3510126));
+}
+
+int main(void)
+{
+    fill();
+    replied();
+    untouched();
+    exported();
+    rows();
+    numbers_shown();
+    asked_of_stores();
+    layout();
+    conversions();
+    printf("every number and constant is as the table says\n");
+    return 0;
+}

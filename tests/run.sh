@@ -1,0 +1,81 @@
+#!/bin/sh
+# shellcheck disable=SC2086,SC2317,SC2329 # flags are several words, and steps are called by their names
+# tests/run.sh: the archive of this machine as C sees it, one named step after the other; ends with 1 if one fails. tests/steps.sh says what it heeds.
+set -u
+cd "$(dirname "$0")/.." || exit 1
+. tests/steps.sh
+
+build_and_run() {
+    build "$1" c c99 "$CC" "$2" "tests/$1.c" && run_built "$1"
+}
+
+# The test of the bounds sees a byte too many: it ends with 1, and says so.
+sees_outside() {
+    run_built bounds outside > "$built/outside" 2>&1
+    [ $? -eq 1 ] && grep -q "a byte too many, as asked" "$built/outside"
+}
+
+build_and_run_banks() {
+    build banks c c99 "$CC" "-O2 $sanitizers" tests/banks_test.c examples/banks.c && run_built banks
+}
+
+# sees_wrong_banks PART EDIT: banks.c with the edit is wrong; this part of the test ends with 1, and says what it found.
+sees_wrong_banks() {
+    sed "$2" examples/banks.c > "$built/wrong.c"
+    if cmp -s examples/banks.c "$built/wrong.c"; then
+        echo "the edit changes nothing: $2"
+        return 1
+    fi
+    $CC -std=c99 $warnings -Wno-unused -O2 "$built/wrong.c" "$built/banks_test.o" "$archive" -o "$built/wrong" || return 1
+    run_built wrong "$1" > "$built/seen" 2>&1
+    if [ $? -ne 1 ] || ! grep '^banks: ' "$built/seen"; then
+        echo "not seen: $2"
+        return 1
+    fi
+}
+
+# Each line has the part of the test that has to see it, and an edit that makes banks.c wrong. The first has nothing but the order to save it.
+banks_can_fail() {
+    store='put_bytes(next, BANK_HEAD_BYTES, store, OTAP_STORE_BYTES)' head='put_bytes(next, 0, head, sizeof head)'
+    head_first="s/$store/@/;s/$head/$store/;s/@/$head/"
+    no_check='s/return ~check/return 0/'
+    no_store='s/ && is_store(store)//'
+    $CC -std=c99 $warnings -O2 -c tests/banks_test.c -o "$built/banks_test.o" || return 1
+    while read -r part edit; do
+        sees_wrong_banks "$part" "$edit" || return 1
+    done << EDITS
+cuts $head_first;$no_check;$no_store
+cuts s/next = banks->newest == 0/next = banks->newest == 1/
+rest $head_first
+rest $no_check
+rest $no_store
+rest s/(uint8_t)~head/head/
+rest s/(uint8_t)(heads.*) < 128/heads[1][1] > heads[0][1]/
+rest s/memcmp(head, right, sizeof right)/memcmp(head + 1, right + 1, 7)/
+rest s/!is_store(store)/0/
+rest s/otap_start(store, OTAP_STORE_BYTES)/(void)store/
+rest s/heads\\[first\\]\\[1\\]; /0; /
+rest s/banks->newest != NO_BANK/0/
+rest /flash_erase(next)/d
+rest s/return holds(/return 1 || holds(/
+rest /banks->sequence = head/d
+EDITS
+}
+
+need_archive
+step "snippet at work" build_and_run snippet_test "$sanitizers"
+step "numbers and constants" build_and_run numbers "$sanitizers"
+step "bounds of the lent bytes" build_and_run bounds -O1 && show
+step "bounds can fail" sees_outside
+step "two banks, cut at every byte" build_and_run_banks && show
+step "banks can fail" banks_can_fail && show
+step "stack" build_and_run stack -O1 && show
+[ -z "$emulator" ] || exit $failed
+if [ ! -f target/archive/wasm32/otap_handheld.wasm ]; then
+    echo "left out  wasm32: ./archive wasm32 was not run"
+elif ! command -v node > /dev/null; then
+    echo "left out  wasm32: node is not here"
+else
+    step "wasm32 in node" node tests/wasm.mjs && show
+fi
+exit $failed

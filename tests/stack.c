@@ -1,0 +1,120 @@
+/* How deep each call goes into the stack: each runs on a stack of its own that was painted before, on a full store and on every kind of message. */
+#define _XOPEN_SOURCE 700
+#include "otap.h"
+#include "messages.h"
+
+#include <stdio.h>
+#include <stdlib.h>
+
+#ifdef __unix__
+#include <ucontext.h>
+enum { STACK = 256 * 1024 };
+#else
+enum { STACK = 32 * 1024 };
+#endif
+
+enum { PAINT = 0xA5, CALLS = 6 };
+
+/* The header's ceiling for each; it has what was measured beside them, and docs/TESTING.md too. */
+static const unsigned long most[CALLS] = {OTAP_START_STACK, OTAP_TAKE_STACK, OTAP_EXPORT_STACK, OTAP_ROW_STACK, OTAP_ROW_STACK, OTAP_CONVERSION_STACK};
+static const char *const names[CALLS] = {"otap_start", "otap_take", "otap_export", "otap_row_number", "otap_row_part", "a conversion"};
+
+static uint8_t stack[STACK], store[OTAP_STORE_BYTES], filled[OTAP_STORE_BYTES];
+static uint8_t buffer[OTAP_EXPORT_BYTES];
+static Message message;
+static unsigned which, turn;
+static uint64_t answer;
+
+static void convert(uint32_t value)
+{
+    answer = otap_individual_of_dialled(value) + otap_group_of_dialled(value) + otap_dialled_of_individual(value)
+           + otap_dialled_of_group(value) + otap_transmit(value) + otap_receive(value) + otap_channel_of_transmit(value);
+}
+
+static void call(void)
+{
+    uint32_t table = 1 + turn % OTAP_TABLES, row = turn / OTAP_TABLES % (OTAP_STATUS_LAST + 1);
+    switch (which) {
+    case 0: answer = otap_start(store, sizeof store); break;
+    case 1: answer = otap_take(message.bytes, message.length, store, sizeof store, buffer, sizeof buffer); break;
+    case 2: answer = otap_export(1 + turn % OTAP_EXPORT_PARTS, store, sizeof store, buffer, sizeof buffer); break;
+    case 3: answer = otap_row_number(table, row, store, sizeof store, buffer, sizeof buffer); break;
+    case 4: answer = otap_row_part(table, row, store, sizeof store, buffer, sizeof buffer); break;
+    case 5: convert(turn); break;
+    default: break; /* nothing, for what the switch of stacks itself takes */
+    }
+}
+
+/* Calls on the painted stack, and comes back to this one. */
+#ifdef __unix__
+static void call_there(void)
+{
+    static ucontext_t here, there;
+    getcontext(&there);
+    there.uc_stack.ss_sp = stack;
+    there.uc_stack.ss_size = sizeof stack;
+    there.uc_link = &here;
+    makecontext(&there, call, 0);
+    swapcontext(&here, &there);
+}
+#else
+static void call_there(void)
+{
+    uintptr_t top = (uintptr_t)(stack + sizeof stack) & ~(uintptr_t)7;
+    __asm__ volatile("mov r4, sp\n\tmov sp, %0\n\tblx %1\n\tmov sp, r4"
+                     :
+                     : "r"(top), "r"(call)
+                     : "r0", "r1", "r2", "r3", "r4", "r12", "lr", "cc", "memory");
+}
+#endif
+
+static unsigned long depth(void)
+{
+    size_t untouched = 0;
+    memset(stack, PAINT, sizeof stack);
+    memcpy(store, filled, sizeof store);
+    call_there();
+    while (untouched < sizeof stack && stack[untouched] == PAINT) {
+        untouched++;
+    }
+    return sizeof stack - untouched;
+}
+
+static unsigned long deepest(void)
+{
+    unsigned long deep = 0, now;
+    for (turn = 0; turn < 700; turn++) {
+        write_message(&message, turn % MESSAGE_KINDS, turn / MESSAGE_KINDS);
+        now = depth();
+        deep = now > deep ? now : deep;
+    }
+    return deep;
+}
+
+static void fill(void)
+{
+    unsigned each;
+    otap_start(filled, sizeof filled);
+    for (each = 0; each < FILLING_MESSAGES; each++) {
+        write_filling(&message, each, 0);
+        if (otap_take(message.bytes, message.length, filled, sizeof filled, buffer, sizeof buffer) % 256 != OTAP_OK) {
+            fprintf(stderr, "a filling message was refused\n");
+            exit(1);
+        }
+    }
+}
+
+int main(void)
+{
+    unsigned long base;
+    int failed = 0;
+    fill();
+    which = CALLS;
+    base = deepest();
+    for (which = 0; which < CALLS; which++) {
+        unsigned long deep = deepest() - base;
+        printf("%s: %lu bytes of stack\n", names[which], deep);
+        failed |= deep > most[which];
+    }
+    return failed;
+}
