@@ -53,10 +53,10 @@ enum { OTAP_LAYOUT = 2 };
  */
 enum {
     OTAP_START_STACK = 256,      /* measured 40 */
-    OTAP_TAKE_STACK = 14336,     /* 13,504: 12,288 of them are the working copy of the store */
-    OTAP_EXPORT_STACK = 1024,    /* 632 */
+    OTAP_TAKE_STACK = 14336,     /* 13,632: 12,288 of them are the working copy of the store */
+    OTAP_EXPORT_STACK = 1024,    /* 696 */
     OTAP_ROW_STACK = 1024,       /* 552 otap_row_number, 632 otap_row_part */
-    OTAP_CONVERSION_STACK = 4096 /* 2,600 at most, of otap_transmit and otap_receive */
+    OTAP_CONVERSION_STACK = 256  /* 63 */
 };
 
 /* The numbers. */

@@ -15,6 +15,16 @@ sees_outside() {
     [ $? -eq 1 ] && grep -q "a byte too many, as asked" "$built/outside"
 }
 
+# No table of constants comes back: what is left are the code's own numbers and jump tables.
+few_constants() {
+    total=0
+    for size in $(readelf -SW "$archive" | sed -n 's/^ *\[ *[0-9]*\] \.rodata[^ ]* *PROGBITS *[0-9a-f]* [0-9a-f]* \([0-9a-f]*\) .*/\1/p'); do
+        total=$((total + 0x$size))
+    done
+    echo "$total bytes, at most 1,024"
+    [ "$total" -gt 0 ] && [ "$total" -le 1024 ]
+}
+
 build_and_run_banks() {
     build banks c c99 "$CC" "-O2 $sanitizers" tests/banks_test.c examples/banks.c && run_built banks
 }
@@ -70,6 +80,7 @@ step "bounds can fail" sees_outside
 step "two banks, cut at every byte" build_and_run_banks && show
 step "banks can fail" banks_can_fail && show
 step "stack" build_and_run stack -O1 && show
+step "constants" few_constants && show
 [ -z "$emulator" ] || exit $failed
 if [ ! -f target/archive/wasm32/otap_handheld.wasm ]; then
     echo "left out  wasm32: ./archive wasm32 was not run"

@@ -2,7 +2,6 @@ pub mod Kit
 pub mod Bools
 pub mod Bytes
 pub mod Every
-pub mod Table
 pub mod Seqs
 pub mod Ladder
 pub mod OneToOne

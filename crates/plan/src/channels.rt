@@ -1,7 +1,6 @@
 // Channels and their frequencies, in units of 100 Hz: conversions both ways, for every u32.
 use super::frequencies::ChannelAnswer;
 use super::frequencies::FrequencyAnswer;
-use super::transmit_table::TRANSMIT;
 ghost use Prim.Native.Nat.{_≤_};
 ghost use Rattle.plan.specs.Frequencies.{Transmits, Receives, Steps};
 ghost use Rattle.plan.specs.Answers.{Answered, Back, answer, frequency, channel};
@@ -11,8 +10,10 @@ fn transmit_value(n: u32) -> u32
     requires { ⌜ (1 ≤ n) × (n ≤ 640) ⌝ }
     ensures { λ r. ⌜ Transmits n r ⌝ }
 {
-    let at = (n - 1) as usize;
-    TRANSMIT[at]
+    match n {
+        ..=240 => 3_580_125 + 125 * (n - 1),
+        _ => 3_510_125 + 125 * (n - 241),
+    }
 }
 
 pub fn transmit(n: u32) -> FrequencyAnswer

@@ -2,4 +2,3 @@
 pub mod channels;
 pub mod frequencies;
 pub mod numbers;
-mod transmit_table;
