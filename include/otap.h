@@ -49,7 +49,7 @@ enum { OTAP_LAYOUT = 2 };
 
 /*
  * Stack in bytes: a ceiling for each call on every processor, which tests/stack.c holds it to, and the most that it measured on x86-64, AArch64,
- * Cortex-M4 and Cortex-M33 (docs/COSTS.md has each). It is tested on a full store with every kind of message; no theorem bounds it.
+ * Cortex-M4 and Cortex-M33 (docs/TESTING.md has each). It is tested on a full store with every kind of message; no theorem bounds it.
  */
 enum {
     OTAP_START_STACK = 256,      /* measured 40 */
