@@ -51,22 +51,22 @@ starting lim before =
 
 -- the bytes are the store of these tables
 abbrev pub Holds : Limits → Tables → List ℕ → Type 0
-Holds l t s = Allowed l t × (s ≡ layout l t)
+Holds lim t s = Allowed lim t × (s ≡ layout lim t)
 
 -- the working copy that settings are tried on has these tables: it is laid out as the store is
 abbrev pub Works : Limits → Tables → List ℕ → Type 0
-Works l t work = Holds l t work
+Works lim t work = Holds lim t work
 
 -- a working copy as long as the store takes the store's tables
 abbrev pub Loaded : Limits → List ℕ → List ℕ → List ℕ → Type 0
-Loaded l store work after = length work ≡ l .size → (t : Tables) → Roomy l → Holds l t store → Works l t after
+Loaded lim store work after = length work ≡ lim .size → (t : Tables) → Roomy lim → Holds lim t store → Works lim t after
 
 -- and the store those of the working copy
 abbrev pub Saved : Limits → List ℕ → List ℕ → List ℕ → Type 0
-Saved l work store after = length store ≡ l .size → (t : Tables) → Roomy l → Works l t work → Holds l t after
+Saved lim work store after = length store ≡ lim .size → (t : Tables) → Roomy lim → Works lim t work → Holds lim t after
 
 -- what applying a setting that was read answers, on a working copy that was s and becomes t
 abbrev pub Applied : Limits → List ℕ → Read → List ℕ → List ℕ → Bool → Type 0
-Applied l lim r s t k =
-    (was : Tables) (set : Setting) (left : ℕ) → Roomy l → Works l was s → Meant lim r set → InRange text-limits left set → Fits unicode16 set
-    → Tried (Works l) (apply l set was) t k
+Applied lim m r s t k =
+    (was : Tables) (set : Setting) (left : ℕ) → Roomy lim → Works lim was s → Meant m r set → InRange text-limits left set → Fits unicode16 set
+    → Tried (Works lim) (apply lim set was) t k
