@@ -29,7 +29,7 @@ ghost use Rattle.tables.specs.Layout.{Roomy};
 ghost use Rattle.tables.specs.Store.{Applied};
 
 // Changes the region of a setting, in bytes that have all regions; whether there was room.
-fn apply_part(store: &mut [u8], limits: Limits, m: &[u8], setting: Setting) -> bool
+fn apply_region(store: &mut [u8], limits: Limits, m: &[u8], setting: Setting) -> bool
     requires { ⌜ Roomy limits × (length (now store) ≡ limits .size) ⌝ }
     ensures { λ r. ⌜ Applied limits (now (m .entry)) setting (now (store .entry)) (now (store .exit)) r ⌝ }
 {
@@ -76,5 +76,5 @@ pub fn apply(store: &mut [u8], limits: Limits, m: &[u8], setting: Setting) -> bo
     if !roomy(limits) {
         return false;
     }
-    apply_part(store, limits, m, setting)
+    apply_region(store, limits, m, setting)
 }

@@ -19,7 +19,7 @@ ghost use Rattle.tables.specs.Layout.{Roomy, IsStore};
 ghost use Rattle.tables.specs.Store.{StoreOf};
 
 // Whether each region of bytes of the limits' size is what it has to be: docs/STORE.md says where they stand.
-fn parts_ok(store: &[u8], limits: Limits) -> bool
+fn regions_ok(store: &[u8], limits: Limits) -> bool
     requires { ⌜ Roomy limits × (length (now store) ≡ limits .size) ⌝ }
     ensures { λ r. ⌜ (r ≡ true) ↔ IsStore limits (now (store .entry)) ⌝ }
 {
@@ -50,5 +50,5 @@ pub fn is_store(store: &[u8], limits: Limits) -> bool
     if !roomy(limits) {
         return false;
     }
-    parts_ok(store, limits)
+    regions_ok(store, limits)
 }

@@ -13,7 +13,7 @@ use Rattle.tables.specs.Limits.{quick-places, status-places, slot-places
 use Rattle.tables.specs.Tables.{Line, GroupMember, IndividualMember, Tables}
 use Rattle.writing.specs.declared.Kind.the-variants.{Lines, Key, QuickTexts, Home, Channels, System, StatusTexts, Group, Individual, Last}
 use Rattle.tables.specs.Owns.{Own, put-own}
-use Rattle.tables.proofs.LayoutLaws.{parts-wide}
+use Rattle.tables.proofs.LayoutLaws.{regions-wide}
 
 -- the widths of all regions, the spare bytes at the end
 abbrev pub all-widths : Limits → List ℕ
@@ -21,97 +21,97 @@ all-widths lim = region-widths lim ++ ((lim .size - used-size lim) ∷ [])
 
 -- region k of the store has n bytes from a on
 module _ (lim : Limits) (t : Tables) (ok : Allowed lim t) (k : ℕ) (h : k < 11) (a n : ℕ) (p : a ≡ sum (take k (all-widths lim))) (q : n ≡ getD (all-widths lim) k 0) where
-  -- PART-GET: it is read
-  pub part-get : midOf a n (layout lim t) ≡ getD (regions lim t) k []
+  -- REGION-GET: it is read
+  pub region-get : midOf a n (layout lim t) ≡ getD (regions lim t) k []
   unfolding layout
-  part-get = rw (p, q) (parts-get (regions lim t) (all-widths lim) (parts-wide lim t ok) k h)
+  region-get = rw (p, q) (parts-get (regions lim t) (all-widths lim) (regions-wide lim t ok) k h)
 
-  -- PART-PUT: it comes back as y, and these are the bytes of the tables u where they are those of t with y for region k
-  pub part-put : (u : Tables) (y : List ℕ) → set (regions lim t) k y ≡ regions lim u → putMid a n (layout lim t) y ≡ layout lim u
+  -- REGION-PUT: it comes back as y, and these are the bytes of the tables u where they are those of t with y for region k
+  pub region-put : (u : Tables) (y : List ℕ) → set (regions lim t) k y ≡ regions lim u → putMid a n (layout lim t) y ≡ layout lim u
   unfolding layout
-  part-put u y e = rw (p, q) (parts-put (regions lim t) (all-widths lim) (parts-wide lim t ok) k h y ∙ ap flat e)
+  region-put u y e = rw (p, q) (parts-put (regions lim t) (all-widths lim) (regions-wide lim t ok) k h y ∙ ap flat e)
 
 -- ---- region by region
 
 module _ (lim : Limits) (t : Tables) (ok : Allowed lim t) where
   -- the kept hash
   pub hash-get : midOf 0 hash-size (layout lim t) ≡ hash-bytes (t .hash)
-  hash-get = part-get lim t ok 0 (omega arith) 0 11 refl refl
+  hash-get = region-get lim t ok 0 (omega arith) 0 11 refl refl
 
   -- and put back
   pub hash-put : (x : Hash) → putMid 0 hash-size (layout lim t) (hash-bytes x) ≡ layout lim (put-own Last t x)
-  hash-put x = part-put lim t ok 0 (omega arith) 0 11 refl refl (put-own Last t x) (hash-bytes x) refl
+  hash-put x = region-put lim t ok 0 (omega arith) 0 11 refl refl (put-own Last t x) (hash-bytes x) refl
 
   -- the emergency key
   pub key-get : midOf key-at key-size (layout lim t) ≡ key-bytes (t .key)
-  key-get = part-get lim t ok 1 (omega arith) 11 4 refl refl
+  key-get = region-get lim t ok 1 (omega arith) 11 4 refl refl
 
   -- and put back
   pub key-put : (x : Own Key) → putMid key-at key-size (layout lim t) (key-bytes x) ≡ layout lim (put-own Key t x)
-  key-put x = part-put lim t ok 1 (omega arith) 11 4 refl refl (put-own Key t x) (key-bytes x) refl
+  key-put x = region-put lim t ok 1 (omega arith) 11 4 refl refl (put-own Key t x) (key-bytes x) refl
 
   -- the home numbers
   pub home-get : midOf home-at home-size (layout lim t) ≡ home-bytes (t .home)
-  home-get = part-get lim t ok 2 (omega arith) 15 4 refl refl
+  home-get = region-get lim t ok 2 (omega arith) 15 4 refl refl
 
   -- and put back
   pub home-put : (x : HomeNumbers) → putMid home-at home-size (layout lim t) (home-bytes x) ≡ layout lim (put-own Home t x)
-  home-put x = part-put lim t ok 2 (omega arith) 15 4 refl refl (put-own Home t x) (home-bytes x) refl
+  home-put x = region-put lim t ok 2 (omega arith) 15 4 refl refl (put-own Home t x) (home-bytes x) refl
 
   -- the system code
   pub system-get : midOf system-at system-size (layout lim t) ≡ system-bytes (t .system)
-  system-get = part-get lim t ok 3 (omega arith) 19 3 refl refl
+  system-get = region-get lim t ok 3 (omega arith) 19 3 refl refl
 
   -- and put back
   pub system-put : (x : SystemCode) → putMid system-at system-size (layout lim t) (system-bytes x) ≡ layout lim (put-own System t x)
-  system-put x = part-put lim t ok 3 (omega arith) 19 3 refl refl (put-own System t x) (system-bytes x) refl
+  system-put x = region-put lim t ok 3 (omega arith) 19 3 refl refl (put-own System t x) (system-bytes x) refl
 
   -- ---- as tables of slots
 
   -- the quick texts
   pub quick-placed : Placed QuickOk quick-width quick-bytes quick-places (t .quick) (midOf quick-at quick-size (layout lim t))
-  quick-placed = record { many = ok .quick .0; each = ok .quick .1; bytes = part-get lim t ok 4 (omega arith) quick-at quick-size refl refl }
+  quick-placed = record { many = ok .quick .0; each = ok .quick .1; bytes = region-get lim t ok 4 (omega arith) quick-at quick-size refl refl }
 
   -- and put back
   pub quick-back : (x : List (Option Text)) (y : List ℕ) → Placed QuickOk quick-width quick-bytes quick-places x y → putMid quick-at quick-size (layout lim t) y ≡ layout lim (put-own QuickTexts t x)
-  quick-back x y p = part-put lim t ok 4 (omega arith) quick-at quick-size refl refl (put-own QuickTexts t x) y (ap (set (regions lim t) 4) (p .bytes))
+  quick-back x y p = region-put lim t ok 4 (omega arith) quick-at quick-size refl refl (put-own QuickTexts t x) y (ap (set (regions lim t) 4) (p .bytes))
 
   -- the status texts
   pub status-placed : Placed StatusOk status-width status-bytes status-places (t .status) (midOf status-at status-size (layout lim t))
-  status-placed = record { many = ok .status .0; each = ok .status .1; bytes = part-get lim t ok 5 (omega arith) status-at status-size refl refl }
+  status-placed = record { many = ok .status .0; each = ok .status .1; bytes = region-get lim t ok 5 (omega arith) status-at status-size refl refl }
 
   -- and put back
   pub status-back : (x : List (Option Text)) (y : List ℕ) → Placed StatusOk status-width status-bytes status-places x y → putMid status-at status-size (layout lim t) y ≡ layout lim (put-own StatusTexts t x)
-  status-back x y p = part-put lim t ok 5 (omega arith) status-at status-size refl refl (put-own StatusTexts t x) y (ap (set (regions lim t) 5) (p .bytes))
+  status-back x y p = region-put lim t ok 5 (omega arith) status-at status-size refl refl (put-own StatusTexts t x) y (ap (set (regions lim t) 5) (p .bytes))
 
   -- the group slots
   pub groups-placed : Placed GroupOk member-width group-bytes slot-places (t .groups) (midOf groups-at member-size (layout lim t))
-  groups-placed = record { many = ok .groups .0; each = ok .groups .1; bytes = part-get lim t ok 6 (omega arith) groups-at member-size refl refl }
+  groups-placed = record { many = ok .groups .0; each = ok .groups .1; bytes = region-get lim t ok 6 (omega arith) groups-at member-size refl refl }
 
   -- and put back
   pub groups-back : (x : List (Option GroupMember)) (y : List ℕ) → Placed GroupOk member-width group-bytes slot-places x y → putMid groups-at member-size (layout lim t) y ≡ layout lim (put-own Group t x)
-  groups-back x y p = part-put lim t ok 6 (omega arith) groups-at member-size refl refl (put-own Group t x) y (ap (set (regions lim t) 6) (p .bytes))
+  groups-back x y p = region-put lim t ok 6 (omega arith) groups-at member-size refl refl (put-own Group t x) y (ap (set (regions lim t) 6) (p .bytes))
 
   -- the individual slots
   pub individuals-placed : Placed IndividualOk member-width individual-bytes slot-places (t .individuals) (midOf individuals-at member-size (layout lim t))
-  individuals-placed = record { many = ok .individuals .0; each = ok .individuals .1; bytes = part-get lim t ok 7 (omega arith) individuals-at member-size refl refl }
+  individuals-placed = record { many = ok .individuals .0; each = ok .individuals .1; bytes = region-get lim t ok 7 (omega arith) individuals-at member-size refl refl }
 
   -- and put back
   pub individuals-back : (x : List (Option IndividualMember)) (y : List ℕ) → Placed IndividualOk member-width individual-bytes slot-places x y → putMid individuals-at member-size (layout lim t) y ≡ layout lim (put-own Individual t x)
-  individuals-back x y p = part-put lim t ok 7 (omega arith) individuals-at member-size refl refl (put-own Individual t x) y (ap (set (regions lim t) 7) (p .bytes))
+  individuals-back x y p = region-put lim t ok 7 (omega arith) individuals-at member-size refl refl (put-own Individual t x) y (ap (set (regions lim t) 7) (p .bytes))
 
   -- the channels
   pub channels-listed : Listed InChannel channel-width u16 (lim .channels) (t .channels) (midOf lists-at (lim .channels * channel-width) (layout lim t))
-  channels-listed = record { few = ok .channels .0; each = ok .channels .1; bytes = part-get lim t ok 8 (omega arith) lists-at (lim .channels * channel-width) refl refl }
+  channels-listed = record { few = ok .channels .0; each = ok .channels .1; bytes = region-get lim t ok 8 (omega arith) lists-at (lim .channels * channel-width) refl refl }
 
   -- and put back
   pub channels-back : (x : List ℕ) (y : List ℕ) → Listed InChannel channel-width u16 (lim .channels) x y → putMid lists-at (lim .channels * channel-width) (layout lim t) y ≡ layout lim (put-own Channels t x)
-  channels-back x y p = part-put lim t ok 8 (omega arith) lists-at (lim .channels * channel-width) refl refl (put-own Channels t x) y (ap (set (regions lim t) 8) (p .bytes))
+  channels-back x y p = region-put lim t ok 8 (omega arith) lists-at (lim .channels * channel-width) refl refl (put-own Channels t x) y (ap (set (regions lim t) 8) (p .bytes))
 
   -- the line contacts
   pub lines-listed : Listed LineOk line-width line-bytes (lim .lines) (t .lines) (midOf (lists-at + lim .channels * channel-width) (lim .lines * line-width) (layout lim t))
-  lines-listed = record { few = ok .lines .0; each = ok .lines .1; bytes = part-get lim t ok 9 (omega arith) (lists-at + lim .channels * channel-width) (lim .lines * line-width) (omega arith) refl }
+  lines-listed = record { few = ok .lines .0; each = ok .lines .1; bytes = region-get lim t ok 9 (omega arith) (lists-at + lim .channels * channel-width) (lim .lines * line-width) (omega arith) refl }
 
   -- and put back
   pub lines-back : (x : List Line) (y : List ℕ) → Listed LineOk line-width line-bytes (lim .lines) x y → putMid (lists-at + lim .channels * channel-width) (lim .lines * line-width) (layout lim t) y ≡ layout lim (put-own Lines t x)
-  lines-back x y p = part-put lim t ok 9 (omega arith) (lists-at + lim .channels * channel-width) (lim .lines * line-width) (omega arith) refl (put-own Lines t x) y (ap (set (regions lim t) 9) (p .bytes))
+  lines-back x y p = region-put lim t ok 9 (omega arith) (lists-at + lim .channels * channel-width) (lim .lines * line-width) (omega arith) refl (put-own Lines t x) y (ap (set (regions lim t) 9) (p .bytes))

@@ -39,8 +39,8 @@ front-zeros : {A : Type 0} (w : ℕ) (f : A → List ℕ) (n : ℕ) → places w
 front-zeros w f n = ap (places w f) (front-nil n) ∙ places-nil w f n
 
 -- the regions of a fresh store are zeros, the key aside
-fresh-parts : (lim : Limits) → regions lim fresh ≡ set (map (λ w. replicate w 0) (all-widths lim)) 1 (16 ∷ 0 ∷ 0 ∷ 0 ∷ [])
-fresh-parts lim =
+fresh-regions : (lim : Limits) → regions lim fresh ≡ set (map (λ w. replicate w 0) (all-widths lim)) 1 (16 ∷ 0 ∷ 0 ∷ 0 ∷ [])
+fresh-regions lim =
     let q = places-nil quick-width quick-bytes quick-places in
     let s = places-nil status-width status-bytes status-places in
     let g = places-nil member-width group-bytes slot-places in
@@ -64,7 +64,7 @@ unfolding layout
 fresh-layout lim r =
     let zs : List (List ℕ) = map (λ w. replicate w 0) (all-widths lim) in
     let e : sum (all-widths lim) ≡ lim .size = omega arith in
-    ap flat (fresh-parts lim)
+    ap flat (fresh-regions lim)
     ∙ sym (parts-put zs (map length zs) refl 1 (omega arith) (16 ∷ 0 ∷ 0 ∷ 0 ∷ []))
     ∙ ap (λ (l : List ℕ). putMid key-at key-size l (16 ∷ 0 ∷ 0 ∷ 0 ∷ [])) (flat-zeros (all-widths lim) ∙ ap (λ (k : ℕ). replicate k 0) e)
     ∙ one-byte (lim .size) (omega arith)

@@ -24,9 +24,9 @@ use Rattle.tables.proofs.FixedCodes.{hash-code, key-code, home-code, sy
 table-wide : {A : Type 0} {P : A → Type 0} {w : ℕ} {f : A → List ℕ} → Code P w f → (os : List (Option A)) (n : ℕ) → length os ≡ n → length (places w f os) ≡ n * w
 table-wide {w = w} {f = f} k os n e = places-length w f (k .long) os ∙ ap (λ (i : ℕ). i * w) e
 
--- PARTS-WIDE: every region has its width
-pub parts-wide : (lim : Limits) (t : Tables) → Allowed lim t → map length (regions lim t) ≡ region-widths lim ++ ((lim .size - used-size lim) ∷ [])
-parts-wide lim t ok =
+-- REGIONS-WIDE: every region has its width
+pub regions-wide : (lim : Limits) (t : Tables) → Allowed lim t → map length (regions lim t) ≡ region-widths lim ++ ((lim .size - used-size lim) ∷ [])
+regions-wide lim t ok =
     let a = hash-code .long (t .hash) in
     let b = table-wide quick-code (t .quick) 64 (ok .quick .0) in
     let c = table-wide status-code (t .status) 96 (ok .status .0) in
@@ -40,7 +40,7 @@ parts-wide lim t ok =
 -- LAYOUT-LENGTH: where the tables fit, their bytes fill the store
 pub layout-length : (lim : Limits) (t : Tables) → Roomy lim → Allowed lim t → length (layout lim t) ≡ lim .size
 unfolding layout
-layout-length lim t r ok = omega (arith, flat-length (regions lim t), ap sum (parts-wide lim t ok))
+layout-length lim t r ok = omega (arith, flat-length (regions lim t), ap sum (regions-wide lim t ok))
 
 -- HOLDS-STORE: so the bytes that hold allowed tables, where these have room, are a store
 pub holds-store : (lim : Limits) (t : Tables) (store : List ℕ) → Roomy lim → Holds lim t store → StoreOf lim store
@@ -93,7 +93,7 @@ front-table-one {P = P} {w = w} {f = f} k z {n} {xs} {ys} p q e =
 pub layout-one : (lim : Limits) (t u : Tables) → Allowed lim t → Allowed lim u → layout lim t ≡ layout lim u → t ≡ u
 unfolding layout
 layout-one lim t u p q e =
-    let r : regions lim t ≡ regions lim u = parts-one (regions lim t) (regions lim u) (parts-wide lim t p ∙ sym (parts-wide lim u q)) e in
+    let r : regions lim t ≡ regions lim u = parts-one (regions lim t) (regions lim u) (regions-wide lim t p ∙ sym (regions-wide lim u q)) e in
     let at : (k : ℕ) → getD (regions lim t) k [] ≡ getD (regions lim u) k [] = λ k. ap (λ (l : List (List ℕ)). getD l k []) r in
     let a = hash-code .one (t .hash) (u .hash) (p .hash) (q .hash) (at 0) in
     let b = key-code .one (t .key) (u .key) (p .key) (q .key) (at 1) in

@@ -17,8 +17,8 @@ returns-2 c =
     let a = c .before .before .before .before .before .before .args in
     no-store (a .limits) (a .m .now) (a .store .now) (a .store .now) (a .setting) _ _ (λ h _. not-said (c .before .roomy .result) (c .before .roomy .ensures) (c .if2 .taken) h)
 
-apply-part-requires : tie.Need-apply-part-requires
-apply-part-requires c κs =
+apply-region-requires : tie.Need-apply-region-requires
+apply-region-requires c κs =
     (was-said (c .before .before .roomy .result) (c .before .before .roomy .ensures) (c .before .if2 .left), c .before .before .before .if1 .left)
 
 same-length : tie.Need-same-length
@@ -29,4 +29,4 @@ returns-3 c = search needs
 
 pub apply-spec : {M : Type 1} → statement M
 apply-spec =
-    tie.close (tie.spec returns roomy-requires returns-2 apply-part-requires same-length returns-3)
+    tie.close (tie.spec returns roomy-requires returns-2 apply-region-requires same-length returns-3)

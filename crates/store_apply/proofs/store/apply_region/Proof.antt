@@ -5,8 +5,8 @@ use mathlib.Core.Bool.{true}
 use Rattle.settings.specs.declared.settings.Setting.the-variants.{Lines, Key, QuickTexts, Home, Channels, System, StatusTexts, Group, Individual, Last}
 use Rattle.tables.specs.Layout.{line-width, lists-at}
 use Rattle.store_apply.proofs.StoreLaws.{as-read, store-key, store-home, store-system, store-hash, store-quick, store-status, store-group, store-individual, store-channels, store-lines}
-use Rattle.store_apply.proofs.store.apply_part.Statement.{statement}
-use Rattle.store_apply.proofs.store.apply_part.Tie as tie
+use Rattle.store_apply.proofs.store.apply_region.Statement.{statement}
+use Rattle.store_apply.proofs.store.apply_region.Tie as tie
 
 mul-lines : tie.Need-mul-lines
 mul-lines c = search needs
@@ -280,8 +280,8 @@ returns-10 c =
     as-read (a .limits) (a .m .now) (a .store .now) _ true (a .setting) (Last (g .0 .0) (g .0 .1 .0)) (g .1)
     (store-hash (a .limits) (a .m .now) (a .store .now) (y .last .0) (g .0 .0) (g .0 .1 .0) (y .ensures))
 
-pub apply-part-spec : {M : Type 1} → statement M
-apply-part-spec =
+pub apply-region-spec : {M : Type 1} → statement M
+apply-region-spec =
     tie.close
     (tie.spec
     mul-lines

@@ -2,8 +2,8 @@ use Rattle.lists.proofs.Kit.{needs, arith, _+_, _*_, sym, _∙_}
 use Rattle.slots.proofs.Tables.{slot-wide}
 use Rattle.tables.proofs.AnswerLaws.{refused, not-said, was-said}
 use Rattle.store_check.proofs.StoreChecks.{store-is}
-use Rattle.store_check.proofs.checks.parts_ok.Statement.{statement}
-use Rattle.store_check.proofs.checks.parts_ok.Tie as tie
+use Rattle.store_check.proofs.checks.regions_ok.Statement.{statement}
+use Rattle.store_check.proofs.checks.regions_ok.Tie as tie
 use Rattle.tables.specs.Layout.{line-width, lists-at}
 
 sub-fixed-ok : tie.Need-sub-fixed-ok
@@ -107,8 +107,8 @@ returns-5 c =
     let l = was-said (c .before .before .before .lines-ok .result) (c .before .before .before .lines-ok .ensures (lim .lines) (slot-wide s (lists-at + lim .channels * 2) (lim .lines * line-width) (omega arith))) (c .before .before .if4 .left) in
     (λ e. t .0 (f, (i, (h, (l, sym (c .is-clear .ensures) ∙ e)))), λ x. c .is-clear .ensures ∙ t .1 x .1 .1 .1 .1)
 
-pub parts-ok-spec : {M : Type 1} → statement M
-parts-ok-spec =
+pub regions-ok-spec : {M : Type 1} → statement M
+regions-ok-spec =
     tie.close
     (tie.spec
     sub-fixed-ok
