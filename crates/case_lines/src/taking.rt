@@ -7,6 +7,7 @@ use slots::bytes::copy;
 use slots::bytes::same;
 use station::handheld::start;
 use station::handheld::take;
+use tables::limits::HANDHELD_SIZE;
 
 // A message to this store, with this reply buffer and as many bytes to keep the store of before in.
 fn answer_beside(what: &[u8], bytes: &[u8], store: &mut [u8], reply: &mut [u8], before: &mut [u8]) {
@@ -18,10 +19,10 @@ fn answer_beside(what: &[u8], bytes: &[u8], store: &mut [u8], reply: &mut [u8], 
 // A message to this store, of at most 12,288 bytes, with this reply buffer.
 pub fn answer_into(what: &[u8], bytes: &[u8], store: &mut [u8], reply: &mut [u8]) {
     let size = store.len();
-    if 12288 < size {
+    if HANDHELD_SIZE < size {
         return;
     }
-    let mut before = [0u8; 12288];
+    let mut before = [0u8; HANDHELD_SIZE];
     answer_beside(what, bytes, store, reply, &mut before[0..size]);
 }
 

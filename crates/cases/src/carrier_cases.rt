@@ -5,6 +5,7 @@ use case_lines::taking::answer;
 use case_lines::taking::answer_into;
 use case_lines::taking::messages;
 use station::handheld::start;
+use tables::limits::HANDHELD_SIZE;
 use tables::start::Started;
 
 // A request that is taken: the emergency key calls the current place by voice.
@@ -21,7 +22,7 @@ fn started(what: &[u8], answer: Started) {
 }
 
 fn stores() {
-    let mut store = [0u8; 12288];
+    let mut store = [0u8; HANDHELD_SIZE];
     answer(b"store that was never started", &GOOD, &mut store);
     started(b"starting 12288 bytes", start(&mut store));
     answer(b"the same store, started", &GOOD, &mut store);

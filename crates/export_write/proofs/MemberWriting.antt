@@ -19,6 +19,7 @@ use Rattle.tables.specs.declared.members.Members.{Members}
 use Rattle.tables.specs.declared.members.Members.the-variants.{OfGroups, OfIndividuals}
 use Rattle.tables.specs.Allowed.{TextOk}
 use Rattle.tables.specs.Layout.{text-bytes, group-flags, group-bytes, individual-flags, individual-bytes, member-width}
+use Rattle.tables.specs.Limits.{slot-places}
 use Rattle.tables.specs.Members.{MemberIn, member-ok, member-bytes}
 use Rattle.tables.proofs.EntryCodes.{bit-small, group-shown, individual-shown, member-code}
 use Rattle.tables.proofs.TextLaws.{Unit16}
@@ -172,8 +173,8 @@ Membered w region buffer₀ buffer at to i =
     → Writing (canonical-all unicode16 (member-settings w 0 os)) at buffer₀ buffer to (canonical-all unicode16 (member-settings w i (drop i os)))
 
 -- and the next
-pub membered-more : (w : Members) (region buffer₀ buffer after : List ℕ) (at to i r : ℕ) → i < 16 → Membered w region buffer₀ buffer at to i
-    → WritesSetting (SlotIn w (midOf (i * 36) (i * 36 + 36 - i * 36) region)) (member-setting w i) to 42 buffer after r
+pub membered-more : (w : Members) (region buffer₀ buffer after : List ℕ) (at to i r : ℕ) → i < slot-places → Membered w region buffer₀ buffer at to i
+    → WritesSetting (SlotIn w (midOf (i * member-width) (i * member-width + member-width - i * member-width) region)) (member-setting w i) to 42 buffer after r
     → Membered w region buffer₀ after at r (i + 1)
 membered-more w region buffer₀ buffer after at to i r low g h os t =
     let k : i < length os = omega (arith, t .many) in
@@ -181,10 +182,10 @@ membered-more w region buffer₀ buffer after at to i r low g h os t =
     writing-more (canonical-all unicode16 (member-settings w 0 os)) at to r buffer₀ buffer after (canonical-all unicode16 (member-settings w i (drop i os)))
     (canonical unicode16 (member-setting w i o)) (canonical-all unicode16 (member-settings w (i + 1) (drop (i + 1) os))) (g os t)
     (ap (canonical-all unicode16) (settings-from w i os k))
-    (h .wrote o (all-get (Present (member-ok w)) os i none (t .each) k, place-read (member-ok w) 36 (member-bytes w) (member-code w .long) 16 os region t i low))
+    (h .wrote o (all-get (Present (member-ok w)) os i none (t .each) k, place-read (member-ok w) member-width (member-bytes w) (member-code w .long) slot-places os region t i low))
 
 -- none is left
-pub membered-end : (w : Members) (region buffer₀ buffer : List ℕ) (at to i : ℕ) → 16 ≤ i → Membered w region buffer₀ buffer at to i
+pub membered-end : (w : Members) (region buffer₀ buffer : List ℕ) (at to i : ℕ) → slot-places ≤ i → Membered w region buffer₀ buffer at to i
     → (os : List (Option (MemberIn w))) → MembersIn w region os → Wrote (canonical-all unicode16 (member-settings w 0 os)) at buffer₀ buffer to
 membered-end w region buffer₀ buffer at to i high g os t =
     writing-end (canonical-all unicode16 (member-settings w 0 os)) at to buffer₀ buffer (canonical-all unicode16 (member-settings w i (drop i os))) (g os t)

@@ -12,7 +12,8 @@ use Rattle.writing.specs.Writing.{op, op-code, text, quick-text, status-text, b
 use Rattle.writing.proofs.CanonicalLaws.{plain-append}
 use Rattle.writing.proofs.Whole.{Whole, each-whole, entry-whole, text-whole}
 use Rattle.tables.specs.Allowed.{QuickOk, StatusOk}
-use Rattle.tables.specs.Layout.{quick-bytes, status-bytes}
+use Rattle.tables.specs.Layout.{quick-bytes, quick-width, status-bytes, status-width}
+use Rattle.tables.specs.Limits.{quick-places, status-places}
 use Rattle.tables.proofs.EntryCodes.{quick-shown, status-shown}
 use Rattle.tables.proofs.TextLaws.{Unit16}
 use Rattle.export_write.specs.EntryWriters.{entry-bytes, led, Shown}
@@ -80,7 +81,7 @@ quick-present : (o : Option Text) → Present QuickOk o → Present (Shown [] 23
 quick-present none p = tt
 quick-present (some us) p = (p .text, quick-shown us p)
 
-pub quick-placed : (os : List (Option Text)) (s : List ℕ) → Placed QuickOk 46 quick-bytes 64 os s → Placed (Shown [] 23) 46 (led [] 23) 64 os s
+pub quick-placed : (os : List (Option Text)) (s : List ℕ) → Placed QuickOk quick-width quick-bytes quick-places os s → Placed (Shown [] 23) quick-width (led [] 23) quick-places os s
 quick-placed os s p = record { many = p .many; each = all-turn (Present QuickOk) (Present (Shown [] 23)) quick-present os (p .each); bytes = p .bytes }
 
 -- ---- status texts
@@ -113,5 +114,5 @@ status-present : (o : Option Text) → Present StatusOk o → Present (Shown (1 
 status-present none p = tt
 status-present (some us) p = (p, status-shown us p)
 
-pub status-placed : (os : List (Option Text)) (s : List ℕ) → Placed StatusOk 33 status-bytes 96 os s → Placed (Shown (1 ∷ []) 16) 33 (led (1 ∷ []) 16) 96 os s
+pub status-placed : (os : List (Option Text)) (s : List ℕ) → Placed StatusOk status-width status-bytes status-places os s → Placed (Shown (1 ∷ []) 16) status-width (led (1 ∷ []) 16) status-places os s
 status-placed os s p = record { many = p .many; each = all-turn (Present StatusOk) (Present (Shown (1 ∷ []) 16)) status-present os (p .each); bytes = p .bytes }

@@ -1,5 +1,5 @@
 -- Quick and status texts: their settings were written, the entries first and the heads before them. Assumes nothing.
-use Rattle.lists.proofs.Kit.{ℕ, suc, _+_, _≤_, _<_, _≡_, refl, sym, ap, ap₂, _∙_, subst, true, false, true≢false, List, [], _∷_, _++_, map, append-nil, Option, none, some, arith, midOf, length, getD, take, drop, drop-of-length-le, length-take, drop-cons, take-all}
+use Rattle.lists.proofs.Kit.{ℕ, suc, _+_, _*_, _≤_, _<_, _≡_, refl, sym, ap, ap₂, _∙_, subst, true, false, true≢false, List, [], _∷_, _++_, map, append-nil, Option, none, some, arith, midOf, length, getD, take, drop, drop-of-length-le, length-take, drop-cons, take-all}
 use Rattle.lists.specs.Every.{All}
 use Rattle.lists.proofs.Every.{all-get, all-take}
 use Rattle.slots.specs.Slots.{flat, zeros?, Present}
@@ -9,7 +9,8 @@ use Rattle.writing.specs.Canonical.{plain, canonical, canonical-all, FitsField}
 use Rattle.writing.specs.Settings.{Text, Entry, quick-texts, status-texts, kind, unicode16}
 use Rattle.writing.specs.Writing.{type-byte, body}
 use Rattle.tables.specs.Allowed.{QuickOk, StatusOk}
-use Rattle.tables.specs.Layout.{quick-bytes}
+use Rattle.tables.specs.Layout.{quick-bytes, quick-width, status-width}
+use Rattle.tables.specs.Limits.{quick-places, status-places}
 use Rattle.tables.proofs.EntryCodes.{quick-code, quick-shown}
 use Rattle.export_write.specs.declared.entries.TextTable.{TextTable}
 use Rattle.export_write.specs.declared.entries.Entries.{Entries}
@@ -27,7 +28,7 @@ head-before a b at m n r s t u v w e = wrote-before a b at m r s t u v (subst (�
 -- ---- status texts
 
 abbrev pub status-table : TextTable
-status-table = record { width = 33; skip = 1; places = 96; first = 32; most = 96 }
+status-table = record { width = status-width; skip = 1; places = status-places; first = 32; most = status-places }
 
 pub status-wrote : (region s t u : List ℕ) (at m : ℕ) (r : Entries) → EntersAll status-table region (at + 5) s t r → Wrote (192 ∷ r .count ∷ []) (at + 3) t u m
     → (os : List (Option Text)) → StatusesIn region os
@@ -35,24 +36,24 @@ pub status-wrote : (region s t u : List ℕ) (at m : ℕ) (r : Entries) → Ente
     × Wrote (plain (body unicode16 (status-texts Replace (entries 32 os)))) (at + 3) s u (r .end)
 status-wrote region s t u at m r g w os p =
     let es : List Entry = entries 32 os in
-    let few : length es ≤ 96 = omega (arith, entries-few 32 os, p .many) in
+    let few : length es ≤ status-places = omega (arith, entries-few 32 os, p .many) in
     let h : All (EntryOk 128) es = entries-ok StatusOk (λ us q. q .units) 128 32 os (p .each) (omega (arith, p .many)) in
     let k = g .entered (1 ∷ []) 16 os refl refl (status-placed os region p) in
-    let a : take 96 es ≡ es = take-all 96 es few in
+    let a : take status-places es ≡ es = take-all status-places es few in
     let c : r .count ≡ length es = k .counted ∙ ap length a in
-    let b : flat (map entry-bytes (take 96 es)) ≡ flat (map entry-bytes es) = ap (λ (x : List Entry). flat (map entry-bytes x)) a in
-    let e : (192 ∷ r .count ∷ []) ++ flat (map entry-bytes (take 96 es)) ≡ plain (body unicode16 (status-texts Replace es))
+    let b : flat (map entry-bytes (take status-places es)) ≡ flat (map entry-bytes es) = ap (λ (x : List Entry). flat (map entry-bytes x)) a in
+    let e : (192 ∷ r .count ∷ []) ++ flat (map entry-bytes (take status-places es)) ≡ plain (body unicode16 (status-texts Replace es))
     = ap₂ (λ (i : ℕ) (x : List ℕ). 192 ∷ i ∷ x) c b ∙ sym (status-plain es h (omega arith)) in (
       refl,
       status-fits es h (omega arith),
-      wrote-as ((192 ∷ r .count ∷ []) ++ flat (map entry-bytes (take 96 es))) (plain (body unicode16 (status-texts Replace es))) (at + 3) (r .end) s u e
-          (head-before (192 ∷ r .count ∷ []) (flat (map entry-bytes (take 96 es))) (at + 3) (at + 5) m (r .end) s t u (k .wrote) w (omega arith)),
+      wrote-as ((192 ∷ r .count ∷ []) ++ flat (map entry-bytes (take status-places es))) (plain (body unicode16 (status-texts Replace es))) (at + 3) (r .end) s u e
+          (head-before (192 ∷ r .count ∷ []) (flat (map entry-bytes (take status-places es))) (at + 3) (at + 5) m (r .end) s t u (k .wrote) w (omega arith)),
     )
 
 -- ---- quick texts
 
 abbrev pub quick-table : TextTable
-quick-table = record { width = 46; skip = 0; places = 64; first = 0; most = 63 }
+quick-table = record { width = quick-width; skip = 0; places = quick-places; first = 0; most = 63 }
 
 -- the entries of a table are quick texts
 quick-entries : (region : List ℕ) (os : List (Option Text)) → QuicksIn region os → All (EntryOk 64) (entries 0 os)
@@ -99,28 +100,28 @@ last-some s a b c d at m n r z v w st (some us) k =
     )
 
 -- all texts stand in the replace
-pub quick-all : (os : List (Option Text)) (next : ℕ) → length os ≡ 64 → next ≡ 64 → drop 63 (entries 0 os) ≡ entries (0 + next) (drop next os) → drop 63 (entries 0 os) ≡ []
+pub quick-all : (os : List (Option Text)) (next : ℕ) → length os ≡ quick-places → next ≡ quick-places → drop 63 (entries 0 os) ≡ entries (0 + next) (drop next os) → drop 63 (entries 0 os) ≡ []
 quick-all os next l e r = r ∙ ap (entries (0 + next)) (drop-of-length-le os {i = next} (omega arith))
 
 -- or the last place is left
-pub quick-left : (os : List (Option Text)) (next : ℕ) → length os ≡ 64 → next ≡ 63 → drop 63 (entries 0 os) ≡ entries (0 + next) (drop next os)
+pub quick-left : (os : List (Option Text)) (next : ℕ) → length os ≡ quick-places → next ≡ 63 → drop 63 (entries 0 os) ≡ entries (0 + next) (drop next os)
     → drop 63 (entries 0 os) ≡ entries 63 (getD os 63 none ∷ [])
 quick-left os next l e r =
     r ∙ ap (λ (i : ℕ). entries (0 + i) (drop i os)) e
-    ∙ ap (entries 63) (drop-cons os 63 none (omega arith) ∙ ap (λ (x : List (Option Text)). getD os 63 none ∷ x) (drop-of-length-le os {i = 64} (omega arith)))
+    ∙ ap (entries 63) (drop-cons os 63 none (omega arith) ∙ ap (λ (x : List (Option Text)). getD os 63 none ∷ x) (drop-of-length-le os {i = quick-places} (omega arith)))
 
 -- which is the slot there
-pub quick-last : (region : List ℕ) (os : List (Option Text)) → QuicksIn region os → QuickIn (midOf 2898 46 region) (getD os 63 none)
+pub quick-last : (region : List ℕ) (os : List (Option Text)) → QuicksIn region os → QuickIn (midOf (63 * quick-width) quick-width region) (getD os 63 none)
 quick-last region os p = (
   all-get (Present QuickOk) os 63 none (p .each) (omega (arith, p .many)),
-  place-read QuickOk 46 quick-bytes (quick-code .long) 64 os region p 63 (omega arith),
+  place-read QuickOk quick-width quick-bytes (quick-code .long) quick-places os region p 63 (omega arith),
 )
 
 -- ---- the region
 
 module _ (region s t v : List ℕ) (at z : ℕ) (r : Entries) (g : EntersAll quick-table region (at + 4) s t r) where
   -- the replace is all
-  pub quick-done : r .next ≡ 64 → ((os : List (Option Text)) → QuicksIn region os → Wrote (canonical unicode16 (quick-texts Replace (take 63 (entries 0 os)))) at s v z)
+  pub quick-done : r .next ≡ quick-places → ((os : List (Option Text)) → QuicksIn region os → Wrote (canonical unicode16 (quick-texts Replace (take 63 (entries 0 os)))) at s v z)
       → at ≤ z → z ≤ at + 3091 → WritesAll (QuicksIn region) quick-settings at 3144 s v (record { end = z; count = 1 })
   quick-done e w low high = record {
     writes = record { from = low; most = omega arith; wrote = all };
@@ -137,9 +138,9 @@ module _ (region s t v : List ℕ) (at z : ℕ) (r : Entries) (g : EntersAll qui
           (sym (append-nil c) ∙ ap (λ (x : List Entry). c ++ canonical-all unicode16 (map quick-add x)) (sym (rest os p))) (w os p)
 
   -- the last place may have an add
-  pub quick-more : (after : List ℕ) (y : Settings) → (r .next ≡ 64 → ⊥)
+  pub quick-more : (after : List ℕ) (y : Settings) → (r .next ≡ quick-places → ⊥)
       → ((os : List (Option Text)) → QuicksIn region os → Wrote (canonical unicode16 (quick-texts Replace (take 63 (entries 0 os)))) at s v z)
-      → WritesAll (QuickIn (midOf 2898 46 region)) last-quick z 53 v after y → at ≤ z → z ≤ at + 3091
+      → WritesAll (QuickIn (midOf (63 * quick-width) quick-width region)) last-quick z 53 v after y → at ≤ z → z ≤ at + 3091
       → WritesAll (QuicksIn region) quick-settings at 3144 s after (record { end = y .end; count = 1 + y .count })
   quick-more after y n w h low high = record {
     writes = record { from = omega (arith, h .writes .from); most = omega (arith, h .writes .most); wrote = all };
@@ -149,7 +150,7 @@ module _ (region s t v : List ℕ) (at z : ℕ) (r : Entries) (g : EntersAll qui
   }
     where
       at-63 : r .next ≡ 63
-      at-63 = let f : r .next < 64 = omega (arith, g .within, n) in omega (arith, g .full f, g .passed)
+      at-63 = let f : r .next < quick-places = omega (arith, g .within, n) in omega (arith, g .full f, g .passed)
 
       rest : (os : List (Option Text)) → QuicksIn region os → drop 63 (entries 0 os) ≡ entries 63 (getD os 63 none ∷ [])
       rest os p = quick-left os (r .next) (p .many) at-63 (g .entered [] 23 os refl refl (quick-placed os region p) .rest)

@@ -11,7 +11,8 @@ use Rattle.writing.specs.Canonical.{plain}
 use Rattle.writing.specs.Settings.{Text, Entry, Setting, quick-texts, status-texts, unicode16}
 use Rattle.writing.specs.Writing.{text}
 use Rattle.tables.specs.Allowed.{TextOk, QuickOk, StatusOk}
-use Rattle.tables.specs.Layout.{text-bytes, quick-bytes, quick-width, status-bytes, quick-size, status-size}
+use Rattle.tables.specs.Layout.{text-bytes, quick-bytes, quick-width, status-bytes, status-width, quick-size, status-size}
+use Rattle.tables.specs.Limits.{quick-places, status-places}
 use Rattle.export_write.specs.declared.entries.TextTable.{TextTable}
 use Rattle.export_write.specs.declared.entries.Entries.{Entries}
 use Rattle.export_write.specs.declared.writers.Settings.{Settings}
@@ -73,7 +74,7 @@ last-quick o = map quick-add (entries 63 (o ∷ []))
 
 -- the lent bytes are a table of quick texts, and the settings that export it
 abbrev pub QuicksIn : List ℕ → List (Option Text) → Type 0
-QuicksIn region os = Placed QuickOk 46 quick-bytes 64 os region
+QuicksIn region os = Placed QuickOk quick-width quick-bytes quick-places os region
 
 abbrev pub quick-settings : List (Option Text) → List Setting
 quick-settings os = quick-texts Replace (take 63 (entries 0 os)) ∷ map quick-add (drop 63 (entries 0 os))
@@ -86,7 +87,7 @@ WritesQuicks region before after r = WritesTable (length region ≡ quick-size) 
 
 -- the lent bytes are a table of status texts, and the setting that exports it
 abbrev pub StatusesIn : List ℕ → List (Option Text) → Type 0
-StatusesIn region os = Placed StatusOk 33 status-bytes 96 os region
+StatusesIn region os = Placed StatusOk status-width status-bytes status-places os region
 
 abbrev pub status-settings : List (Option Text) → List Setting
 status-settings os = status-texts Replace (entries 32 os) ∷ []

@@ -11,6 +11,7 @@ use Rattle.writing.specs.Settings.{Setting, group, individual}
 use Rattle.tables.specs.declared.members.Members.{Members}
 use Rattle.tables.specs.declared.members.Members.the-variants.{OfGroups, OfIndividuals}
 use Rattle.tables.specs.Layout.{member-width, member-size}
+use Rattle.tables.specs.Limits.{slot-places}
 use Rattle.tables.specs.Members.{MemberIn, member-ok, member-bytes}
 use Rattle.export_write.specs.declared.writers.Settings.{Settings}
 use Rattle.export_write.specs.EntrySettings.{slots, no-group-flags, no-individual-flags}
@@ -47,7 +48,7 @@ member-settings OfIndividuals = slots individual no-individual-flags (record { 0
 
 -- the lent bytes are a table of sixteen slots
 abbrev pub MembersIn : (w : Members) → List ℕ → List (Option (MemberIn w)) → Type 0
-MembersIn w region os = Placed (member-ok w) 36 (member-bytes w) 16 os region
+MembersIn w region os = Placed (member-ok w) member-width (member-bytes w) slot-places os region
 
 -- it was written
 abbrev pub WritesMembers : Members → (region before after : List ℕ) → Settings → Type 0

@@ -8,11 +8,16 @@ use super::writers::write_bytes;
 use slots::bytes::is_zeros;
 use tables::members::Members;
 use tables::places::MEMBER_SIZE;
+use tables::places::MEMBER_SLOT;
+use tables::places::MEMBER_TEXT;
+use tables::places::SLOT_PLACES;
 ghost use mathlib.Core.Path.{_≡_};
 ghost use mathlib.Core.Bool.{cond};
 ghost use Prim.Native.Nat.{_+_, _≤_, _<_};
 ghost use lib.ListN.{length};
 ghost use Rattle.slots.specs.Slots.{zeros?};
+ghost use Rattle.tables.specs.Layout.{member-width};
+ghost use Rattle.tables.specs.Limits.{slot-places};
 ghost use Rattle.export_write.specs.MemberWriters.{SlotIn, member-type, flags-at, member-head, member-setting, WritesMembers};
 ghost use Rattle.export_write.specs.Writers.{WritesSetting};
 
@@ -44,7 +49,7 @@ fn operation(slot: &[u8]) -> u32
 
 // The first 16 bits of the setting of a slot.
 fn member_bits(which: Members, index: u8, slot: &[u8]) -> u32
-    requires { ⌜ length (now slot) ≡ 36 ⌝ }
+    requires { ⌜ length (now slot) ≡ member-width ⌝ }
     ensures { λ r. ⌜ r ≡ member-head which index (now (slot .entry)) ⌝ }
 {
     operation(slot) * 16384 + flag_bits(which, slot[0]) + index as u32
@@ -52,7 +57,7 @@ fn member_bits(which: Members, index: u8, slot: &[u8]) -> u32
 
 // An add of what the slot holds; of an empty slot, whose address and text are 0 and empty, a delete.
 fn write_member(buffer: &mut [u8], at: usize, which: Members, index: u8, slot: &[u8]) -> usize
-    requires { ⌜ (length (now slot) ≡ 36) × (at + 42 ≤ length (now buffer)) × (index < 16) ⌝ }
+    requires { ⌜ (length (now slot) ≡ member-width) × (at + 42 ≤ length (now buffer)) × (index < slot-places) ⌝ }
     ensures { λ r. ⌜ WritesSetting (SlotIn which (now (slot .entry))) (member-setting which index) at 42 (now (buffer .entry)) (now (buffer .exit)) r ⌝ }
 {
     let head = member_bits(which, index, slot);
@@ -64,7 +69,7 @@ fn write_member(buffer: &mut [u8], at: usize, which: Members, index: u8, slot: &
         slot[3],
     ];
     let text = write_bytes(buffer, at + 3, &bytes);
-    let end = write_text(buffer, text, &slot[4..36]);
+    let end = write_text(buffer, text, &slot[MEMBER_TEXT..MEMBER_SLOT]);
     start_setting(buffer, at, type_of(which), end)
 }
 
@@ -79,12 +84,15 @@ pub fn export_members(buffer: &mut [u8], which: Members, region: &[u8]) -> Setti
         return NOTHING;
     }
     let mut end = FIRST;
-    let mut index = 0u8;
-    while index < 16 {
-        let a = index as usize * 36;
-        let e = a + 36;
-        end = write_member(buffer, end, which, index, &region[a..e]);
+    let mut index = 0;
+    while index < SLOT_PLACES {
+        let a = index * MEMBER_SLOT;
+        let e = a + MEMBER_SLOT;
+        end = write_member(buffer, end, which, index as u8, &region[a..e]);
         index += 1;
     }
-    Settings { end, count: 16 }
+    Settings {
+        end,
+        count: SLOT_PLACES as u8,
+    }
 }

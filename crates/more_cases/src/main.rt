@@ -1,4 +1,6 @@
 // Runs cases that were worked out by hand, of the tables and the screen's rows: a line each, with the number answered and what was left behind.
+use tables::limits::HANDHELD_SIZE;
+
 mod channel_cases;
 mod line_cases;
 mod screen_cases;
@@ -6,7 +8,7 @@ mod slot_cases;
 mod text_cases;
 
 fn main() {
-    let mut store = [0u8; 12288];
+    let mut store = [0u8; HANDHELD_SIZE];
     line_cases::run(&mut store);
     channel_cases::run(&mut store);
     text_cases::run(&mut store);

@@ -7,6 +7,7 @@ use records::Record;
 use records::read_record;
 use station::handheld::start;
 use station::handheld::take;
+use tables::limits::HANDHELD_SIZE;
 
 // Takes the next record: is there another?
 fn take_record(buffer: &mut [u8], store: &mut [u8], reply: &mut [u8]) -> bool {
@@ -48,7 +49,7 @@ fn take_all(buffer: &mut [u8], store: &mut [u8]) {
 
 fn main() {
     let mut buffer = [0u8; 4096];
-    let mut store = [0u8; 12288];
+    let mut store = [0u8; HANDHELD_SIZE];
     start(&mut store);
     take_all(&mut buffer, &mut store);
     let mut part = 1;

@@ -5,6 +5,7 @@ use export::parts::PARTS;
 use station::take::take_for;
 use store_check::checks::is_store;
 use tables::limits::HANDHELD;
+use tables::limits::HANDHELD_SIZE;
 use tables::limits::Limits;
 ghost use mathlib.Core.Path.{_≡_};
 ghost use lib.ListN.{length};
@@ -88,6 +89,6 @@ pub fn restore_in(
 pub fn restore(from: &[u8], to: &mut [u8], buffer: &mut [u8], reply: &mut [u8]) -> Restored
     ensures { λ r. ⌜ Answers (restoring handheld (now (from .entry)) (now (to .entry)) (now (buffer .entry)) (now (reply .entry))) (record { answer = number r; to = now (to .exit); buffer = now (buffer .exit); reply = now (reply .exit) }) ⌝ }
 {
-    let mut work = [0u8; 12288];
+    let mut work = [0u8; HANDHELD_SIZE];
     restore_in(from, to, buffer, reply, HANDHELD, &mut work)
 }

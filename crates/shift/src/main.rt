@@ -13,6 +13,7 @@ use station::answers::Answer;
 use station::answers::Refusal;
 use station::handheld::start;
 use station::handheld::take;
+use tables::limits::HANDHELD_SIZE;
 
 // Takes a message and prints its line; the rows after it.
 fn receive(n: u64, message: &[u8], store: &mut [u8], reply: &mut [u8]) {
@@ -43,7 +44,7 @@ fn next(n: u64, buffer: &mut [u8], store: &mut [u8], reply: &mut [u8]) -> bool {
 
 fn main() {
     let mut buffer = [0u8; 4096];
-    let mut store = [0u8; 12288];
+    let mut store = [0u8; HANDHELD_SIZE];
     let mut reply = [0u8; 20];
     start(&mut store);
     text(b"A fresh store\n");

@@ -2,6 +2,7 @@
 use super::answers::Answer;
 use super::take::take_in;
 use tables::limits::HANDHELD;
+use tables::limits::HANDHELD_SIZE;
 use tables::start::Started;
 use tables::start::start as start_store;
 ghost use Rattle.lists.specs.Ladder.{Answers};
@@ -20,6 +21,6 @@ pub fn start(store: &mut [u8]) -> Started
 pub fn take(message: &[u8], store: &mut [u8], reply: &mut [u8]) -> Answer
     ensures { λ r. ⌜ Answers (taken handheld (now (message .entry)) (now (store .entry)) (now (reply .entry))) (leaves r (now (store .exit)) (now (reply .exit))) ⌝ }
 {
-    let mut work = [0u8; 12288];
+    let mut work = [0u8; HANDHELD_SIZE];
     take_in(message, store, reply, HANDHELD, &mut work)
 }

@@ -6,13 +6,11 @@ use settings::settings::IndividualPlace;
 use tables::heads::group_flag_byte;
 use tables::heads::head_of;
 use tables::heads::individual_flag_byte;
+use tables::places::MEMBER_SLOT;
 use writing::GroupFlags;
 use writing::IndividualFlags;
 use writing::Operation;
 ghost use Rattle.store_places.specs.Changes.{MemberSet, GroupApplied, IndividualApplied};
-
-// A slot's bytes: a byte of flags, three of the address, and 16 units of two.
-const WIDTH: u8 = 36;
 
 // Sets the slot of an index to a byte of flags, an address and a text, or wipes it in a delete.
 fn set_member(
@@ -27,7 +25,7 @@ fn set_member(
     ensures { λ _. ⌜ MemberSet (now (m .entry)) operation index flags address text (now (region .entry)) (now (region .exit)) ⌝ }
 {
     let head = head_of(flags, address);
-    set_place(region, WIDTH, index, &head, m, operation, text, false);
+    set_place(region, MEMBER_SLOT, index, &head, m, operation, text, false);
 }
 
 pub fn apply_group(

@@ -6,7 +6,7 @@ use slots::bytes::wipe;
 use tables::texts::put_text;
 use writing::Operation;
 ghost use mathlib.Core.Path.{_≡_};
-ghost use Prim.Native.Nat.{_+_, _*_, _≤_};
+ghost use Prim.Native.Nat.{_+_, _*_, _≤_, _<_};
 ghost use lib.ListN.{length};
 ghost use Rattle.store_places.specs.Changes.{free?, SlotPut, SlotSet, PlaceSet};
 
@@ -56,7 +56,7 @@ fn set_slot(
 // Sets place k of slots of w bytes. Bytes that have no such place stay.
 pub(crate) fn set_place(
     region: &mut [u8],
-    w: u8,
+    w: usize,
     k: u8,
     head: &[u8],
     m: &[u8],
@@ -64,10 +64,11 @@ pub(crate) fn set_place(
     text: TextPlace,
     keep: bool,
 )
+    requires { ⌜ w < 256 ⌝ }
     ensures { λ _. ⌜ (k * w + w ≤ length (now (region .entry)) → PlaceSet keep (now (m .entry)) operation text (now (head .entry)) w k (now (region .entry)) (now (region .exit))) ⌝ }
 {
-    let at = k as usize * w as usize;
-    let e = at + w as usize;
+    let at = k as usize * w;
+    let e = at + w;
     if region.len() < e {
         return;
     }

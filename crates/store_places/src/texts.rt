@@ -5,6 +5,8 @@ use read_fields::entries::EntryRead;
 use read_fields::entries::read_quick;
 use read_fields::entries::read_status;
 use settings::settings::Entries;
+use tables::places::QUICK_SLOT;
+use tables::places::STATUS_SLOT;
 use tables::replacing::empty_to_replace;
 use writing::Coding;
 use writing::Operation;
@@ -16,12 +18,6 @@ pub enum TextTable {
     Quick,
     Status,
 }
-
-// A quick text's bytes: 23 units of two.
-const QUICK_WIDTH: u8 = 46;
-
-// A status text's bytes: 1, which says that the text is there, for it may be empty, and 16 units of two.
-const STATUS_WIDTH: u8 = 33;
 
 // Reads an entry, in a delete or not.
 fn read_entry(m: &[u8], at: usize, table: TextTable, coding: Coding) -> EntryRead
@@ -47,7 +43,7 @@ fn apply_entry(
     match table {
         TextTable::Quick => set_place(
             region,
-            QUICK_WIDTH,
+            QUICK_SLOT,
             place.index,
             &head[0..0],
             m,
@@ -61,7 +57,7 @@ fn apply_entry(
             }
             set_place(
                 region,
-                STATUS_WIDTH,
+                STATUS_SLOT,
                 place.index - 32,
                 &head,
                 m,

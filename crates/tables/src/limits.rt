@@ -16,12 +16,15 @@ pub struct Limits {
     pub size: usize,
 }
 
-// A hand-held: room for 32 lines and 64 channels, messages of up to 4,096 bytes, a store of 12,288.
+// How many bytes the store of a hand-held has.
+pub const HANDHELD_SIZE: usize = 12288;
+
+// A hand-held: room for 32 lines and 64 channels, messages of up to 4,096 bytes.
 pub const HANDHELD: Limits = Limits {
     lines: 32,
     channels: 64,
     message: 4096,
-    size: 12288,
+    size: HANDHELD_SIZE,
 };
 
 // Whether the tables have room in a store of the limits' size, and their counts in two bytes.

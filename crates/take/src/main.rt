@@ -6,6 +6,7 @@ use station::answers::failed_id;
 use station::answers::number;
 use station::handheld::start;
 use station::handheld::take;
+use tables::limits::HANDHELD_SIZE;
 
 fn space() {
     io::write_all(STDOUT_FILENO, b" ");
@@ -43,7 +44,7 @@ fn take_record(buffer: &mut [u8], store: &mut [u8], reply: &mut [u8]) -> bool {
 
 fn main() {
     let mut buffer = [0u8; 4096];
-    let mut store = [0u8; 12288];
+    let mut store = [0u8; HANDHELD_SIZE];
     let mut reply = [0u8; 20];
     start(&mut store);
     let mut turns = u64::MAX;

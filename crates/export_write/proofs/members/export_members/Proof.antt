@@ -4,14 +4,15 @@ use Rattle.writing.specs.Canonical.{canonical-all}
 use Rattle.export_write.proofs.WroteLaws.{writing-start}
 use Rattle.export_write.proofs.MemberWriting.{Membered, membered-more, membered-end, settings-length}
 use Rattle.lists.proofs.Kit.{needs, _≤_, _-_, _+_, _*_, _≡_, refl, sym, _∙_, arith, length}
+use Rattle.tables.specs.Limits.{slot-places}
 use Rattle.export_write.proofs.members.export_members.Statement.{statement}
 use Rattle.export_write.proofs.members.export_members.Tie as tie
 
 abbrev Inv-loop : tie.InvT-loop
-Inv-loop buffer₀ which region end₀ index₀ buffer end index = (length buffer ≡ length buffer₀) × (index ≤ 16) × (8 ≤ end) × (end ≤ 8 + 42 * index) × Membered which region buffer₀ buffer 8 end index
+Inv-loop buffer₀ which region end₀ index₀ buffer end index = (length buffer ≡ length buffer₀) × (index ≤ slot-places) × (8 ≤ end) × (end ≤ 8 + 42 * index) × Membered which region buffer₀ buffer 8 end index
 
 abbrev μ-loop : tie.MeasureT-loop
-μ-loop buffer₀ which region end₀ index₀ buffer end index = 16 - index
+μ-loop buffer₀ which region end₀ index₀ buffer end index = slot-places - index
 
 returns : tie.Need-returns Inv-loop μ-loop
 returns c = λ h. absurd (omega (arith, h .0))
@@ -27,14 +28,14 @@ loop-holds c =
     let a = c .before .before .before .before .args in
     (refl, omega arith, omega arith, omega arith, λ os t. writing-start (canonical-all unicode16 (member-settings (a .which) 0 os)) 8 (a .buffer .now) (omega arith))
 
-cast-a : tie.Need-cast-a Inv-loop μ-loop
-cast-a c = search needs
-
 mul-a : tie.Need-mul-a Inv-loop μ-loop
 mul-a c = search needs
 
 add-e : tie.Need-add-e Inv-loop μ-loop
 add-e c = search needs
+
+cast-write-member : tie.Need-cast-write-member Inv-loop μ-loop
+cast-write-member c = search needs
 
 sub-write-member : tie.Need-sub-write-member Inv-loop μ-loop
 sub-write-member c = search needs
@@ -66,6 +67,9 @@ loop-again c =
       membered-more (a .which) (a .region .now) (a .buffer .now) (l .buffer) (w .last .0) 8 (l .end) (l .index) (w .result) (omega arith) (l .inv .4) (w .ensures),
     )
 
+cast-t19 : tie.Need-cast-t19 Inv-loop μ-loop
+cast-t19 c = search needs
+
 same-length : tie.Need-same-length Inv-loop μ-loop
 same-length c = search needs
 
@@ -92,9 +96,9 @@ export-members-spec =
     add-if2
     returns-2
     loop-holds
-    cast-a
     mul-a
     add-e
+    cast-write-member
     sub-write-member
     part-write-member-start
     part-write-member-end
@@ -102,5 +106,6 @@ export-members-spec =
     add-index
     loop-less
     loop-again
+    cast-t19
     same-length
     returns-3)

@@ -2,6 +2,7 @@ use Rattle.lists.proofs.Kit.{mid-len, needs, sym, _∙_, arith}
 use Rattle.export_write.specs.MemberWriters.{member-setting}
 use Rattle.export_write.proofs.MemberWriting.{member-wrote}
 use Rattle.export_write.proofs.StartLaws.{setting-writes}
+use Rattle.tables.specs.Layout.{member-width}
 use Rattle.export_write.proofs.members.write_member.Statement.{statement}
 use Rattle.export_write.proofs.members.write_member.Tie as tie
 
@@ -62,7 +63,7 @@ returns c =
     let w = c .before .before .before .before .before .before .before .write-text in
     let k = c .before .before .before .type-of in
     let z = c .before .before .start-setting in
-    let t = mid-len 4 36 (a .slot .now) (omega (arith, p .0)) in
+    let t = mid-len 4 member-width (a .slot .now) (omega (arith, p .0)) in
     setting-writes _ (member-setting (a .which) (a .index)) _ (a .at) 42 (w .result) (z .result) (a .buffer .now) (w .last .0) (z .last .0) (z .ensures) (omega arith) (omega (arith, t))
     (λ x h. let (t, l, m) = member-wrote (a .index) (p .2) (a .which) (a .slot .now) (a .at) (b .result) (v .result) (w .result) (a .buffer .now) (v .last .0) (w .last .0) (b .ensures) (v .ensures) (w .ensures) x h in (t ∙ sym (k .ensures), l, m))
 

@@ -22,6 +22,9 @@ slice-aggregate-write-bytes c = search needs
 write-bytes-requires : tie.Need-write-bytes-requires
 write-bytes-requires c κs = search needs
 
+cast-write-entry : tie.Need-cast-write-entry
+cast-write-entry c = search needs
+
 write-entry-requires : tie.Need-write-entry-requires
 write-entry-requires c κs = search needs
 
@@ -59,6 +62,7 @@ write-last-quick-spec =
     add-write-bytes
     slice-aggregate-write-bytes
     write-bytes-requires
+    cast-write-entry
     write-entry-requires
     start-setting-requires
     same-length
