@@ -13,14 +13,15 @@ ghost use mathlib.Core.List.{List};
 ghost use Prim.Native.Nat.{ℕ, _*_};
 ghost use lib.ListN.{length};
 ghost use Rattle.slots.specs.Slots.{Listed};
-ghost use Rattle.tables.specs.Tables.{Line};
-ghost use Rattle.tables.specs.Allowed.{LineOk, Distinct};
+ghost use Rattle.counted_lists.specs.Counted.{Distinct};
+ghost use Rattle.tables.specs.Tables.{Line, line-key};
+ghost use Rattle.tables.specs.Allowed.{LineOk};
 ghost use Rattle.tables.specs.Layout.{channel-width, line-width, line-bytes};
 ghost use Rattle.store_check.specs.Checks.{ChannelsOf, LinesOf};
 
 // Whether no two lines of a table have one number.
 fn lines_distinct(s: &[u8]) -> bool
-    ensures { λ r. ⌜ ((n : ℕ) (ls : List Line) → Listed LineOk line-width line-bytes n ls (now (s .entry)) → (r ≡ true) ↔ Distinct ls) ⌝ }
+    ensures { λ r. ⌜ ((n : ℕ) (ls : List Line) → Listed LineOk line-width line-bytes n ls (now (s .entry)) → (r ≡ true) ↔ Distinct line-key ls) ⌝ }
 {
     let end = used(s, LINE_SLOT);
     let mut at = 0;
