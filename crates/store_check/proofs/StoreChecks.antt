@@ -3,16 +3,17 @@ use Rattle.lists.proofs.Kit.{_≡_, sym, ap, ap₂, _∙_, subst, Bool, true, _
 use Rattle.slots.specs.Slots.{places, front, zeros?, u16, EntryOf, PlacesOf, Listed}
 use Rattle.slots.proofs.Runs.{zeros-all, zeros-are}
 use Rattle.slots.proofs.Tables.{front-length, places-length}
+use Rattle.counted_lists.specs.Counted.{Distinct}
 use Rattle.writing.specs.declared.HomeNumbers.{HomeNumbers}
 use Rattle.writing.specs.declared.SystemCode.{SystemCode}
 use Rattle.writing.specs.Ranges.{InChannel}
 use Rattle.writing.specs.Settings.{Hash, Text}
 use Rattle.tables.specs.declared.limits.Limits.{Limits}
-use Rattle.tables.specs.Allowed.{QuickOk, StatusOk, GroupOk, IndividualOk, LineOk, HashOk, HomeOk, SystemOk, Distinct, Allowed, PlacesOk, ListOk, LinesOk}
+use Rattle.tables.specs.Allowed.{QuickOk, StatusOk, GroupOk, IndividualOk, LineOk, HashOk, HomeOk, SystemOk, Allowed, PlacesOk, ListOk, LinesOk}
 use Rattle.store_check.specs.Checks.{Both, joined, KeyOk, FixedOf, IndexedOf, CountedIn, ChannelsOf, LinesOf}
 use Rattle.store_check.specs.declared.checks_tables.Table.the-variants.{Lines}
 use Rattle.tables.specs.Layout.{quick-bytes, status-bytes, group-bytes, individual-bytes, line-bytes, hash-bytes, key-bytes, home-bytes, system-bytes, used-size, layout, Roomy, IsStore, count-size, counted, channel-width, channels-size, line-width, lines-size, lists-at, lines-at, member-size, quick-at, quick-size, status-size}
-use Rattle.tables.specs.Tables.{Line, GroupMember, IndividualMember, Key, Tables}
+use Rattle.tables.specs.Tables.{Line, line-key, GroupMember, IndividualMember, Key, Tables}
 use Rattle.store_check.proofs.CheckLaws.{Same, entry-same, parts-are, last-is, rest-is}
 use Rattle.tables.proofs.EntryCodes.{quick-code, status-code, group-code, individual-code, channel-code, line-code}
 use Rattle.tables.proofs.FixedCodes.{hash-code, key-code, home-code, system-code}
@@ -45,7 +46,7 @@ places-entry P w f n s = (
 -- ---- lines
 
 -- lines are a list table of lines, of which a test decides whether they are distinct
-pub lines-decided : (n : ℕ) (s : List ℕ) → CountedIn Lines n s → (b : Bool) → ((n : ℕ) (ls : List Line) → Listed LineOk line-width line-bytes n ls (drop count-size s) → (b ≡ true) ↔ Distinct ls) → (b ≡ true) ↔ LinesOf n s
+pub lines-decided : (n : ℕ) (s : List ℕ) → CountedIn Lines n s → (b : Bool) → ((n : ℕ) (ls : List Line) → Listed LineOk line-width line-bytes n ls (drop count-size s) → (b ≡ true) ↔ Distinct line-key ls) → (b ≡ true) ↔ LinesOf n s
 lines-decided n s t b d = (
   λ e. record { entry = t .entry; holds = (t .holds, d n (t .entry) (record { few = t .holds .0; each = t .holds .1; bytes = ap (drop count-size) (t .bytes) }) .0 e); bytes = t .bytes },
   λ x. d n (x .entry) (record { few = x .holds .0 .0; each = x .holds .0 .1; bytes = ap (drop count-size) (x .bytes) }) .1 (x .holds .1),

@@ -16,8 +16,9 @@ ghost use mathlib.Core.List.{List};
 ghost use Prim.Native.Nat.{ℕ, _+_, _*_, _≤_};
 ghost use lib.ListN.{length, take};
 ghost use Rattle.slots.specs.Slots.{u16, Listed};
-ghost use Rattle.tables.specs.Tables.{Line};
-ghost use Rattle.tables.specs.Allowed.{LineOk, Distinct};
+ghost use Rattle.counted_lists.specs.Counted.{Distinct};
+ghost use Rattle.tables.specs.Tables.{Line, line-key};
+ghost use Rattle.tables.specs.Allowed.{LineOk};
 ghost use Rattle.tables.specs.Layout.{count-size, channel-width, line-width, line-bytes};
 ghost use Rattle.store_check.specs.Checks.{width-in, CountedIn, ChannelsOf, LinesOf};
 
@@ -44,7 +45,7 @@ fn counted_ok(t: Table, s: &[u8]) -> bool
 
 // Whether no two lines of a table have one number.
 fn lines_distinct(s: &[u8]) -> bool
-    ensures { λ r. ⌜ ((n : ℕ) (ls : List Line) → Listed LineOk line-width line-bytes n ls (now (s .entry)) → (r ≡ true) ↔ Distinct ls) ⌝ }
+    ensures { λ r. ⌜ ((n : ℕ) (ls : List Line) → Listed LineOk line-width line-bytes n ls (now (s .entry)) → (r ≡ true) ↔ Distinct line-key ls) ⌝ }
 {
     let end = used(s, LINE_SLOT);
     let mut at = 0;
