@@ -6,6 +6,8 @@ use Rattle.slots.specs.Slots.{u16, zeros?, places, front, Found, Removed}
 use Rattle.slots.proofs.Keys.{Keyed, key-removed, used-room, used-full, used-put}
 use Rattle.slots.proofs.Numbers.{u16-same}
 use Rattle.slots.proofs.Tables.{front-length, front-put, place-put, places-length, put-all, put-end, put-short, slot-copied}
+use Rattle.counted_lists.specs.Counted.{Tried}
+use Rattle.counted_lists.proofs.ListLaws.{tried-room, tried-full}
 use Rattle.writing.specs.declared.Operation.{Operation}
 use Rattle.writing.specs.declared.Operation.the-variants.{Add, Delete, Replace}
 use Rattle.writing.specs.Ranges.{InChannel}
@@ -14,11 +16,10 @@ use Rattle.read_fields.specs.Places.{FieldsAt}
 use Rattle.read_fields.specs.Entries.{channel-list}
 use Rattle.settings.specs.Meant.{EntriesAre}
 use Rattle.tables.specs.Apply.{and-then, in-turn, channel-step}
-use Rattle.tables.specs.Changing.{Tried}
 use Rattle.store_lists.specs.Lists.{ChannelTable, ChannelApplied, ChannelsApplied}
 use Rattle.tables.proofs.EntryCodes.{channel-shown}
 use Rattle.tables.proofs.EntryWalk.{Going, going-start, going-next, going-full, going-end}
-use Rattle.tables.proofs.ListLaws.{tried-room, tried-full, wiped}
+use Rattle.tables.proofs.ListLaws.{wiped}
 
 -- a channel's two bytes are its key
 channel-keyed : Keyed InChannel 2 u16 0 2 u16

@@ -7,6 +7,8 @@ use Rattle.slots.proofs.Keys.{key-removed, key-room, key-full, key-put, found-k
 use Rattle.slots.proofs.Pads.{pad-length}
 use Rattle.slots.proofs.Parts.{put-part, get-part}
 use Rattle.slots.proofs.Tables.{slot-copied}
+use Rattle.counted_lists.specs.Counted.{Tried}
+use Rattle.counted_lists.proofs.ListLaws.{tried-room, tried-full}
 use Rattle.writing.specs.declared.LineFlags.{LineFlags}
 use Rattle.writing.specs.declared.Operation.{Operation}
 use Rattle.writing.specs.declared.Operation.the-variants.{Add, Delete, Replace}
@@ -24,13 +26,13 @@ use Rattle.read_fields.specs.Entries.{ContactIs, ContactAt}
 use Rattle.settings.specs.Meant.{EntriesAre}
 use Rattle.tables.specs.Allowed.{LineOk}
 use Rattle.tables.specs.Apply.{in-turn, start-from, has-number, line-of, line-step}
-use Rattle.tables.specs.Changing.{TextPut, Tried}
+use Rattle.tables.specs.Changing.{TextPut}
 use Rattle.tables.specs.Layout.{line-flags, digit-bytes, text-bytes, line-bytes, digits-at, line-width}
 use Rattle.store_lists.specs.Lists.{DigitsPut, LineSlot, LineTable, LinePut, LineDropped, LinesApplied}
 use Rattle.tables.specs.Tables.{Line}
 use Rattle.tables.proofs.EntryCodes.{line-keyed}
 use Rattle.tables.proofs.EntryWalk.{Starting, Applying, applying-start, applying-next, applying-full, applying-stuck, applying-end}
-use Rattle.tables.proofs.ListLaws.{tried-room, tried-full, wiped}
+use Rattle.tables.proofs.ListLaws.{wiped}
 use Rattle.tables.proofs.TextCodes.{digits-length, digits-same}
 use Rattle.tables.proofs.TextLaws.{text-out}
 

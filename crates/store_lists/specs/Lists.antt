@@ -7,6 +7,7 @@ use mathlib.Core.Option.{Option, none, some}
 use lib.ListN.{length, getD}
 use Rattle.lists.specs.Every.{All}
 use Rattle.slots.specs.Slots.{pad, u16, Listed}
+use Rattle.counted_lists.specs.Counted.{Tried}
 use Rattle.writing.specs.declared.LineFlags.{LineFlags}
 use Rattle.writing.specs.declared.Operation.{Operation}
 use Rattle.writing.specs.Fields.{each}
@@ -23,7 +24,6 @@ use Rattle.tables.specs.Allowed.{LineOk}
 use Rattle.tables.specs.Apply.{channel-step, channels-after, line-of, line-step, put-line, drop-line, lines-after}
 use Rattle.tables.specs.Layout.{channel-width, line-bytes, line-width}
 use Rattle.tables.specs.Tables.{Line}
-use Rattle.tables.specs.Changing.{Tried}
 
 -- ---- channels
 
