@@ -7,6 +7,8 @@ use mathlib.Core.Option.{Option, none, some}
 use native.Mathlib.Omega.{arith}
 use borrow.Rule.Slice.PartMut.{putMid, midOf, mid-len}
 use lib.ListN.{length, set}
+use Rattle.counted_lists.specs.Counted.{Tried}
+use Rattle.counted_lists.proofs.ListLaws.{tried-room}
 use Rattle.writing.specs.declared.KeyTarget.{KeyTarget}
 use Rattle.writing.specs.declared.KeyTarget.the-variants.{Current, ToGroup, ToIndividual}
 use Rattle.writing.specs.declared.KeyFlags.{KeyFlags}
@@ -32,7 +34,6 @@ use Rattle.tables.specs.Allowed.{Allowed, TargetOk}
 use Rattle.tables.specs.Apply.{apply, own-after, with-room, slot-after}
 use Rattle.store_places.specs.Changes.{TextsAre, TextsApplied, GroupsAre, GroupApplied, group-member, IndividualsAre, IndividualApplied, individual-member, KeyPut, SystemPut, HashPut}
 use Rattle.tables.specs.Layout.{layout, used-size, key-address, key-bytes, home-bytes, system-bytes, hash-bytes, channel-width, line-width, groups-at, hash-size, home-at, home-size, individuals-at, key-at, key-size, lists-at, member-size, quick-at, quick-size, status-at, status-size, system-at, system-size}
-use Rattle.tables.specs.Changing.{Tried}
 use Rattle.store_lists.specs.Lists.{ChannelTable, ChannelsApplied, LineTable, LinesApplied}
 use Rattle.tables.specs.Store.{Works, Applied}
 use Rattle.tables.specs.Tables.{Tables}
@@ -41,7 +42,6 @@ use Rattle.tables.proofs.AllowedLaws.{apply-allowed}
 use Rattle.tables.proofs.FitsLaws.{fits-key, fits-system, fits-group, fits-individual}
 use Rattle.tables.proofs.Frames.{hash-put as hash-back, key-put as key-back, home-put as home-back, system-put as system-back, quick-placed, quick-back, status-placed, status-back, groups-placed, groups-back, individuals-placed, individuals-back, channels-listed, channels-back, lines-listed, lines-back}
 use Rattle.tables.proofs.LayoutLaws.{layout-length}
-use Rattle.tables.proofs.ListLaws.{tried-room}
 
 -- ---- a region put back
 

@@ -16,7 +16,7 @@ use Rattle.tables.specs.Layout.{digit-bytes, line-bytes, line-width, digits-at}
 use Rattle.tables.specs.Tables.{Line, line-key}
 use Rattle.tables.proofs.EntryCodes.{line-code, line-keyed, line-shown}
 use Rattle.tables.proofs.Sentences.{key-is-digits}
-use Rattle.tables.proofs.TextCodes.{digits-length, digits-same, digits-shown}
+use Rattle.tables.proofs.TextCodes.{digits-length, digits-same}
 
 -- ---- entries that fill their places
 
@@ -115,7 +115,7 @@ module _ (s : List ℕ) (at end : ℕ) (ls : List Line) (fits : end ≤ length s
           let n = next h in
           let d = n .line .number in
           let o = n .each .0 .number in
-          key-at LineOk line-width line-bytes digits-at 18 (λ l. digit-bytes (l .number)) line-keyed (digit-bytes d) (digits-length d) (digits-shown d (o .0)) (has-number d)
+          key-at LineOk line-width line-bytes digits-at 18 (λ l. digit-bytes (l .number)) line-keyed (digit-bytes d) (digits-length d) (has-number d)
           (λ a p. digits-same (a .number) d (p .number .1) (o .1)) (length (n .later)) (n .later) (midOf (at + line-width) (end - (at + line-width)) s)
           (full-listed LineOk line-width line-bytes (line-code .long) (n .later) (midOf (at + line-width) (end - (at + line-width)) s) (n .each .1) (line-cut .1)) r
           (subst (λ (k : List ℕ). Found (KeyAt line-width digits-at k) (fit digits-at k) line-width (midOf (at + line-width) (end - (at + line-width)) s) r) number-read
