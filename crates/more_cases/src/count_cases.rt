@@ -50,19 +50,31 @@ fn wrong(at: usize, store: &mut [u8]) {
 fn lines(store: &mut [u8]) {
     after(b"32 lines: 01 CA 0084 C0 20 {20 x % FF 0000}\n", store);
     after(b"the 33rd line: 01 CA 0008 40 01 32FF 0000\n", store);
-    after(b"line 05 with another text: 01 CA 000A 40 01 05FF 0041 0000\n", store);
+    after(
+        b"line 05 with another text: 01 CA 000A 40 01 05FF 0041 0000\n",
+        store,
+    );
     after(b"delete of line 03: 01 CA 0008 80 01 03FF 0000\n", store);
-    after(b"delete of line 03 again: 01 CA 0008 80 01 03FF 0000\n", store);
+    after(
+        b"delete of line 03 again: 01 CA 0008 80 01 03FF 0000\n",
+        store,
+    );
 }
 
 fn channels(store: &mut [u8]) {
-    after(b"64 channels, 33 times 241 and 31 times 640: 01 CE 0064 C040 {1F x 0F1 280} 0F1 0F1\n", store);
+    after(
+        b"64 channels, 33 times 241 and 31 times 640: 01 CE 0064 C040 {1F x 0F1 280} 0F1 0F1\n",
+        store,
+    );
     after(b"channel 300, when full: 01 CE 0006 4001 12C F\n", store);
     after(b"delete of channel 241: 01 CE 0006 8001 0F1 F\n", store);
 }
 
 fn emptied(store: &mut [u8]) {
-    after(b"no lines, then channel 1: 02 CA 0004 C0 00 CE 0006 4001 001 F\n", store);
+    after(
+        b"no lines, then channel 1: 02 CA 0004 C0 00 CE 0006 4001 001 F\n",
+        store,
+    );
     after(b"no lines: 01 CA 0004 C0 00\n", store);
     after(b"no channels: 01 CE 0004 C000\n", store);
 }
