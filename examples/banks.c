@@ -23,11 +23,10 @@ static uint32_t check_of(const uint8_t *bytes, size_t length)
     return ~check;
 }
 
-/* With a scratch of its size, the first refusal of any row is 11: it is answered exactly where the bytes are no store. */
+/* The counts' number is 0 exactly where the bytes are a store. */
 static int is_store(const uint8_t *bytes)
 {
-    static const uint8_t scratch[OTAP_SCRATCH_BYTES] = {0};
-    return otap_row_number(OTAP_LINES, 0, bytes, OTAP_STORE_BYTES, scratch, sizeof scratch) != OTAP_NO_STORE;
+    return otap_answer_number(otap_counts(bytes, OTAP_STORE_BYTES)) == OTAP_OK;
 }
 
 static void make_head(uint8_t *head, uint8_t sequence, const uint8_t *store)

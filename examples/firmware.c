@@ -126,9 +126,19 @@ static void draw_table(const char *name, uint32_t table, uint32_t first, uint32_
     }
 }
 
+/* What the settings menu shows. The number is asked first: a refusal's counts are 0 and 0, like those of an empty set. */
+static void draw_room(void)
+{
+    uint64_t counts = otap_counts(store, sizeof store);
+    must_be("the number of the counts", otap_answer_number(counts), OTAP_OK);
+    printf("  lines: %u held, %u free; channels: %u held, %u free\n", (unsigned)otap_counts_lines(counts),
+           (unsigned)otap_counts_free_lines(counts), (unsigned)otap_counts_channels(counts), (unsigned)otap_counts_free_channels(counts));
+}
+
 static void draw(const char *title)
 {
     printf("%s\n", title);
+    draw_room();
     draw_table("line", OTAP_LINES, 0, OTAP_LINE_ROWS - 1);
     draw_table("quick text", OTAP_QUICK_TEXTS, 0, OTAP_QUICK_ROWS - 1);
     draw_table("status text", OTAP_STATUS_TEXTS, OTAP_STATUS_FIRST, OTAP_STATUS_LAST);
@@ -139,12 +149,14 @@ static void draw(const char *title)
 /* Keeps what was saved if it is a store, and starts one only where it is none. */
 static int power_on(void)
 {
+    uint64_t counts;
     memcpy(store, flash, sizeof store);
-    /* The scratch has its size, so 11 comes before any other refusal of a row: it is answered exactly where the bytes are no store. */
-    if (otap_row_number(OTAP_LINES, 0, store, sizeof store, scratch, sizeof scratch) != OTAP_NO_STORE) {
+    counts = otap_counts(store, sizeof store);
+    if (otap_answer_number(counts) == OTAP_OK) { /* exactly where the bytes are a store */
         printf("power-on: the store is kept\n");
         return 1;
     }
+    must_be("why it was not kept", counts, OTAP_NO_STORE);
     must_be("starting a store", otap_start(store, sizeof store), OTAP_OK);
     printf("power-on: no store in flash, a fresh one is started\n");
     return 0;
@@ -243,7 +255,8 @@ static void same_rows(void)
             same_row(table, row);
         }
     }
-    printf("every row of the other store is the same\n");
+    must_be("the counts of the other store", otap_counts(other, sizeof other), otap_counts(store, sizeof store));
+    printf("every row of the other store is the same, and so are its counts\n");
 }
 
 static void convert(void)

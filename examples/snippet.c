@@ -8,6 +8,7 @@ void write_saved(const uint8_t *bytes, size_t length);
 void send_reply(const uint8_t *bytes, size_t length);
 void restart_set(void);
 void draw_row(uint32_t row, const uint8_t *units, size_t length);
+void draw_room(uint32_t lines, uint32_t channels);
 void lock_store(void);
 void unlock_store(void);
 
@@ -17,8 +18,7 @@ static uint8_t store[OTAP_STORE_BYTES], copy[OTAP_STORE_BYTES], reply[OTAP_REPLY
 int power_on(void)
 {
     read_saved(store, sizeof store);
-    /* The scratch has its size, so 11 comes before any other refusal of a row: it is answered exactly where the bytes are no store. */
-    if (otap_row_number(OTAP_LINES, 0, store, sizeof store, scratch, sizeof scratch) != OTAP_NO_STORE)
+    if (otap_answer_number(otap_counts(store, sizeof store)) == OTAP_OK) /* exactly where the bytes are a store */
         return 1;
     otap_start(store, sizeof store);
     return 0;
@@ -46,6 +46,17 @@ void on_message(const uint8_t *message, size_t length)
         send_reply(reply, otap_take_reply_length(answer));
     if (otap_take_reboot(answer))
         restart_set();
+}
+
+/* The settings menu, a screen task too: what is free, on every key. It draws nothing where the bytes are no store. */
+void draw_menu(void)
+{
+    uint64_t counts;
+    lock_store();
+    counts = otap_counts(store, sizeof store);
+    unlock_store();
+    if (otap_answer_number(counts) == OTAP_OK) /* a refusal's counts are 0 and 0, like those of an empty set */
+        draw_room(otap_counts_free_lines(counts), otap_counts_free_channels(counts));
 }
 
 /* The screen task: a whole list under one hold of the lock; each row its name, or its number, in 16-bit units, high byte first. */

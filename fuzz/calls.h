@@ -121,6 +121,27 @@ static uint64_t export_twice(uint32_t part, const uint8_t *store, size_t store_l
     return answer;
 }
 
+/* The counts that the store keeps: within the room, and both 0 of a refusal. */
+static uint64_t counts_once(const uint8_t *store, size_t store_length, int guarded)
+{
+    Lent s = lend(store, store_length, guarded);
+    uint64_t answer = otap_counts(s.bytes, s.length);
+    must((answer & 0xFFFF00000000FF00u) == 0, "bits of counts that must be 0");
+    must(same_bytes(s.bytes, store, store_length), "the counts leave the store");
+    must(answer == OTAP_NO_STORE || otap_answer_number(answer) == OTAP_OK, "a number of counts; a refusal has both 0");
+    must(answer == OTAP_NO_STORE || store_length == OTAP_STORE_BYTES, "a store has its size");
+    must(otap_counts_lines(answer) <= OTAP_LINE_ROWS && otap_counts_channels(answer) <= OTAP_CHANNEL_PLACES, "counts within the room");
+    give_back(&s);
+    return answer;
+}
+
+static uint64_t counts_twice(const uint8_t *store, size_t store_length)
+{
+    uint64_t answer = counts_once(store, store_length, 0);
+    must(answer == counts_once(store, store_length, 1), "the same counts twice");
+    return answer;
+}
+
 /* Whether bytes are a store, by the number of a row. */
 static int is_store(const uint8_t *store, size_t store_length)
 {

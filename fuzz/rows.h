@@ -16,7 +16,7 @@ static Slot slot_of(uint32_t table, uint32_t row)
     int lies = table == OTAP_LINES ? row < 32 : table == OTAP_QUICK_TEXTS ? row < 64
              : table == OTAP_STATUS_TEXTS ? row >= 32 && row < 128 : (table == OTAP_GROUPS || table == OTAP_INDIVIDUALS) && row < 16;
     must(lies, "a row that is shown is one that there can be");
-    slot.first = table == OTAP_LINES ? 7414 + 52 * row : table == OTAP_QUICK_TEXTS ? 22 + 46 * row
+    slot.first = table == OTAP_LINES ? 7418 + 52 * row : table == OTAP_QUICK_TEXTS ? 22 + 46 * row
                : table == OTAP_STATUS_TEXTS ? 2966 + 33 * (row - 32) : (table == OTAP_GROUPS ? 6134 : 6710) + 36 * row;
     slot.before = table == OTAP_LINES ? 20 : table == OTAP_QUICK_TEXTS ? 0 : table == OTAP_STATUS_TEXTS ? 1 : 4;
     slot.most = table == OTAP_QUICK_TEXTS ? 46 : 32;
@@ -103,6 +103,30 @@ static uint32_t row_twice(uint32_t table, uint32_t row, const uint8_t *store, si
     uint32_t number = row_once(table, row, store, store_length, length, 0);
     must(number == row_once(table, row, store, store_length, length, 1), "the same row twice");
     return number;
+}
+
+/* The counts of a store are those of what the other calls give: the last line counted is shown and none behind it, and as many channels are exported. */
+static uint64_t check_counts(const uint8_t *store)
+{
+    static uint8_t request[OTAP_EXPORT_BYTES];
+    uint64_t counts = counts_twice(store, OTAP_STORE_BYTES);
+    uint32_t lines = otap_counts_lines(counts);
+    must(otap_answer_number(counts) == OTAP_OK, "a store has counts");
+    must(lines == 0 || row_once(OTAP_LINES, lines - 1, store, OTAP_STORE_BYTES, OTAP_SCRATCH_BYTES, 0) == OTAP_OK, "the last line counted is shown");
+    must(row_once(OTAP_LINES, lines, store, OTAP_STORE_BYTES, OTAP_SCRATCH_BYTES, 0) == OTAP_NO_ROW, "no line behind those counted is shown");
+    must(otap_answer_number(export_once(OTAP_EXPORT_CHANNELS, store, OTAP_STORE_BYTES, OTAP_EXPORT_BYTES, 0, request)) == OTAP_OK, "channels are exported");
+    must((request[11] & 3) * 256u + request[12] == otap_counts_channels(counts), "as many channels as are exported");
+    return counts;
+}
+
+/* And as many lines as are shown, each looked at. */
+static void check_every_line(const uint8_t *store, uint64_t counts)
+{
+    uint32_t row, shown = 0;
+    for (row = 0; row <= OTAP_LINE_ROWS; row++) {
+        shown += row_once(OTAP_LINES, row, store, OTAP_STORE_BYTES, OTAP_SCRATCH_BYTES, 0) == OTAP_OK;
+    }
+    must(shown == otap_counts_lines(counts), "as many lines as are shown");
 }
 
 #endif

@@ -78,8 +78,8 @@ static void note(uint64_t answer)
     count_slots(1, 2966, 33, 96);
     count_slots(2, 6134, 36, 16);
     count_slots(3, 6710, 36, 16);
-    count_slots(4, 7286, 2, 64);
-    count_slots(5, 7414, 52, 32);
+    count_slots(4, 7288, 2, 64);
+    count_slots(5, 7418, 52, 32);
 }
 
 static void take_message(const uint8_t *message, size_t length, unsigned choice)
@@ -90,6 +90,7 @@ static void take_message(const uint8_t *message, size_t length, unsigned choice)
     if (otap_answer_number(answer) == OTAP_OK) {
         memcpy(store, after, OTAP_STORE_BYTES);
         must(is_store(store, OTAP_STORE_BYTES), "a store stays a store");
+        check_counts(store);
     }
     note(answer);
 }
@@ -164,13 +165,25 @@ static void restore_it(void)
         must(same_bytes(request, again, length), "the other store's export is the same");
     }
     must(same_bytes(store + 11, other + 11, OTAP_STORE_BYTES - 11), "the other store has the same tables");
+    check_every_line(store, check_counts(store));
+    must(check_counts(other) == check_counts(store), "the other store has the same counts");
 }
 
-/* Some bytes of the store changed: every call agrees on whether it is still one; it goes on from there if so. */
-static void poke(Input *input)
+/* Whether the store is one, on which every call agrees. */
+static int known_by_all(void)
 {
     static const uint8_t query[] = {2, 2, 0, 0, 8, 0, 0x0D, 0};
     static uint8_t request[OTAP_EXPORT_BYTES];
+    int known = row_twice(OTAP_GROUPS, 0, store, OTAP_STORE_BYTES, OTAP_SCRATCH_BYTES) != OTAP_NO_STORE;
+    must(known == (otap_answer_number(export_twice(2, store, OTAP_STORE_BYTES, OTAP_EXPORT_BYTES, request)) == OTAP_OK), "export knows a store");
+    must(known == (take_twice(query, sizeof query, store, OTAP_STORE_BYTES, OTAP_REPLY_BYTES, after) != OTAP_NO_STORE), "take knows a store");
+    must(known == (counts_twice(store, OTAP_STORE_BYTES) != OTAP_NO_STORE), "counts know a store");
+    return known;
+}
+
+/* Some bytes of the store changed: it goes on from there if it is still one. */
+static void poke(Input *input)
+{
     unsigned changes = 1 + next_byte(input) % 4, each, at;
     int known;
     memcpy(other, store, OTAP_STORE_BYTES);
@@ -179,13 +192,34 @@ static void poke(Input *input)
         at = (at + 256 * next_byte(input)) % OTAP_STORE_BYTES;
         store[at] = (uint8_t)next_byte(input);
     }
-    known = row_twice(OTAP_GROUPS, 0, store, OTAP_STORE_BYTES, OTAP_SCRATCH_BYTES) != OTAP_NO_STORE;
-    must(known == (otap_answer_number(export_twice(2, store, OTAP_STORE_BYTES, OTAP_EXPORT_BYTES, request)) == OTAP_OK), "export knows a store");
-    must(known == (take_twice(query, sizeof query, store, OTAP_STORE_BYTES, OTAP_REPLY_BYTES, after) != OTAP_NO_STORE), "take knows a store");
+    known = known_by_all();
     reached[2000 + known] = 1;
     if (!known) {
         memcpy(store, other, OTAP_STORE_BYTES);
+    } else {
+        check_counts(store);
     }
+}
+
+/* A count of the store with any value: it is a store only with its own. */
+static void poke_count(Input *input)
+{
+    size_t at = next_byte(input) % 2 == 0 ? 7286 : 7416;
+    int own;
+    memcpy(other, store, OTAP_STORE_BYTES);
+    store[at] = (uint8_t)next_byte(input);
+    store[at + 1] = (uint8_t)next_byte(input);
+    own = same_bytes(other, store, OTAP_STORE_BYTES);
+    must(known_by_all() == own, "a false count is no store");
+    reached[2002 + own] = 1;
+    memcpy(store, other, OTAP_STORE_BYTES);
+}
+
+static void ask_counts(unsigned choice)
+{
+    size_t store_length = chosen_store(choice);
+    uint64_t answer = counts_twice(store, store_length);
+    must((store_length == OTAP_STORE_BYTES) == (answer != OTAP_NO_STORE), "a store is known as one, and of another size none is");
 }
 
 /* What one way gives, the other takes back. */
@@ -220,6 +254,7 @@ static void start_again(Input *input)
     must(number == (length == OTAP_STORE_BYTES ? OTAP_OK : OTAP_NO_STORE), "a number of start");
     must(number == OTAP_OK || same_bytes(lent.bytes, store, length), "a refused start touches nothing");
     must(number != OTAP_OK || is_store(lent.bytes, length), "a started store is one");
+    must(number != OTAP_OK || otap_counts(lent.bytes, length) == OTAP_OK, "a started store holds nothing");
     memcpy(store, lent.bytes, number == OTAP_OK ? length : 0);
     give_back(&lent);
 }
@@ -230,9 +265,9 @@ static void one_record(Input *input)
     switch (choice & 7) {
     case 0: case 1: take_raw(input, choice); break;
     case 2: case 3: take_built(input, choice); break;
-    case 4: ask_row(input, choice); break;
-    case 5: ask_export(input, choice); break;
-    case 6: poke(input); break;
+    case 4: ask_row(input, choice); ask_counts(choice); break;
+    case 5: ask_export(input, choice); ask_counts(choice); break;
+    case 6: (choice & 8 ? poke_count : poke)(input); break;
     default: (choice & 8 ? convert : start_again)(input); break;
     }
 }

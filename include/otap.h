@@ -45,7 +45,7 @@ enum {
 };
 
 /* The number of a store's layout, docs/STORE.md: it changes where the layout does. No store holds it; firmware saves it beside the store. */
-enum { OTAP_LAYOUT = 2 };
+enum { OTAP_LAYOUT = 3 };
 
 /*
  * Stack in bytes: a ceiling for each call on every processor, which tests/stack.c holds it to, and the most that it measured on x86-64, AArch64,
@@ -56,6 +56,7 @@ enum {
     OTAP_TAKE_STACK = 14336,     /* 13,632: 12,288 of them are the working copy of the store */
     OTAP_EXPORT_STACK = 1024,    /* 696 */
     OTAP_ROW_STACK = 1024,       /* 552 otap_row_number, 632 otap_row_part */
+    OTAP_COUNTS_STACK = 1024,    /* not measured yet */
     OTAP_CONVERSION_STACK = 256  /* 63 */
 };
 
@@ -97,6 +98,9 @@ enum {
     OTAP_STATUS_LAST = 127,
     OTAP_SLOT_ROWS = 16        /* group and individual slots 0 to 15 */
 };
+
+/* Room for as many scan channels, which no row shows; for as many line contacts as there are rows of them, OTAP_LINE_ROWS. */
+enum { OTAP_CHANNEL_PLACES = 64 };
 
 /* The parts of an export. */
 enum {
@@ -146,13 +150,23 @@ uint64_t otap_export(uint32_t part,
                      uint8_t *buffer, uint64_t buffer_length);
 
 /*
+ * How many line contacts and how many scan channels the store holds. Touches no byte.
+ *   0   both counts
+ *   11  not a store; both counts are 0
+ * Ask the number first: a refusal's 0 and 0 look like an empty set. It is 0 exactly where the bytes are a store: that is how power-on knows whether to
+ * keep them or to start. The store keeps both counts, so no entry is counted here; but the whole store is judged, as in every call.
+ * In the answer, bits 0 to 7 are the number, 16 to 31 the lines, 32 to 47 the channels; all others are 0.
+ * Unpack with otap_answer_number, otap_counts_lines, otap_counts_channels; what is free, with otap_counts_free_lines, otap_counts_free_channels.
+ */
+uint64_t otap_counts(const uint8_t *store, uint64_t store_length);
+
+/*
  * Whether a row can be shown. Touches no byte.
  *   0   yes: otap_row_part with the same lengths gives its part
  *   15  scratch_length is under OTAP_SCRATCH_BYTES
  *   11  not a store
  *   17  no such table, no such row, or nothing in it
- * The first that applies, in this order: 15, 11, 17. So, with a scratch of OTAP_SCRATCH_BYTES and any row, 11 is answered exactly where the bytes are
- * no store: that is how power-on knows whether to keep them or to start.
+ * The first that applies, in this order: 15, 11, 17.
  */
 uint32_t otap_row_number(uint32_t table, uint32_t row,
                          const uint8_t *store, uint64_t store_length,
@@ -186,7 +200,7 @@ uint64_t otap_channel_of_transmit(uint32_t frequency); /* 0: the channel that se
 
 /* Unpacking. */
 
-/* The number of an answer of otap_take, otap_export or a conversion; not of otap_row_part, which has none. */
+/* The number of an answer of otap_take, otap_export, otap_counts or a conversion; not of otap_row_part, which has none. */
 static inline uint32_t otap_answer_number(uint64_t answer)
 {
     return (uint32_t)(answer & 0xFFu);
@@ -220,6 +234,30 @@ static inline size_t otap_take_reply_length(uint64_t answer)
 static inline size_t otap_export_length(uint64_t answer)
 {
     return (size_t)((answer >> 16) & 0xFFFFu);
+}
+
+/* How many line contacts the store holds; 0 also of a refusal, so ask the number first. */
+static inline uint32_t otap_counts_lines(uint64_t answer)
+{
+    return (uint32_t)((answer >> 16) & 0xFFFFu);
+}
+
+/* How many scan channels the store holds, repeats counted; 0 also of a refusal, so ask the number first. */
+static inline uint32_t otap_counts_channels(uint64_t answer)
+{
+    return (uint32_t)((answer >> 32) & 0xFFFFu);
+}
+
+/* How many more line contacts have room; 0 of a refusal. */
+static inline uint32_t otap_counts_free_lines(uint64_t answer)
+{
+    return otap_answer_number(answer) == OTAP_OK ? (uint32_t)OTAP_LINE_ROWS - otap_counts_lines(answer) : 0;
+}
+
+/* How many more scan channels have room; 0 of a refusal. */
+static inline uint32_t otap_counts_free_channels(uint64_t answer)
+{
+    return otap_answer_number(answer) == OTAP_OK ? (uint32_t)OTAP_CHANNEL_PLACES - otap_counts_channels(answer) : 0;
 }
 
 /* 1 if the part lies in the scratch, 0 if in the store. */

@@ -131,6 +131,29 @@ static void start_sizes(void)
     }
 }
 
+static void counts_at(int at_end, const uint8_t *bytes, size_t store_length)
+{
+    uint64_t answer;
+    current = "otap_counts";
+    lend(&store, at_end, bytes, store_length, 0);
+    calls++;
+    answer = otap_counts(store.bytes, store_length);
+    nothing_outside();
+    must(store_length == OTAP_STORE_BYTES || answer == OTAP_NO_STORE, "number");
+    must(otap_answer_number(answer) == OTAP_OK || (answer == OTAP_NO_STORE && (store_length != OTAP_STORE_BYTES || bytes != filled)),
+         "a refusal has counts, or a store has none");
+    must(otap_counts_lines(answer) <= OTAP_LINE_ROWS && otap_counts_channels(answer) <= OTAP_CHANNEL_PLACES, "more than there is room for");
+}
+
+static void counts_sizes(void)
+{
+    static const size_t sizes[] = {0, 1, OTAP_STORE_BYTES - 1, OTAP_STORE_BYTES, OTAP_STORE_BYTES + 1};
+    size_t each;
+    for (each = 0; each < 10; each++) {
+        counts_at((int)(each % 2), filled, sizes[each / 2]);
+    }
+}
+
 /* Every pair of sizes of the store and the other buffer, at both ends of the pages: 50 cases. */
 static int sizes_of(unsigned turn, size_t least, size_t *store_length, size_t *other_length)
 {
@@ -289,6 +312,7 @@ static void damaged_stores(unsigned turns)
         damage(bytes, sizeof bytes, 1 + random_below(3));
         export_at((int)(turn % 2), 1 + turn % OTAP_EXPORT_PARTS, bytes, sizeof bytes, OTAP_EXPORT_BYTES);
         row_at((int)(turn % 2), 1 + turn % OTAP_TABLES, random_below(OTAP_STATUS_LAST + 1), bytes, sizeof bytes, OTAP_SCRATCH_BYTES);
+        counts_at((int)(turn % 2), bytes, sizeof bytes);
         current = "otap_take";
         write_message(&said, turn % MESSAGE_KINDS, turn);
         lend(&message, (int)(turn % 2), said.bytes, said.length, 0);
@@ -326,6 +350,7 @@ static void every_length(void)
     for (vary = 0; vary < 23; vary++) {
         fill(vary);
         row_all();
+        counts_sizes();
         for (part = 1; part <= 2 * OTAP_EXPORT_PARTS; part++) {
             export_at((int)(part % 2), (part + 1) / 2, filled, OTAP_STORE_BYTES, OTAP_EXPORT_BYTES);
         }
@@ -357,6 +382,7 @@ int main(int count, char **words)
         return 3;
     }
     start_sizes();
+    counts_sizes();
     take_sizes();
     take_message_sizes();
     take_cuts();

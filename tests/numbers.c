@@ -101,7 +101,7 @@ static uint32_t row(uint32_t table, uint32_t at)
 static void rows(void)
 {
     static const struct { uint32_t table, number, first, last; size_t offset; } tables[OTAP_TABLES] = {
-        {OTAP_LINES, 1, 0, OTAP_LINE_ROWS - 1, 7414 + 20},
+        {OTAP_LINES, 1, 0, OTAP_LINE_ROWS - 1, 7418 + 20},
         {OTAP_QUICK_TEXTS, 2, 0, OTAP_QUICK_ROWS - 1, 22},
         {OTAP_STATUS_TEXTS, 3, OTAP_STATUS_FIRST, OTAP_STATUS_LAST, 2966 + 1},
         {OTAP_GROUPS, 4, 0, OTAP_SLOT_ROWS - 1, 6134 + 4},
@@ -157,6 +157,70 @@ static void asked_of_stores(void)
     asked_once(none, OTAP_SCRATCH_BYTES);
 }
 
+/* What a store holds and has free; the packed answer has no other bits. */
+static void counts_are(const char *what, const uint8_t *bytes, uint64_t lines, uint64_t channels)
+{
+    uint64_t answer = otap_counts(bytes, OTAP_STORE_BYTES);
+    same(what, channels << 32 | lines << 16, answer, answer);
+    same("number of counts", 0, OTAP_OK, otap_answer_number(answer));
+    same("lines held", lines, otap_counts_lines(answer), answer >> 16 & 0xFFFF);
+    same("channels held", channels, otap_counts_channels(answer), answer >> 32);
+    same("lines free", 32 - lines, OTAP_LINE_ROWS - lines, otap_counts_free_lines(answer));
+    same("channels free", 64 - channels, OTAP_CHANNEL_PLACES - channels, otap_counts_free_channels(answer));
+}
+
+/* Every call refuses these bytes, and this one with both counts 0 and nothing free. */
+static void no_store(const char *what, uint8_t *bytes)
+{
+    uint64_t answer = otap_counts(bytes, OTAP_STORE_BYTES);
+    same(what, 11, OTAP_NO_STORE, answer);
+    same("lines and channels of no store", 0, otap_counts_lines(answer), otap_counts_channels(answer));
+    same("free of no store", 0, otap_counts_free_lines(answer), otap_counts_free_channels(answer));
+    same(what, 11, OTAP_NO_STORE, otap_export(1, bytes, OTAP_STORE_BYTES, buffer, sizeof buffer));
+    same(what, 11, OTAP_NO_STORE, otap_row_number(OTAP_GROUPS, 0, bytes, OTAP_STORE_BYTES, scratch, sizeof scratch));
+    write_query(&said, 0);
+    same(what, 11, OTAP_NO_STORE, otap_take(said.bytes, said.length, bytes, OTAP_STORE_BYTES, reply, sizeof reply));
+}
+
+/* Another value of a byte of a count, which stand where docs/STORE.md says, makes a store none. */
+static void poked_counts(uint8_t *bytes)
+{
+    static const size_t places[] = {7286, 7287, 7416, 7417};
+    static const uint8_t steps[] = {1, 2, 32, 64, 128, 192, 255};
+    size_t each, step;
+    for (each = 0; each < 4; each++) {
+        uint8_t right = bytes[places[each]];
+        for (step = 0; step < sizeof steps; step++) {
+            bytes[places[each]] = (uint8_t)(right + steps[step]);
+            no_store("false count", bytes);
+        }
+        bytes[places[each]] = right;
+    }
+}
+
+/* A fresh store, and stores with some of the lines and channels of a full one. */
+static void counted(void)
+{
+    static uint8_t other[OTAP_STORE_BYTES];
+    unsigned vary, each;
+    counts_are("counts of a full store", store, 32, 64);
+    poked_counts(store);
+    same("start", 0, OTAP_OK, otap_start(other, sizeof other));
+    counts_are("counts of a fresh store", other, 0, 0);
+    poked_counts(other);
+    for (vary = 0; vary < 23; vary++) {
+        for (each = 0; each <= 4; each += 4) {
+            write_filling(&said, each, vary);
+            same("taken", 0, OTAP_OK, otap_answer_number(otap_take(said.bytes, said.length, other, sizeof other, reply, sizeof reply)));
+        }
+        counts_are("counts of a store", other, 32 - vary, 64 - vary);
+    }
+    same("short store", 11, OTAP_NO_STORE, otap_counts(store, OTAP_STORE_BYTES - 1));
+    same("long store", 11, OTAP_NO_STORE, otap_counts(store, OTAP_STORE_BYTES + 1));
+    memset(other, 0xFF, sizeof other);
+    no_store("erased flash", other);
+}
+
 /* The bytes of the full store, summed (FNV-1a). If the layout has changed, OTAP_LAYOUT must be another number, and this sum too. */
 static void layout(void)
 {
@@ -165,8 +229,8 @@ static void layout(void)
     for (at = 0; at < OTAP_STORE_BYTES; at++) {
         sum = (sum ^ store[at]) * 16777619u;
     }
-    same("layout", 2, OTAP_LAYOUT, 2);
-    same("sum of a full store of layout 2", 0xFC993133u, sum, sum);
+    same("layout", 3, OTAP_LAYOUT, 3);
+    same("sum of a full store of layout 3", 0x7CBF4503u, sum, sum);
 }
 
 static void conversions(void)
@@ -196,6 +260,7 @@ int main(void)
     rows();
     numbers_shown();
     asked_of_stores();
+    counted();
     layout();
     conversions();
     printf("every number and constant is as the table says\n");

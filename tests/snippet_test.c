@@ -8,6 +8,7 @@
 static uint8_t flash[OTAP_STORE_BYTES];
 static char called[64];
 static int held;
+static uint32_t free_channels = OTAP_CHANNEL_PLACES;
 static Message message;
 
 static void note(char letter)
@@ -66,6 +67,13 @@ void draw_row(uint32_t row, const uint8_t *units, size_t length)
     must(row != 0 || (length == 32 && units == store + 6134 + 4), "group 0 is shown by its name, where it stands");
 }
 
+void draw_room(uint32_t lines, uint32_t channels)
+{
+    note('m');
+    must(!held, "the menu is drawn from a copy, without the lock");
+    must(lines == OTAP_LINE_ROWS && channels == free_channels, "what is free");
+}
+
 void lock_store(void)
 {
     note('(');
@@ -85,7 +93,7 @@ static void powers_on(void)
     memset(flash, 0xFF, sizeof flash);
     must(power_on() == 0, "erased flash is no store");
     must_call("f", "power-on");
-    must(otap_row_number(OTAP_LINES, 0, store, sizeof store, scratch, sizeof scratch) == OTAP_NO_ROW, "a fresh store is started where there is none");
+    must(otap_counts(store, sizeof store) == OTAP_OK, "a fresh store, which holds nothing, is started where there is none");
 }
 
 /* FF with its reboot and reply bits: saved, then answered, then started again, and kept. */
@@ -117,6 +125,23 @@ static void takes(void)
     must_call("()()s", "a request without a last item");
 }
 
+/* Two channels, then bytes that are no store. */
+static void draws_the_menu(void)
+{
+    draw_menu();
+    must_call("()m", "the menu");
+    open_request(&message, 1);
+    put_channels(&message, 3, 2);
+    on_message(message.bytes, message.length);
+    must_call("()()s", "two channels");
+    free_channels -= 2;
+    draw_menu();
+    must_call("()m", "the menu after them");
+    memset(store, 0, sizeof store);
+    draw_menu();
+    must_call("()", "no menu of what is no store");
+}
+
 int main(void)
 {
     powers_on();
@@ -125,6 +150,7 @@ int main(void)
     takes();
     draw_groups();
     must_call("(ddddddddddddddd)", "fifteen of sixteen rows are drawn, slot 3 was deleted");
+    draws_the_menu();
     printf("the snippet keeps, saves, answers, starts again and draws\n");
     return 0;
 }

@@ -13,11 +13,12 @@ enum { STACK = 256 * 1024 };
 enum { STACK = 32 * 1024 };
 #endif
 
-enum { PAINT = 0xA5, CALLS = 6 };
+enum { PAINT = 0xA5, CALLS = 7 };
 
 /* The header's ceiling for each; it has what was measured beside them, and docs/TESTING.md too. */
-static const unsigned long most[CALLS] = {OTAP_START_STACK, OTAP_TAKE_STACK, OTAP_EXPORT_STACK, OTAP_ROW_STACK, OTAP_ROW_STACK, OTAP_CONVERSION_STACK};
-static const char *const names[CALLS] = {"otap_start", "otap_take", "otap_export", "otap_row_number", "otap_row_part", "a conversion"};
+static const unsigned long most[CALLS] = {OTAP_START_STACK, OTAP_TAKE_STACK, OTAP_EXPORT_STACK, OTAP_ROW_STACK, OTAP_ROW_STACK, OTAP_COUNTS_STACK,
+                                             OTAP_CONVERSION_STACK};
+static const char *const names[CALLS] = {"otap_start", "otap_take", "otap_export", "otap_row_number", "otap_row_part", "otap_counts", "a conversion"};
 
 static uint8_t stack[STACK], store[OTAP_STORE_BYTES], filled[OTAP_STORE_BYTES];
 static uint8_t buffer[OTAP_EXPORT_BYTES];
@@ -40,7 +41,8 @@ static void call(void)
     case 2: answer = otap_export(1 + turn % OTAP_EXPORT_PARTS, store, sizeof store, buffer, sizeof buffer); break;
     case 3: answer = otap_row_number(table, row, store, sizeof store, buffer, sizeof buffer); break;
     case 4: answer = otap_row_part(table, row, store, sizeof store, buffer, sizeof buffer); break;
-    case 5: convert(turn); break;
+    case 5: answer = otap_counts(store, sizeof store); break;
+    case 6: convert(turn); break;
     default: break; /* nothing, for what the switch of stacks itself takes */
     }
 }

@@ -47,6 +47,7 @@ pub fn all() -> Vec<Case> {
     for (name, table, row) in ROWS {
         cases.push(case(format!("row-{name}"), Call::Row(table, row), 0));
     }
+    cases.push(case("counts".into(), Call::Counts, 0));
     for (which, conversion) in conversions::ALL.iter().enumerate() {
         cases.push(case(format!("{}-x100", conversion.name), Call::Convert(which), 0));
     }

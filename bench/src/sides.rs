@@ -4,6 +4,7 @@ use crate::conversions;
 use otap::{Part, Store, Table, EXPORT_ROOM, REPLY_ROOM, SCRATCH_ROOM, STORE_SIZE};
 use otap_reference::layout;
 use otap_reference::reference::export::export;
+use otap_reference::reference::menu::counts;
 use otap_reference::reference::screen::{row_part, Row};
 use otap_reference::reference::tables::Set;
 use otap_reference::reference::take::take;
@@ -14,6 +15,7 @@ pub enum Call {
     Take(Vec<u8>),
     Export(Part),
     Row(Table, u32),
+    Counts,
     /// A hundred conversions, named by their place in `conversions::ALL`.
     Convert(usize),
 }
@@ -92,6 +94,9 @@ impl Side for Rattle {
                 let shown = store.row(black_box(*table), black_box(*row), scratch);
                 black_box(shown).map_or_else(|refusal| refusal.number(), |_| 0)
             }
+            Call::Counts => {
+                black_box(store.counts()).map_or_else(|refusal| refusal.number(), |_| 0)
+            }
             Call::Convert(which) => {
                 conversions::ALL[*which].rattle();
                 0
@@ -114,6 +119,7 @@ impl Side for Plain {
                 black_box(row_part(row, true, &self.set, &mut self.buffer[..SCRATCH_ROOM]));
                 0
             }
+            Call::Counts => black_box(counts(true, black_box(&self.set))).number,
             Call::Convert(which) => {
                 conversions::ALL[*which].plain();
                 0

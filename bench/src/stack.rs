@@ -45,6 +45,7 @@ fn call_name(call: &Call) -> &'static str {
         Call::Take(_) => "take",
         Call::Export(_) => "export",
         Call::Row(..) => "row",
+        Call::Counts => "counts",
         Call::Convert(which) => conversions::ALL[*which].name,
     }
 }

@@ -30,6 +30,11 @@ static void show_row(void)
     answer = otap_row_part(which, row, store, sizeof store, buffer, sizeof buffer);
 }
 
+static void counts(void)
+{
+    answer = otap_counts(store, sizeof store);
+}
+
 static void individual(void)
 {
     answer = otap_individual_of_dialled(32820200);
@@ -99,6 +104,7 @@ int main(void)
     count("row, a group's text", show_row);
     row = 13;
     count("row, a group's number", show_row);
+    count("counts", counts);
     count("individual of dialled", individual);
     count("transmit", transmit);
     count("channel of transmit", channel);

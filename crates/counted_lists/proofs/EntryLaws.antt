@@ -7,8 +7,8 @@ use Rattle.slots.specs.Slots.{flat, pad, slot, places, front, u16, same?, hit, 
 use Rattle.slots.proofs.Codes.{Code, array-one}
 use Rattle.slots.proofs.Numbers.{u16-one}
 use Rattle.slots.proofs.Tables.{put-all, unless-all}
-use Rattle.counted_lists.specs.Counted.{put-last, put-keyed, Counted, CountedOf, Tried, Added, KeyedPut, KeyDropped, Cleared, Told}
-use Rattle.counted_lists.proofs.CountLaws.{counted-split, slots-long}
+use Rattle.counted_lists.specs.Counted.{put-last, put-keyed, Counted, CountedOf, Tried, Added, KeyedPut, KeyDropped, Told}
+use Rattle.counted_lists.proofs.CountLaws.{counted-none, counted-split, slots-long}
 
 -- ---- lists that a function makes
 
@@ -87,9 +87,9 @@ module _ {A : Type 0} (P : A → Type 0) (w : ℕ) (f : A → List ℕ) (n : ℕ
     pub entries-count : (r : ℕ) → Told s r → r ≡ length ls
     entries-count r h = h .says w n (map f ls) (c .counted) ∙ length-map ls f
 
-    -- no entry is left
-    pub entries-clear : (t : List ℕ) → Cleared s t → CountedOf P w f n [] t
-    entries-clear t h = record { each = tt; counted = h .none-left w n (map f ls) (c .counted) }
+    -- as many zeros have no entry
+    pub entries-none : CountedOf P w f n [] (replicate (length s) 0)
+    entries-none = record { each = tt; counted = counted-none w n (map f ls) s (c .counted) }
 
     -- an entry is added at the end
     pub entries-add : (a : A) (t : List ℕ) (r : Bool) → P a → length (f a) ≡ w → Added w (f a) s t r → Tried (CountedOf P w f n) (put-last n a ls) t r

@@ -32,6 +32,10 @@ module _ {A K : Type 0} (key : A → K) (has : K → A → Bool) (decides : (k :
   pub says-without : (k : K) (ls : List A) → All (λ a. has k a ≡ false) ls → Without key k ls
   says-without k ls h = all-turn (λ a. has k a ≡ false) (λ a. key a ≢ k) (λ a q e. true≢false (sym (decides k a .1 e) ∙ q)) ls h
 
+  -- a search finds none where no entry has the key
+  pub none-found : (k : K) (ls : List A) → (indexOf (has k) ls ≡ length ls) ↔ Without key k ls
+  none-found k ls = (λ e. says-without k ls (index-end (has k) ls e), λ h. index-absent (has k) ls (without-says k ls h))
+
   -- ---- putting
 
   -- an entry goes where its key is found, if that is inside the room
@@ -40,7 +44,7 @@ module _ {A K : Type 0} (key : A → K) (has : K → A → Bool) (decides : (k :
 
   -- a new key is put at the end
   pub keyed-new : (n : ℕ) (a : A) (ls : List A) → Without key (key a) ls → length ls < n → put-keyed (has (key a)) n a ls ≡ some (ls ++ (a ∷ []))
-  keyed-new n a ls h r = put-at n a ls (length ls) (index-absent (has (key a)) ls (without-says (key a) ls h)) r ∙ ap some (put-end ls a)
+  keyed-new n a ls h r = put-at n a ls (length ls) (none-found (key a) ls .1 h) r ∙ ap some (put-end ls a)
 
   -- a known one is overwritten in its place, also in a full list
   pub keyed-known : (n : ℕ) (a : A) (before : List A) (b : A) (after : List A) → Without key (key a) before → key b ≡ key a → length (before ++ b ∷ after) ≤ n
@@ -55,9 +59,9 @@ module _ {A K : Type 0} (key : A → K) (has : K → A → Bool) (decides : (k :
     λ e.
         let k : n ≤ indexOf (has (key a)) ls = ltb-false _ _ (cond-none (ltb (indexOf (has (key a)) ls) n) (putAt (indexOf (has (key a)) ls) a ls) .0 e) in
         let i : indexOf (has (key a)) ls ≡ length ls = omega (arith, index-le (has (key a)) ls) in
-        (omega arith, says-without (key a) ls (index-end (has (key a)) ls i)),
+        (omega arith, none-found (key a) ls .0 i),
     λ p.
-        let i : indexOf (has (key a)) ls ≡ length ls = index-absent (has (key a)) ls (without-says (key a) ls (p .1)) in
+        let i : indexOf (has (key a)) ls ≡ length ls = none-found (key a) ls .1 (p .1) in
         cond-none (ltb (indexOf (has (key a)) ls) n) (putAt (indexOf (has (key a)) ls) a ls) .1 (le-ltb (indexOf (has (key a)) ls) n (omega (arith, p .0))),
   )
 

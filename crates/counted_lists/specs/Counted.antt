@@ -66,11 +66,6 @@ pub record KeyedPut (w o k : ℕ) (x s t : List ℕ) (r : Bool) : Type 0 where
 abbrev pub KeyDropped : (w o : ℕ) → (key s t : List ℕ) → Type 0
 KeyDropped w o key s t = o + length key ≤ w → (n : ℕ) (xs : List (List ℕ)) → Counted w n xs s → Counted w n (unless (hit o key) xs) t
 
--- what taking all out leaves
-pub record Cleared (s t : List ℕ) : Type 0 where
-  pub zeros : t ≡ replicate (length s) 0
-  pub none-left : (w n : ℕ) (xs : List (List ℕ)) → Counted w n xs s → Counted w n [] t
-
 -- ---- inner steps
 
 -- r is the count

@@ -7,7 +7,7 @@ use Rattle.writing.specs.Ranges.{InChannel}
 use Rattle.writing.specs.Settings.{Setting, unicode16}
 use Rattle.tables.specs.declared.limits.Limits.{Limits}
 use Rattle.tables.specs.Allowed.{LineOk}
-use Rattle.tables.specs.Layout.{layout, line-bytes, groups-at, individuals-at, line-width, lines-at, lists-at, member-size, quick-at, quick-size, status-at, status-size}
+use Rattle.tables.specs.Layout.{count-size, lines-size, layout, line-bytes, groups-at, individuals-at, line-width, lines-at, lists-at, member-size, quick-at, quick-size, status-at, status-size}
 use Rattle.tables.specs.Store.{Holds}
 use Rattle.tables.specs.Tables.{Tables}
 use Rattle.tables.proofs.Frames.{key-get, home-get, system-get, quick-placed, status-placed, groups-placed, individuals-placed, channels-listed, lines-listed}
@@ -77,11 +77,11 @@ module _ (lim : Limits) (t : Tables) (s : List ℕ) (h : Holds lim t s) where
   at-part : (P : List ℕ → Type 0) (a n k : ℕ) → k ≡ n → P (midOf a n (layout lim t)) → P (midOf a k s)
   at-part P a n k e p = subst⁻¹ (λ (i : ℕ). P (midOf a i s)) e (subst⁻¹ (λ (x : List ℕ). P (midOf a n x)) (h .1) p)
 
-  pub lines-in : (k : ℕ) → k ≡ lim .lines * line-width → LinesIn (midOf (lists-at + lim .channels * 2) k s) (t .lines)
-  lines-in k e = (lim .lines, at-part (λ x. Listed LineOk line-width line-bytes (lim .lines) (t .lines) x) (lists-at + lim .channels * 2) (lim .lines * line-width) k e (lines-listed lim t (h .0)))
+  pub lines-in : (k : ℕ) → k ≡ lim .lines * line-width → LinesIn (midOf (lines-at lim + count-size) k s) (t .lines)
+  lines-in k e = (lim .lines, at-part (λ x. Listed LineOk line-width line-bytes (lim .lines) (t .lines) x) (lines-at lim + count-size) (lim .lines * line-width) k e (lines-listed lim t (h .0)))
 
-  pub channels-in : (k : ℕ) → k ≡ lim .channels * 2 → ChannelsIn (midOf lists-at k s) (t .channels)
-  channels-in k e = (lim .channels, at-part (λ x. Listed InChannel 2 u16 (lim .channels) (t .channels) x) lists-at (lim .channels * 2) k e (channels-listed lim t (h .0)))
+  pub channels-in : (k : ℕ) → k ≡ lim .channels * 2 → ChannelsIn (midOf (lists-at + count-size) k s) (t .channels)
+  channels-in k e = (lim .channels, at-part (λ x. Listed InChannel 2 u16 (lim .channels) (t .channels) x) (lists-at + count-size) (lim .channels * 2) k e (channels-listed lim t (h .0)))
 
   pub quick-in : QuicksIn (midOf quick-at quick-size s) (t .quick)
   quick-in = at-part (λ x. QuicksIn x (t .quick)) 22 quick-size quick-size refl (quick-placed lim t (h .0))
@@ -110,10 +110,10 @@ module _ (lim : Limits) (t : Tables) (s : List ℕ) (h : Holds lim t s) where
 
 -- where a part starts and ends
 abbrev starts : Limits → Part → ℕ
-starts lim = part-from (lines-at lim) (lines-at lim + lim .lines * line-width)
+starts lim = part-from (lines-at lim) (lines-at lim + lines-size lim)
 
 abbrev ends : Limits → Part → ℕ
-ends lim = part-to (lines-at lim) (lines-at lim + lim .lines * line-width)
+ends lim = part-to (lines-at lim) (lines-at lim + lines-size lim)
 
 module _ (lim : Limits) (store s u : List ℕ) (r : Settings) (x : Exportable lim) (big : lim .message ≤ length s) where
   -- what was written of what a part holds are the part's settings, where they fit

@@ -1,5 +1,5 @@
 -- Parts by their number, and their settings in the buffer. No promise cites these.
-use Prim.Native.Nat.{ℕ, _-_, _<_}
+use Prim.Native.Nat.{ℕ, _+_, _-_, _<_}
 use mathlib.Core.Path.{_≡_}
 use mathlib.Core.List.{List, _∷_, map}
 use mathlib.Core.Option.{Option, none, some}
@@ -7,7 +7,7 @@ use lib.ListN.{length, getD}
 use Rattle.writing.specs.Canonical.{canonical-all}
 use Rattle.writing.specs.Settings.{Setting, unicode16}
 use Rattle.tables.specs.declared.limits.Limits.{Limits}
-use Rattle.tables.specs.Layout.{key-at, quick-at, status-at, groups-at, individuals-at, lists-at}
+use Rattle.tables.specs.Layout.{count-size, key-at, quick-at, status-at, groups-at, individuals-at, lists-at}
 use Rattle.tables.specs.Store.{Holds}
 use Rattle.export.specs.declared.exporting.FoundPart.{FoundPart}
 use Rattle.export.specs.declared.exporting.FoundPart.the-variants.{Is, NoneSuch}
@@ -32,12 +32,12 @@ abbrev pub FoundAs : ℕ → FoundPart → Type 0
 FoundAs n (Is p) = part-at n ≡ some p
 FoundAs n NoneSuch = part-at n ≡ none
 
--- where a part's tables stand in a store whose lines start and end here: from this byte on
+-- where a part's slots stand in a store whose lines' region starts and ends here, behind a list's count: from this byte on
 abbrev pub part-from : (lines spare : ℕ) → Part → ℕ
-part-from lines spare Lines = lines
+part-from lines spare Lines = lines + count-size
 part-from lines spare Fixed = key-at
 part-from lines spare QuickTexts = quick-at
-part-from lines spare Channels = lists-at
+part-from lines spare Channels = lists-at + count-size
 part-from lines spare StatusTexts = status-at
 part-from lines spare Groups = groups-at
 part-from lines spare Individuals = individuals-at

@@ -20,6 +20,7 @@ use tables::limits::HANDHELD;
 use tables::limits::Limits;
 use tables::members::Members;
 use tables::places::CHANNEL_SLOT;
+use tables::places::COUNT;
 use tables::places::GROUPS;
 use tables::places::INDIVIDUALS;
 use tables::places::KEY;
@@ -28,10 +29,10 @@ use tables::places::LISTS;
 use tables::places::QUICK;
 use tables::places::STATUS;
 ghost use mathlib.Core.Path.{_≡_};
-ghost use Prim.Native.Nat.{_≤_, _<_};
+ghost use Prim.Native.Nat.{_+_, _≤_, _<_};
 ghost use lib.ListN.{length};
 ghost use Rattle.lists.specs.Ladder.{Answers};
-ghost use Rattle.tables.specs.Layout.{Roomy, lists-at};
+ghost use Rattle.tables.specs.Layout.{Roomy, count-size, lists-at};
 ghost use Rattle.tables.specs.Limits.{handheld};
 ghost use Rattle.export.specs.Exportable.{Exportable};
 ghost use Rattle.export.specs.Exporting.{exporting, told};
@@ -70,19 +71,19 @@ fn part_of(number: u32) -> FoundPart
     FoundPart::Is(IN_ORDER[place])
 }
 
-// Where a part's tables stand in a store whose lines start and end here: docs/STORE.md.
+// Where a part's slots stand in a store whose lines' region starts and ends here, behind a list's count: docs/STORE.md.
 pub(crate) struct Span {
     start: usize,
     end: usize,
 }
 
 fn span_of(part: Part, lines: usize, spare: usize) -> Span
-    requires { ⌜ (lists-at ≤ lines) × (lines ≤ spare) ⌝ }
+    requires { ⌜ (lists-at + count-size ≤ lines) × (lines + count-size ≤ spare) ⌝ }
     ensures { λ r. ⌜ (r .start ≡ part-from lines spare part) × (r .end ≡ part-to lines spare part) × (r .start ≤ r .end) × (r .end ≤ spare) ⌝ }
 {
     match part {
         Part::Lines => Span {
-            start: lines,
+            start: lines + COUNT,
             end: spare,
         },
         Part::Fixed => Span {
@@ -94,7 +95,7 @@ fn span_of(part: Part, lines: usize, spare: usize) -> Span
             end: STATUS,
         },
         Part::Channels => Span {
-            start: LISTS,
+            start: LISTS + COUNT,
             end: lines,
         },
         Part::StatusTexts => Span {
@@ -132,8 +133,8 @@ fn write_part(buffer: &mut [u8], part: Part, store: &[u8], limits: Limits) -> Se
     requires { ⌜ Roomy limits × (length (now store) ≡ limits .size) × (limits .message ≤ length (now buffer)) ⌝ }
     ensures { λ r. ⌜ (Exportable limits → PartWritten limits part (now (store .entry)) (now (buffer .entry)) (now (buffer .exit)) r) ⌝ }
 {
-    let lines = LISTS + limits.channels * CHANNEL_SLOT;
-    let spare = lines + limits.lines * LINE_SLOT;
+    let lines = LISTS + (COUNT + limits.channels * CHANNEL_SLOT);
+    let spare = lines + (COUNT + limits.lines * LINE_SLOT);
     let span = span_of(part, lines, spare);
     let start = span.start;
     let end = span.end;

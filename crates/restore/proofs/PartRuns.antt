@@ -2,6 +2,8 @@
 use Rattle.lists.proofs.Kit.{ℕ, suc, _+_, _-_, _≤_, _≡_, refl, sym, ap, _∙_, subst, List, [], _∷_, _++_, map, append-nil, Option, none, some, arith, length, set, take, drop, replicate, length-append, take-append-drop, append-snoc, set-at, getD-at}
 use Rattle.lists.proofs.Bytes.{all-bytes}
 use Rattle.lists.specs.Every.{All}
+use Rattle.counted_lists.specs.Counted.{Distinct}
+use Rattle.counted_lists.proofs.KeyedLists.{others-without}
 use Rattle.writing.specs.declared.Operation.{Operation}
 use Rattle.writing.specs.declared.Operation.the-variants.{Add, Delete}
 use Rattle.writing.specs.Canonical.{Fits, canonical, canonical-all}
@@ -10,12 +12,12 @@ use Rattle.writing.specs.Settings.{Text, Entry, Slot, Setting, group, individua
 use Rattle.writing.specs.Writing.{fields}
 use Rattle.writing.proofs.CanonicalLaws.{canonical-written, plain-bytes}
 use Rattle.tables.specs.declared.limits.Limits.{Limits}
-use Rattle.tables.specs.Allowed.{Allowed, Distinct}
+use Rattle.tables.specs.Allowed.{Allowed}
 use Rattle.tables.specs.Apply.{and-then, in-turn, with-room, quick-step, status-step, channel-step, slot-after, apply}
-use Rattle.tables.specs.Tables.{Line, Member, Tables}
+use Rattle.tables.specs.Tables.{Line, line-key, Member, Tables}
 use Rattle.writing.specs.declared.Kind.the-variants as K
 use Rattle.tables.specs.Owns.{put-own}
-use Rattle.tables.proofs.Sentences.{line-add-new, others-without, channel-add, quick-add-free}
+use Rattle.tables.proofs.Sentences.{line-add-new, channel-add, quick-add-free}
 use Rattle.requests.specs.Judge.{done, step}
 use Rattle.requests.specs.Requests.{Runs}
 use Rattle.export.specs.declared.parts.Part.{Part}
@@ -59,14 +61,14 @@ turn-runs lim (s ∷ ss) u v f r e = go (apply lim s u) refl e (λ w. turn-runs 
 -- ---- line contacts
 
 -- each line is new, so it goes to the end
-lines-turn : (lim : Limits) (u : Tables) (before after : List Line) → Distinct (before ++ after) → length before + length after ≤ lim .lines
+lines-turn : (lim : Limits) (u : Tables) (before after : List Line) → Distinct line-key (before ++ after) → length before + length after ≤ lim .lines
     → in-turn (apply lim) (map line-add after) (put-own K.Lines u before) ≡ some (put-own K.Lines u (before ++ after))
 lines-turn lim u before [] d h = ap (λ ls. some (put-own K.Lines u ls)) (sym (append-nil before))
 lines-turn lim u before (l ∷ after) d h =
     let e : apply lim (line-add l) (put-own K.Lines u before) ≡ some (put-own K.Lines u (before ++ (l ∷ [])))
-    = ap (λ o. with-room (put-own K.Lines u) (and-then o some)) (line-add-new (lim .lines) (l .flags) (record { number = l .number; text = l .text }) before (others-without before l after d .0) (omega arith)) in
+    = ap (λ o. with-room (put-own K.Lines u) (and-then o some)) (line-add-new (lim .lines) (l .flags) (record { number = l .number; text = l .text }) before (others-without line-key before l after d .0) (omega arith)) in
     then-turn (apply lim) (line-add l) (map line-add after) (put-own K.Lines u before) (put-own K.Lines u (before ++ (l ∷ []))) e
-    ∙ lines-turn lim u (before ++ (l ∷ [])) after (subst Distinct (sym (append-snoc before l after)) d) (omega (arith, length-append before (l ∷ [])))
+    ∙ lines-turn lim u (before ++ (l ∷ [])) after (subst (Distinct line-key) (sym (append-snoc before l after)) d) (omega (arith, length-append before (l ∷ [])))
     ∙ ap (λ ls. some (put-own K.Lines u ls)) (append-snoc before l after)
 
 -- ---- texts

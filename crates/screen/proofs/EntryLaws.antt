@@ -8,7 +8,7 @@ use Rattle.writing.specs.Ranges.{text-limits, InNumber}
 use Rattle.writing.specs.Settings.{Text, Number}
 use Rattle.tables.specs.declared.limits.Limits.{Limits}
 use Rattle.tables.specs.Allowed.{Allowed, TextOk, QuickOk, StatusOk, GroupOk, IndividualOk, LineOk}
-use Rattle.tables.specs.Layout.{layout, text-bytes, quick-bytes, status-bytes, group-bytes, individual-bytes, line-bytes, digit-bytes, digits-at, quick-width, status-width, member-width, line-width, region-start, groups-at, individuals-at, lists-at, status-at}
+use Rattle.tables.specs.Layout.{layout, text-bytes, quick-bytes, status-bytes, group-bytes, individual-bytes, line-bytes, digit-bytes, digits-at, quick-width, status-width, member-width, line-width, region-start, count-size, groups-at, individuals-at, lines-at, status-at}
 use Rattle.tables.specs.Limits.{quick-places, status-places, slot-places}
 use Rattle.tables.specs.Store.{Holds}
 use Rattle.tables.specs.Tables.{Tables, Line as LineEntry}
@@ -165,10 +165,10 @@ contacts = record {
 }
 
 -- the lines, as places
-lines-placed : (lim : Limits) (t : Tables) → Allowed lim t → Placed LineOk line-width line-bytes (lim .lines) (front (lim .lines) (t .lines)) (midOf (region-start lim 9) (lim .lines * line-width) (layout lim t))
+lines-placed : (lim : Limits) (t : Tables) → Allowed lim t → Placed LineOk line-width line-bytes (lim .lines) (front (lim .lines) (t .lines)) (midOf (region-start lim 9 + count-size) (lim .lines * line-width) (layout lim t))
 lines-placed lim t ok =
     let x = lines-listed lim t ok in
-    let e : lists-at + lim .channels * 2 ≡ region-start lim 9 = omega arith in
+    let e : lines-at lim + count-size ≡ region-start lim 9 + count-size = omega arith in
     record {
       many = front-length (lim .lines) (t .lines);
       each = all-front LineOk (lim .lines) (t .lines) (x .each);
@@ -183,7 +183,7 @@ status-there t n h = rw (le-ltb n 32 h)
 pub row-seen : (lim : Limits) (t : Tables) (s : List ℕ) (row : Row) (slot : Slot) → Holds lim t s → SlotIs lim row (At slot) → Seen s slot row (caption t row)
 row-seen lim t s (Line n) slot (ok, e) x =
     subst (λ (o : Option LineEntry). Seen s slot (Line n) (of (contacts .cap) o)) (front-get (lim .lines) (t .lines) n (x .0))
-    (seen contacts (Line n) (λ l. a-line) (lim .lines) (region-start lim 9) (front (lim .lines) (t .lines)) e (lines-placed lim t ok) n slot x)
+    (seen contacts (Line n) (λ l. a-line) (lim .lines) (region-start lim 9 + count-size) (front (lim .lines) (t .lines)) e (lines-placed lim t ok) n slot x)
 row-seen lim t s (QuickText n) slot (ok, e) x = seen quick (QuickText n) (λ us. a-quick-text) quick-places 22 (t .quick) e (quick-placed lim t ok) n slot x
 row-seen lim t s (StatusText n) slot (ok, e) (h, x) =
     subst (λ (o : Option Caption). Seen s slot (StatusText n) o) (sym (status-there t n h))
@@ -207,7 +207,7 @@ there-at base places n w h l = (record { start = base + n * w; text = base + n *
 pub row-there : (lim : Limits) (t : Tables) → Allowed lim t → (row : Row) (c : Caption) → caption t row ≡ some c → (slot : Slot) × SlotIs lim row (At slot)
 row-there lim t ok (Line n) c e =
     let l : length (map some (t .lines)) ≡ length (t .lines) = length-map (t .lines) some in
-    there-at (region-start lim 9) (lim .lines) n line-width 20 (within (map some (t .lines)) n (lim .lines) (contacts .cap) (omega (arith, l, ok .lines .0)) e)
+    there-at (region-start lim 9 + count-size) (lim .lines) n line-width 20 (within (map some (t .lines)) n (lim .lines) (contacts .cap) (omega (arith, l, ok .lines .0)) e)
 row-there lim t ok (QuickText n) c e = there-at 22 quick-places n quick-width 0 (within (t .quick) n quick-places text (omega (arith, ok .quick .0)) e)
 row-there lim t ok (StatusText n) c e = go (ltb n 32) refl
   where

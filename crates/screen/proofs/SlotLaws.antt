@@ -2,7 +2,7 @@
 use Rattle.lists.proofs.Kit.{ℕ, suc, _+_, _*_, _-_, _/_, _%_, _≤_, _<_, _≡_, sym, ap, _∙_, subst, List, mul-le-mul-right, suc-mul, arith, getD}
 use Rattle.slots.specs.Slots.{u24}
 use Rattle.tables.specs.declared.limits.Limits.{Limits}
-use Rattle.tables.specs.Layout.{Roomy, region-start, line-width, status-at}
+use Rattle.tables.specs.Layout.{Roomy, count-size, region-start, line-width, status-at}
 use Rattle.screen.specs.declared.names.Slot.{Slot}
 use Rattle.screen.specs.declared.names.SlotPlace.{SlotPlace}
 use Rattle.screen.specs.declared.names.SlotPlace.the-variants.{At, Beyond}
@@ -21,7 +21,7 @@ pub slot-row : (lim : Limits) {row case : Row} (r : SlotPlace) → row ≡ case 
 slot-row lim r e x = subst (λ (z : Row). SlotIs lim z r) (sym e) x
 
 -- lines stand behind the channels
-pub slot-line : (lim : Limits) (n base : ℕ) (r : SlotPlace) → base ≡ region-start lim 9 → Slotted base (lim .lines) n line-width 20 r → SlotIs lim (Line n) r
+pub slot-line : (lim : Limits) (n base : ℕ) (r : SlotPlace) → base ≡ region-start lim 9 + count-size → Slotted base (lim .lines) n line-width 20 r → SlotIs lim (Line n) r
 slot-line lim n base r e x = subst (λ (b : ℕ). Slotted b (lim .lines) n line-width 20 r) e x
 
 -- status codes start at 32
@@ -38,11 +38,11 @@ pub record SlotFits (s : Slot) (size : ℕ) : Type 0 where
   pub inside : s .end ≤ size
 
 pub slot-fits : (lim : Limits) (row : Row) (s : Slot) → Roomy lim → SlotIs lim row (At s) → SlotFits s (lim .size)
-slot-fits lim (Line n) s r x = record { text-in = omega (arith, x .1); ends = omega (arith, x .1); inside = omega (arith, x .1, r, slot-within n (lim .lines) line-width (x .0)) }
-slot-fits lim (QuickText n) s r x = record { text-in = omega (arith, x .1); ends = omega (arith, x .1); inside = omega (arith, x .1, r, x .0) }
-slot-fits lim (StatusText n) s r x = record { text-in = omega (arith, x .1 .1); ends = omega (arith, x .1 .1); inside = omega (arith, x .1 .1, r, x .1 .0) }
-slot-fits lim (Group n) s r x = record { text-in = omega (arith, x .1); ends = omega (arith, x .1); inside = omega (arith, x .1, r, x .0) }
-slot-fits lim (Individual n) s r x = record { text-in = omega (arith, x .1); ends = omega (arith, x .1); inside = omega (arith, x .1, r, x .0) }
+slot-fits lim (Line n) s r x = record { text-in = omega (arith, x .1); ends = omega (arith, x .1); inside = omega (arith, x .1, r .fits, slot-within n (lim .lines) line-width (x .0)) }
+slot-fits lim (QuickText n) s r x = record { text-in = omega (arith, x .1); ends = omega (arith, x .1); inside = omega (arith, x .1, r .fits, x .0) }
+slot-fits lim (StatusText n) s r x = record { text-in = omega (arith, x .1 .1); ends = omega (arith, x .1 .1); inside = omega (arith, x .1 .1, r .fits, x .1 .0) }
+slot-fits lim (Group n) s r x = record { text-in = omega (arith, x .1); ends = omega (arith, x .1); inside = omega (arith, x .1, r .fits, x .0) }
+slot-fits lim (Individual n) s r x = record { text-in = omega (arith, x .1); ends = omega (arith, x .1); inside = omega (arith, x .1, r .fits, x .0) }
 slot-fits lim NoTable s r x = absurd x
 
 -- ---- an address

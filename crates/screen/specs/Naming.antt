@@ -8,7 +8,7 @@ use Rattle.lists.specs.Ladder.{Ladder}
 use Rattle.writing.specs.Ranges.{InNumber}
 use Rattle.writing.specs.Settings.{Number}
 use Rattle.tables.specs.declared.limits.Limits.{Limits}
-use Rattle.tables.specs.Layout.{quick-width, status-width, member-width, line-width, digit-bytes, region-start}
+use Rattle.tables.specs.Layout.{quick-width, status-width, member-width, line-width, digit-bytes, count-size, region-start}
 use Rattle.tables.specs.Limits.{quick-places, status-places, slot-places}
 use Rattle.tables.specs.Store.{Holds}
 use Rattle.tables.specs.Tables.{Tables}
@@ -30,7 +30,7 @@ Slotted base places n w h Beyond = places ≤ n
 
 -- the row's slot
 abbrev pub SlotIs : Limits → Row → SlotPlace → Type 0
-SlotIs lim (Line n) r = Slotted (region-start lim 9) (lim .lines) n line-width 20 r
+SlotIs lim (Line n) r = Slotted (region-start lim 9 + count-size) (lim .lines) n line-width 20 r
 SlotIs lim (QuickText n) r = Slotted (region-start lim 4) quick-places n quick-width 0 r
 SlotIs lim (StatusText n) (At s) = (32 ≤ n) × Slotted (region-start lim 5) status-places (n - 32) status-width 1 (At s)
 SlotIs lim (StatusText n) Beyond = 32 ≤ n → status-places ≤ n - 32

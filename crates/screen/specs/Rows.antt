@@ -13,7 +13,7 @@ use Rattle.plan.specs.Numbers.{Individual as IndividualPlan, Group as GroupPlan
 use Rattle.slots.specs.Slots.{flat, u16}
 use Rattle.writing.specs.Settings.{Text, Number}
 use Rattle.tables.specs.declared.limits.Limits.{Limits}
-use Rattle.tables.specs.Layout.{region-start, quick-width, status-width, member-width, line-width}
+use Rattle.tables.specs.Layout.{count-size, region-start, quick-width, status-width, member-width, line-width}
 use Rattle.tables.specs.Store.{StoreOf, Holds}
 use Rattle.tables.specs.Tables.{Tables}
 use Rattle.screen.specs.declared.rows.Refusal.{Refusal}
@@ -120,7 +120,7 @@ units (written us) = us
 
 -- the first byte of a row's text: the part's, the slots before it, and what its slot has before the text
 abbrev pub text-start : Limits → Row → ℕ
-text-start lim (Line n) = region-start lim 9 + n * line-width + 20
+text-start lim (Line n) = region-start lim 9 + count-size + n * line-width + 20
 text-start lim (QuickText n) = region-start lim 4 + n * quick-width
 text-start lim (StatusText n) = region-start lim 5 + (n - 32) * status-width + 1
 text-start lim (Group n) = region-start lim 6 + n * member-width + 4

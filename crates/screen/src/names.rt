@@ -8,6 +8,7 @@ use slots::slots::used;
 use store_check::checks::is_store;
 use tables::limits::Limits;
 use tables::places::CHANNEL_SLOT;
+use tables::places::COUNT;
 use tables::places::GROUPS;
 use tables::places::INDIVIDUALS;
 use tables::places::LINE_DIGITS;
@@ -80,7 +81,7 @@ fn slot_of(row: Row, limits: Limits) -> SlotPlace
         Row::Line(n) => slot_in(
             n,
             limits.lines,
-            LISTS + limits.channels * CHANNEL_SLOT,
+            LISTS + (COUNT + limits.channels * CHANNEL_SLOT) + COUNT,
             LINE_SLOT,
             LINE_TEXT,
         ),

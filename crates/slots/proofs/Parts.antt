@@ -1,5 +1,5 @@
 -- Parts of bytes: one is read, or comes back changed, and the others stand. Assumes nothing.
-use Rattle.lists.proofs.Kit.{_≡_, refl, sym, ap, ap₂, _∙_, List, [], _∷_, _++_, map, append-assoc, nil≢cons, cons≢nil, head-eq-of-cons-eq, tail-eq-of-cons-eq, ℕ, zero, suc, _+_, _*_, _<_, zero-mul, suc-mul, arith, putMid, midOf, length, set, drop, take, getD, replicate, length-append, replicate-append-replicate, take-at, drop-at, split-at, set-split}
+use Rattle.lists.proofs.Kit.{_≡_, refl, sym, ap, ap₂, _∙_, List, [], _∷_, _++_, map, append-assoc, nil≢cons, cons≢nil, head-eq-of-cons-eq, tail-eq-of-cons-eq, ℕ, zero, suc, _+_, _*_, _<_, zero-mul, suc-mul, zero-add, suc-add, arith, putMid, midOf, length, set, drop, take, getD, replicate, take-nil, drop-drop, length-append, replicate-append-replicate, take-at, drop-at, split-at, set-split}
 use Rattle.lists.specs.Bytes.{Bytes}
 use Rattle.lists.proofs.Bytes.{bytes-append, bytes-zeros}
 use Rattle.lists.specs.Every.{All}
@@ -13,6 +13,16 @@ put-part pre mid post ys a k p q = rw (take-at pre (mid ++ post) a p, drop-at pr
 -- the part between pre and post is read
 pub get-part : (pre mid post : List ℕ) (a k : ℕ) → length pre ≡ a → length mid ≡ k → midOf a k (pre ++ (mid ++ post)) ≡ mid
 get-part pre mid post a k p q = rw (drop-at pre (mid ++ post) a p, take-at mid post k q)
+
+-- the same bytes, with the first k left out before or after
+behind : (k n : ℕ) (l : List ℕ) → take n (drop k l) ≡ drop k (take (k + n) l)
+behind zero n l = ap (λ (i : ℕ). take i l) (sym (zero-add n))
+behind (suc k) n [] = take-nil n ∙ sym (ap (drop (suc k)) (take-nil (suc k + n)))
+behind (suc k) n (x ∷ l) = behind k n l ∙ ap (λ (i : ℕ). drop (suc k) (take i (x ∷ l))) (sym (suc-add k n))
+
+-- what stands behind the first k bytes of a part
+pub get-behind : (k a n : ℕ) (s : List ℕ) → midOf (a + k) n s ≡ drop k (midOf a (k + n) s)
+get-behind k a n s = ap (take n) (sym (drop-drop k a s)) ∙ behind k n (drop a s)
 
 -- slots after slots are bytes after bytes
 pub flat-append : (xs ys : List (List ℕ)) → flat (xs ++ ys) ≡ flat xs ++ flat ys

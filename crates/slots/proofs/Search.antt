@@ -75,7 +75,7 @@ key-there s x r at o key d h {b} e =
     ap (λ (m : List ℕ). same? m key) (sym g) ∙ e
 
 -- the slot that stands at `at` has the key or not
-part-hit : (s : List ℕ) (at w o : ℕ) (key : List ℕ) → o + length key ≤ w → w ≤ length s - at → {b : Bool} → same? (midOf (at + o) (at + o + length key - (at + o)) s) key ≡ b → hit o key (take w (drop at s)) ≡ b
+pub part-hit : (s : List ℕ) (at w o : ℕ) (key : List ℕ) → o + length key ≤ w → w ≤ length s - at → {b : Bool} → same? (midOf (at + o) (at + o + length key - (at + o)) s) key ≡ b → hit o key (take w (drop at s)) ≡ b
 part-hit s at w o key h k e =
     let l : length (take w (drop at s)) ≡ w = length-take-le w (drop at s) (omega (arith, length-drop at s)) in
     key-there s (take w (drop at s)) (drop w (drop at s)) at o key (sym (take-append-drop w (drop at s))) (omega arith) e

@@ -152,21 +152,6 @@ all-front P zero xs p = tt
 all-front P (suc n) [] p = (tt, all-front P n [] tt)
 all-front P (suc n) (x ∷ xs) p = (p .0, all-front P n xs (p .1))
 
--- an entry put in a place that is used, or the first that is free
-pub front-put : {A : Type 0} (n k : ℕ) (ls : List A) (a : A) → k ≤ length ls → k < n → set (front n ls) k (some a) ≡ front n (putAt k a ls)
-front-put zero k ls a h l = absurd (not-suc-le-zero l)
-front-put (suc n) zero [] a h l = refl
-front-put (suc n) zero (b ∷ bs) a h l = refl
-front-put (suc n) (suc k) [] a h l = absurd (not-suc-le-zero h)
-front-put (suc n) (suc k) (b ∷ bs) a h l = ap (λ m. some b ∷ m) (front-put n k bs a (le-of-suc-le-suc h) (le-of-suc-le-suc l))
-
--- one place more is an empty one at the end
-pub front-more : {A : Type 0} (n : ℕ) (ls : List A) → length ls ≤ n → front (suc n) ls ≡ front n ls ++ (none ∷ [])
-front-more zero [] h = refl
-front-more zero (a ∷ ls) h = absurd (not-suc-le-zero h)
-front-more (suc n) [] h = ap (λ l. none ∷ l) (front-more n [] (omega arith))
-front-more (suc n) (a ∷ ls) h = ap (λ l. some a ∷ l) (front-more n ls (le-of-suc-le-suc h))
-
 -- ---- lists of entries
 
 -- an entry put past the last is added at the end

@@ -4,6 +4,7 @@ use mathlib.Core.Path.{_≡_, refl, sym, ap, _∙_}
 use mathlib.Core.Bool.{Bool, true, false, true≢false}
 use mathlib.Core.List.{List}
 use mathlib.Core.Option.{Option, Option·some-injective, Option·none-ne-some}
+use Rattle.counted_lists.specs.Counted.{Tried}
 use Rattle.writing.specs.Canonical.{Fits}
 use Rattle.writing.specs.Ranges.{text-limits, InRange}
 use Rattle.writing.specs.Settings.{Setting, unicode16}
@@ -12,7 +13,6 @@ use Rattle.settings.specs.Meant.{Meant}
 use Rattle.tables.specs.declared.limits.Limits.{Limits}
 use Rattle.tables.specs.Apply.{apply}
 use Rattle.tables.specs.Layout.{layout, Roomy}
-use Rattle.tables.specs.Changing.{Tried}
 use Rattle.tables.specs.Store.{Works, Applied}
 use Rattle.tables.specs.Tables.{Tables}
 

@@ -1,5 +1,5 @@
 -- Lines of which no two have one number: each line's number is looked for behind it. Assumes nothing.
-use Rattle.lists.proofs.Kit.{_≡_, refl, sym, ap, _∙_, subst, _↔_, _≢_, List, [], _∷_, _++_, map, append-assoc, ℕ, _+_, _*_, _-_, _≤_, _<_, mul-le-mul-right, arith, midOf, length, take, drop, length-drop, length-map, take-append-drop, drop-drop, length-take-le, take-add, take-all, take-at}
+use Rattle.lists.proofs.Kit.{_≡_, refl, sym, ap, _∙_, subst, _↔_, List, [], _∷_, _++_, map, append-assoc, ℕ, _+_, _*_, _-_, _≤_, _<_, mul-le-mul-right, arith, midOf, length, take, drop, length-drop, length-map, take-append-drop, drop-drop, length-take-le, take-add, take-all, take-at}
 use Rattle.lists.specs.Every.{All}
 use Rattle.lists.proofs.Every.{all-made}
 use Rattle.lists.proofs.Seqs.{cut}
@@ -7,16 +7,16 @@ use Rattle.slots.specs.Slots.{flat, front, indexOf, pad, places, zeros?, fit, F
 use Rattle.slots.proofs.Keys.{key-at, found-known, used-at}
 use Rattle.slots.proofs.Pads.{pad-is}
 use Rattle.slots.proofs.Parts.{slots-length}
-use Rattle.slots.proofs.Changes.{index-absent, index-end}
 use Rattle.slots.proofs.Tables.{front-bytes}
-use Rattle.writing.specs.Settings.{Number}
-use Rattle.tables.specs.Allowed.{LineOk, Distinct}
+use Rattle.counted_lists.specs.Counted.{Without, Distinct}
+use Rattle.counted_lists.proofs.KeyedLists.{none-found}
+use Rattle.tables.specs.Allowed.{LineOk}
 use Rattle.tables.specs.Apply.{has-number}
 use Rattle.tables.specs.Layout.{digit-bytes, line-bytes, line-width, digits-at}
-use Rattle.tables.specs.Tables.{Line}
+use Rattle.tables.specs.Tables.{Line, line-key}
 use Rattle.tables.proofs.EntryCodes.{line-code, line-keyed, line-shown}
-use Rattle.tables.proofs.Sentences.{says-without, without-says}
-use Rattle.tables.proofs.TextCodes.{digits-length, digits-same, digits-shown}
+use Rattle.tables.proofs.Sentences.{key-is-digits}
+use Rattle.tables.proofs.TextCodes.{digits-length, digits-same}
 
 -- ---- entries that fill their places
 
@@ -44,16 +44,12 @@ module _ {A : Type 0} (P : A → Type 0) (w : ℕ) (f : A → List ℕ) (long : 
 
 -- ---- lines
 
--- no line behind has the number where a search for it finds nothing
-none-has : (d : Number) (ls : List Line) → (indexOf (has-number d) ls ≡ length ls) ↔ All (λ x. x .number ≢ d) ls
-none-has d ls = (λ e. says-without d ls (index-end (has-number d) ls e), λ h. index-absent (has-number d) ls (without-says d ls h))
-
 -- the lines from `at` on, which are distinct where all are
 pub record Behind (s : List ℕ) (at end : ℕ) (ls : List Line) : Type 0 where
   pub left : List Line
   pub each : All LineOk left
   pub here : midOf at (end - at) s ≡ flat (map line-bytes left)
-  pub same : Distinct ls ↔ Distinct left
+  pub same : Distinct line-key ls ↔ Distinct line-key left
 
 -- the same with the next line
 record Next (s : List ℕ) (at end : ℕ) (ls : List Line) : Type 0 where
@@ -61,7 +57,7 @@ record Next (s : List ℕ) (at end : ℕ) (ls : List Line) : Type 0 where
   later : List Line
   each : LineOk line × All LineOk later
   here : midOf at (end - at) s ≡ line-bytes line ++ flat (map line-bytes later)
-  same : Distinct ls ↔ Distinct (line ∷ later)
+  same : Distinct line-key ls ↔ Distinct line-key (line ∷ later)
 
 -- at the start all lines stand there
 pub lines-start : (n : ℕ) (ls : List Line) (s : List ℕ) (end : ℕ) → Found (0 < line-width) zeros? line-width s end → Listed LineOk line-width line-bytes n ls s → Behind s 0 end ls
@@ -79,15 +75,15 @@ module _ (s : List ℕ) (at end : ℕ) (ls : List Line) (fits : end ≤ length s
   next : line-width ≤ end - at → Next s at end ls
   next h = go (q .left) (q .each) (q .here) (q .same)
     where
-      go : (ms : List Line) → All LineOk ms → midOf at (end - at) s ≡ flat (map line-bytes ms) → Distinct ls ↔ Distinct ms → Next s at end ls
+      go : (ms : List Line) → All LineOk ms → midOf at (end - at) s ≡ flat (map line-bytes ms) → Distinct line-key ls ↔ Distinct line-key ms → Next s at end ls
       go [] p e d = absurd (omega (arith, bytes-left, ap length e))
       go (l ∷ ms) p e d = record { line = l; later = ms; each = p; here = e; same = d }
 
   -- where none are, no line is left, and none has a number twice
-  pub lines-end : end - at < line-width → Distinct ls
+  pub lines-end : end - at < line-width → Distinct line-key ls
   lines-end h = go (q .left) (q .each) (q .here) (q .same)
     where
-      go : (ms : List Line) → All LineOk ms → midOf at (end - at) s ≡ flat (map line-bytes ms) → Distinct ls ↔ Distinct ms → Distinct ls
+      go : (ms : List Line) → All LineOk ms → midOf at (end - at) s ≡ flat (map line-bytes ms) → Distinct line-key ls ↔ Distinct line-key ms → Distinct line-key ls
       go [] p e d = d .1 tt
       go (l ∷ ms) p e d = absurd (omega (arith, bytes-left, ap length e, bytes-long LineOk line-width line-bytes (line-code .long) (l ∷ ms)))
 
@@ -104,8 +100,8 @@ module _ (s : List ℕ) (at end : ℕ) (ls : List Line) (fits : end ≤ length s
         (c .0, ap (take (end - (at + line-width))) (sym (drop-drop line-width at s)) ∙ c .1)
 
     -- its number
-    line-key : midOf (at + digits-at) (at + digits-at + 18 - (at + digits-at)) s ≡ digit-bytes (next h .line .number)
-    line-key =
+    number-read : midOf (at + digits-at) (at + digits-at + 18 - (at + digits-at)) s ≡ digit-bytes (next h .line .number)
+    number-read =
         let l = next h .line in
         let k : at + digits-at + 18 - (at + digits-at) ≡ 18 = omega arith in
         let e : drop at s ≡ line-bytes l ++ drop line-width (drop at s) = sym (take-append-drop line-width (drop at s)) ∙ ap (λ (x : List ℕ). x ++ drop line-width (drop at s)) (line-cut .0) in
@@ -114,22 +110,22 @@ module _ (s : List ℕ) (at end : ℕ) (ls : List Line) (fits : end ≤ length s
 
     module _ (r : ℕ) (found : Found (KeyAt line-width digits-at (midOf (at + digits-at) (at + digits-at + 18 - (at + digits-at)) s) × (length (midOf (at + digits-at) (at + digits-at + 18 - (at + digits-at)) s) ≡ 18)) (fit digits-at (midOf (at + digits-at) (at + digits-at + 18 - (at + digits-at)) s)) line-width (midOf (at + line-width) (end - (at + line-width)) s) r) where
       -- the search ends at the first line behind that has the number
-      key-found : r ≡ indexOf (has-number (next h .line .number)) (next h .later) * line-width
+      key-found : r ≡ indexOf (has-number (line-key (next h .line))) (next h .later) * line-width
       key-found =
           let n = next h in
           let d = n .line .number in
           let o = n .each .0 .number in
-          key-at LineOk line-width line-bytes digits-at 18 (λ l. digit-bytes (l .number)) line-keyed (digit-bytes d) (digits-length d) (digits-shown d (o .0)) (has-number d)
+          key-at LineOk line-width line-bytes digits-at 18 (λ l. digit-bytes (l .number)) line-keyed (digit-bytes d) (digits-length d) (has-number d)
           (λ a p. digits-same (a .number) d (p .number .1) (o .1)) (length (n .later)) (n .later) (midOf (at + line-width) (end - (at + line-width)) s)
           (full-listed LineOk line-width line-bytes (line-code .long) (n .later) (midOf (at + line-width) (end - (at + line-width)) s) (n .each .1) (line-cut .1)) r
-          (subst (λ (k : List ℕ). Found (KeyAt line-width digits-at k) (fit digits-at k) line-width (midOf (at + line-width) (end - (at + line-width)) s) r) line-key
-          (found-known line-width digits-at 18 _ (midOf (at + line-width) (end - (at + line-width)) s) _ r (ap length line-key ∙ digits-length d) found))
+          (subst (λ (k : List ℕ). Found (KeyAt line-width digits-at k) (fit digits-at k) line-width (midOf (at + line-width) (end - (at + line-width)) s) r) number-read
+          (found-known line-width digits-at 18 _ (midOf (at + line-width) (end - (at + line-width)) s) _ r (ap length number-read ∙ digits-length d) found))
 
       -- at the end where none has it
-      key-none : (r ≡ end - (at + line-width)) ↔ All (λ x. x .number ≢ next h .line .number) (next h .later)
+      key-none : (r ≡ end - (at + line-width)) ↔ Without line-key (line-key (next h .line)) (next h .later)
       key-none =
           let n = next h in
-          let t = none-has (n .line .number) (n .later) in
+          let t = none-found line-key has-number key-is-digits (line-key (n .line)) (n .later) in
           let l : end - (at + line-width) ≡ length (n .later) * line-width
           = sym (length-take-le (end - (at + line-width)) (drop (at + line-width) s) (omega (arith, length-drop (at + line-width) s))) ∙ ap length (line-cut .1) ∙ bytes-long LineOk line-width line-bytes (line-code .long) (n .later) in
           (λ e. t .0 (omega (arith, key-found)), λ a. omega (arith, key-found, t .1 a))
@@ -141,5 +137,5 @@ module _ (s : List ℕ) (at end : ℕ) (ls : List Line) (fits : end ≤ length s
           record { left = n .later; each = n .each .1; here = line-cut .1; same = (λ d. n .same .0 d .1, λ d. n .same .1 (key-none .0 e, d)) }
 
       -- it is another's too
-      pub lines-stop : (r ≡ end - (at + line-width) → ⊥) → Distinct ls → ⊥
+      pub lines-stop : (r ≡ end - (at + line-width) → ⊥) → Distinct line-key ls → ⊥
       lines-stop e d = e (key-none .1 (next h .same .0 d .0))

@@ -1,4 +1,5 @@
 pub mod CheckLaws
+pub mod CountChecks
 pub mod DistinctLaws
 pub mod EntryChecks
 pub mod FixedChecks

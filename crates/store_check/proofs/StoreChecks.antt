@@ -1,17 +1,19 @@
 -- A store, region by region: which bytes are one. Assumes nothing.
 use Rattle.lists.proofs.Kit.{_≡_, sym, ap, ap₂, _∙_, subst, Bool, true, _↔_, Iff·rfl, Iff·trans, Iff·and, Option, List, [], _++_, append-assoc, append-nil, ℕ, _+_, _*_, _-_, arith, midOf, length, drop, replicate, length-append, length-drop}
-use Rattle.slots.specs.Slots.{places, front, zeros?, u16, EntryOf, PlacesOf, ListOf, Listed}
+use Rattle.slots.specs.Slots.{places, front, zeros?, u16, EntryOf, PlacesOf, Listed}
 use Rattle.slots.proofs.Runs.{zeros-all, zeros-are}
 use Rattle.slots.proofs.Tables.{front-length, places-length}
+use Rattle.counted_lists.specs.Counted.{Distinct}
 use Rattle.writing.specs.declared.HomeNumbers.{HomeNumbers}
 use Rattle.writing.specs.declared.SystemCode.{SystemCode}
 use Rattle.writing.specs.Ranges.{InChannel}
 use Rattle.writing.specs.Settings.{Hash, Text}
 use Rattle.tables.specs.declared.limits.Limits.{Limits}
-use Rattle.tables.specs.Allowed.{QuickOk, StatusOk, GroupOk, IndividualOk, LineOk, HashOk, HomeOk, SystemOk, Distinct, Allowed, PlacesOk, ListOk, LinesOk}
-use Rattle.store_check.specs.Checks.{Both, joined, KeyOk, FixedOf, IndexedOf, ChannelsOf, LinesOf}
-use Rattle.tables.specs.Layout.{quick-bytes, status-bytes, group-bytes, individual-bytes, line-bytes, hash-bytes, key-bytes, home-bytes, system-bytes, used-size, layout, Roomy, IsStore, line-width, lists-at, member-size, quick-at, quick-size, status-size}
-use Rattle.tables.specs.Tables.{Line, GroupMember, IndividualMember, Key, Tables}
+use Rattle.tables.specs.Allowed.{QuickOk, StatusOk, GroupOk, IndividualOk, LineOk, HashOk, HomeOk, SystemOk, Allowed, PlacesOk, ListOk, LinesOk}
+use Rattle.store_check.specs.Checks.{Both, joined, KeyOk, FixedOf, IndexedOf, CountedIn, ChannelsOf, LinesOf}
+use Rattle.store_check.specs.declared.checks_tables.Table.the-variants.{Lines}
+use Rattle.tables.specs.Layout.{quick-bytes, status-bytes, group-bytes, individual-bytes, line-bytes, hash-bytes, key-bytes, home-bytes, system-bytes, used-size, layout, Roomy, IsStore, count-size, counted, channel-width, channels-size, line-width, lines-size, lists-at, lines-at, member-size, quick-at, quick-size, status-size}
+use Rattle.tables.specs.Tables.{Line, line-key, GroupMember, IndividualMember, Key, Tables}
 use Rattle.store_check.proofs.CheckLaws.{Same, entry-same, parts-are, last-is, rest-is}
 use Rattle.tables.proofs.EntryCodes.{quick-code, status-code, group-code, individual-code, channel-code, line-code}
 use Rattle.tables.proofs.FixedCodes.{hash-code, key-code, home-code, system-code}
@@ -28,9 +30,9 @@ module _ {A : Type 0} (P : A → Type 0) (w : ℕ) (f : A → List ℕ) (long : 
   table-long : (os : List (Option A)) → PlacesOk P n os → length (places w f os) ≡ n * w
   table-long os p = places-length w f long os ∙ ap (λ (i : ℕ). i * w) (p .0)
 
-  -- a list table
-  list-long : (ls : List A) → length (places w f (front n ls)) ≡ n * w
-  list-long ls = places-length w f long (front n ls) ∙ ap (λ (i : ℕ). i * w) (front-length n ls)
+  -- a list table with its count
+  list-long : (ls : List A) → length (counted w f n ls) ≡ count-size + n * w
+  list-long ls = omega (arith, places-length w f long (front n ls) ∙ ap (λ (i : ℕ). i * w) (front-length n ls))
 
 -- ---- tables as entries
 
@@ -41,29 +43,18 @@ places-entry P w f n s = (
   λ x. record { entries = x .entry; placed = record { many = x .holds .0; each = x .holds .1; bytes = x .bytes } },
 )
 
--- a list table
-pub list-entry : {A : Type 0} (P : A → Type 0) (w : ℕ) (f : A → List ℕ) (n : ℕ) (s : List ℕ) → ListOf P w f n s ↔ EntryOf (ListOk P n) (λ xs. places w f (front n xs)) s
-list-entry P w f n s = (
-  λ t. record { entry = t .entries; holds = (t .listed .few, t .listed .each); bytes = t .listed .bytes },
-  λ x. record { entries = x .entry; listed = record { few = x .holds .0; each = x .holds .1; bytes = x .bytes } },
-)
-
 -- ---- lines
 
--- a list table of lines
-abbrev LinesIn : ℕ → List ℕ → Type 0
-LinesIn n s = ListOf LineOk line-width line-bytes n s
-
--- lines are a list table of lines
-pub lines-list : (n : ℕ) (s : List ℕ) → LinesOf n s → LinesIn n s
-lines-list n s x = list-entry LineOk line-width line-bytes n s .1 (record { entry = x .entry; holds = x .holds .0; bytes = x .bytes })
-
--- of which a test decides whether they are distinct
-pub lines-decided : (n : ℕ) (s : List ℕ) → LinesIn n s → (b : Bool) → ((n : ℕ) (ls : List Line) → Listed LineOk line-width line-bytes n ls s → (b ≡ true) ↔ Distinct ls) → (b ≡ true) ↔ LinesOf n s
+-- lines are a list table of lines, of which a test decides whether they are distinct
+pub lines-decided : (n : ℕ) (s : List ℕ) → CountedIn Lines n s → (b : Bool) → ((n : ℕ) (ls : List Line) → Listed LineOk line-width line-bytes n ls (drop count-size s) → (b ≡ true) ↔ Distinct line-key ls) → (b ≡ true) ↔ LinesOf n s
 lines-decided n s t b d = (
-  λ e. record { entry = t .entries; holds = ((t .listed .few, t .listed .each), d n (t .entries) (t .listed) .0 e); bytes = t .listed .bytes },
-  λ x. d n (x .entry) (record { few = x .holds .0 .0; each = x .holds .0 .1; bytes = x .bytes }) .1 (x .holds .1),
+  λ e. record { entry = t .entry; holds = (t .holds, d n (t .entry) (record { few = t .holds .0; each = t .holds .1; bytes = ap (drop count-size) (t .bytes) }) .0 e); bytes = t .bytes },
+  λ x. d n (x .entry) (record { few = x .holds .0 .0; each = x .holds .0 .1; bytes = ap (drop count-size) (x .bytes) }) .1 (x .holds .1),
 )
+
+-- and lines with their count are such a table
+pub lines-counted : (n : ℕ) (s : List ℕ) → LinesOf n s → CountedIn Lines n s
+lines-counted n s x = record { entry = x .entry; holds = x .holds .0; bytes = x .bytes }
 
 -- ---- the indexed tables
 
@@ -139,11 +130,11 @@ module _ (lim : Limits) where
 
   -- the channels' bytes
   abbrev channels-bytes : List ℕ → List ℕ
-  channels-bytes cs = places 2 u16 (front (lim .channels) cs)
+  channels-bytes = counted channel-width u16 (lim .channels)
 
   -- the lines' bytes
   abbrev lines-bytes : List Line → List ℕ
-  lines-bytes ls = places line-width line-bytes (front (lim .lines) ls)
+  lines-bytes = counted line-width line-bytes (lim .lines)
 
   -- the bytes that no table uses
   abbrev spare-bytes : Unit {0} → List ℕ
@@ -214,22 +205,22 @@ module _ (lim : Limits) where
         (subst (λ (i : ℕ). EntryOf P f (midOf a i s)) e, subst (λ (i : ℕ). EntryOf P f (midOf a i s)) (sym e))
 
     -- the bytes that no table uses
-    spare-part : (zeros? (midOf (lists-at + lim .channels * 2 + lim .lines * line-width) (length s - (lists-at + lim .channels * 2 + lim .lines * line-width)) s) ≡ true) ↔ EntryOf (λ u. Unit {0}) spare-bytes (drop (lists-at + lim .channels * 2 + lim .lines * line-width) s)
+    spare-part : (zeros? (midOf (lines-at lim + lines-size lim) (length s - (lines-at lim + lines-size lim)) s) ≡ true) ↔ EntryOf (λ u. Unit {0}) spare-bytes (drop (lines-at lim + lines-size lim) s)
     spare-part =
-        let a = lists-at + lim .channels * 2 + lim .lines * line-width in
+        let a = lines-at lim + lines-size lim in
         let e : midOf a (length s - a) s ≡ drop a s = rest-is s a (length s - a) (omega arith) in
-        let k : length (drop a s) ≡ lim .size - used-size lim = omega (arith, length-drop a s) in
+        let k : length (drop a s) ≡ lim .size - used-size lim = omega (arith, room .fits, length-drop a s) in
         Iff·trans (λ z. ap zeros? (sym e) ∙ z, λ z. ap zeros? e ∙ z) (spare-is (lim .size - used-size lim) (drop a s) k)
 
     -- the bytes of a store's size are a store where each region is what it has to be
-    pub store-is : (FixedOf (midOf 0 22 s) × (IndexedOf (midOf quick-at 7264 s) × (ChannelsOf (lim .channels) (midOf lists-at (lists-at + lim .channels * 2 - lists-at) s) × (LinesOf (lim .lines) (midOf (lists-at + lim .channels * 2) (lists-at + lim .channels * 2 + lim .lines * line-width - (lists-at + lim .channels * 2)) s) × (zeros? (midOf (lists-at + lim .channels * 2 + lim .lines * line-width) (length s - (lists-at + lim .channels * 2 + lim .lines * line-width)) s) ≡ true))))) ↔ IsStore lim s
+    pub store-is : (FixedOf (midOf 0 22 s) × (IndexedOf (midOf quick-at 7264 s) × (ChannelsOf (lim .channels) (midOf lists-at (lists-at + channels-size lim - lists-at) s) × (LinesOf (lim .lines) (midOf (lines-at lim) (lines-at lim + lines-size lim - lines-at lim) s) × (zeros? (midOf (lines-at lim + lines-size lim) (length s - (lines-at lim + lines-size lim)) s) ≡ true))))) ↔ IsStore lim s
     store-is =
         let w = Iff·trans (Iff·and Iff·rfl
         (Iff·trans (Iff·and Iff·rfl
-        (Iff·trans (Iff·and (part-is (ListOk InChannel (lim .channels)) channels-bytes lists-at (lim .channels * 2))
-        (Iff·trans (Iff·and (part-is (LinesOk (lim .lines)) lines-bytes (lists-at + lim .channels * 2) (lim .lines * line-width)) spare-part)
-        (parts-are (LinesOk (lim .lines)) (λ u. Unit {0}) lines-bytes spare-bytes (lists-at + lim .channels * 2) (lim .lines * line-width) s (λ ls p. list-long LineOk line-width line-bytes (line-code .long) (lim .lines) ls))))
-        (parts-are (ListOk InChannel (lim .channels)) (Both (LinesOk (lim .lines)) (λ u. Unit {0})) channels-bytes (joined lines-bytes spare-bytes) lists-at (lim .channels * 2) s (λ cs p. list-long InChannel 2 u16 (channel-code .long) (lim .channels) cs))))
+        (Iff·trans (Iff·and (part-is (ListOk InChannel (lim .channels)) channels-bytes lists-at (channels-size lim))
+        (Iff·trans (Iff·and (part-is (LinesOk (lim .lines)) lines-bytes (lines-at lim) (lines-size lim)) spare-part)
+        (parts-are (LinesOk (lim .lines)) (λ u. Unit {0}) lines-bytes spare-bytes (lines-at lim) (lines-size lim) s (λ ls p. list-long LineOk line-width line-bytes (line-code .long) (lim .lines) ls))))
+        (parts-are (ListOk InChannel (lim .channels)) (Both (LinesOk (lim .lines)) (λ u. Unit {0})) channels-bytes (joined lines-bytes spare-bytes) lists-at (channels-size lim) s (λ cs p. list-long InChannel 2 u16 (channel-code .long) (lim .channels) cs))))
         (parts-are IndexedOk RestOk indexed-bytes rest-bytes 22 7264 s indexed-long)))
         (Iff·trans (parts-are FixedOk (Both IndexedOk RestOk) fixed-bytes (joined indexed-bytes rest-bytes) 0 22 s fixed-long)
         (entry-same (Both FixedOk (Both IndexedOk RestOk)) (joined fixed-bytes (joined indexed-bytes rest-bytes)) (Allowed lim) (layout lim) tables-of s)) in (

@@ -1,7 +1,7 @@
 -- What the checks of a store's bytes decide, region by region: inner steps, no promise cites these.
 use Prim.Native.Nat.{ℕ}
 use mathlib.Core.List.{List, _++_}
-use Rattle.slots.specs.Slots.{EntryOf, places, front, u16}
+use Rattle.slots.specs.Slots.{EntryOf, places, u16}
 use Rattle.writing.specs.Ranges.{InChannel}
 use Rattle.writing.specs.Settings.{Text}
 use Rattle.store_check.specs.declared.checks_tables.Table.{Table}
@@ -9,7 +9,7 @@ use Rattle.store_check.specs.declared.checks_tables.Table.the-variants.{
 use Rattle.tables.specs.Limits.{quick-places, status-places, slot-places}
 use Rattle.tables.specs.Tables.{Line, GroupMember, IndividualMember, Key}
 use Rattle.tables.specs.Allowed.{QuickOk, StatusOk, GroupOk, IndividualOk, LineOk, HashOk, HomeOk, SystemOk, TargetOk, PlacesOk, ListOk, LinesOk}
-use Rattle.tables.specs.Layout.{quick-bytes, status-bytes, group-bytes, individual-bytes, line-bytes, hash-bytes, key-bytes, home-bytes, system-bytes, quick-width, status-width, member-width, channel-width, line-width}
+use Rattle.tables.specs.Layout.{counted, quick-bytes, status-bytes, group-bytes, individual-bytes, line-bytes, hash-bytes, key-bytes, home-bytes, system-bytes, quick-width, status-width, member-width, channel-width, line-width}
 
 -- ---- two entries, one after the other
 
@@ -59,6 +59,10 @@ width-in Individuals = member-width
 width-in Channels = channel-width
 width-in Lines = line-width
 
+-- the bytes are a list table with its count and n places
+abbrev pub CountedIn : Table → ℕ → List ℕ → Type 0
+CountedIn t n s = EntryOf (ListOk (OkIn t) n) (counted (width-in t) (bytes-in t) n) s
+
 -- ---- the regions of a store
 
 -- the key calls where it may
@@ -75,10 +79,10 @@ IndexedOf s =
     EntryOf (Both (PlacesOk QuickOk quick-places) (Both (PlacesOk StatusOk status-places) (Both (PlacesOk GroupOk slot-places) (PlacesOk IndividualOk slot-places))))
     (joined (places quick-width quick-bytes) (joined (places status-width status-bytes) (joined (places member-width group-bytes) (places member-width individual-bytes)))) s
 
--- the bytes are channels in n places
+-- the bytes are the count of channels, and they in n places
 abbrev pub ChannelsOf : ℕ → List ℕ → Type 0
-ChannelsOf n s = EntryOf (ListOk InChannel n) (λ cs. places channel-width u16 (front n cs)) s
+ChannelsOf n s = EntryOf (ListOk InChannel n) (counted channel-width u16 n) s
 
--- the bytes are lines in n places
+-- the bytes are the count of lines, and they in n places
 abbrev pub LinesOf : ℕ → List ℕ → Type 0
-LinesOf n s = EntryOf (LinesOk n) (λ ls. places line-width line-bytes (front n ls)) s
+LinesOf n s = EntryOf (LinesOk n) (counted line-width line-bytes n) s

@@ -7,6 +7,7 @@ use slots::bytes::is_clear;
 use tables::limits::Limits;
 use tables::limits::roomy;
 use tables::places::CHANNEL_SLOT;
+use tables::places::COUNT;
 use tables::places::HASH;
 use tables::places::LINE_SLOT;
 use tables::places::LISTS;
@@ -29,11 +30,11 @@ fn regions_ok(store: &[u8], limits: Limits) -> bool
     if !indexed_ok(&store[QUICK..LISTS]) {
         return false;
     }
-    let lines = LISTS + limits.channels * CHANNEL_SLOT;
+    let lines = LISTS + (COUNT + limits.channels * CHANNEL_SLOT);
     if !channels_ok(&store[LISTS..lines]) {
         return false;
     }
-    let spare = lines + limits.lines * LINE_SLOT;
+    let spare = lines + (COUNT + limits.lines * LINE_SLOT);
     if !lines_ok(&store[lines..spare]) {
         return false;
     }

@@ -36,7 +36,7 @@ pub(crate) enum Table {
     Lines,
 }
 
-fn width(t: Table) -> usize
+pub(crate) fn width(t: Table) -> usize
     ensures { λ r. ⌜ r ≡ width-in t ⌝ }
 {
     match t {

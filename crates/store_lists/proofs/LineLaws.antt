@@ -1,15 +1,15 @@
--- Laws of the table of line contacts: a line's slot, and what a turn of the table's loops does. Assumes nothing.
-use Rattle.lists.proofs.Kit.{_≡_, refl, sym, ap, ap₂, _∙_, subst, subst⁻¹, Bool, true, false, cond, List, [], _∷_, _++_, map, append-nil, none, some, ℕ, suc, _+_, _-_, _≤_, _<_, arith, lt-ltb, le-ltb, putMid, midOf, length, take, drop, replicate, length-append}
+-- Laws of the table of line contacts: a line's slot, and what a turn of the table's loop does. Assumes nothing.
+use Rattle.lists.proofs.Kit.{_≡_, refl, sym, ap, ap₂, _∙_, subst, Bool, true, false, List, [], _∷_, _++_, map, append-nil, ℕ, suc, _+_, _-_, _≤_, _<_, arith, putMid, midOf, length, replicate, length-append}
 use Rattle.lists.specs.Bytes.{Bytes}
 use Rattle.lists.specs.Every.{All}
-use Rattle.slots.specs.Slots.{same?, fit, indexOf, putAt, KeyAt, Found, Removed}
-use Rattle.slots.proofs.Keys.{key-removed, key-room, key-full, key-put, found-known}
+use Rattle.slots.specs.Slots.{same?}
 use Rattle.slots.proofs.Pads.{pad-length}
 use Rattle.slots.proofs.Parts.{put-part, get-part}
-use Rattle.slots.proofs.Tables.{slot-copied}
+use Rattle.counted_lists.specs.Counted.{Tried, KeyedPut, KeyDropped}
+use Rattle.counted_lists.proofs.EntryLaws.{Keyed, entries-put, entries-drop, entries-none}
+use Rattle.counted_lists.proofs.ListLaws.{tried-room, tried-full}
 use Rattle.writing.specs.declared.LineFlags.{LineFlags}
 use Rattle.writing.specs.declared.Operation.{Operation}
-use Rattle.writing.specs.declared.Operation.the-variants.{Add, Delete, Replace}
 use Rattle.writing.specs.Fields.{each}
 use Rattle.writing.specs.Ranges.{text-limits, InContact}
 use Rattle.writing.specs.Settings.{Contact}
@@ -24,13 +24,13 @@ use Rattle.read_fields.specs.Entries.{ContactIs, ContactAt}
 use Rattle.settings.specs.Meant.{EntriesAre}
 use Rattle.tables.specs.Allowed.{LineOk}
 use Rattle.tables.specs.Apply.{in-turn, start-from, has-number, line-of, line-step}
-use Rattle.tables.specs.Changing.{TextPut, Tried}
+use Rattle.tables.specs.Changing.{TextPut}
 use Rattle.tables.specs.Layout.{line-flags, digit-bytes, text-bytes, line-bytes, digits-at, line-width}
 use Rattle.store_lists.specs.Lists.{DigitsPut, LineSlot, LineTable, LinePut, LineDropped, LinesApplied}
 use Rattle.tables.specs.Tables.{Line}
 use Rattle.tables.proofs.EntryCodes.{line-keyed}
 use Rattle.tables.proofs.EntryWalk.{Starting, Applying, applying-start, applying-next, applying-full, applying-stuck, applying-end}
-use Rattle.tables.proofs.ListLaws.{tried-room, tried-full, wiped}
+use Rattle.tables.proofs.ReplaceLaws.{table-started}
 use Rattle.tables.proofs.TextCodes.{digits-length, digits-same}
 use Rattle.tables.proofs.TextLaws.{text-out}
 
@@ -54,57 +54,33 @@ slot-made m f p b c y z flags kind digits text e is range low =
     ∙ ap₂ (λ (u v : ℕ). u ∷ v ∷ y ++ z) (flags low) kind
     ∙ ap₂ (λ (u v : List ℕ). line-flags f ∷ bit (f .pabx) ∷ u ++ v) d t
 
--- ---- a line's key
+-- ---- one line
 
 -- the digits of a line, as they are kept
 abbrev key : Line → List ℕ
 key l = digit-bytes (l .number)
 
--- the slot of a line
-module _ (l : Line) (ok : LineOk l) (x : List ℕ) (e : x ≡ line-bytes l) where
-  -- its key is read
-  key-read : midOf digits-at 18 x ≡ key l
-  key-read = ap (midOf digits-at 18) e ∙ line-keyed .stands l
+-- they are its key
+numbered : Keyed line-width line-bytes digits-at 18 key
+numbered = record { inside = omega arith; long = line-keyed .long; key-long = line-keyed .key-long; stands = line-keyed .stands }
 
-  -- the lines with its key are those with its number
-  key-same : (a : Line) → LineOk a → same? (key a) (key l) ≡ has-number (l .number) a
-  key-same a q = digits-same (a .number) (l .number) (q .number .1) (ok .number .1)
+-- the lines with a line's key are those with its number
+key-same : (l : Line) → LineOk l → (a : Line) → LineOk a → same? (key a) (key l) ≡ has-number (l .number) a
+key-same l ok a q = digits-same (a .number) (l .number) (q .number .1) (ok .number .1)
 
--- ---- one line
-
-module _ (x s : List ℕ) (r : ℕ) (long : length x ≡ line-width) (found : Found (KeyAt line-width digits-at (midOf digits-at 18 x) × (length (midOf digits-at 18 x) ≡ 18)) (fit digits-at (midOf digits-at 18 x)) line-width s r) where
-  -- the place that was found is that of the line's key
-  found-key : (l : Line) → LineOk l → x ≡ line-bytes l → Found (KeyAt line-width digits-at (key l)) (fit digits-at (key l)) line-width s r
-  found-key l ok e = subst (λ (k : List ℕ). Found (KeyAt line-width digits-at k) (fit digits-at k) line-width s r) (key-read l ok x e)
-      (found-known line-width digits-at 18 (midOf digits-at 18 x) s (fit digits-at (midOf digits-at 18 x)) r (ap length (key-read l ok x e) ∙ digits-length (l .number)) found)
-
-  -- a line's slot where its number was, or in the first free place
-  pub line-added : (y : List ℕ) → (length s - r < line-width → ⊥) → y ≡ take (length (midOf r (r + line-width - r) s)) x ++ drop (length x) (midOf r (r + line-width - r) s)
-      → LinePut x s (putMid r (r + line-width - r) s y) true
-  line-added y room copied n ls l t ok e =
-      let h : line-width ≤ length s - r = omega arith in
-      let z : y ≡ line-bytes l = slot-copied s x y r line-width (omega (arith, found .within)) long copied ∙ e in
-      let f = found-key l ok e in
-      let w : indexOf (has-number (l .number)) ls < n
-      = key-room LineOk line-width line-bytes digits-at 18 key line-keyed (key l) (digits-length (l .number)) (line-keyed .shown l ok) (has-number (l .number)) (key-same l ok x e) n ls s t r f h in
-      tried-room (LineTable n) (putAt (indexOf (has-number (l .number)) ls) l ls)
-      (ap (λ (b : Bool). cond b (some (putAt (indexOf (has-number (l .number)) ls) l ls)) none) (lt-ltb (indexOf (has-number (l .number)) ls) n w))
-      (key-put LineOk line-width line-bytes digits-at 18 key line-keyed (key l) (digits-length (l .number)) (line-keyed .shown l ok) (has-number (l .number)) (key-same l ok x e) n ls s t r f l y ok h z)
-
-  -- no place was found
-  pub line-refused : length s - r < line-width → LinePut x s s false
-  line-refused h n ls l t ok e =
-      let w : n ≤ indexOf (has-number (l .number)) ls
-      = key-full LineOk line-width line-bytes digits-at 18 key line-keyed (key l) (digits-length (l .number)) (line-keyed .shown l ok) (has-number (l .number)) (key-same l ok x e) n ls s t r (found-key l ok e) h in
-      tried-full (LineTable n) (ap (λ (b : Bool). cond b (some (putAt (indexOf (has-number (l .number)) ls) l ls)) none) (le-ltb (indexOf (has-number (l .number)) ls) n w))
+-- a line is put by its number
+pub line-put : (x s t : List ℕ) (r : Bool) → KeyedPut line-width digits-at 18 x s t r → LinePut x s t r
+line-put x s t r h n ls l c ok e =
+    entries-put LineOk line-width line-bytes n ls s c digits-at 18 key numbered (has-number (l .number)) l t r ok (key-same l ok)
+    (subst (λ (v : List ℕ). KeyedPut line-width digits-at 18 v s t r) e h)
 
 -- the lines with a line's number are taken out
-pub line-dropped : (x s t : List ℕ) → Removed line-width digits-at (midOf digits-at 18 x) s t → LineDropped x s t
-line-dropped x s t r n ls l i ok e =
-    key-removed LineOk line-width line-bytes digits-at 18 key line-keyed (key l) (digits-length (l .number)) (line-keyed .shown l ok) (has-number (l .number)) (key-same l ok x e) n ls s i t
-    (subst (λ (k : List ℕ). Removed line-width digits-at k s t) (key-read l ok x e) r)
+pub line-dropped : (x s t : List ℕ) → KeyDropped line-width digits-at (midOf digits-at 18 x) s t → LineDropped x s t
+line-dropped x s t h n ls l c ok e =
+    entries-drop LineOk line-width line-bytes n ls s c digits-at 18 key numbered (has-number (l .number)) (key l) t (digits-length (l .number)) (key-same l ok)
+    (subst (λ (k : List ℕ). KeyDropped line-width digits-at k s t) (ap (midOf digits-at 18) e ∙ line-keyed .stands l) h)
 
--- ---- the loops
+-- ---- the loop
 
 -- a contact in range that stands at a place makes a line in range
 line-ok : (m : List ℕ) → Bytes m → (f : LineFlags) (p : ContactPlace) (e : Contact) → ContactIs m p e → InContact text-limits e → f .priority < 4 → LineOk (line-of f e)
@@ -165,12 +141,6 @@ module _ (o : Operation) (m : List ℕ) (f : LineFlags) (p : Entries) (s : List 
 
 -- ---- replacing
 
--- a region that was emptied where it is to be replaced
-lines-emptied : (o : Operation) (n : ℕ) (ls : List Line) (s t : List ℕ) → t ≡ start-from o (replicate (length s) 0) s → LineTable n ls s → LineTable n (start-from o [] ls) t
-lines-emptied Add n ls s t e l = subst⁻¹ (LineTable n ls) e l
-lines-emptied Delete n ls s t e l = subst⁻¹ (LineTable n ls) e l
-lines-emptied Replace n ls s t e l = wiped LineOk line-width line-bytes (line-keyed .long) n ls s t l e
-
--- what was done to it was done to the region
+-- what was done to a region that was emptied where it is to be replaced was done to the region
 pub lines-applied : (o : Operation) (m : List ℕ) (f : LineFlags) (p : Entries) (s t u : List ℕ) (r : Bool) → t ≡ start-from o (replicate (length s) 0) s → LinesDone o m f p t u r → LinesApplied o m f p s u r
-lines-applied o m f p s t u r e d low n ls es l = d low n (start-from o [] ls) es (lines-emptied o n ls s t e l)
+lines-applied o m f p s t u r e d low n ls es l = d low n (start-from o [] ls) es (table-started (LineTable n) [] ls s t o e (entries-none LineOk line-width line-bytes n ls s l) l)

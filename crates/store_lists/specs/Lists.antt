@@ -1,12 +1,12 @@
 -- What applying settings to the two list tables answers: line contacts and channels. What only inner functions promise stands last.
 use Prim.Native.Nat.{ℕ, suc, _<_}
 use mathlib.Core.Path.{_≡_}
-use mathlib.Core.Bool.{Bool, true, false}
+use mathlib.Core.Bool.{Bool}
 use mathlib.Core.List.{List, map}
-use mathlib.Core.Option.{Option, none, some}
 use lib.ListN.{length, getD}
 use Rattle.lists.specs.Every.{All}
-use Rattle.slots.specs.Slots.{pad, u16, Listed}
+use Rattle.slots.specs.Slots.{pad, u16}
+use Rattle.counted_lists.specs.Counted.{CountedOf, Tried}
 use Rattle.writing.specs.declared.LineFlags.{LineFlags}
 use Rattle.writing.specs.declared.Operation.{Operation}
 use Rattle.writing.specs.Fields.{each}
@@ -23,13 +23,12 @@ use Rattle.tables.specs.Allowed.{LineOk}
 use Rattle.tables.specs.Apply.{channel-step, channels-after, line-of, line-step, put-line, drop-line, lines-after}
 use Rattle.tables.specs.Layout.{channel-width, line-bytes, line-width}
 use Rattle.tables.specs.Tables.{Line}
-use Rattle.tables.specs.Changing.{Tried}
 
 -- ---- channels
 
--- the bytes are the table of these channels, with n places
+-- the bytes are the count and the table of these channels, with n places
 abbrev pub ChannelTable : ℕ → List ℕ → List ℕ → Type 0
-ChannelTable n = Listed InChannel channel-width u16 n
+ChannelTable n = CountedOf InChannel channel-width u16 n
 
 -- what applying the channels that stand at a place answers, on a region that was s and becomes t
 abbrev pub ChannelsApplied : Operation → List ℕ → Entries → List ℕ → List ℕ → Bool → Type 0
@@ -38,9 +37,9 @@ ChannelsApplied o m p s t r =
 
 -- ---- line contacts
 
--- the bytes are the table of these lines, with n places
+-- the bytes are the count and the table of these lines, with n places
 abbrev pub LineTable : ℕ → List Line → List ℕ → Type 0
-LineTable n = Listed LineOk line-width line-bytes n
+LineTable n = CountedOf LineOk line-width line-bytes n
 
 -- what applying the contacts that stand at a place answers, on a region that was s and becomes t
 abbrev pub LinesApplied : Operation → List ℕ → LineFlags → Entries → List ℕ → List ℕ → Bool → Type 0

@@ -1,11 +1,10 @@
 // What a setting does to the table of line contacts, which is a region of a store.
 use super::line_slots::line_slot;
+use counted_lists::changes::drop_keyed;
+use counted_lists::changes::put_keyed;
 use read_fields::entries::ContactRead;
 use read_fields::entries::read_contact;
 use settings::settings::Entries;
-use slots::bytes::copy;
-use slots::slots::place_of;
-use slots::slots::remove_all;
 use tables::places::DIGITS;
 use tables::places::LINE_DIGITS;
 use tables::places::LINE_SLOT;
@@ -20,22 +19,9 @@ ghost use Rattle.store_lists.specs.Lists.{LinePut, LineDropped, LineStep
 
 // Puts a line in place of the one with its number, or at the end, where there is room.
 fn put_line(list: &mut [u8], slot: &[u8]) -> bool
-    requires { ⌜ length (now slot) ≡ line-width ⌝ }
     ensures { λ r. ⌜ LinePut (now (slot .entry)) (now (list .entry)) (now (list .exit)) r ⌝ }
 {
-    let at = place_of(
-        list,
-        LINE_SLOT,
-        LINE_DIGITS,
-        DIGITS,
-        &slot[LINE_DIGITS..LINE_TEXT],
-    );
-    if list.len() - at < LINE_SLOT {
-        return false;
-    }
-    let e = at + LINE_SLOT;
-    copy(&mut list[at..e], slot);
-    true
+    put_keyed(list, LINE_SLOT, LINE_DIGITS, DIGITS, slot)
 }
 
 // Takes the line with the slot's number out.
@@ -43,7 +29,7 @@ fn drop_line(list: &mut [u8], slot: &[u8])
     requires { ⌜ length (now slot) ≡ line-width ⌝ }
     ensures { λ _. ⌜ LineDropped (now (slot .entry)) (now (list .entry)) (now (list .exit)) ⌝ }
 {
-    remove_all(list, LINE_SLOT, LINE_DIGITS, &slot[LINE_DIGITS..LINE_TEXT]);
+    drop_keyed(list, LINE_SLOT, LINE_DIGITS, &slot[LINE_DIGITS..LINE_TEXT]);
 }
 
 // Applies an operation to the line of a slot: was there room?

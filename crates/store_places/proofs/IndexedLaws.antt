@@ -5,7 +5,6 @@ use Rattle.lists.proofs.Every.{all-get}
 use Rattle.slots.specs.Slots.{slot, Present, Placed}
 use Rattle.slots.proofs.Tables.{place-read, place-written, places-length, places-nil, all-front, front-nil}
 use Rattle.writing.specs.declared.Operation.{Operation}
-use Rattle.writing.specs.declared.Operation.the-variants.{Add, Delete, Replace}
 use Rattle.writing.specs.Fields.{Field, widths, each}
 use Rattle.writing.specs.Settings.{Entry}
 use Rattle.writing.proofs.Ends.{Ends}
@@ -16,6 +15,7 @@ use Rattle.settings.specs.declared.settings.Entries.{Entries}
 use Rattle.tables.specs.Apply.{in-turn, start-from}
 use Rattle.tables.specs.Changing.{Changed}
 use Rattle.tables.proofs.EntryWalk.{Starting, Applying, applying-end, entry-missing}
+use Rattle.tables.proofs.ReplaceLaws.{table-started}
 
 module _ {A : Type 0} (P : A → Type 0) (w : ℕ) (f : A → List ℕ) (long : (a : A) → length (f a) ≡ w) (n : ℕ) (os : List (Option A)) (s : List ℕ) (t : Placed P w f n os s) where
   -- place k, changed as its slot is
@@ -39,9 +39,7 @@ module _ {A : Type 0} (P : A → Type 0) (w : ℕ) (f : A → List ℕ) (long : 
 
   -- emptied where it is to be replaced
   pub place-started : (o : Operation) (y : List ℕ) → y ≡ start-from o (replicate (length s) 0) s → Placed P w f n (start-from o (replicate n none) os) y
-  place-started Add y e = subst⁻¹ (Placed P w f n os) e t
-  place-started Delete y e = subst⁻¹ (Placed P w f n os) e t
-  place-started Replace y e = subst⁻¹ (Placed P w f n (replicate n none)) e place-emptied
+  place-started o y e = table-started (Placed P w f n) (replicate n none) os s y o e place-emptied t
 
 -- ---- a loop that applies entries to an indexed table, which was emptied where it is to be replaced
 

@@ -8,7 +8,7 @@ use Rattle.slots.proofs.Tables.{front-nil, places-nil}
 use Rattle.writing.specs.Ranges.{no-hash as hash-0}
 use Rattle.tables.specs.declared.limits.Limits.{Limits}
 use Rattle.tables.specs.Allowed.{Allowed, QuickOk, StatusOk, GroupOk, IndividualOk}
-use Rattle.tables.specs.Layout.{regions, layout, used-size, Roomy, quick-bytes, status-bytes, group-bytes, individual-bytes, line-bytes, quick-width, status-width, member-width, channel-width, line-width, key-at, key-size}
+use Rattle.tables.specs.Layout.{count-size, counted, regions, layout, used-size, Roomy, quick-bytes, status-bytes, group-bytes, individual-bytes, line-bytes, quick-width, status-width, member-width, channel-width, line-width, key-at, key-size}
 use Rattle.tables.specs.Limits.{quick-places, status-places, slot-places}
 use Rattle.tables.specs.Tables.{fresh}
 use Rattle.tables.proofs.Frames.{all-widths}
@@ -35,8 +35,8 @@ fresh-allowed lim =
     }
 
 -- a list table with no entry is zeros
-front-zeros : {A : Type 0} (w : ℕ) (f : A → List ℕ) (n : ℕ) → places w f (front n []) ≡ replicate (n * w) 0
-front-zeros w f n = ap (places w f) (front-nil n) ∙ places-nil w f n
+list-zeros : {A : Type 0} (w : ℕ) (f : A → List ℕ) (n : ℕ) → counted w f n [] ≡ replicate (count-size + n * w) 0
+list-zeros w f n = ap (λ (l : List ℕ). u16 0 ++ l) (ap (places w f) (front-nil n) ∙ places-nil w f n) ∙ replicate-append-replicate count-size (n * w) 0
 
 -- the regions of a fresh store are zeros, the key aside
 fresh-regions : (lim : Limits) → regions lim fresh ≡ set (map (λ w. replicate w 0) (all-widths lim)) 1 (16 ∷ 0 ∷ 0 ∷ 0 ∷ [])
@@ -45,8 +45,8 @@ fresh-regions lim =
     let s = places-nil status-width status-bytes status-places in
     let g = places-nil member-width group-bytes slot-places in
     let j = places-nil member-width individual-bytes slot-places in
-    let c = front-zeros channel-width u16 (lim .channels) in
-    let l = front-zeros line-width line-bytes (lim .lines) in
+    let c = list-zeros channel-width u16 (lim .channels) in
+    let l = list-zeros line-width line-bytes (lim .lines) in
     (λ i.
     replicate 11 0 ∷ (16 ∷ 0 ∷ 0 ∷ 0 ∷ []) ∷ replicate 4 0 ∷ replicate 3 0 ∷ q i ∷ s i ∷ g i ∷ j i ∷ c i ∷ l i
     ∷ replicate (lim .size - used-size lim) 0 ∷ [])
@@ -63,8 +63,8 @@ pub fresh-layout : (lim : Limits) → Roomy lim → layout lim fresh ≡ set (re
 unfolding layout
 fresh-layout lim r =
     let zs : List (List ℕ) = map (λ w. replicate w 0) (all-widths lim) in
-    let e : sum (all-widths lim) ≡ lim .size = omega arith in
+    let e : sum (all-widths lim) ≡ lim .size = omega (arith, r .fits) in
     ap flat (fresh-regions lim)
     ∙ sym (parts-put zs (map length zs) refl 1 (omega arith) (16 ∷ 0 ∷ 0 ∷ 0 ∷ []))
     ∙ ap (λ (l : List ℕ). putMid key-at key-size l (16 ∷ 0 ∷ 0 ∷ 0 ∷ [])) (flat-zeros (all-widths lim) ∙ ap (λ (k : ℕ). replicate k 0) e)
-    ∙ one-byte (lim .size) (omega arith)
+    ∙ one-byte (lim .size) (omega (arith, r .fits))

@@ -1,17 +1,18 @@
 -- The bytes of tables: every region has its width, the regions are bytes, and equal bytes are equal tables. Assumes nothing.
-use Rattle.lists.proofs.Kit.{ℕ, _*_, _-_, _≤_, _≡_, refl, sym, ap, _∙_, false, List, [], _∷_, _++_, map, Option, arith, length, getD, take, drop, length-replicate}
+use Rattle.lists.proofs.Kit.{ℕ, _+_, _*_, _-_, _≤_, _<_, _≡_, refl, sym, ap, _∙_, false, List, [], _∷_, _++_, map, Option, arith, length, getD, take, drop, length-replicate}
 use Rattle.lists.specs.Bytes.{Bytes}
-use Rattle.lists.proofs.Bytes.{bytes-zeros}
+use Rattle.lists.proofs.Bytes.{bytes-zeros, bytes-append}
 use Rattle.lists.specs.Every.{All}
 use Rattle.slots.specs.Slots.{places, front, u16, zeros?, Present, sum}
 use Rattle.slots.proofs.Codes.{Code, places-one, list-one}
+use Rattle.slots.proofs.Numbers.{u16-bytes}
 use Rattle.slots.proofs.Runs.{copy-whole}
 use Rattle.slots.proofs.Parts.{flat-bytes, flat-length, parts-one}
 use Rattle.slots.proofs.Tables.{all-front, front-length, places-bytes, places-length}
 use Rattle.writing.specs.Ranges.{InChannel}
 use Rattle.tables.specs.declared.limits.Limits.{Limits}
 use Rattle.tables.specs.Allowed.{Allowed, QuickOk, StatusOk, GroupOk, IndividualOk, LineOk}
-use Rattle.tables.specs.Layout.{regions, region-widths, used-size, layout, Roomy, quick-bytes, status-bytes, group-bytes, individual-bytes, line-bytes, quick-width, status-width, member-width, channel-width, line-width}
+use Rattle.tables.specs.Layout.{count-size, counted, regions, region-widths, used-size, layout, Roomy, quick-bytes, status-bytes, group-bytes, individual-bytes, line-bytes, quick-width, status-width, member-width, channel-width, line-width}
 use Rattle.tables.specs.Store.{StoreOf, Holds}
 use Rattle.tables.specs.Tables.{Tables}
 use Rattle.tables.proofs.EntryBytes.{quick-are-bytes, status-are-bytes, group-are-bytes, individual-are-bytes, channel-are-bytes, line-are-bytes, hash-are-bytes, key-are-bytes, home-are-bytes, system-are-bytes}
@@ -24,6 +25,10 @@ use Rattle.tables.proofs.FixedCodes.{hash-code, key-code, home-code, sy
 table-wide : {A : Type 0} {P : A → Type 0} {w : ℕ} {f : A → List ℕ} → Code P w f → (os : List (Option A)) (n : ℕ) → length os ≡ n → length (places w f os) ≡ n * w
 table-wide {w = w} {f = f} k os n e = places-length w f (k .long) os ∙ ap (λ (i : ℕ). i * w) e
 
+-- a list table with n places
+list-wide : {A : Type 0} {P : A → Type 0} {w : ℕ} {f : A → List ℕ} → Code P w f → (n : ℕ) (xs : List A) → length (counted w f n xs) ≡ count-size + n * w
+list-wide k n xs = omega (arith, table-wide k (front n xs) n (front-length n xs))
+
 -- REGIONS-WIDE: every region has its width
 pub regions-wide : (lim : Limits) (t : Tables) → Allowed lim t → map length (regions lim t) ≡ region-widths lim ++ ((lim .size - used-size lim) ∷ [])
 regions-wide lim t ok =
@@ -32,15 +37,15 @@ regions-wide lim t ok =
     let c = table-wide status-code (t .status) 96 (ok .status .0) in
     let d = table-wide group-code (t .groups) 16 (ok .groups .0) in
     let e = table-wide individual-code (t .individuals) 16 (ok .individuals .0) in
-    let f = table-wide channel-code (front (lim .channels) (t .channels)) (lim .channels) (front-length (lim .channels) (t .channels)) in
-    let g = table-wide line-code (front (lim .lines) (t .lines)) (lim .lines) (front-length (lim .lines) (t .lines)) in
+    let f = list-wide channel-code (lim .channels) (t .channels) in
+    let g = list-wide line-code (lim .lines) (t .lines) in
     let h = length-replicate {A = ℕ} (lim .size - used-size lim) 0 in
     (λ i. a i ∷ 4 ∷ 4 ∷ 3 ∷ b i ∷ c i ∷ d i ∷ e i ∷ f i ∷ g i ∷ h i ∷ [])
 
 -- LAYOUT-LENGTH: where the tables fit, their bytes fill the store
 pub layout-length : (lim : Limits) (t : Tables) → Roomy lim → Allowed lim t → length (layout lim t) ≡ lim .size
 unfolding layout
-layout-length lim t r ok = omega (arith, flat-length (regions lim t), ap sum (regions-wide lim t ok))
+layout-length lim t r ok = omega (arith, r .fits, flat-length (regions lim t), ap sum (regions-wide lim t ok))
 
 -- HOLDS-STORE: so the bytes that hold allowed tables, where these have room, are a store
 pub holds-store : (lim : Limits) (t : Tables) (store : List ℕ) → Roomy lim → Holds lim t store → StoreOf lim store
@@ -58,10 +63,15 @@ holds-copied lim from to after c l t room holds =
 
 -- ---- bytes
 
+-- a list table is bytes, where its count has two
+list-bytes : {A : Type 0} (P : A → Type 0) (w : ℕ) (f : A → List ℕ) → ((a : A) → P a → Bytes (f a)) → (n : ℕ) (xs : List A) → n < 65536 → (length xs ≤ n) × All P xs → Bytes (counted w f n xs)
+list-bytes P w f each n xs few ok =
+    bytes-append (u16 (length xs)) (places w f (front n xs)) (u16-bytes (length xs) (omega (arith, ok .0))) (places-bytes P w f each (front n xs) (all-front P n xs (ok .1)))
+
 -- LAYOUT-BYTES: they are bytes
-pub layout-bytes : (lim : Limits) (t : Tables) → Allowed lim t → Bytes (layout lim t)
+pub layout-bytes : (lim : Limits) (t : Tables) → Roomy lim → Allowed lim t → Bytes (layout lim t)
 unfolding layout
-layout-bytes lim t ok =
+layout-bytes lim t r ok =
     let a = hash-are-bytes (t .hash) (ok .hash) in
     let b = key-are-bytes (t .key) (ok .key) in
     let c = home-are-bytes (t .home) (ok .home) in
@@ -70,8 +80,8 @@ layout-bytes lim t ok =
     let f = places-bytes StatusOk status-width status-bytes status-are-bytes (t .status) (ok .status .1) in
     let g = places-bytes GroupOk member-width group-bytes group-are-bytes (t .groups) (ok .groups .1) in
     let h = places-bytes IndividualOk member-width individual-bytes individual-are-bytes (t .individuals) (ok .individuals .1) in
-    let i = places-bytes InChannel channel-width u16 channel-are-bytes (front (lim .channels) (t .channels)) (all-front InChannel (lim .channels) (t .channels) (ok .channels .1)) in
-    let j = places-bytes LineOk line-width line-bytes line-are-bytes (front (lim .lines) (t .lines)) (all-front LineOk (lim .lines) (t .lines) (ok .lines .1)) in
+    let i = list-bytes InChannel channel-width u16 channel-are-bytes (lim .channels) (t .channels) (r .few-channels) (ok .channels) in
+    let j = list-bytes LineOk line-width line-bytes line-are-bytes (lim .lines) (t .lines) (r .few-lines) (ok .lines) in
     let k = bytes-zeros (lim .size - used-size lim) in
     flat-bytes (regions lim t) (a, (b, (c, (d, (e, (f, (g, (h, (i, (j, (k, tt)))))))))))
 
@@ -83,11 +93,11 @@ table-one : {A : Type 0} {P : A → Type 0} {w : ℕ} {f : A → List ℕ} → C
 table-one {P = P} {w = w} {f = f} k z {n} {os} {ps} p q e =
     places-one P w f k z n (places w f os) os ps (record { many = p .0; each = p .1; bytes = refl }) (record { many = q .0; each = q .1; bytes = e })
 
--- a list table
-front-table-one : {A : Type 0} {P : A → Type 0} {w : ℕ} {f : A → List ℕ} → Code P w f → ((a : A) → P a → zeros? (f a) ≡ false) → {n : ℕ} {xs ys : List A}
-    → (length xs ≤ n) × All P xs → (length ys ≤ n) × All P ys → places w f (front n xs) ≡ places w f (front n ys) → xs ≡ ys
-front-table-one {P = P} {w = w} {f = f} k z {n} {xs} {ys} p q e =
-    list-one P w f k z n (places w f (front n xs)) xs ys (record { few = p .0; each = p .1; bytes = refl }) (record { few = q .0; each = q .1; bytes = e })
+-- a list table: the count aside, its places tell it
+list-table-one : {A : Type 0} {P : A → Type 0} {w : ℕ} {f : A → List ℕ} → Code P w f → ((a : A) → P a → zeros? (f a) ≡ false) → {n : ℕ} {xs ys : List A}
+    → (length xs ≤ n) × All P xs → (length ys ≤ n) × All P ys → counted w f n xs ≡ counted w f n ys → xs ≡ ys
+list-table-one {P = P} {w = w} {f = f} k z {n} {xs} {ys} p q e =
+    list-one P w f k z n (places w f (front n xs)) xs ys (record { few = p .0; each = p .1; bytes = refl }) (record { few = q .0; each = q .1; bytes = ap (drop count-size) e })
 
 -- LAYOUT-ONE: allowed tables that have the same bytes are the same
 pub layout-one : (lim : Limits) (t u : Tables) → Allowed lim t → Allowed lim u → layout lim t ≡ layout lim u → t ≡ u
@@ -103,6 +113,6 @@ layout-one lim t u p q e =
     let g = table-one status-code status-shown (p .status) (q .status) (at 5) in
     let h = table-one group-code group-shown (p .groups) (q .groups) (at 6) in
     let j = table-one individual-code individual-shown (p .individuals) (q .individuals) (at 7) in
-    let k = front-table-one channel-code channel-shown (p .channels) (q .channels) (at 8) in
-    let l = front-table-one line-code line-shown (p .lines) (q .lines) (at 9) in
+    let k = list-table-one channel-code channel-shown (p .channels) (q .channels) (at 8) in
+    let l = list-table-one line-code line-shown (p .lines) (q .lines) (at 9) in
     (λ i. record { hash = a i; key = b i; home = c i; system = d i; quick = f i; status = g i; groups = h i; individuals = j i; channels = k i; lines = l i })

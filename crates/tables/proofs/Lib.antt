@@ -9,8 +9,8 @@ pub mod Frames
 pub mod FreshLaws
 pub mod HeadLaws
 pub mod LayoutLaws
-pub mod ListLaws
 pub mod Owns
+pub mod ReplaceLaws
 pub mod RoomSentences
 pub mod Sentences
 pub mod StartLaws

@@ -1,18 +1,17 @@
 -- The sentences of document 01 on room, on entries in order, and on what a setting leaves alone. Assumes nothing.
-use Rattle.lists.proofs.Kit.{ℕ, _≤_, _<_, _≡_, refl, ap, _∙_, subst, _≢_, _↔_, _⊎_, inl, inr, Bool, true, false, cond, true≢false, List, [], _∷_, _++_, Option, none, some, Option·some-ne-none, Option·none-ne-some, Option·some-injective, arith, eq-eqb, le-ltb, ltb-false, eqb, ltb, length, replicate}
-use Rattle.slots.specs.Slots.{indexOf, putAt, Present}
-use Rattle.slots.proofs.Changes.{index-absent, index-end, unless-fewer}
-use Rattle.slots.proofs.Tables.{index-le}
+use Rattle.lists.proofs.Kit.{ℕ, _≤_, _<_, _≡_, refl, ap, _∙_, subst, _≢_, _↔_, _⊎_, inl, inr, List, [], _∷_, _++_, Option, none, some, Option·some-ne-none, Option·none-ne-some, Option·some-injective, arith, eq-eqb, eqb, length, replicate}
+use Rattle.slots.proofs.Changes.{unless-fewer}
+use Rattle.counted_lists.proofs.KeyedLists.{keyed-no-room, keyed-freed, last-no-room}
 use Rattle.writing.specs.declared.Kind.{Kind}
 use Rattle.writing.specs.declared.Kind.the-variants.{Lines, Key, QuickTexts, Home, Channels, System, StatusTexts, Group, Individual, Last}
 use Rattle.writing.specs.declared.Operation.{Operation}
 use Rattle.writing.specs.declared.Operation.the-variants.{Add, Delete, Replace}
 use Rattle.writing.specs.Settings.{Text, Number, Entry, Setting, lines, key, quick-texts, home, channels, system, status-texts, group, individual, last, kind}
 use Rattle.tables.specs.declared.limits.Limits.{Limits}
-use Rattle.tables.specs.Apply.{and-then, in-turn, start-from, has-number, put-line, drop-line, lines-after, quick-step, quick-after, status-step, status-after, put-channel, drop-channel, channels-after, with-room, own-after, apply}
+use Rattle.tables.specs.Apply.{and-then, in-turn, start-from, has-number, put-line, drop-line, quick-step, quick-after, status-step, status-after, put-channel, drop-channel, with-room, own-after, apply}
 use Rattle.tables.specs.Limits.{handheld, quick-places, status-places}
-use Rattle.tables.specs.Tables.{Line, Tables}
-use Rattle.tables.proofs.Sentences.{Without, key-is-digits, says-without, without-says}
+use Rattle.tables.specs.Tables.{Line, line-key, Tables}
+use Rattle.tables.proofs.Sentences.{Without, key-is-digits}
 use Rattle.tables.specs.Owns.{Own, own, mix, only, put-own}
 
 -- ---- entries in order
@@ -71,39 +70,19 @@ module _ {A T : Type 0} (step : A → T → Option T) where
 pub room-is : (handheld .lines ≡ 32) × (handheld .channels ≡ 64)
 room-is = (refl, refl)
 
--- what is done where a test passes is not done where it does not
-cond-none : {A : Type 0} (b : Bool) (a : A) → (cond b (some a) none ≡ none) ↔ (b ≡ false)
-cond-none true a = (λ e. absurd (Option·some-ne-none a e), λ e. absurd (true≢false e))
-cond-none false a = (λ e. refl, λ e. refl)
-
 -- a line has no room where the list is full and no line has its number
 pub line-no-room : (room : ℕ) (l : Line) (ls : List Line) → length ls ≤ room → (put-line room l ls ≡ none) ↔ ((length ls ≡ room) × Without (l .number) ls)
-line-no-room room l ls h = (
-  λ e.
-      let k : room ≤ indexOf (has-number (l .number)) ls = ltb-false _ _ (cond-none (ltb (indexOf (has-number (l .number)) ls) room) (putAt (indexOf (has-number (l .number)) ls) l ls) .0 e) in
-      let i : indexOf (has-number (l .number)) ls ≡ length ls = omega (arith, index-le (has-number (l .number)) ls) in
-      (omega arith, says-without (l .number) ls (index-end (has-number (l .number)) ls i)),
-  λ p.
-      let i : indexOf (has-number (l .number)) ls ≡ length ls = index-absent (has-number (l .number)) ls (without-says (l .number) ls (p .1)) in
-      cond-none (ltb (indexOf (has-number (l .number)) ls) room) (putAt (indexOf (has-number (l .number)) ls) l ls) .1
-      (le-ltb (indexOf (has-number (l .number)) ls) room (omega (arith, p .0))),
-)
+line-no-room = keyed-no-room line-key has-number key-is-digits
 
 -- a channel has no room where the list is full
 pub channel-no-room : (room n : ℕ) (cs : List ℕ) → length cs ≤ room → (put-channel room n cs ≡ none) ↔ (length cs ≡ room)
-channel-no-room room n cs h = (
-  λ e. let k : room ≤ length cs = ltb-false _ _ (cond-none (ltb (length cs) room) (cs ++ (n ∷ [])) .0 e) in omega arith,
-  λ e. cond-none (ltb (length cs) room) (cs ++ (n ∷ [])) .1 (le-ltb (length cs) room (omega arith)),
-)
+channel-no-room = last-no-room
 
 -- ---- "Room freed earlier in the same message is used."
 
 -- after a line was deleted, any line has room
 pub line-freed : (room : ℕ) (d : Number) (before : List Line) (x : Line) (after : List Line) → x .number ≡ d → length (before ++ x ∷ after) ≤ room → (l : Line) → put-line room l (drop-line d (before ++ x ∷ after)) ≢ none
-line-freed room d before x after n h l e =
-    let s : length (drop-line d (before ++ x ∷ after)) < length (before ++ x ∷ after) = unless-fewer (has-number d) before x after (key-is-digits d x .1 n) in
-    let p = line-no-room room l (drop-line d (before ++ x ∷ after)) (omega arith) .0 e in
-    omega (arith, p .0)
+line-freed = keyed-freed line-key has-number key-is-digits
 
 -- after a channel was deleted, any channel has room
 pub channel-freed : (room d : ℕ) (before after : List ℕ) → length (before ++ d ∷ after) ≤ room → (n : ℕ) → put-channel room n (drop-channel d (before ++ d ∷ after)) ≢ none

@@ -1,11 +1,12 @@
 -- The sentences of document 01, "What each operation does", each as a law of the definitions. Assumes nothing.
-use Rattle.lists.proofs.Kit.{ℕ, _-_, _≤_, _<_, _≡_, refl, sym, ap, _∙_, _≢_, _↔_, _⊎_, inl, inr, Bool, true, false, true≢false, List, [], _∷_, _++_, Option, none, some, arith, eq-eqb, lt-ltb, ne-eqb, eqb-false, eqb, length, getD, set, replicate, length-append, length-set, getD-set-same, getD-set-other, set-getD}
+use Rattle.lists.proofs.Kit.{ℕ, _-_, _≤_, _<_, _≡_, refl, sym, ap, _∙_, _≢_, _↔_, _⊎_, inl, inr, Bool, true, false, true≢false, List, [], _∷_, _++_, Option, none, some, eq-eqb, eqb-true, ne-eqb, eqb-false, eqb, length, getD, set, replicate, length-set, getD-set-same, getD-set-other, set-getD}
 use Rattle.lists.specs.Every.{All}
-use Rattle.lists.proofs.Every.{all-right, all-turn}
-use Rattle.slots.specs.Slots.{indexOf, putAt, same?}
-use Rattle.slots.proofs.Changes.{index-absent, index-found, put-found, unless-absent, unless-append, unless-found, unless-gone}
-use Rattle.slots.proofs.Runs.{same-are, same-not, same-refl}
-use Rattle.slots.proofs.Tables.{put-end}
+use Rattle.lists.proofs.Every.{all-turn}
+use Rattle.slots.specs.Slots.{same?}
+use Rattle.slots.proofs.Changes.{unless-append, unless-gone}
+use Rattle.slots.proofs.Runs.{same-are, same-refl}
+use Rattle.counted_lists.specs.Counted as Keys
+use Rattle.counted_lists.proofs.KeyedLists.{keyed-new, keyed-known, drop-known, drop-absent, last-room}
 use Rattle.writing.specs.declared.GroupFlags.{GroupFlags}
 use Rattle.writing.specs.declared.HomeNumbers.{HomeNumbers}
 use Rattle.writing.specs.declared.IndividualFlags.{IndividualFlags}
@@ -20,10 +21,9 @@ use Rattle.plan.specs.declared.numbers.GroupAddress.{GroupAddress}
 use Rattle.plan.specs.declared.numbers.IndividualAddress.{IndividualAddress}
 use Rattle.writing.specs.Settings.{Text, Number, Contact, Entry, Slot, Hash, lines, key, quick-texts, home, channels, system, status-texts, group, individual, last}
 use Rattle.tables.specs.declared.limits.Limits.{Limits}
-use Rattle.tables.specs.Allowed.{Distinct}
-use Rattle.tables.specs.Apply.{start-from, has-number, put-line, line-of, line-step, lines-after, quick-step, quick-after, status-step, status-after, drop-channel, channel-step, channels-after, apply}
+use Rattle.tables.specs.Apply.{start-from, has-number, line-of, line-step, lines-after, quick-step, quick-after, status-step, status-after, drop-channel, channel-step, channels-after, apply}
 use Rattle.tables.specs.Limits.{quick-places, status-places}
-use Rattle.tables.specs.Tables.{Line, Tables}
+use Rattle.tables.specs.Tables.{Line, line-key, Tables}
 use Rattle.writing.specs.declared.Kind.the-variants.{Lines, Key, QuickTexts, Home, Channels, System, StatusTexts, Group, Individual, Last}
 use Rattle.tables.specs.Owns.{put-own}
 
@@ -35,15 +35,7 @@ key-is-digits d l = (λ e. same-are (l .number) d e, λ e. ap (λ (n : Number). 
 
 -- no line has the number d
 abbrev pub Without : Number → List Line → Type 0
-Without d ls = All (λ l. l .number ≢ d) ls
-
--- so the test says no of each
-pub without-says : (d : Number) (ls : List Line) → Without d ls → All (λ l. has-number d l ≡ false) ls
-without-says d ls h = all-turn (λ l. l .number ≢ d) (λ l. has-number d l ≡ false) (λ l n. same-not (l .number) d n) ls h
-
--- and where it says no, no line has the number
-pub says-without : (d : Number) (ls : List Line) → All (λ l. has-number d l ≡ false) ls → Without d ls
-says-without d ls h = all-turn (λ l. has-number d l ≡ false) (λ l. l .number ≢ d) (λ l n e. true≢false (sym (key-is-digits d l .1 e) ∙ n)) ls h
+Without d ls = Keys.Without line-key d ls
 
 -- the first line with the number d, and what stands before and after it
 pub record Known (d : Number) (ls : List Line) : Type 0 where
@@ -72,40 +64,22 @@ known-or-new d (l ∷ ls) = go (has-number d l) refl (known-or-new d ls)
         })
     go false h (inr k) = inr (λ e. true≢false (sym (key-is-digits d l .1 e) ∙ h), k)
 
--- in allowed lines no other line has a line's number
-pub others-without : (before : List Line) (l : Line) (after : List Line) → Distinct (before ++ l ∷ after) → Without (l .number) before × Without (l .number) after
-others-without [] l after d = (tt, d .0)
-others-without (x ∷ xs) l after d =
-    let r = others-without xs l after (d .1) in
-    (((λ e. all-right (λ y. y .number ≢ x .number) xs (l ∷ after) (d .0) .0 (sym e)), r .0), r .1)
-
--- a line goes where its number is found, if that is inside the room
-put-at : (room : ℕ) (l : Line) (ls : List Line) (k : ℕ) → indexOf (has-number (l .number)) ls ≡ k → k < room → put-line room l ls ≡ some (putAt k l ls)
-put-at room l ls k e h = rw (e, lt-ltb k room h)
-
 module _ (room : ℕ) (f : LineFlags) (e : Contact) where
   -- "Add puts a new key at the end"
   pub line-add-new : (ls : List Line) → Without (e .number) ls → length ls < room → line-step room Add f e ls ≡ some (ls ++ (line-of f e ∷ []))
-  line-add-new ls h r =
-      put-at room (line-of f e) ls (length ls) (index-absent (has-number (e .number)) ls (without-says (e .number) ls h)) r
-      ∙ ap some (put-end ls (line-of f e))
+  line-add-new = keyed-new line-key has-number key-is-digits room (line-of f e)
 
   -- "and overwrites a known one in its place, flags included"; the others stay, and a full list has room for it
   pub line-add-known : (before : List Line) (l : Line) (after : List Line) → Without (e .number) before → l .number ≡ e .number → length (before ++ l ∷ after) ≤ room → line-step room Add f e (before ++ l ∷ after) ≡ some (before ++ line-of f e ∷ after)
-  line-add-known before l after h n r =
-      put-at room (line-of f e) (before ++ l ∷ after) (length before)
-      (index-found (has-number (e .number)) before l after (without-says (e .number) before h) (key-is-digits (e .number) l .1 n))
-      (omega (arith, length-append before (l ∷ after)))
-      ∙ ap some (put-found before l after (line-of f e))
+  line-add-known = keyed-known line-key has-number key-is-digits room (line-of f e)
 
   -- "Delete closes the gap": the others keep their order
   pub line-delete : (before : List Line) (l : Line) (after : List Line) → Without (e .number) before → l .number ≡ e .number → Without (e .number) after → line-step room Delete f e (before ++ l ∷ after) ≡ some (before ++ after)
-  line-delete before l after h n k =
-      ap some (unless-found (has-number (e .number)) before l after (without-says (e .number) before h) (key-is-digits (e .number) l .1 n) (without-says (e .number) after k))
+  line-delete before l after h n k = ap some (drop-known line-key has-number key-is-digits (e .number) before l after h n k)
 
   -- "Deleting what isn't there does nothing"
   pub line-delete-absent : (ls : List Line) → Without (e .number) ls → line-step room Delete f e ls ≡ some ls
-  line-delete-absent ls h = ap some (unless-absent (has-number (e .number)) ls (without-says (e .number) ls h))
+  line-delete-absent ls h = ap some (drop-absent line-key has-number key-is-digits (e .number) ls h)
 
 -- ---- a place of an indexed table
 
@@ -190,7 +164,7 @@ module _ (lim : Limits) (f : IndividualFlags) (s : Slot IndividualAddress) (t : 
 module _ (room n : ℕ) where
   -- add appends, whether or not the channel is there already
   pub channel-add : (cs : List ℕ) → length cs < room → channel-step room Add n cs ≡ some (cs ++ (n ∷ []))
-  channel-add cs h = rw (lt-ltb (length cs) room h)
+  channel-add = last-room room n
 
   -- delete removes every match
   pub channel-delete-all : (cs : List ℕ) → All (λ c. c ≢ n) (drop-channel n cs)
@@ -210,7 +184,7 @@ module _ (room n : ℕ) where
 
   -- "Deleting what isn't there does nothing"
   pub channel-delete-absent : (cs : List ℕ) → All (λ c. c ≢ n) cs → channel-step room Delete n cs ≡ some cs
-  channel-delete-absent cs h = ap some (unless-absent (λ c. eqb c n) cs (all-turn (λ c. c ≢ n) (λ c. eqb c n ≡ false) (λ c q. ne-eqb c n q) cs h))
+  channel-delete-absent cs h = ap some (drop-absent (λ c. c) (λ d c. eqb c d) (λ d c. (eqb-true c d, eq-eqb c d)) n cs h)
 
 -- ---- "Replace empties the table, then adds each entry in order."
 

@@ -1,18 +1,16 @@
 -- Room for the tables, and starting a store. Assumes nothing.
-use Rattle.lists.proofs.Kit.{ℕ, _*_, _-_, _/_, _≤_, _≡_, sym, ap, _∙_, true, _↔_, List, arith, leb, length, replicate, set}
+use Rattle.lists.proofs.Kit.{ℕ, _<_, _≡_, sym, ap, _∙_, true, _↔_, List, arith, leb, length, replicate, set}
 use Rattle.tables.specs.declared.limits.Limits.{Limits}
-use Rattle.tables.specs.Layout.{layout, Roomy, line-width, lists-at}
+use Rattle.tables.specs.Layout.{layout, used-size, Roomy}
 use Rattle.tables.specs.Tables.{fresh}
 use Rattle.tables.proofs.AnswerLaws.{turned, leb-is}
 use Rattle.tables.proofs.FreshLaws.{fresh-layout}
 
 -- ---- room
 
--- where the fixed regions and the channels have room, what is left decides
-pub room-is : (lim : Limits) → lists-at ≤ lim .size → lim .channels ≤ (lim .size - lists-at) / 2 → (leb (lim .lines) ((lim .size - lists-at - lim .channels * 2) / line-width) ≡ true) ↔ Roomy lim
-room-is lim h k =
-    let n = (lim .size - lists-at - lim .channels * 2) / line-width in
-    turned (leb (lim .lines) n) (leb-is (lim .lines) n) (λ (e : lim .lines ≤ (lim .size - lists-at - lim .channels * 2) / line-width). omega arith) (λ (r : Roomy lim). omega arith)
+-- where the counts fit two bytes, the size decides
+pub room-is : (lim : Limits) → lim .channels < 65536 → lim .lines < 65536 → (leb (used-size lim) (lim .size) ≡ true) ↔ Roomy lim
+room-is lim c l = turned (leb (used-size lim) (lim .size)) (leb-is (used-size lim) (lim .size)) (λ e. record { fits = e; few-channels = c; few-lines = l }) (λ (r : Roomy lim). r .fits)
 
 -- ---- starting
 

@@ -1,27 +1,34 @@
 -- What each operation leaves of a table is allowed, entry by entry. Assumes nothing.
-use Rattle.lists.proofs.Kit.{ℕ, suc, _-_, _≤_, _<_, _≡_, refl, sym, ap, _∙_, _≢_, Bool, true, false, cond, true≢false, List, [], _∷_, _++_, Option, none, some, arith, ltb-true, eqb, ltb, length, getD, set, length-append, length-set, replicate}
+use Rattle.lists.proofs.Kit.{ℕ, _-_, _<_, _≡_, refl, _∙_, Bool, true, false, cond, List, [], _∷_, _++_, Option, none, some, arith, ltb-true, ltb, length, getD, set, length-append, length-set, replicate}
 use Rattle.lists.specs.Every.{All}
-use Rattle.lists.proofs.Every.{all-append, all-get, all-set, all-turn}
-use Rattle.slots.specs.Slots.{unless, indexOf, putAt, same?, Present}
-use Rattle.slots.proofs.Runs.{same-are, same-refl}
+use Rattle.lists.proofs.Every.{all-append, all-get, all-set}
+use Rattle.slots.specs.Slots.{unless, indexOf, putAt, Present}
 use Rattle.slots.proofs.Tables.{put-all, put-short, unless-all, unless-short}
+use Rattle.counted_lists.proofs.KeyedLists.{put-distinct, unless-distinct}
 use Rattle.writing.specs.declared.LineFlags.{LineFlags}
 use Rattle.writing.specs.declared.Operation.{Operation}
 use Rattle.writing.specs.declared.Operation.the-variants.{Add, Delete, Replace}
 use Rattle.writing.specs.Ranges.{InChannel}
-use Rattle.writing.specs.Settings.{Text, Number, Contact, Entry}
-use Rattle.tables.specs.Allowed.{QuickOk, StatusOk, LineOk, Distinct, PlacesOk, ListOk, LinesOk}
-use Rattle.tables.specs.Apply.{and-then, in-turn, start-from, has-number, put-line, drop-line, line-of, line-step, lines-after, if-absent, quick-step, quick-after, status-step, status-after, put-channel, channel-step, channels-after}
+use Rattle.writing.specs.Settings.{Text, Contact, Entry}
+use Rattle.tables.specs.Allowed.{QuickOk, StatusOk, LineOk, PlacesOk, ListOk, LinesOk}
+use Rattle.tables.specs.Apply.{and-then, in-turn, start-from, has-number, put-line, line-of, line-step, lines-after, if-absent, quick-step, quick-after, status-step, status-after, put-channel, channel-step, channels-after}
 use Rattle.tables.specs.Limits.{quick-places, status-places}
-use Rattle.tables.specs.Tables.{Line}
+use Rattle.tables.specs.Tables.{Line, line-key}
 use Rattle.tables.proofs.FitsLaws.{QuickFit}
 use Rattle.tables.proofs.FreshLaws.{empty-table}
+use Rattle.tables.proofs.Sentences.{key-is-digits}
 
 -- ---- one place
 
 -- what is put in a place, or nothing
 pub place-keeps : {A : Type 0} (P : A → Type 0) (n k : ℕ) (o : Option A) (os : List (Option A)) → Present P o → PlacesOk P n os → PlacesOk P n (set os k o)
 place-keeps P n k o os p i = (length-set os k o ∙ i .0, all-set (Present P) os k o p (i .1))
+
+-- ---- a list
+
+-- entries are taken out
+unless-keeps : {A : Type 0} (P : A → Type 0) (room : ℕ) (p : A → Bool) (ls : List A) → ListOk P room ls → ListOk P room (unless p ls)
+unless-keeps P room p ls i = (omega (arith, unless-short p ls, i .0), unless-all P p ls (i .1))
 
 -- ---- entries in turn
 
@@ -43,47 +50,21 @@ start-keeps I Replace empty t e i = e
 
 -- ---- line contacts
 
--- a line put in place of the one with its number, or at the end, leaves no two of one number
-put-distinct : (l : Line) (ls : List Line) → Distinct ls → Distinct (putAt (indexOf (has-number (l .number)) ls) l ls)
-put-distinct l [] d = (tt, tt)
-put-distinct l (x ∷ xs) d = go (same? (x .number) (l .number)) refl (put-distinct l xs (d .1))
-  where
-    go : (b : Bool) → same? (x .number) (l .number) ≡ b → Distinct (putAt (indexOf (has-number (l .number)) xs) l xs) → Distinct (putAt (cond b 0 (suc (indexOf (has-number (l .number)) xs))) l (x ∷ xs))
-    go true e r = (all-turn (λ y. y .number ≢ x .number) (λ y. y .number ≢ l .number) (λ y n q. n (q ∙ sym (same-are (x .number) (l .number) e))) xs (d .0), d .1)
-    go false e r = (
-      put-all (λ y. y .number ≢ x .number) (indexOf (has-number (l .number)) xs) l xs
-          (λ q. true≢false (sym (same-refl (l .number)) ∙ ap (λ (n : Number). same? n (l .number)) q ∙ e)) (d .0),
-      r,
-    )
-
--- lines taken out leave no two of one number
-unless-distinct : (p : Line → Bool) (ls : List Line) → Distinct ls → Distinct (unless p ls)
-unless-distinct p [] d = tt
-unless-distinct p (x ∷ xs) d = go (p x) (unless-distinct p xs (d .1))
-  where
-    go : (b : Bool) → Distinct (unless p xs) → Distinct (cond b (unless p xs) (x ∷ unless p xs))
-    go true r = r
-    go false r = (unless-all (λ y. y .number ≢ x .number) p xs (d .0), r)
-
 -- a line is added where there is room
-pub put-line-keeps : (room : ℕ) (l : Line) (ls : List Line) → LineOk l → LinesOk room ls → Present (LinesOk room) (put-line room l ls)
-put-line-keeps room l ls h i = go (ltb (indexOf (has-number (l .number)) ls) room) refl
+put-line-keeps : (room : ℕ) (l : Line) (ls : List Line) → LineOk l → LinesOk room ls → Present (LinesOk room) (put-line room l ls)
+put-line-keeps room l ls h i = go (ltb at room) refl
   where
-    go : (b : Bool) → ltb (indexOf (has-number (l .number)) ls) room ≡ b → Present (LinesOk room) (cond b (some (putAt (indexOf (has-number (l .number)) ls) l ls)) none)
-    go true e = (
-      (put-short (indexOf (has-number (l .number)) ls) room l ls (ltb-true _ _ e) (i .0 .0), put-all LineOk (indexOf (has-number (l .number)) ls) l ls h (i .0 .1)),
-      put-distinct l ls (i .1),
-    )
-    go false e = tt
+    at : ℕ
+    at = indexOf (has-number (line-key l)) ls
 
--- a line is taken out
-pub drop-line-keeps : (room : ℕ) (d : Number) (ls : List Line) → LinesOk room ls → LinesOk room (drop-line d ls)
-drop-line-keeps room d ls i = ((omega (arith, unless-short (has-number d) ls, i .0 .0), unless-all LineOk (has-number d) ls (i .0 .1)), unless-distinct (has-number d) ls (i .1))
+    go : (b : Bool) → ltb at room ≡ b → Present (LinesOk room) (cond b (some (putAt at l ls)) none)
+    go true e = ((put-short at room l ls (ltb-true _ _ e) (i .0 .0), put-all LineOk at l ls h (i .0 .1)), put-distinct line-key has-number key-is-digits l ls (i .1))
+    go false e = tt
 
 -- one entry of a setting
 pub line-step-keeps : (room : ℕ) (o : Operation) (f : LineFlags) (e : Contact) (ls : List Line) → LineOk (line-of f e) → LinesOk room ls → Present (LinesOk room) (line-step room o f e ls)
 line-step-keeps room Add f e ls h i = put-line-keeps room (line-of f e) ls h i
-line-step-keeps room Delete f e ls h i = drop-line-keeps room (e .number) ls i
+line-step-keeps room Delete f e ls h i = (unless-keeps LineOk room _ ls (i .0), unless-distinct line-key _ ls (i .1))
 line-step-keeps room Replace f e ls h i = put-line-keeps room (line-of f e) ls h i
 
 -- a whole setting
@@ -144,7 +125,7 @@ put-channel-keeps room n cs h i = go (ltb (length cs) room) refl
 -- one entry of a setting
 pub channel-step-keeps : (room : ℕ) (o : Operation) (n : ℕ) (cs : List ℕ) → InChannel n → ListOk InChannel room cs → Present (ListOk InChannel room) (channel-step room o n cs)
 channel-step-keeps room Add n cs h i = put-channel-keeps room n cs h i
-channel-step-keeps room Delete n cs h i = (omega (arith, unless-short (λ c. eqb c n) cs, i .0), unless-all InChannel (λ c. eqb c n) cs (i .1))
+channel-step-keeps room Delete n cs h i = unless-keeps InChannel room _ cs i
 channel-step-keeps room Replace n cs h i = put-channel-keeps room n cs h i
 
 -- a whole setting

@@ -2,11 +2,12 @@
 use Prim.Native.Nat.{ℕ, _≤_, _<_}
 use mathlib.Core.Path.{_≡_}
 use mathlib.Core.Logic.{_≢_}
-use mathlib.Core.List.{List, [], _∷_}
+use mathlib.Core.List.{List}
 use mathlib.Core.Option.{Option}
 use lib.ListN.{length}
 use Rattle.lists.specs.Every.{All}
 use Rattle.slots.specs.Slots.{Present}
+use Rattle.counted_lists.specs.Counted.{Distinct}
 use Rattle.writing.specs.declared.KeyTarget.{KeyTarget}
 use Rattle.writing.specs.declared.KeyTarget.the-variants.{Current, ToGroup, ToIndividual}
 use Rattle.writing.specs.declared.HomeNumbers.{HomeNumbers}
@@ -15,7 +16,7 @@ use Rattle.writing.specs.Ranges.{text-limits, InNumber, InAddress, InChannel, H
 use Rattle.writing.specs.Settings.{Text, Hash}
 use Rattle.tables.specs.declared.limits.Limits.{Limits}
 use Rattle.tables.specs.Limits.{quick-places, status-places, slot-places}
-use Rattle.tables.specs.Tables.{Line, GroupMember, IndividualMember, Key, Tables}
+use Rattle.tables.specs.Tables.{Line, line-key, GroupMember, IndividualMember, Tables}
 
 -- "At most 16 units before the end, 23 in quick texts", none of them 0
 pub record TextOk (limit : ℕ) (us : Text) : Type 0 where
@@ -68,12 +69,7 @@ pub record HashOk (h : Hash) : Type 0 where
   pub size : HashSize (h .code) (length (h .value))
   pub bytes : All (_< 256) (h .value)
 
--- no two lines have one number
-abbrev pub Distinct : List Line → Type 0
-Distinct [] = Unit {0}
-Distinct (l ∷ ls) = All (λ x. x .number ≢ l .number) ls × Distinct ls
-
--- the tables that a set with these limits can hold
+-- the tables that a set with these limits can hold; no two lines have one key
 pub record Allowed (lim : Limits) (t : Tables) : Type 0 where
   pub hash : HashOk (t .hash)
   pub key : TargetOk (t .key .target)
@@ -85,7 +81,7 @@ pub record Allowed (lim : Limits) (t : Tables) : Type 0 where
   pub individuals : (length (t .individuals) ≡ slot-places) × All (Present IndividualOk) (t .individuals)
   pub channels : (length (t .channels) ≤ lim .channels) × All InChannel (t .channels)
   pub lines : (length (t .lines) ≤ lim .lines) × All LineOk (t .lines)
-  pub distinct : Distinct (t .lines)
+  pub distinct : Distinct line-key (t .lines)
 
 -- ---- inner steps: no promise cites these
 
@@ -97,6 +93,6 @@ PlacesOk P n os = (length os ≡ n) × All (Present P) os
 abbrev pub ListOk : {A : Type 0} → (A → Type 0) → ℕ → List A → Type 0
 ListOk P n xs = (length xs ≤ n) × All P xs
 
--- at most n lines, each with a number of its own
+-- at most n lines, each with a key of its own
 abbrev pub LinesOk : ℕ → List Line → Type 0
-LinesOk n ls = ListOk LineOk n ls × Distinct ls
+LinesOk n ls = ListOk LineOk n ls × Distinct line-key ls

@@ -1,18 +1,19 @@
 -- What each setting does to its table: document 01, "What each operation does". None is "no room".
 use Prim.Native.Nat.{ℕ, _-_}
-use mathlib.Core.Bool.{Bool, cond}
-use mathlib.Core.List.{List, [], _∷_, _++_}
+use mathlib.Core.Bool.{Bool}
+use mathlib.Core.List.{List, [], _∷_}
 use mathlib.Core.Option.{Option, none, some}
-use lib.ListN.{length, getD, set, replicate}
-use lib.Dec.{eqb, ltb}
-use Rattle.slots.specs.Slots.{unless, indexOf, putAt, same?}
+use lib.ListN.{getD, set, replicate}
+use lib.Dec.{eqb}
+use Rattle.slots.specs.Slots.{unless, same?}
+use Rattle.counted_lists.specs.Counted.{put-last, put-keyed}
 use Rattle.writing.specs.declared.LineFlags.{LineFlags}
 use Rattle.writing.specs.declared.Operation.{Operation}
 use Rattle.writing.specs.declared.Operation.the-variants.{Add, Delete, Replace}
 use Rattle.writing.specs.Settings.{Text, Number, Contact, Entry, Setting, lines, key, quick-texts, home, channels, system, status-texts, group, individual, last, kind}
 use Rattle.tables.specs.declared.limits.Limits.{Limits}
 use Rattle.tables.specs.Limits.{quick-places, status-places}
-use Rattle.tables.specs.Tables.{Line, Tables}
+use Rattle.tables.specs.Tables.{Line, line-key, Tables}
 use Rattle.tables.specs.Owns.{Own, own, put-own}
 
 -- ---- entries in turn
@@ -35,14 +36,13 @@ start-from Replace empty t = empty
 
 -- ---- line contacts
 
--- "Line contacts: the key is the digits"
+-- whether a line has the key d
 abbrev pub has-number : Number → Line → Bool
-has-number d l = same? (l .number) d
+has-number d l = same? (line-key l) d
 
 -- "Add puts a new key at the end and overwrites a known one in its place, flags included"
 abbrev pub put-line : ℕ → Line → List Line → Option (List Line)
-put-line room l ls =
-    cond (ltb (indexOf (has-number (l .number)) ls) room) (some (putAt (indexOf (has-number (l .number)) ls) l ls)) none
+put-line room l ls = put-keyed (has-number (line-key l)) room l ls
 
 -- "Delete closes the gap"; "Deleting what isn't there does nothing"
 abbrev pub drop-line : Number → List Line → List Line
@@ -87,7 +87,7 @@ status-after o es ss = in-turn (status-step o) es (start-from o (replicate statu
 
 -- "Channels: add always appends, so repeats are kept"
 abbrev pub put-channel : ℕ → ℕ → List ℕ → Option (List ℕ)
-put-channel room n cs = cond (ltb (length cs) room) (some (cs ++ (n ∷ []))) none
+put-channel room n cs = put-last room n cs
 
 -- "delete removes every match"
 abbrev pub drop-channel : ℕ → List ℕ → List ℕ

@@ -1,9 +1,8 @@
 -- What functions that change a table, or put a text, promise: the bytes at exit, for every table that the bytes at entry are.
 use Prim.Native.Nat.{ℕ, _*_, _≤_}
 use mathlib.Core.Path.{_≡_}
-use mathlib.Core.Bool.{Bool, true, false}
 use mathlib.Core.List.{List}
-use mathlib.Core.Option.{Option, none, some}
+use mathlib.Core.Option.{Option, some}
 use lib.ListN.{length}
 use Rattle.writing.specs.Settings.{Text}
 use Rattle.read_fields.specs.TextsAndNumbers.{TextIs}
@@ -17,8 +16,3 @@ Changed {T} Is change s t = (was : T) → Is was s → (u : T) × (change was �
 -- room for n units becomes the text's units, and zeros after them
 abbrev pub TextPut : List ℕ → TextPlace → List ℕ → List ℕ → Type 0
 TextPut m p s t = (n : ℕ) (us : Text) (next : ℕ) → TextIs m p us next → length us ≤ n → length s ≡ 2 * n → t ≡ text-bytes n us
-
--- what trying to change a table answers: its bytes are those of the table afterwards, or there was no room
-pub record Tried {T : Type 0} (Is : T → List ℕ → Type 0) (after : Option T) (bytes : List ℕ) (r : Bool) : Type 0 where
-  pub room : r ≡ true → (t : T) × (after ≡ some t) × Is t bytes
-  pub full : r ≡ false → after ≡ none

@@ -1,5 +1,5 @@
 -- The bytes of tables: docs/STORE.md. "Unused bytes are 0, so equal contents are equal bytes."
-use Prim.Native.Nat.{ℕ, suc, _+_, _*_, _-_, _≤_}
+use Prim.Native.Nat.{ℕ, suc, _+_, _*_, _-_, _≤_, _<_}
 use mathlib.Core.Path.{_≡_}
 use mathlib.Core.List.{List, [], _∷_, _++_, map}
 use lib.ListN.{length, replicate, take}
@@ -123,11 +123,21 @@ status-size = status-places * status-width
 abbrev pub member-size : ℕ
 member-size = slot-places * member-width
 
+-- a list's region begins with its count, in two bytes
+abbrev pub count-size : ℕ
+count-size = 2
+
+abbrev pub channels-size : Limits → ℕ
+channels-size lim = count-size + lim .channels * channel-width
+
+abbrev pub lines-size : Limits → ℕ
+lines-size lim = count-size + lim .lines * line-width
+
 -- how many bytes each region has, the spare ones aside: hash, key, home, system, quick, status, groups, individuals, channels, lines
 abbrev pub region-widths : Limits → List ℕ
 region-widths lim =
     hash-size ∷ key-size ∷ home-size ∷ system-size ∷ quick-size ∷ status-size ∷ member-size ∷ member-size
-    ∷ lim .channels * channel-width ∷ lim .lines * line-width ∷ []
+    ∷ channels-size lim ∷ lines-size lim ∷ []
 
 -- where they start; behind the individuals come the two lists, channels and lines
 abbrev pub key-at : ℕ
@@ -155,7 +165,7 @@ abbrev pub lists-at : ℕ
 lists-at = individuals-at + member-size
 
 abbrev pub lines-at : Limits → ℕ
-lines-at lim = lists-at + lim .channels * channel-width
+lines-at lim = lists-at + channels-size lim
 
 -- where region k of the store starts
 abbrev pub region-start : Limits → ℕ → ℕ
@@ -163,7 +173,11 @@ region-start lim k = sum (take k (region-widths lim))
 
 -- the bytes that the tables take
 abbrev pub used-size : Limits → ℕ
-used-size lim = lists-at + (lim .channels * channel-width + lim .lines * line-width)
+used-size lim = lists-at + (channels-size lim + lines-size lim)
+
+-- a list table: how many entries it has, and their places
+abbrev pub counted : {A : Type 0} → ℕ → (A → List ℕ) → ℕ → List A → List ℕ
+counted w f n xs = u16 (length xs) ++ places w f (front n xs)
 
 -- the regions, in order; the bytes that no table uses are 0
 abbrev pub regions : Limits → Tables → List (List ℕ)
@@ -176,8 +190,8 @@ regions lim t =
     ∷ places status-width status-bytes (t .status)
     ∷ places member-width group-bytes (t .groups)
     ∷ places member-width individual-bytes (t .individuals)
-    ∷ places channel-width u16 (front (lim .channels) (t .channels))
-    ∷ places line-width line-bytes (front (lim .lines) (t .lines))
+    ∷ counted channel-width u16 (lim .channels) (t .channels)
+    ∷ counted line-width line-bytes (lim .lines) (t .lines)
     ∷ replicate (lim .size - used-size lim) 0
     ∷ []
 
@@ -185,9 +199,11 @@ regions lim t =
 unfoldable pub layout : Limits → Tables → List ℕ
 layout lim t = flat (regions lim t)
 
--- limits whose tables fit the store
-abbrev pub Roomy : Limits → Type 0
-Roomy lim = used-size lim ≤ lim .size
+-- limits whose tables fit the store, and whose counts fit two bytes
+pub record Roomy (lim : Limits) : Type 0 where
+  pub fits : used-size lim ≤ lim .size
+  pub few-channels : lim .channels < 65536
+  pub few-lines : lim .lines < 65536
 
 -- the bytes are those of tables that the rules allow; that they fill the store is said by StoreOf
 pub record IsStore (lim : Limits) (bytes : List ℕ) : Type 0 where

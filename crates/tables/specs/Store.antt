@@ -5,6 +5,7 @@ use mathlib.Core.Bool.{Bool}
 use mathlib.Core.List.{List}
 use lib.ListN.{length}
 use Rattle.lists.specs.Ladder.{Ladder, rung, foot}
+use Rattle.counted_lists.specs.Counted.{Tried}
 use Rattle.writing.specs.Canonical.{Fits}
 use Rattle.writing.specs.Ranges.{text-limits, InRange}
 use Rattle.writing.specs.Settings.{Setting, unicode16}
@@ -16,7 +17,6 @@ use Rattle.tables.specs.declared.start.Started.the-variants.{Fresh, Wron
 use Rattle.tables.specs.Allowed.{Allowed}
 use Rattle.tables.specs.Apply.{apply}
 use Rattle.tables.specs.Layout.{layout, Roomy, IsStore}
-use Rattle.tables.specs.Changing.{Tried}
 use Rattle.tables.specs.Tables.{Tables, fresh}
 
 -- ---- which bytes are a store, and starting one

@@ -1,8 +1,8 @@
 -- The tables of a set, and a fresh one: document 01, "What each operation does".
 use Prim.Native.Nat.{ℕ}
-use mathlib.Core.Bool.{Bool, true, false}
+use mathlib.Core.Bool.{false}
 use mathlib.Core.List.{List, []}
-use mathlib.Core.Option.{Option, none, some}
+use mathlib.Core.Option.{Option, none}
 use lib.ListN.{replicate}
 use Rattle.plan.specs.declared.numbers.GroupAddress.{GroupAddress}
 use Rattle.plan.specs.declared.numbers.IndividualAddress.{IndividualAddress}
@@ -22,6 +22,10 @@ pub record Line : Type 0 where
   pub flags : LineFlags
   pub number : Number
   pub text : Text
+
+-- "Line contacts: the key is the digits"
+abbrev pub line-key : Line → Number
+line-key l = l .number
 
 -- a group or an individual in a slot, by the kind of its flags and address
 pub record Member (Flags Address : Type 0) : Type 0 where

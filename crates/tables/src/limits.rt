@@ -1,5 +1,7 @@
 // What differs between sets: room for lines and channels, the largest message, and the size of the store.
 use super::places::CHANNEL_SLOT;
+use super::places::COUNT;
+use super::places::COUNTED;
 use super::places::LINE_SLOT;
 use super::places::LISTS;
 ghost use mathlib.Core.Path.{_≡_};
@@ -25,16 +27,17 @@ pub const HANDHELD: Limits = Limits {
     size: HANDHELD_SIZE,
 };
 
-// Whether the tables have room in a store of the limits' size.
+// Whether the tables have room in a store of the limits' size, and their counts in two bytes.
 pub fn roomy(limits: Limits) -> bool
     ensures { λ r. ⌜ (r ≡ true) ↔ Roomy limits ⌝ }
 {
-    if limits.size < LISTS {
+    if COUNTED < limits.channels {
         return false;
     }
-    let room = limits.size - LISTS;
-    if room / CHANNEL_SLOT < limits.channels {
+    if COUNTED < limits.lines {
         return false;
     }
-    limits.lines <= (room - limits.channels * CHANNEL_SLOT) / LINE_SLOT
+    let channels = COUNT + limits.channels * CHANNEL_SLOT;
+    let lines = COUNT + limits.lines * LINE_SLOT;
+    LISTS + (channels + lines) <= limits.size
 }

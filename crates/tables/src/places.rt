@@ -44,6 +44,11 @@ pub const INDIVIDUALS: usize = GROUPS + MEMBER_SIZE;
 
 pub const LISTS: usize = INDIVIDUALS + MEMBER_SIZE;
 
+// The region of a list begins with its count; and the most that a count can say.
+pub const COUNT: usize = 2;
+
+pub const COUNTED: usize = 65535;
+
 // In a slot: a line's IDtype and digits, and the text, which stands last.
 pub const LINE_IDTYPE: usize = 1;
 

@@ -4,6 +4,7 @@ pub mod calls;
 pub mod damage;
 pub mod draft;
 pub mod maker;
+pub mod pokes;
 pub mod random;
 pub mod requests;
 pub mod sweep;

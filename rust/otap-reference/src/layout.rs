@@ -4,12 +4,24 @@ use crate::reference::message::Hash;
 use crate::reference::settings::{EmergencyKey, GroupSlot, IndividualSlot, SystemCode};
 use crate::reference::tables::{Line, Set};
 
+#[cfg(test)]
+mod tests;
+
 pub const SIZE: usize = 12_288;
 
+/// The first byte of the channels' region and of the lines'; each begins with its count.
+pub const CHANNELS_AT: usize = 7_286;
+pub const LINES_AT: usize = 7_416;
+/// The first byte that no table uses.
+pub const SPARE_AT: usize = 9_082;
+/// Bytes of a count, high byte first.
+pub const COUNT: usize = 2;
+
+pub const CHANNEL: usize = 2;
 const QUICK: usize = 46;
 const STATUS: usize = 33;
 const SLOT: usize = 36;
-const LINE: usize = 52;
+pub const LINE: usize = 52;
 
 /// The only bytes that keep this set.
 pub fn bytes(set: &Set) -> Vec<u8> {
@@ -35,11 +47,17 @@ pub fn bytes(set: &Set) -> Vec<u8> {
     for slot in &tables.individuals {
         push(&mut out, SLOT, slot.as_ref().map_or(Vec::new(), individual));
     }
+    out.extend(count(tables.channels.len()));
     out.extend(tables.channels.iter().flat_map(|channel| channel.to_be_bytes()));
-    out.resize(7_414, 0);
+    out.resize(LINES_AT, 0);
+    out.extend(count(tables.lines.len()));
     tables.lines.iter().for_each(|entry| push(&mut out, LINE, line(entry)));
     out.resize(SIZE, 0);
     out
+}
+
+fn count(entries: usize) -> [u8; COUNT] {
+    u16::try_from(entries).expect("the tables have room for fewer").to_be_bytes()
 }
 
 fn push(out: &mut Vec<u8>, size: usize, mut slot: Vec<u8>) {
@@ -120,11 +138,11 @@ pub fn is_store(bytes: &[u8]) -> bool {
         && all(&bytes[22..2_966], QUICK, |slot| slot[..2] != [0, 0] && is_text(slot))
         && all(&bytes[2_966..6_134], STATUS, |slot| slot[0] == 1 && is_text(&slot[1..]))
         && all(&bytes[6_134..6_710], SLOT, |slot| slot[0] >= 64 && is_member(slot))
-        && all(&bytes[6_710..7_286], SLOT, |slot| slot[0] < 16 && is_member(slot))
-        && front(&bytes[7_286..7_414], 2, is_channel)
-        && front(&bytes[7_414..9_078], LINE, is_line)
-        && keys_differ(&bytes[7_414..9_078])
-        && is_empty(&bytes[9_078..])
+        && all(&bytes[6_710..CHANNELS_AT], SLOT, |slot| slot[0] < 16 && is_member(slot))
+        && counted(&bytes[CHANNELS_AT..LINES_AT], CHANNEL, is_channel)
+        && counted(&bytes[LINES_AT..SPARE_AT], LINE, is_line)
+        && keys_differ(&bytes[LINES_AT + COUNT..SPARE_AT])
+        && is_empty(&bytes[SPARE_AT..])
 }
 
 fn is_empty(bytes: &[u8]) -> bool {
@@ -136,10 +154,13 @@ fn all(bytes: &[u8], size: usize, is_entry: impl Fn(&[u8]) -> bool) -> bool {
     bytes.chunks_exact(size).all(|slot| is_empty(slot) || is_entry(slot))
 }
 
-/// Entries, and then empty slots only.
-fn front(bytes: &[u8], size: usize, is_entry: impl Fn(&[u8]) -> bool) -> bool {
-    let entries = bytes.chunks_exact(size).take_while(|slot| !is_empty(slot)).count() * size;
-    bytes[..entries].chunks_exact(size).all(is_entry) && is_empty(&bytes[entries..])
+/// A count, as many entries, and then empty slots only. No entry is an empty slot, so that one count is right.
+fn counted(bytes: &[u8], size: usize, is_entry: impl Fn(&[u8]) -> bool) -> bool {
+    let (count, slots) = bytes.split_at(COUNT);
+    let used = usize::from(pair(count)) * size;
+    used <= slots.len()
+        && slots[..used].chunks_exact(size).all(is_entry)
+        && is_empty(&slots[used..])
 }
 
 fn pair(bytes: &[u8]) -> u16 {

@@ -37,6 +37,7 @@ unsafe extern "C" {
         scratch: *mut u8,
         scratch_length: u64,
     ) -> u64;
+    fn otap_counts(store: *const u8, store_length: u64) -> u64;
     // These have no buffers, so that every call is sound.
     pub safe fn otap_individual_of_dialled(dialled: u32) -> u64;
     pub safe fn otap_group_of_dialled(dialled: u32) -> u64;
@@ -79,4 +80,9 @@ pub fn row_part(table: u32, row: u32, store: &[u8], scratch: &mut [u8]) -> u64 {
     let (s, w) = (store.as_ptr(), scratch.as_mut_ptr());
     // SAFETY: the slices are live for the call, and the store, only read, does not overlap the scratch.
     unsafe { otap_row_part(table, row, s, length(store), w, length(scratch)) }
+}
+
+pub fn counts(store: &[u8]) -> u64 {
+    // SAFETY: the slice is live for the call, which only reads it.
+    unsafe { otap_counts(store.as_ptr(), length(store)) }
 }

@@ -21,6 +21,7 @@
 mod answer;
 mod calls;
 mod conversions;
+mod counts;
 mod row;
 mod store;
 
@@ -29,6 +30,7 @@ pub use conversions::{
     channel_of_transmit, dialled_of_group, dialled_of_individual, group_of_dialled,
     individual_of_dialled, receive, transmit, GroupAddress, IndividualAddress,
 };
+pub use counts::{Counts, MOST_CHANNELS, MOST_LINES};
 pub use row::{Row, Slice, Table};
 pub use store::{Part, Store, EXPORT_ROOM, LONGEST_MESSAGE, REPLY_ROOM, SCRATCH_ROOM, STORE_SIZE};
 

@@ -2,6 +2,7 @@
 
 use crate::answer::{byte, half, Answer, Refusal};
 use crate::calls;
+use crate::counts::Counts;
 use crate::row::{Row, Table};
 
 /// A store has exactly so many bytes.
@@ -85,16 +86,29 @@ impl<'s> Store<'s> {
         }
     }
 
-    /// Bytes that were a store before, as from flash; every call judges them and refuses others with 11.
-    ///
-    /// At power-on, any row tells whether they are one: with a scratch of its size, 11 is answered exactly where they are not.
+    /// Bytes that may be a store, as those from flash at power-on: a store, or refused with 11.
     ///
     /// ```
-    /// use otap::{Refusal, Store, Table, SCRATCH_ROOM, STORE_SIZE};
+    /// # fn main() -> Result<(), otap::Refusal> {
+    /// use otap::{Refusal, Store, STORE_SIZE};
     /// let mut saved = [0xFF; STORE_SIZE]; // empty flash
-    /// let judged = Store::lent(&mut saved).check_row(Table::Lines, 0, &[0; SCRATCH_ROOM]);
-    /// assert_eq!(judged, Err(Refusal::NotAStore));
+    /// assert_eq!(Store::open(&mut saved).err(), Some(Refusal::NotAStore));
+    /// // What was saved is kept; only where it is no store, one is started.
+    /// let store = match Store::open(&mut saved) {
+    ///     Ok(kept) => kept,
+    ///     Err(_) => Store::start(&mut saved)?,
+    /// };
+    /// assert_eq!(store.counts()?.free_lines(), otap::MOST_LINES);
+    /// # Ok(())
+    /// # }
     /// ```
+    pub fn open(bytes: &'s mut [u8]) -> Result<Store<'s>, Refusal> {
+        let store = Store::lent(bytes);
+        store.counts()?;
+        Ok(store)
+    }
+
+    /// Bytes that were a store before, and are not looked at now; every call judges them and refuses others with 11.
     pub fn lent(bytes: &'s mut [u8]) -> Store<'s> {
         Store { bytes }
     }
@@ -225,5 +239,25 @@ impl<'s> Store<'s> {
             0 => Ok(()),
             number => Err(Refusal::from_word(number)),
         }
+    }
+    /// How many line contacts and channels the store holds; refused with 11. Both are read, and not counted anew.
+    ///
+    /// ```
+    /// # fn main() -> Result<(), otap::Refusal> {
+    /// use otap::{Counts, Refusal, Store, REPLY_ROOM, STORE_SIZE};
+    /// let mut bytes = [0; STORE_SIZE];
+    /// assert_eq!(Store::lent(&mut bytes).counts(), Err(Refusal::NotAStore));
+    /// let mut store = Store::start(&mut bytes)?;
+    /// assert_eq!(store.counts(), Ok(Counts { lines: 0, channels: 0 }));
+    /// // Replaces the scan channels by 241 and 640.
+    /// let message = [2, 2, 0, 12, 8, 7, 8, 1, 0xCE, 0, 7, 0xC0, 2, 0x0F, 0x12, 0x80];
+    /// store.take(&message, &mut [0; REPLY_ROOM]);
+    /// let counts = store.counts()?;
+    /// assert_eq!((counts.channels, counts.free_channels(), counts.free_lines()), (2, 62, 32));
+    /// # Ok(())
+    /// # }
+    /// ```
+    pub fn counts(&self) -> Result<Counts, Refusal> {
+        Counts::unpack(calls::counts(self.bytes))
     }
 }

@@ -4,6 +4,7 @@ use crate::raw;
 use otap::{Part, Refusal, Row, Slice, Store, Table, STORE_SIZE};
 use otap_reference::layout;
 use otap_reference::reference::export::{export, Exported};
+use otap_reference::reference::menu::{self, counts};
 use otap_reference::reference::screen::{self, row_number, row_part, Shown};
 use otap_reference::reference::tables::Set;
 use otap_reference::reference::take::take_from;
@@ -44,6 +45,7 @@ impl Pair {
             !is_store || self.bytes == layout::bytes(&self.set),
             "the store's bytes after {message:02X?}"
         );
+        self.count();
         number
     }
 
@@ -90,6 +92,22 @@ impl Pair {
         number
     }
 
+    /// The number, both counts and what is free; the packed answer has no other bit.
+    pub fn count(&mut self) -> u8 {
+        let before = self.bytes.clone();
+        let wanted = counts(before.len() == STORE_SIZE, &self.set);
+        let store = Store::lent(&mut self.bytes);
+        let said = store.counts();
+        assert_eq!(number_of(&said), wanted.number);
+        assert_eq!(packed(&wanted), raw::counts(store.bytes()));
+        if let Ok(said) = said {
+            assert_eq!((said.lines, said.channels), (wanted.lines, wanted.channels));
+            assert_eq!((said.free_lines(), said.free_channels()), self.set.free());
+        }
+        assert!(self.bytes == before, "the menu only reads");
+        wanted.number
+    }
+
     pub fn compare_exports(&mut self) {
         for part in 0..=Part::ALL.len() as u32 + 1 {
             self.export_into(part, otap::EXPORT_ROOM + part as usize);
@@ -117,6 +135,11 @@ fn exported(part: u32, bytes: &mut [u8], buffer: &mut [u8]) -> (u8, usize) {
     (number_of(&exported), exported.map_or(0, <[u8]>::len))
 }
 
+/// The bits of the C answer: number 0 to 7, lines 16 to 31, channels 32 to 47, all others 0.
+fn packed(counts: &menu::Counts) -> u64 {
+    u64::from(counts.number) | (counts.lines as u64) << 16 | (counts.channels as u64) << 32
+}
+
 fn assert_same(part: Row, shown: &Shown, table: u32, row: u32) {
     let (slice, offset, units) = match shown {
         Shown::Stored(units) => (Slice::Store, text_offset(table, row), units),
@@ -134,7 +157,7 @@ fn assert_same(part: Row, shown: &Shown, table: u32, row: u32) {
 fn text_offset(table: u32, row: u32) -> usize {
     let row = row as usize;
     match table {
-        1 => 7_414 + 52 * row + 20,
+        1 => 7_418 + 52 * row + 20,
         2 => 22 + 46 * row,
         3 => 2_966 + 33 * (row - 32) + 1,
         4 => 6_134 + 36 * row + 4,

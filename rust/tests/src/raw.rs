@@ -1,4 +1,4 @@
-//! C functions themselves, for the numbers of parts and tables that the face has no name for.
+//! C functions themselves, for the numbers of parts and tables that the face has no name for, and for bits that it passes over.
 #![allow(unsafe_code)]
 
 unsafe extern "C" {
@@ -25,6 +25,7 @@ unsafe extern "C" {
         scratch: *mut u8,
         length: u64,
     ) -> u64;
+    fn otap_counts(store: *const u8, store_length: u64) -> u64;
 }
 
 pub fn export(part: u32, store: &[u8], buffer: &mut [u8]) -> u64 {
@@ -43,4 +44,9 @@ pub fn row_part(table: u32, row: u32, store: &[u8], scratch: &mut [u8]) -> u64 {
     let (store_length, length) = (store.len() as u64, scratch.len() as u64);
     // SAFETY: the slices are live for the call and do not overlap.
     unsafe { otap_row_part(table, row, store.as_ptr(), store_length, scratch.as_mut_ptr(), length) }
+}
+
+pub fn counts(store: &[u8]) -> u64 {
+    // SAFETY: the slice is live for the call, which only reads it.
+    unsafe { otap_counts(store.as_ptr(), store.len() as u64) }
 }

@@ -63,6 +63,8 @@ fn refused<T>(answer: Result<T, Refusal>) -> (Refusal, u8) {
 #[test]
 fn refusals_of_stores_exports_and_rows() {
     assert_eq!(refused(Store::start(&mut [0; 3])), (Refusal::NotAStore, 11));
+    assert_eq!(refused(Store::open(&mut [0; STORE_SIZE])), (Refusal::NotAStore, 11));
+    assert_eq!(refused(Store::lent(&mut [0; 3]).counts()), (Refusal::NotAStore, 11));
     let mut bytes = vec![0; STORE_SIZE];
     let store = Store::start(&mut bytes).expect("the size is right");
     let (mut buffer, mut scratch) = ([0; EXPORT_ROOM], [0; SCRATCH_ROOM]);

@@ -13,6 +13,7 @@ fn call(pair: &mut Pair, call: &Call) -> u8 {
         Call::Take { message, room } => pair.take_into(message, *room),
         Call::Export { part, room } => pair.export_into(*part, *room),
         Call::Row { table, row, room } => pair.show_into(*table, *row, *room),
+        Call::Counts => pair.count(),
     }
 }
 
@@ -65,6 +66,8 @@ fn a_store_of_another_size_is_none() {
         assert_eq!(pair.take(&otap_tests::hex_request(&["CD 00 05 07 E4 C0"])), 11);
         assert_eq!(pair.export_into(1, EXPORT_ROOM), 11);
         assert_eq!(pair.show_into(1, 0, SCRATCH_ROOM), 11);
+        assert_eq!(pair.count(), 11);
+        assert_eq!(number_of(&Store::open(&mut pair.bytes)), 11);
     }
 }
 

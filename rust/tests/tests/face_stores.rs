@@ -1,6 +1,7 @@
 //! Which bytes are a store: those that messages make, those that docs/STORE.md allows, and no others.
 
 use otap::{Outcome, Part, Store, Table, EXPORT_ROOM, REPLY_ROOM, SCRATCH_ROOM, STORE_SIZE};
+use otap_reference::inputs::pokes::{poke_count, poke_list};
 use otap_reference::inputs::random::Random;
 use otap_reference::inputs::Inputs;
 use otap_reference::layout;
@@ -17,8 +18,11 @@ fn is_store(bytes: &mut [u8]) -> bool {
     let exports: Vec<u8> = Part::ALL.iter().map(export).collect();
     let shown = number_of(&store.row(Table::Lines, 40, &mut [0; SCRATCH_ROOM]));
     let checked = number_of(&store.check_row(Table::Lines, 40, &[0; SCRATCH_ROOM]));
-    let (exported, number) = if taken == 11 { (11, 11) } else { (0, 17) };
-    assert_eq!((exports, shown, checked), (vec![exported; Part::ALL.len()], number, number));
+    let counted = number_of(&store.counts());
+    let opened = number_of(&Store::open(bytes));
+    let (done, number) = if taken == 11 { (11, 11) } else { (0, 17) };
+    assert_eq!((exports, shown, checked), (vec![done; Part::ALL.len()], number, number));
+    assert_eq!((counted, opened), (done, done));
     assert!(*bytes == before, "none of these calls changes the bytes");
     assert_eq!(taken, if layout::is_store(bytes) { 5 } else { 11 });
     taken == 5
@@ -98,14 +102,14 @@ fn damaged_bytes_are_refused_or_are_a_store() {
     assert!(stores > 1_000 && refused > 1_000);
 }
 
-/// First byte, slots and size of each part that has slots.
+/// First slot, slots and size of each part that has slots; those of channels and lines stand behind their count.
 const SLOTS: [(usize, usize, usize); 6] = [
     (22, 64, 46),
     (2_966, 96, 33),
     (6_134, 16, 36),
     (6_710, 16, 36),
-    (7_286, 64, 2),
-    (7_414, 32, 52),
+    (7_288, 64, 2),
+    (7_418, 32, 52),
 ];
 
 /// Slots copied over others, emptied or exchanged: gaps, equal keys, and entries of another order.
@@ -135,6 +139,33 @@ fn damaged_slots_are_refused_or_are_a_store() {
     }
     println!("{stores} still a store, {refused} refused");
     assert!(stores > 1_000 && refused > 500);
+}
+
+/// A false count is refused by every call, of whatever list; the list may change only together with its count.
+#[test]
+fn poked_counts_are_refused() {
+    let mut random = Random::new(7);
+    let (mut stores, mut refused) = (0, 0);
+    for seed in 5_400..5_430 {
+        let pair = grown(seed, 40);
+        for turn in 0..300 {
+            let mut bytes = pair.bytes.clone();
+            if turn % 2 == 0 {
+                poke_count(&mut random, &mut bytes);
+                assert_eq!(is_store(&mut bytes), bytes == pair.bytes, "seed {seed} turn {turn}");
+            } else {
+                poke_list(&mut random, &mut bytes);
+                if is_store(&mut bytes) {
+                    assert!(made_again(&mut bytes) == bytes, "seed {seed} turn {turn}");
+                    stores += 1;
+                } else {
+                    refused += 1;
+                }
+            }
+        }
+    }
+    println!("{stores} still a store, {refused} refused");
+    assert!(stores > 500 && refused > 500);
 }
 
 /// Every byte of a fresh store changed: a store only where made again it is the same.

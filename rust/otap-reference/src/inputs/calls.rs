@@ -9,12 +9,13 @@ use crate::reference::take::REPLY_ROOM;
 /// For each table of the screen, the first row to ask for and how many.
 const ROWS: [(u32, usize); 5] = [(0, 34), (0, 66), (30, 100), (0, 18), (0, 18)];
 
-/// A call and the room of the buffer that it writes to.
+/// A call and the room of the buffer that it writes to, if there is one.
 #[derive(Clone, Debug, PartialEq, Eq)]
 pub enum Call {
     Take { message: Vec<u8>, room: usize },
     Export { part: u32, room: usize },
     Row { table: u32, row: u32, room: usize },
+    Counts,
 }
 
 pub struct Calls {
@@ -28,13 +29,14 @@ impl Calls {
     }
 
     pub fn call(&mut self) -> Call {
-        match self.random.below(3) {
-            0 => Call::Take { message: self.inputs.message(), room: self.room(REPLY_ROOM) },
-            1 => Call::Export { part: self.part(), room: self.room(EXPORT_ROOM) },
-            _ => {
+        match self.random.below(16) {
+            0..=4 => Call::Take { message: self.inputs.message(), room: self.room(REPLY_ROOM) },
+            5..=9 => Call::Export { part: self.part(), room: self.room(EXPORT_ROOM) },
+            10..=14 => {
                 let (table, row) = self.row();
                 Call::Row { table, row, room: self.room(SCRATCH_ROOM) }
             }
+            _ => Call::Counts,
         }
     }
 

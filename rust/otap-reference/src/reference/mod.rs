@@ -1,7 +1,8 @@
-//! Document 01 by subject. Nothing here knows the store's byte layout.
+//! Document 01 by subject, with the requests of document 02 that have landed. Nothing here knows the store's byte layout.
 
 pub mod bits;
 pub mod export;
+pub mod menu;
 pub mod message;
 pub mod numbers;
 pub mod plan;

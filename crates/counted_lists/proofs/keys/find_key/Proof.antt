@@ -1,8 +1,7 @@
 -- `counted_lists::keys::find_key` meets its contract. Assumes nothing.
 use Rattle.lists.proofs.Kit.{needs, ℕ, _≤_, _-_, _≡_, sym, _∙_, List, arith, length}
 use Rattle.slots.specs.Slots.{flat, Slots, hit}
-use Rattle.slots.proofs.Search.{Rest, search-start, search-more, search-stop, search-end, said-of}
-use Rattle.counted_lists.proofs.KeyLaws.{slot-hit}
+use Rattle.slots.proofs.Search.{Rest, search-start, search-more, search-stop, search-end, part-hit, said-of}
 use Rattle.counted_lists.proofs.keys.find_key.Statement.{statement}
 use Rattle.counted_lists.proofs.keys.find_key.Tie as tie
 
@@ -43,7 +42,7 @@ returns c =
     let l = c .before .before .before .before .loop in
     let a = c .before .before .before .before .before .before .before .args in
     let k = c .before .before .before .before .before .before .before .pre in
-    let t = slot-hit (a .s .now) (l .at) (a .w) (a .o) (a .key .now) (k .0 .inside) (omega arith) (said-of (a .k) (a .key .now) (a .s .now) (l .at) (a .o) (k .1) (sym (c .before .alike .ensures) ∙ c .if1 .taken)) in
+    let t = part-hit (a .s .now) (l .at) (a .w) (a .o) (a .key .now) (k .0 .inside) (omega arith) (said-of (a .k) (a .key .now) (a .s .now) (l .at) (a .o) (k .1) (sym (c .before .alike .ensures) ∙ c .if1 .taken)) in
     record { within = l .inv .0; first = λ xs q e. search-stop (hit (a .o) (a .key .now)) (a .s .now) (a .w) (l .at) xs (l .inv .1 xs q e) (k .0 .wide) (omega arith) t }
 
 add-at : tie.Need-add-at Inv-loop μ-loop
@@ -57,7 +56,7 @@ loop-again c =
     let l = c .before .before .before .before .loop in
     let a = c .before .before .before .before .before .before .before .args in
     let k = c .before .before .before .before .before .before .before .pre in
-    let t = slot-hit (a .s .now) (l .at) (a .w) (a .o) (a .key .now) (k .0 .inside) (omega arith) (said-of (a .k) (a .key .now) (a .s .now) (l .at) (a .o) (k .1) (sym (c .before .alike .ensures) ∙ c .if1 .left)) in
+    let t = part-hit (a .s .now) (l .at) (a .w) (a .o) (a .key .now) (k .0 .inside) (omega arith) (said-of (a .k) (a .key .now) (a .s .now) (l .at) (a .o) (k .1) (sym (c .before .alike .ensures) ∙ c .if1 .left)) in
     (omega arith, λ xs q e. search-more (hit (a .o) (a .key .now)) (a .s .now) (a .w) (l .at) xs (l .inv .1 xs q e) (k .0 .wide) (omega arith) t)
 
 returns-2 : tie.Need-returns-2 Inv-loop μ-loop

@@ -1,7 +1,8 @@
 -- `counted_lists::keys::others` meets its contract. Assumes nothing.
 use Rattle.lists.proofs.Kit.{needs, ℕ, _+_, _-_, _≤_, _≡_, sym, _∙_, Bool, true, false, cond, List, arith, length, drop, take, ⊎-elim, not-true, not-false}
 use Rattle.slots.specs.Slots.{flat, Slots, hit}
-use Rattle.counted_lists.proofs.KeyLaws.{slot-hit, Tally, tally-start, tally-more, tally-end}
+use Rattle.slots.proofs.Search.{part-hit}
+use Rattle.counted_lists.proofs.KeyLaws.{Tally, tally-start, tally-more, tally-end}
 use Rattle.counted_lists.proofs.keys.others.Statement.{statement}
 use Rattle.counted_lists.proofs.keys.others.Tie as tie
 
@@ -53,7 +54,7 @@ loop-again c =
     let k = c .before .before .before .before .before .before .before .pre in
     let y = c .before .same in
     let hits : (b : Bool) → y .result ≡ b → hit (a .o) (a .key .now) (take (a .w) (drop (l .at) (a .s .now))) ≡ b
-    = λ b h. slot-hit (a .s .now) (l .at) (a .w) (a .o) (a .key .now) (k .inside) (omega arith) (sym (y .ensures) ∙ h) in
+    = λ b h. part-hit (a .s .now) (l .at) (a .w) (a .o) (a .key .now) (k .inside) (omega arith) (sym (y .ensures) ∙ h) in
     let more : (xs : List (List ℕ)) → Slots (a .w) xs → a .s .now ≡ flat xs → (b : Bool) → y .result ≡ b → (n : ℕ) → n ≡ cond b (l .n) (l .n + 1)
     → Tally (hit (a .o) (a .key .now)) (a .s .now) (a .w) (l .at + a .w) n xs
     = λ xs q e b h.

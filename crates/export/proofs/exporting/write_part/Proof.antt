@@ -9,11 +9,17 @@ mul-lines c = search needs
 add-lines : tie.Need-add-lines
 add-lines c = search needs
 
+add-lines-2 : tie.Need-add-lines-2
+add-lines-2 c = search needs
+
 mul-spare : tie.Need-mul-spare
 mul-spare c = search needs
 
 add-spare : tie.Need-add-spare
 add-spare c = search needs
+
+add-spare-2 : tie.Need-add-spare-2
+add-spare-2 c = search needs
 
 span-of-requires : tie.Need-span-of-requires
 span-of-requires c κs = search needs
@@ -47,8 +53,10 @@ write-part-spec =
     (tie.spec
     mul-lines
     add-lines
+    add-lines-2
     mul-spare
     add-spare
+    add-spare-2
     span-of-requires
     sub-write-held
     part-write-held-start

@@ -4,7 +4,7 @@ use Rattle.screen.specs.declared.names.SlotPlace.the-variants.{Beyond}
 use Rattle.screen.proofs.SlotLaws.{slot-row, slot-line, slot-status}
 use Rattle.screen.proofs.names.slot_of.Statement.{statement}
 use Rattle.screen.proofs.names.slot_of.Tie as tie
-use Rattle.tables.specs.Layout.{lists-at}
+use Rattle.tables.specs.Layout.{count-size, lines-at}
 
 enum-known-row : tie.Need-enum-known-row
 enum-known-row c = search needs
@@ -14,6 +14,12 @@ mul-slot-in c = search needs
 
 add-slot-in : tie.Need-add-slot-in
 add-slot-in c = search needs
+
+add-slot-in-2 : tie.Need-add-slot-in-2
+add-slot-in-2 c = search needs
+
+add-slot-in-3 : tie.Need-add-slot-in-3
+add-slot-in-3 c = search needs
 
 slot-in-requires : tie.Need-slot-in-requires
 slot-in-requires c κs = search needs
@@ -49,7 +55,7 @@ returns : tie.Need-returns
 returns c =
     let s = c .before .before .before .before .before in
     slot-row (s .args .limits) (c .slot-in .result) (c .before .before .before .row .given .1)
-    (slot-line (s .args .limits) (c .before .before .before .row .given .0 .0) (lists-at + s .args .limits .channels * 2) (c .slot-in .result) (omega arith) (c .slot-in .ensures))
+    (slot-line (s .args .limits) (c .before .before .before .row .given .0 .0) (lines-at (s .args .limits) + count-size) (c .slot-in .result) (omega arith) (c .slot-in .ensures))
 
 returns-2 : tie.Need-returns-2
 returns-2 c = slot-row (c .before .before .before .before .args .limits) (c .slot-in2 .result) (c .before .before .row2 .given .1) (c .slot-in2 .ensures)
@@ -79,6 +85,8 @@ slot-of-spec =
     enum-known-row
     mul-slot-in
     add-slot-in
+    add-slot-in-2
+    add-slot-in-3
     slot-in-requires
     enum-known-row-2
     slot-in-requires-2

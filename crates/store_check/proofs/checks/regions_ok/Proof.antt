@@ -1,10 +1,10 @@
-use Rattle.lists.proofs.Kit.{needs, arith, _+_, _*_, sym, _∙_}
+use Rattle.lists.proofs.Kit.{needs, arith, sym, _∙_}
 use Rattle.slots.proofs.Tables.{slot-wide}
 use Rattle.tables.proofs.AnswerLaws.{refused, not-said, was-said}
 use Rattle.store_check.proofs.StoreChecks.{store-is}
 use Rattle.store_check.proofs.checks.regions_ok.Statement.{statement}
 use Rattle.store_check.proofs.checks.regions_ok.Tie as tie
-use Rattle.tables.specs.Layout.{line-width, lists-at}
+use Rattle.tables.specs.Layout.{channels-size, lines-size, lists-at, lines-at}
 
 sub-fixed-ok : tie.Need-sub-fixed-ok
 sub-fixed-ok c = search needs
@@ -42,6 +42,9 @@ mul-lines c = search needs
 add-lines : tie.Need-add-lines
 add-lines c = search needs
 
+add-lines-2 : tie.Need-add-lines-2
+add-lines-2 c = search needs
+
 sub-channels-ok : tie.Need-sub-channels-ok
 sub-channels-ok c = search needs
 
@@ -58,13 +61,17 @@ returns-3 : tie.Need-returns-3
 returns-3 c =
     let s = c .before .before .before .before .before .before .before .before .before .before .before .args .store .now in
     let lim = c .before .before .before .before .before .before .before .before .before .before .before .args .limits in
-    refused (λ x. not-said (c .before .channels-ok .result) (c .before .channels-ok .ensures (lim .channels) (slot-wide s lists-at (lim .channels * 2) (omega arith))) (c .if3 .taken) (store-is lim s (c .before .before .before .before .before .before .before .before .before .before .before .pre .0) (c .before .before .before .before .before .before .before .before .before .before .before .pre .1) .1 x .1 .1 .0))
+    let room = c .before .before .before .before .before .before .before .before .before .before .before .pre .0 in
+    refused (λ x. not-said (c .before .channels-ok .result) (c .before .channels-ok .ensures (lim .channels) (slot-wide s lists-at (channels-size lim) (omega (arith, room .fits)))) (c .if3 .taken) (store-is lim s (c .before .before .before .before .before .before .before .before .before .before .before .pre .0) (c .before .before .before .before .before .before .before .before .before .before .before .pre .1) .1 x .1 .1 .0))
 
 mul-spare : tie.Need-mul-spare
 mul-spare c = search needs
 
 add-spare : tie.Need-add-spare
 add-spare c = search needs
+
+add-spare-2 : tie.Need-add-spare-2
+add-spare-2 c = search needs
 
 sub-lines-ok : tie.Need-sub-lines-ok
 sub-lines-ok c = search needs
@@ -82,7 +89,8 @@ returns-4 : tie.Need-returns-4
 returns-4 c =
     let s = c .before .before .before .before .before .before .before .before .before .before .before .before .before .before .before .args .store .now in
     let lim = c .before .before .before .before .before .before .before .before .before .before .before .before .before .before .before .args .limits in
-    refused (λ x. not-said (c .before .lines-ok .result) (c .before .lines-ok .ensures (lim .lines) (slot-wide s (lists-at + lim .channels * 2) (lim .lines * line-width) (omega arith))) (c .if4 .taken) (store-is lim s (c .before .before .before .before .before .before .before .before .before .before .before .before .before .before .before .pre .0) (c .before .before .before .before .before .before .before .before .before .before .before .before .before .before .before .pre .1) .1 x .1 .1 .1 .0))
+    let room = c .before .before .before .before .before .before .before .before .before .before .before .before .before .before .before .pre .0 in
+    refused (λ x. not-said (c .before .lines-ok .result) (c .before .lines-ok .ensures (lim .lines) (slot-wide s (lines-at lim) (lines-size lim) (omega (arith, room .fits)))) (c .if4 .taken) (store-is lim s (c .before .before .before .before .before .before .before .before .before .before .before .before .before .before .before .pre .0) (c .before .before .before .before .before .before .before .before .before .before .before .before .before .before .before .pre .1) .1 x .1 .1 .1 .0))
 
 sub-is-clear : tie.Need-sub-is-clear
 sub-is-clear c = search needs
@@ -100,11 +108,12 @@ returns-5 : tie.Need-returns-5
 returns-5 c =
     let s = c .before .before .before .before .before .before .before .before .before .before .before .before .before .before .before .before .before .args .store .now in
     let lim = c .before .before .before .before .before .before .before .before .before .before .before .before .before .before .before .before .before .args .limits in
+    let room = c .before .before .before .before .before .before .before .before .before .before .before .before .before .before .before .before .before .pre .0 in
     let t = store-is lim s (c .before .before .before .before .before .before .before .before .before .before .before .before .before .before .before .before .before .pre .0) (c .before .before .before .before .before .before .before .before .before .before .before .before .before .before .before .before .before .pre .1) in
     let f = was-said (c .before .before .before .before .before .before .before .before .before .before .before .before .before .before .fixed-ok .result) (c .before .before .before .before .before .before .before .before .before .before .before .before .before .before .fixed-ok .ensures) (c .before .before .before .before .before .before .before .before .before .before .before .before .before .if1 .left) in
     let i = was-said (c .before .before .before .before .before .before .before .before .before .before .before .indexed-ok .result) (c .before .before .before .before .before .before .before .before .before .before .before .indexed-ok .ensures) (c .before .before .before .before .before .before .before .before .before .before .if2 .left) in
-    let h = was-said (c .before .before .before .before .before .before .before .channels-ok .result) (c .before .before .before .before .before .before .before .channels-ok .ensures (lim .channels) (slot-wide s lists-at (lim .channels * 2) (omega arith))) (c .before .before .before .before .before .before .if3 .left) in
-    let l = was-said (c .before .before .before .lines-ok .result) (c .before .before .before .lines-ok .ensures (lim .lines) (slot-wide s (lists-at + lim .channels * 2) (lim .lines * line-width) (omega arith))) (c .before .before .if4 .left) in
+    let h = was-said (c .before .before .before .before .before .before .before .channels-ok .result) (c .before .before .before .before .before .before .before .channels-ok .ensures (lim .channels) (slot-wide s lists-at (channels-size lim) (omega (arith, room .fits)))) (c .before .before .before .before .before .before .if3 .left) in
+    let l = was-said (c .before .before .before .lines-ok .result) (c .before .before .before .lines-ok .ensures (lim .lines) (slot-wide s (lines-at lim) (lines-size lim) (omega (arith, room .fits)))) (c .before .before .if4 .left) in
     (λ e. t .0 (f, (i, (h, (l, sym (c .is-clear .ensures) ∙ e)))), λ x. c .is-clear .ensures ∙ t .1 x .1 .1 .1 .1)
 
 pub regions-ok-spec : {M : Type 1} → statement M
@@ -123,6 +132,7 @@ regions-ok-spec =
     returns-2
     mul-lines
     add-lines
+    add-lines-2
     sub-channels-ok
     part-channels-ok-start
     part-channels-ok-end
@@ -130,6 +140,7 @@ regions-ok-spec =
     returns-3
     mul-spare
     add-spare
+    add-spare-2
     sub-lines-ok
     part-lines-ok-start
     part-lines-ok-end

@@ -1,6 +1,6 @@
 use Rattle.lists.proofs.Kit.{needs, refl}
 use Rattle.store_lists.specs.Lists.{LineTable}
-use Rattle.tables.proofs.ListLaws.{tried-room}
+use Rattle.counted_lists.proofs.ListLaws.{tried-room}
 use Rattle.store_lists.proofs.lines.step_line.Statement.{statement}
 use Rattle.store_lists.proofs.lines.step_line.Tie as tie
 

@@ -5,19 +5,42 @@ use Rattle.tables.proofs.limits.roomy.Statement.{statement}
 use Rattle.tables.proofs.limits.roomy.Tie as tie
 
 returns : tie.Need-returns
-returns c = refused (λ r. omega arith)
+returns c = refused (λ r. omega (arith, r .few-channels))
 
 returns-2 : tie.Need-returns-2
-returns-2 c = refused (λ r. omega arith)
+returns-2 c = refused (λ r. omega (arith, r .few-lines))
 
-mul-result : tie.Need-mul-result
-mul-result c = search needs
+mul-channels : tie.Need-mul-channels
+mul-channels c = search needs
 
-sub-result : tie.Need-sub-result
-sub-result c = search needs
+add-channels : tie.Need-add-channels
+add-channels c = search needs
+
+mul-lines : tie.Need-mul-lines
+mul-lines c = search needs
+
+add-lines : tie.Need-add-lines
+add-lines c = search needs
+
+add-result : tie.Need-add-result
+add-result c = search needs
+
+add-result-2 : tie.Need-add-result-2
+add-result-2 c = search needs
 
 returns-3 : tie.Need-returns-3
 returns-3 c = room-is (c .before .before .before .before .before .before .before .args .limits) (omega arith) (omega arith)
 
 pub roomy-spec : {M : Type 1} → statement M
-roomy-spec = tie.close (tie.spec returns returns-2 mul-result sub-result returns-3)
+roomy-spec =
+    tie.close
+    (tie.spec
+    returns
+    returns-2
+    mul-channels
+    add-channels
+    mul-lines
+    add-lines
+    add-result
+    add-result-2
+    returns-3)

@@ -19,7 +19,7 @@ wipe-requires : tie.Need-wipe-requires
 wipe-requires c κs = search needs
 
 slice-write-store : tie.Need-slice-write-store
-slice-write-store c = let r : Roomy (c .before .before .before .before .before .before .before .before .before .args .limits) = was-said (c .before .before .before .before .before .roomy .result) (c .before .before .before .before .before .roomy .ensures) (c .before .before .before .before .if2 .left) in omega (arith, c .before .before .wipe .kept .0)
+slice-write-store c = let r : Roomy (c .before .before .before .before .before .before .before .before .before .args .limits) = was-said (c .before .before .before .before .before .roomy .result) (c .before .before .before .before .before .roomy .ensures) (c .before .before .before .before .if2 .left) in omega (arith, r .fits, c .before .before .wipe .kept .0)
 
 same-length : tie.Need-same-length
 same-length c = search needs

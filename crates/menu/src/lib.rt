@@ -1,0 +1,3 @@
+// What the menu shows of a store: how many line contacts and channels it holds.
+pub mod counting;
+pub mod handheld;
