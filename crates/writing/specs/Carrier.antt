@@ -10,7 +10,7 @@ use Rattle.writing.specs.declared.Result.the-variants.{Taken, OtherVersi
 use Rattle.writing.specs.Fields.{bitsOf, Field, val, res, Shows}
 use Rattle.writing.specs.Ranges.{HashSize}
 use Rattle.writing.specs.declared.Coding.{Coding}
-use Rattle.writing.specs.declared.Coding.the-variants.{Unicode16}
+use Rattle.writing.specs.declared.Coding.the-variants.{Unicode16, EightBit}
 use Rattle.writing.specs.Settings.{Setting, Hash, unicode16}
 use Rattle.writing.specs.Writing.{hash, request-head, WrittenAs}
 
@@ -36,9 +36,10 @@ pub record Carries (coding-type : ℕ) (data-bytes message : List ℕ) : Type 0 
   pub fields : Shows (carrier stated coding-type) (bitsOf header)
   pub length-field : States stated (2 + length data-bytes)
 
--- "Coding type must be 0111 (16-bit Unicode)"
+-- "0111 (16-bit Unicode)"; "coding type 0100, eight-bit characters"
 abbrev pub coding-type : Coding → ℕ
 coding-type Unicode16 = 7
+coding-type EightBit = 4
 
 -- ---- requests, result queries and replies
 
