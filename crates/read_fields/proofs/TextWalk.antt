@@ -3,11 +3,10 @@ use Rattle.lists.proofs.Kit.{ℕ, zero, suc, _+_, _*_, _/_, _%_, _^_, _≤_, _<
 use Rattle.lists.specs.Bytes.{Bytes}
 use Rattle.writing.specs.Fields.{Field, val, item}
 use Rattle.writing.specs.declared.Coding.{Coding}
-use Rattle.writing.specs.declared.Coding.the-variants.{Unicode16}
 use Rattle.writing.specs.Settings.{Text}
 use Rattle.writing.specs.Writing.{unit-width, text}
 use Rattle.read_fields.specs.Places.{FieldsAt, be}
-use Rattle.read_fields.specs.TextsAndNumbers.{TextIs, TextAt}
+use Rattle.read_fields.specs.TextsAndNumbers.{UnitBytes, TextIs, TextAt}
 use Rattle.read_fields.specs.declared.texts.TextPlace.{TextPlace}
 use Rattle.read_fields.specs.declared.texts.TextRead.{TextRead}
 use Rattle.read_fields.specs.declared.texts.TextRead.the-variants.{Text as AText, NoText}
@@ -17,10 +16,6 @@ use Rattle.read_fields.proofs.Walk.{Walked, not-yet, extend}
 
 abbrev Any : List ℕ → Type 0
 Any us = Unit {0}
-
--- every coding has units of two bytes
-pub two : (c : Coding) → unit-width c ≡ 8 * 2
-two Unicode16 = refl
 
 -- so many units have been passed, and p is the place after them
 pub record TextPassed (c : Coding) (m : List ℕ) (at p units : ℕ) : Type 0 where
@@ -37,7 +32,7 @@ one-cut : (w N : ℕ) → N < 2 ^ w → N / 2 ^ 0 % 2 ^ w ≡ N
 one-cut w N l = ap (λ (x : ℕ). x % 2 ^ w) (let e : N / 1 ≡ N = omega arith in e) ∙ mod-eq-of-lt l
 
 -- units of k bytes
-module _ (c : Coding) (k : ℕ) (size : unit-width c ≡ 8 * k) (some : 0 < k) (m : List ℕ) (at p units : ℕ) (h : Bytes m) (w : TextPassed c m at p units) where
+module _ (c : Coding) (k : ℕ) (size : UnitBytes c k) (m : List ℕ) (at p units : ℕ) (h : Bytes m) (w : TextPassed c m at p units) where
   abbrev last : List Field
   last = val (unit-width c) 0 ∷ []
 
@@ -46,15 +41,15 @@ module _ (c : Coding) (k : ℕ) (size : unit-width c ≡ 8 * k) (some : 0 < k) (
 
   -- a field of one unit is k bytes wide
   wide : unit-width c + 0 ≡ 8 * k
-  wide = omega (arith, size)
+  wide = omega (arith, size .wide)
 
   -- where no unit is left no text stands
   pub no-unit : (p + k ≤ length m → ⊥) → (us : List ℕ) (next : ℕ) → FieldsAt (text c us) m at next → ⊥
   no-unit never us next x = let (rest, e, y) = w .walked .on us next tt x in by rest y
     where
       by : (rest : List ℕ) → FieldsAt (text c rest) m p next → ⊥
-      by [] y = never (head-out last [] m p k wide some h next y .0)
-      by (u ∷ rest) y = never (head-out (unit-of u) (text c rest) m p k wide some h next y .0)
+      by [] y = never (head-out last [] m p k wide (size .some-byte) h next y .0)
+      by (u ∷ rest) y = never (head-out (unit-of u) (text c rest) m p k wide (size .some-byte) h next y .0)
 
   -- a text of at most as many units as have been passed, less one, does not stand here
   pub too-many : (limit : ℕ) → limit < units → TextAt c m at limit NoText
@@ -64,7 +59,7 @@ module _ (c : Coding) (k : ℕ) (size : unit-width c ≡ 8 * k) (some : 0 < k) (
 
   module _ (room : p + k ≤ length m) {u : ℕ} (unit : u ≡ be 0 (take k (drop p m))) where
     cut-is : u / 2 ^ 0 % 2 ^ unit-width c ≡ u
-    cut-is = one-cut (unit-width c) u (subst (λ (x : ℕ). u < 2 ^ x) (sym size) (rw unit (be-small m p k h room)))
+    cut-is = one-cut (unit-width c) u (subst (λ (x : ℕ). u < 2 ^ x) (sym (size .wide)) (rw unit (be-small m p k h room)))
 
     -- a unit that is not the end
     pub unit-passed : u ≢ 0 → TextPassed c m at (p + k) (units + 1)
@@ -73,16 +68,16 @@ module _ (c : Coding) (k : ℕ) (size : unit-width c ≡ 8 * k) (some : 0 < k) (
       counted = omega (arith, w .counted, length-append (w .done) (u ∷ []));
       place = omega (arith, w .place);
       walked = extend (text c) Any m at p (p + k) (w .done) (u ∷ []) (w .walked)
-          (λ rest next x. head-in (unit-of u) (text c rest) m p k wide some h next room (subst (Cut (unit-of u)) unit ((cut-is, n), tt)) x)
+          (λ rest next x. head-in (unit-of u) (text c rest) m p k wide (size .some-byte) h next room (subst (Cut (unit-of u)) unit ((cut-is, n), tt)) x)
           (λ us next a x. on us next x);
     }
       where
         on : (us : List ℕ) (next : ℕ) → FieldsAt (text c us) m p next → (rest : List ℕ) × (us ≡ u ∷ rest) × FieldsAt (text c rest) m (p + k) next
         on [] next x =
-            let (r, k, y) = head-out last [] m p k wide some h next x in
+            let (r, k, y) = head-out last [] m p k wide (size .some-byte) h next x in
             absurd (n (sym cut-is ∙ subst (Cut last) (sym unit) k .0))
         on (v ∷ us) next x =
-            let (r, k, y) = head-out (unit-of v) (text c us) m p k wide some h next x in
+            let (r, k, y) = head-out (unit-of v) (text c us) m p k wide (size .some-byte) h next x in
             (us, ap (λ (z : ℕ). z ∷ us) (sym (subst (Cut (unit-of v)) (sym unit) k .0 .0) ∙ cut-is), y)
 
     -- the end unit
@@ -95,7 +90,7 @@ module _ (c : Coding) (k : ℕ) (size : unit-width c ≡ 8 * k) (some : 0 < k) (
       record {
         units = w .counted;
         stands = subst (λ (us : List ℕ). FieldsAt (text c us) m at (p + k)) (append-nil (w .done))
-            (w .walked .back [] (p + k) (head-in last [] m p k wide some h (p + k) room
+            (w .walked .back [] (p + k) (head-in last [] m p k wide (size .some-byte) h (p + k) room
             (subst (Cut last) unit (cut-is ∙ z, tt)) (nothing m (p + k))));
       },
     )
