@@ -21,7 +21,7 @@ remaining-requires c κs = search needs
 returns : tie.Need-returns Inv-loop μ-loop
 returns c =
     let l = c .before .before .before in
-    λ us next k x. no-unit _ _ (l .before .unit-bytes .ensures) _ _ _ _ (λ i. (l .before .before .shared-slice-known .given i) .fits) (l .loop .inv) (omega arith) us next x
+    λ us next k x. no-unit _ _ (l .before .unit-bytes .ensures) _ _ (λ i. (l .before .before .shared-slice-known .given i) .fits) _ _ (l .loop .inv) (omega arith) us next x
 
 number-requires : tie.Need-number-requires Inv-loop μ-loop
 number-requires c κs = search needs
@@ -32,7 +32,7 @@ add-t12 c = omega arith
 returns-2 : tie.Need-returns-2 Inv-loop μ-loop
 returns-2 c =
     let l = c .before .before .before .before .before in
-    text-ended _ _ (l .before .unit-bytes .ensures) _ _ _ _ (λ i. (l .before .before .shared-slice-known .given i) .fits) (l .loop .inv) (omega arith) (c .before .number .ensures (omega arith, omega arith)) _ (c .if2 .taken) (omega arith)
+    text-ended _ _ (l .before .unit-bytes .ensures) _ _ (λ i. (l .before .before .shared-slice-known .given i) .fits) _ _ (l .loop .inv) (omega arith) (c .before .number .ensures (omega arith, omega arith)) _ (c .if2 .taken) (omega arith)
 
 add-units : tie.Need-add-units Inv-loop μ-loop
 add-units c = let l = c .before .before .before .before .before in omega (arith, l .loop .inv .place)
@@ -46,10 +46,10 @@ loop-less c = omega arith
 loop-again : tie.Need-loop-again Inv-loop μ-loop
 loop-again c =
     let l = c .before .before .before .before .before in
-    unit-passed _ _ (l .before .unit-bytes .ensures) _ _ _ _ (λ i. (l .before .before .shared-slice-known .given i) .fits) (l .loop .inv) (omega arith) (c .before .number .ensures (omega arith, omega arith)) (c .if2 .left)
+    unit-passed _ _ (l .before .unit-bytes .ensures) _ _ (λ i. (l .before .before .shared-slice-known .given i) .fits) _ _ (l .loop .inv) (omega arith) (c .before .number .ensures (omega arith, omega arith)) (c .if2 .left)
 
 returns-3 : tie.Need-returns-3 Inv-loop μ-loop
-returns-3 c = let l = c .before in too-many _ _ (l .before .unit-bytes .ensures) _ _ _ _ (λ i. (l .before .before .shared-slice-known .given i) .fits) (l .loop .inv) _ (omega arith)
+returns-3 c = let l = c .before in too-many _ _ (l .before .unit-bytes .ensures) _ _ (λ i. (l .before .before .shared-slice-known .given i) .fits) _ _ (l .loop .inv) _ (omega arith)
 
 pub read-text-spec : {M : Type 1} → statement M
 read-text-spec =
