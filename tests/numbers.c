@@ -264,6 +264,9 @@ static void lengths_of_narrow(uint8_t *other)
         write_narrow(rows[each].type, rows[each].units, rows[each].data_length);
         told("a text under 0100", said.bytes, said.length, rows[each].number, rows[each].number == OTAP_OK ? 0 : 1, other);
     }
+    write_narrow(0xD1, 1, 9);
+    told("the last character", said.bytes, said.length, OTAP_OK, 0, other);
+    same("its unit", 0x00FF, other[6138] * 256u + other[6139], 0x00FF);
     write_narrow(0xD1, 2, 9);
     told("a text without its end", said.bytes, said.length - 1, OTAP_BAD_FIELD, 1, other);
 }
