@@ -229,7 +229,7 @@ static void told(const char *what, const uint8_t *message, size_t length, uint64
     answer = otap_take(message, length, other, OTAP_STORE_BYTES, reply, sizeof reply);
     same(what, number, number, otap_answer_number(answer));
     same(what, failed, failed, otap_take_failed(answer));
-    same("coding type of the reply", 0, reply[5], 0);
+    same("coding type of the reply", 0, 0, reply[5]);
 }
 
 /* A request of coding type 0100 with a group (D1) or a quick text (CC) of as many characters, and any DataLength. */
@@ -266,7 +266,7 @@ static void lengths_of_narrow(uint8_t *other)
     }
     write_narrow(0xD1, 1, 9);
     told("the last character", said.bytes, said.length, OTAP_OK, 0, other);
-    same("its unit", 0x00FF, other[6138] * 256u + other[6139], 0x00FF);
+    same("its unit", 0x00FF, 0x00FF, other[6138] * 256u + other[6139]);
     write_narrow(0xD1, 2, 9);
     told("a text without its end", said.bytes, said.length - 1, OTAP_BAD_FIELD, 1, other);
 }
@@ -282,10 +282,10 @@ static void coding_types(void)
     size_t each;
     told("0100", narrow, sizeof narrow, OTAP_OK, 0, one);
     told("0111", wide, sizeof wide, OTAP_OK, 0, two);
-    same("the same store", 0, (uint64_t)(memcmp(one, two, sizeof one) != 0), 0);
+    same("the same store", 0, 0, (uint64_t)(memcmp(one, two, sizeof one) != 0));
     part = otap_row_part(OTAP_GROUPS, 0, one, sizeof one, scratch, sizeof scratch);
-    same("bytes of A1", 4, otap_part_length(part), 4);
-    same("A1", 0, (uint64_t)(memcmp(otap_part_bytes(part, one, scratch), "\0A\0" "1", 4) != 0), 0);
+    same("bytes of A1", 4, 4, otap_part_length(part));
+    same("A1", 0, 0, (uint64_t)(memcmp(otap_part_bytes(part, one, scratch), "\0A\0" "1", 4) != 0));
     lengths_of_narrow(one);
     narrow[5] = 0xF4;
     told("reserved bits", narrow, sizeof narrow, OTAP_OK, 0, one);
