@@ -2,6 +2,7 @@
 use tables::limits::HANDHELD_SIZE;
 
 mod channel_cases;
+mod eight_bit_cases;
 mod line_cases;
 mod screen_cases;
 mod slot_cases;
@@ -13,5 +14,6 @@ fn main() {
     channel_cases::run(&mut store);
     text_cases::run(&mut store);
     slot_cases::run(&mut store);
+    eight_bit_cases::run(&mut store);
     screen_cases::run(&mut store);
 }
