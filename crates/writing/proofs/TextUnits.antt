@@ -1,12 +1,12 @@
--- What the units of a setting's texts may be under a coding type. Assumes nothing.
-use Rattle.lists.proofs.Kit.{ℕ, zero, suc, _^_, _≤_, _<_, _≢_, List, [], _∷_, map, arith, getD}
+-- A setting's texts under a coding type: what their units may be, and that a setting without texts is written alike under all. Assumes nothing.
+use Rattle.lists.proofs.Kit.{ℕ, zero, suc, _^_, _≤_, _<_, _≡_, refl, subst, _≢_, List, [], _∷_, map, cons≢nil, arith, getD}
 use Rattle.lists.specs.Every.{All}
 use Rattle.lists.proofs.Every.{all-left, all-right, all-turn, all-map}
 use Rattle.writing.specs.Canonical.{FitsField, Fits}
-use Rattle.writing.specs.Fields.{Field, val, item, each}
+use Rattle.writing.specs.Fields.{bitsOf, Field, val, item, each, Shows}
 use Rattle.writing.specs.declared.Coding.{Coding}
 use Rattle.writing.specs.Settings.{Text, Setting, lines, key, quick-texts, home, channels, system, status-texts, group, individual, last, texts, eight-bit}
-use Rattle.writing.specs.Writing.{unit-width, text, number, contact, quick-text, status-text, Written}
+use Rattle.writing.specs.Writing.{unit-width, text, number, contact, quick-text, status-text, fields, Written}
 use Rattle.writing.proofs.CanonicalLaws.{has-writing}
 
 -- a unit that may stand in a text
@@ -59,3 +59,23 @@ no-writing-above-255 s i j bs h w =
     all-at (All (_≤ 255)) (texts s) i [] tt
     (all-turn (All (UnitOk eight-bit)) (All (_≤ 255)) (λ us. all-turn (UnitOk eight-bit) (_≤ 255) (λ u q. omega (arith, q .1)) us) (texts s) (texts-fit eight-bit s (has-writing eight-bit s bs w)))
     in omega (arith, all-at (_≤ 255) (getD (texts s) i []) j 0 (omega arith) small)
+
+-- a setting without texts has the same fields under every coding type
+same-fields : (c d : Coding) (s : Setting) → texts s ≡ [] → fields c s ≡ fields d s
+same-fields c d (lines o f []) e = refl
+same-fields c d (lines o f (x ∷ es)) e = absurd (cons≢nil e)
+same-fields c d (key t f) e = refl
+same-fields c d (quick-texts o []) e = refl
+same-fields c d (quick-texts o (x ∷ es)) e = absurd (cons≢nil e)
+same-fields c d (home h) e = refl
+same-fields c d (channels o es) e = refl
+same-fields c d (system s) e = refl
+same-fields c d (status-texts o []) e = refl
+same-fields c d (status-texts o (x ∷ es)) e = absurd (cons≢nil e)
+same-fields c d (group o f s) e = absurd (cons≢nil e)
+same-fields c d (individual o f s) e = absurd (cons≢nil e)
+same-fields c d (last f h) e = refl
+
+-- WITHOUT TEXTS: what a setting without texts is written as under one coding type, it is written as under every other
+pub without-texts : (c d : Coding) (s : Setting) (bs : List ℕ) → texts s ≡ [] → Written c s bs → Written d s bs
+without-texts c d s bs e w = subst (λ (fs : List Field). Shows fs (bitsOf bs)) (same-fields c d s e) w
