@@ -16,8 +16,10 @@ pub const START: [u8; 2] = *b"\x02\x02";
 // The manufacturer that the carrier names.
 pub const MFID: u8 = 0x08;
 
-// The coding types of requests: 16-bit Unicode, and eight-bit characters.
+// The coding type of 16-bit Unicode.
 pub const UNICODE16: u8 = 0b0111;
+
+// The coding type of eight-bit characters.
 pub const EIGHT_BIT: u8 = 0b0100;
 
 // The OTAPVer that is taken.
