@@ -1,5 +1,6 @@
 // Runs cases that were worked out by hand, of the tables and the screen's rows: a line each, with the number answered and what was left behind.
 mod channel_cases;
+mod eight_bit_cases;
 mod line_cases;
 mod screen_cases;
 mod slot_cases;
@@ -11,5 +12,6 @@ fn main() {
     channel_cases::run(&mut store);
     text_cases::run(&mut store);
     slot_cases::run(&mut store);
+    eight_bit_cases::run(&mut store);
     screen_cases::run(&mut store);
 }
