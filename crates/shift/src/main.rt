@@ -1,6 +1,7 @@
-// A shift: takes the messages of the records on standard input, from a fresh store, and prints what each comes to and the screen's rows after it.
+// A shift: takes the messages of the records on standard input, from a fresh store, and prints what each comes to and what the set shows after it.
 mod messages;
 mod printing;
+mod room;
 mod rows;
 mod utf8;
 
@@ -8,6 +9,7 @@ use messages::tell;
 use printing::text;
 use records::Record;
 use records::read_record;
+use room::room;
 use rows::rows;
 use station::answers::Answer;
 use station::answers::Refusal;
@@ -15,11 +17,17 @@ use station::handheld::start;
 use station::handheld::take;
 use tables::limits::HANDHELD_SIZE;
 
-// Takes a message and prints its line; the rows after it.
+// What the set shows: rows, and the menu's line.
+fn show(store: &[u8]) {
+    rows(store);
+    room(store);
+}
+
+// Takes a message and prints its line; what is shown after it.
 fn receive(n: u64, message: &[u8], store: &mut [u8], reply: &mut [u8]) {
     let answer = take(message, store, reply);
     tell(n, message, answer, reply);
-    rows(store);
+    show(store);
 }
 
 // Takes message n, the next record: is there another?
@@ -48,7 +56,7 @@ fn main() {
     let mut reply = [0u8; 20];
     start(&mut store);
     text(b"A fresh store\n");
-    rows(&store);
+    show(&store);
     let mut n: u64 = 1;
     while n < u64::MAX && next(n, &mut buffer, &mut store, &mut reply) {
         n += 1;

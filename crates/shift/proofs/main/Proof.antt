@@ -24,11 +24,11 @@ slice-aggregate-text c = search needs
 text-requires : tie.Need-text-requires Inv-loop μ-loop
 text-requires c κs = search needs
 
-slice-aggregate-rows : tie.Need-slice-aggregate-rows Inv-loop μ-loop
-slice-aggregate-rows c = search needs
+slice-aggregate-show : tie.Need-slice-aggregate-show Inv-loop μ-loop
+slice-aggregate-show c = search needs
 
-rows-requires : tie.Need-rows-requires Inv-loop μ-loop
-rows-requires c κs = search needs
+show-requires : tie.Need-show-requires Inv-loop μ-loop
+show-requires c κs = search needs
 
 loop-holds : tie.Need-loop-holds Inv-loop μ-loop
 loop-holds c = (refl, search needs, refl)
@@ -70,8 +70,8 @@ main-spec =
     start-requires
     slice-aggregate-text
     text-requires
-    slice-aggregate-rows
-    rows-requires
+    slice-aggregate-show
+    show-requires
     loop-holds
     slice-aggregate-next
     slice-aggregate-next-2
