@@ -118,8 +118,9 @@ static size_t build_setting(Input *input, uint8_t *to)
 static void take_built(Input *input, unsigned choice)
 {
     static uint8_t message[OTAP_MESSAGE_BYTES + 64] = {2, 2, 0, 0, 8, 7, 8};
-    unsigned settings = 1 + next_byte(input) % 12, each;
+    unsigned chosen = next_byte(input), settings = 1 + chosen % 12, each;
     size_t length = 8;
+    message[5] = chosen < 128 ? 7 : 4; /* coding type 0111 or 0100 */
     message[7] = (uint8_t)settings;
     for (each = 0; each < settings; each++) {
         length += build_setting(input, message + length);

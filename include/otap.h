@@ -129,6 +129,8 @@ uint32_t otap_start(uint8_t *store, uint64_t store_length);
  *   10 to 14  no byte of any buffer is touched; failed ID 0, no send, no reboot, reply length 0
  * The first that applies is the answer: 10, 11, 12, 13, 14, 1; then, of a request, its count or coding (4), setting by setting its type (3), its
  * fields (4), room for it (2), and last bytes left over (4); of a query, its form (4) or 5. The message is only read.
+ * Texts of a request are eight-bit characters if its coding type is 0100, each the unit of the same value, and 16-bit Unicode if it is 0111; another
+ * coding type is 4, failed ID 0. The store keeps 16-bit units of both: the same names leave the same store. A query's coding type may be any.
  * A reply has 10, 14 or 20 bytes; bytes of the reply buffer past them stay. It is written for 0 to 5 also where send is no.
  * Unpack with otap_answer_number, otap_take_failed, otap_take_send, otap_take_reboot, otap_take_reply_length.
  */
@@ -138,6 +140,7 @@ uint64_t otap_take(const uint8_t *message, uint64_t message_length,
 
 /*
  * Writes a part of the store as a request at the buffer's start. The seven parts, taken by any other started set, give it the same tables.
+ * Its coding type is 0111, whatever the texts came in.
  *   0   the request is written; bytes of the buffer past its length stay
  *   15  buffer_length is under OTAP_EXPORT_BYTES; no byte is touched, length 0
  *   11  not a store; no byte is touched, length 0
@@ -173,7 +176,7 @@ uint32_t otap_row_number(uint32_t table, uint32_t row,
                          const uint8_t *scratch, uint64_t scratch_length);
 
 /*
- * The part of the store or of the scratch that shows a row: 16-bit units, high byte first, without an end unit.
+ * The part of the store or of the scratch that shows a row: 16-bit units, high byte first, without an end unit, also of texts that came in eight bits.
  * A row with a text shows it, where it stands in the store; no byte is touched. A line, group or individual without one shows its number: it is
  * written at the scratch's start (line digits, eight dialled digits, or six upper-case hex digits), and the scratch's other bytes stay.
  * An empty status text is an empty part of the store.

@@ -221,6 +221,82 @@ static void counted(void)
     no_store("erased flash", other);
 }
 
+/* What a message to a fresh store comes to; the store afterwards is left in `other`. */
+static void told(const char *what, const uint8_t *message, size_t length, uint64_t number, uint64_t failed, uint8_t *other)
+{
+    uint64_t answer;
+    same("start", 0, OTAP_OK, otap_start(other, OTAP_STORE_BYTES));
+    answer = otap_take(message, length, other, OTAP_STORE_BYTES, reply, sizeof reply);
+    same(what, number, number, otap_answer_number(answer));
+    same(what, failed, failed, otap_take_failed(answer));
+    same("coding type of the reply", 0, 0, reply[5]);
+}
+
+/* A request of coding type 0100 with a group (D1) or a quick text (CC) of as many characters, and any DataLength. */
+static void write_narrow(unsigned type, unsigned units, unsigned data_length)
+{
+    open_request(&said, 1);
+    said.bytes[5] = 4;
+    put(&said, type);
+    put(&said, 0);
+    put(&said, data_length);
+    put(&said, type == 0xD1 ? 0x60 : 0x41);
+    put(&said, 0);
+    if (type == 0xD1) {
+        put(&said, 0x10);
+        put(&said, 0);
+        put(&said, 1);
+    }
+    memset(said.bytes + said.length, 0xFF, units);
+    said.length += units;
+    put(&said, 0);
+}
+
+/* Texts have 16 and 23 units at most under 0100 too, and one byte ends them. */
+static void lengths_of_narrow(uint8_t *other)
+{
+    static const struct { unsigned type, units, data_length, number; } rows[] = {
+        {0xD1, 0, 8, OTAP_OK}, {0xD1, 16, 24, OTAP_OK}, {0xD1, 17, 25, OTAP_BAD_FIELD}, {0xD1, 0, 9, OTAP_BAD_FIELD},
+        {0xCC, 23, 28, OTAP_OK}, {0xCC, 24, 29, OTAP_BAD_FIELD}, {0xCC, 0, 5, OTAP_BAD_FIELD}
+    };
+    size_t each;
+    for (each = 0; each < sizeof rows / sizeof rows[0]; each++) {
+        write_narrow(rows[each].type, rows[each].units, rows[each].data_length);
+        told("a text under 0100", said.bytes, said.length, rows[each].number, rows[each].number == OTAP_OK ? 0 : 1, other);
+    }
+    write_narrow(0xD1, 1, 9);
+    told("the last character", said.bytes, said.length, OTAP_OK, 0, other);
+    same("its unit", 0x00FF, 0x00FF, other[6138] * 256u + other[6139]);
+    write_narrow(0xD1, 2, 9);
+    told("a text without its end", said.bytes, said.length - 1, OTAP_BAD_FIELD, 1, other);
+}
+
+/* Group 0 gets the name A1 in eight-bit characters, and in 16-bit Unicode: the same store, and 16-bit units on the screen. */
+static void coding_types(void)
+{
+    static const uint8_t wide[] = {2, 2, 0, 0x12, 8, 7, 8, 1, 0xD1, 0, 0x0D, 0x60, 0, 0x10, 0, 1, 0, 0x41, 0, 0x31, 0, 0};
+    static const uint8_t others[] = {5, 0, 12};
+    static uint8_t one[OTAP_STORE_BYTES], two[OTAP_STORE_BYTES];
+    uint8_t narrow[] = {2, 2, 0, 0x0F, 8, 4, 8, 1, 0xD1, 0, 0x0A, 0x60, 0, 0x10, 0, 1, 0x41, 0x31, 0};
+    uint64_t part;
+    size_t each;
+    told("0100", narrow, sizeof narrow, OTAP_OK, 0, one);
+    told("0111", wide, sizeof wide, OTAP_OK, 0, two);
+    same("the same store", 0, 0, (uint64_t)(memcmp(one, two, sizeof one) != 0));
+    part = otap_row_part(OTAP_GROUPS, 0, one, sizeof one, scratch, sizeof scratch);
+    same("bytes of A1", 4, 4, otap_part_length(part));
+    same("A1", 0, 0, (uint64_t)(memcmp(otap_part_bytes(part, one, scratch), "\0A\0" "1", 4) != 0));
+    lengths_of_narrow(one);
+    narrow[5] = 0xF4;
+    told("reserved bits", narrow, sizeof narrow, OTAP_OK, 0, one);
+    narrow[5] = 7;
+    told("0100 read as 0111", narrow, sizeof narrow, OTAP_BAD_FIELD, 1, one);
+    for (each = 0; each < sizeof others; each++) {
+        narrow[5] = others[each];
+        told("another coding type", narrow, sizeof narrow, OTAP_BAD_FIELD, 0, one);
+    }
+}
+
 /* The bytes of the full store, summed (FNV-1a). If the layout has changed, OTAP_LAYOUT must be another number, and this sum too. */
 static void layout(void)
 {
@@ -261,6 +337,7 @@ int main(void)
     numbers_shown();
     asked_of_stores();
     counted();
+    coding_types();
     layout();
     conversions();
     printf("every number and constant is as the table says\n");

@@ -2,17 +2,18 @@
 //!
 //! Taken twice, each leaves what it left the first time, so that every repetition starts from the same store.
 
-use otap_reference::reference::message::{query, request, Hash, LONGEST};
+use otap_reference::reference::message::{query, request, request_as, Hash, LONGEST};
 use otap_reference::reference::plan::{GroupAddress, IndividualAddress};
 use otap_reference::reference::settings::{
     EmergencyKey, GroupSlot, HomeNumbers, IndividualSlot, LastItem, LineEntry, LineFlags,
-    Operation, Setting, SystemCode, Text, TextEntry,
+    Operation, Setting, SystemCode, TextEntry,
 };
+use otap_reference::reference::texts::{Coding, Text};
 
 const HASH: Hash = Hash::Stamped([1, 2, 3, 4, 5, 6, 7, 8, 9, 10]);
 const HEAD: usize = 8;
 
-/// A name for each kind, and a request full of it; at the end the two with the most to look for.
+/// A name for each kind, and a request full of it, status texts under 0100 too; at the end the two with the most to look for.
 pub fn of_each_kind() -> Vec<(&'static str, Vec<u8>)> {
     vec![
         ("lines", full(|count| lines(count, Operation::Replace))),
@@ -24,7 +25,8 @@ pub fn of_each_kind() -> Vec<(&'static str, Vec<u8>)> {
         ),
         ("channels", full(channels)),
         ("system-code", full(|count| repeated(count, system()))),
-        ("status-texts", full(|count| status_texts(count, Operation::Replace))),
+        ("status-texts", full(|count| vec![status_texts(count, text(16)).write()])),
+        ("status-texts-8", full_as(Coding::Eight, narrow_status_texts)),
         ("groups", full(|count| (0..count).map(|place| group(place, 16)).collect())),
         ("individuals", full(|count| (0..count).map(|place| individual(place, 16)).collect())),
         ("last-item", request(&[last()])),
@@ -56,14 +58,18 @@ pub fn filling() -> Vec<Vec<u8>> {
     vec![
         request(&nameless),
         request(&quick_texts(64)),
-        request(&status_texts(96, Operation::Replace)),
+        request(&[status_texts(96, text(16)).write()]),
         request(&[slots(group), slots(individual)].concat()),
         request(&[channels(1), vec![key().write(), system().write(), last()]].concat()),
     ]
 }
 
-/// The largest request that a count of 1 to 255 gives within 4,096 bytes, found by halving.
 fn full(settings: impl Fn(usize) -> Vec<Vec<u8>>) -> Vec<u8> {
+    full_as(Coding::Unicode, settings)
+}
+
+/// The largest request that a count of 1 to 255 gives within 4,096 bytes, found by halving.
+fn full_as(coding: Coding, settings: impl Fn(usize) -> Vec<Vec<u8>>) -> Vec<u8> {
     let fits = |count| {
         let settings = settings(count);
         settings.len() <= 255 && HEAD + settings.iter().map(Vec::len).sum::<usize>() <= LONGEST
@@ -77,7 +83,7 @@ fn full(settings: impl Fn(usize) -> Vec<Vec<u8>>) -> Vec<u8> {
             bad = middle;
         }
     }
-    request(&settings(good))
+    request_as(coding, &settings(good))
 }
 
 fn repeated(count: usize, setting: Setting) -> Vec<Vec<u8>> {
@@ -146,10 +152,16 @@ fn channels(count: usize) -> Vec<Vec<u8>> {
     repeated(count, Setting::Channels { operation: Operation::Replace, channels })
 }
 
-fn status_texts(count: usize, operation: Operation) -> Vec<Vec<u8>> {
-    let entries =
-        (0..count).map(|place| TextEntry { key: 32 + place as u8 % 96, text: text(16) }).collect();
-    vec![Setting::StatusTexts { operation, entries }.write()]
+/// A replace with the same text for each.
+fn status_texts(count: usize, text: Text) -> Setting {
+    let entry = |place| TextEntry { key: 32 + place as u8 % 96, text: text.clone() };
+    Setting::StatusTexts { operation: Operation::Replace, entries: (0..count).map(entry).collect() }
+}
+
+/// The same of eight-bit characters, written so.
+fn narrow_status_texts(count: usize) -> Vec<Vec<u8>> {
+    let setting = status_texts(count, (0xC0..0xD0).collect());
+    vec![setting.write_as(Coding::Eight).expect("every unit is below 256")]
 }
 
 fn group(place: usize, units: usize) -> Vec<u8> {

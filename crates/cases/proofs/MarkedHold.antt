@@ -54,7 +54,7 @@ marked-hold =
     then digits (2 ∷ 3 ∷ 4 ∷ 5 ∷ []) _ tt tt refl
     then digits (1 ∷ 2 ∷ 3 ∷ []) _ tt tt refl
     then setting _ _ tt refl (lit≤ tt)
-    then out-of-range Home (home (record { nzi = 15; np = 807 })) _ tt refl (λ left. omega arith)
+    then out-of-range Home (home (record { nzi = 15; np = 807 })) _ (λ c. tt) (λ c. refl) (λ left. omega arith)
     then setting _ _ tt refl channels-in-range
     then setting _ _ tt refl contact-in-range
     then taken-row two-channels _ _ channel-300 tt channels-in-range refl refl refl tt _ refl

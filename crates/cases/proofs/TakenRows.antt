@@ -32,7 +32,7 @@ module _ (s : Setting) (t u : Tables) (ok : Allowed handheld t) (fit : T (all? f
     (short : T (leb (length (request-bytes (s ∷ []))) 4096))
   where
     -- its request is judged good
-    judged : Judged handheld 1 (forget t) (canonical unicode16 s ++ []) (kept (s ∷ []) u)
+    judged : Judged unicode16 handheld 1 (forget t) (canonical unicode16 s ++ []) (kept (s ∷ []) u)
     judged =
         all-taken refl (step {w = canonical unicode16 s} {s = s} refl
         (written unicode16 s (canonical unicode16 s) fit refl, all-bytes (canonical unicode16 s) (plain-bytes (fields unicode16 s))) range applied done)
@@ -45,9 +45,9 @@ module _ (s : Setting) (t u : Tables) (ok : Allowed handheld t) (fit : T (all? f
       answers : Answers (taken handheld (request-bytes (s ∷ [])) store buffer) (took reply-0 u buffer)
       answers =
           let b : length (request-bytes (s ∷ [])) ≤ 4096 = leb→le _ _ short in
-          let r : RequestOf 1 (canonical unicode16 s ++ []) (request-bytes (s ∷ [])) = request-is (s ∷ []) (omega arith) (omega arith) (omega arith) in
+          let r : RequestOf unicode16 1 (canonical unicode16 s ++ []) (request-bytes (s ∷ [])) = request-is (s ∷ []) (omega arith) (omega arith) (omega arith) in
           request-answers handheld (request-bytes (s ∷ [])) store buffer (took reply-0 u buffer) long (holds-store handheld t store (omega arith) (ok, holds)) t (ok, holds)
-          (request-in-size 4096 (s ∷ []) b) (1, canonical unicode16 s ++ [], r, kept (s ∷ []) u, judged, settles)
+          (request-in-size 4096 (s ∷ []) b) (unicode16, 1, canonical unicode16 s ++ [], r, kept (s ∷ []) u, judged, settles)
 
     -- TAKEN: so the request is taken, and nothing else is allowed
     pub taken-row : (message : List ℕ) → request-bytes (s ∷ []) ≡ message → CaseHolds (taken-is t message reply-0 u)

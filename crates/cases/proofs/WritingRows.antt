@@ -1,6 +1,7 @@
 -- Rows of the writing: numbers, settings, and bytes at fault. Assumes nothing.
 use Rattle.lists.proofs.Kit.{ℕ, _≡_, refl, sym, subst, List, [], _∷_, _++_, T}
 use Rattle.lists.proofs.Every.{all?}
+use Rattle.writing.specs.declared.Coding.{Coding}
 use Rattle.writing.specs.declared.Kind.{Kind}
 use Rattle.writing.specs.Canonical.{plain, canonical}
 use Rattle.writing.specs.Ranges.{text-limits, InRange}
@@ -31,16 +32,16 @@ pub setting : (s : Setting) (bytes : List ℕ) → T (all? fits? (fields unicode
 setting s bytes t e r = (only s bytes t e, e, r)
 
 -- bytes of a setting that is out of range: 4, and nothing else, wherever they stand
-pub out-of-range : (k : Kind) (s : Setting) (more : List ℕ) → T (all? fits? (fields unicode16 s)) → canonical unicode16 s ≡ type-byte k ∷ more
+pub out-of-range : (k : Kind) (s : Setting) (more : List ℕ) → ((c : Coding) → T (all? fits? (fields c s))) → ((c : Coding) → canonical c s ≡ type-byte k ∷ more)
     → ((left : ℕ) → InRange text-limits left s → ⊥) → CaseHolds (refused-setting (type-byte k ∷ more) 4)
-out-of-range k s more t e out m left u rest = record { allowed = field (k, refl) never; alone = alone }
+out-of-range k s more t e out c m left u rest = record { allowed = field (k, refl) never; alone = alone }
   where
     -- no setting in range is written there
-    never : (r : Setting) (w after : List ℕ) → type-byte k ∷ more ++ rest ≡ w ++ after → WrittenIn r w → InRange text-limits left r → ⊥
+    never : (r : Setting) (w after : List ℕ) → type-byte k ∷ more ++ rest ≡ w ++ after → WrittenIn c r w → InRange text-limits left r → ⊥
     never r w after q (x, _) i =
-        out left (subst (InRange text-limits left) (unique unicode16 r s w (type-byte k ∷ more) after rest x (written unicode16 s (type-byte k ∷ more) t e) (sym q) .0) i)
+        out left (subst (InRange text-limits left) (unique c r s w (type-byte k ∷ more) after rest x (written c s (type-byte k ∷ more) (t c) (e c)) (sym q) .0) i)
 
-    alone : (n : ℕ) → Fault m left u (type-byte k ∷ more ++ rest) n → n ≡ 4
+    alone : (n : ℕ) → Fault c m left u (type-byte k ∷ more ++ rest) n → n ≡ 4
     alone n (unknown strange) = absurd (strange (k, refl))
     alone n (field known unwritten) = refl
     alone n (room {w = w} {s = r} after q x i full) = absurd (never r w after q x i)

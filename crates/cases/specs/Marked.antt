@@ -9,6 +9,7 @@ use Rattle.lists.specs.Ladder.{Answers}
 use Rattle.plan.specs.Answers.{Answer, Answered, given, refused}
 use Rattle.plan.specs.Frequencies.{Transmits}
 use Rattle.plan.specs.Numbers.{Individual, Group}
+use Rattle.writing.specs.declared.Coding.{Coding}
 use Rattle.writing.specs.declared.LineFlags.{LineFlags}
 use Rattle.writing.specs.declared.Operation.the-variants.{Add, Replace}
 use Rattle.writing.specs.Canonical.{canonical}
@@ -32,7 +33,7 @@ pub data Case : Type 0 where
   transmit : (channel : ℕ) → Answer → Case
   digits-are : (digits bytes : List ℕ) → Case  -- a number's only bytes
   setting-is : Setting → (bytes : List ℕ) → Case  -- the only setting written as these bytes, which have reserved bits 0; in range as the last one counted
-  refused-setting : (bytes : List ℕ) (number : ℕ) → Case  -- where a setting should stand, these bytes are at fault with this number only, whatever the set and whatever follows
+  refused-setting : (bytes : List ℕ) (number : ℕ) → Case  -- where a setting should stand, these bytes are at fault with this number only, whatever the coding type, the set and what follows
   taken-is : (before : Tables) (message reply : List ℕ) (after : Tables) → Case  -- a request to a set with these tables: its reply, and the tables that it leaves
 
 -- this outcome is allowed, and no other
@@ -59,7 +60,7 @@ CaseHolds (group dialled a) = Only (Answered Group 20 dialled) a
 CaseHolds (transmit channel a) = Only (Answered Transmits 22 channel) a
 CaseHolds (digits-are digits bytes) = Only (NumberIn digits) bytes
 CaseHolds (setting-is s bytes) = Only (λ t. Written unicode16 t bytes) s × (canonical unicode16 s ≡ bytes) × InRange text-limits 0 s
-CaseHolds (refused-setting bytes number) = (lim : Limits) (left : ℕ) (t : Tables) (rest : List ℕ) → Only (Fault lim left t (bytes ++ rest)) number
+CaseHolds (refused-setting bytes number) = (c : Coding) (lim : Limits) (left : ℕ) (t : Tables) (rest : List ℕ) → Only (Fault c lim left t (bytes ++ rest)) number
 CaseHolds (taken-is before message reply after) =
     (store buffer : List ℕ) → store ≡ layout handheld before → 20 ≤ length buffer → Only (Answers (taken handheld message store buffer)) (took reply after buffer)
 

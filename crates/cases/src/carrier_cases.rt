@@ -64,6 +64,8 @@ fn carriers(store: &mut [u8]) {
         no ParamSum: 0202 0003 08 07 08\n\
         ParamSum 0: 0202 0004 08 07 08 00\n\
         coding type 0: 0202 0008 08 00 08 01 CB 0003 A0\n\
+        coding type 0101: 0202 0008 08 05 08 01 CB 0003 A0\n\
+        coding type 1100: 0202 0008 08 0C 08 01 CB 0003 A0\n\
         coding type 0 and an unknown type: 0202 0005 08 00 08 01 D4\n\
         length 0, not stated: 0202 0000 08 07 08 01 CB 0003 A0\n\
         the same, length stated, reserved bits set: 0202 0008 08 F7 08 01 CB 0003 A0\n",

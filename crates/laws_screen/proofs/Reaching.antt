@@ -3,7 +3,8 @@ use Rattle.lists.proofs.Kit.{ℕ, zero, suc, _≤_, _<_, _≡_, refl, sym, ap, 
 use Rattle.lists.specs.Bytes.{Bytes}
 use Rattle.lists.specs.Ladder.{Answers}
 use Rattle.writing.specs.Carrier.{InSize}
-use Rattle.writing.specs.Settings.{Setting, unicode16}
+use Rattle.writing.specs.declared.Coding.{Coding}
+use Rattle.writing.specs.Settings.{Setting}
 use Rattle.writing.specs.Writing.{WrittenAll}
 use Rattle.writing.proofs.CanonicalLaws.{has-writing}
 use Rattle.read_carrier.proofs.KindLaws.{request-opens, opens-no-query, in-size}
@@ -25,11 +26,11 @@ use Rattle.screen.proofs.AnswerLaws.{one-tables}
 -- ---- settings in turn
 
 -- they leave allowed tables
-in-turn-allowed : (lim : Limits) (n : ℕ) (t u : Tables) (l : List Setting) (w : List ℕ) → Allowed lim t → WrittenAll unicode16 l w → InTurn lim n t l u → Allowed lim u
-in-turn-allowed lim n t u [] w ok y z = subst (Allowed lim) z ok
-in-turn-allowed lim zero t u (s ∷ l) w ok y z = absurd z
-in-turn-allowed lim (suc n) t u (s ∷ l) w ok (v, r, p, x, y) (i, t′, a, z) =
-    in-turn-allowed lim n t′ u l r (apply-allowed lim t t′ n s ok i (has-writing unicode16 s v x) a) y z
+in-turn-allowed : (c : Coding) (lim : Limits) (n : ℕ) (t u : Tables) (l : List Setting) (w : List ℕ) → Allowed lim t → WrittenAll c l w → InTurn lim n t l u → Allowed lim u
+in-turn-allowed c lim n t u [] w ok y z = subst (Allowed lim) z ok
+in-turn-allowed c lim zero t u (s ∷ l) w ok y z = absurd z
+in-turn-allowed c lim (suc n) t u (s ∷ l) w ok (v, r, p, x, y) (i, t′, a, z) =
+    in-turn-allowed c lim n t′ u l r (apply-allowed lim t t′ c n s ok i (has-writing c s v x) a) y z
 
 -- and one set of tables
 in-turn-one : (lim : Limits) (n : ℕ) (t u v : Tables) (l : List Setting) → InTurn lim n t l u → InTurn lim n t l v → u ≡ v
@@ -74,12 +75,12 @@ module _ (lim : Limits) (message store reply : List ℕ) (b : Bytes message) (s 
   module _ (a : Answers (taken lim message store reply) x) where
     -- a request that is answered 0 is taken
     takes-it : x .answer .number ≡ 0 → (h : Handled lim message store reply x) → AsRequest lim message store reply (h .tables) x → (l : List Setting) × Takes lim message store reply l
-    takes-it n h (count, settings, r, _, _, _) =
+    takes-it n h (c, count, settings, r, _, _, _) =
         let (big, sized, _) = answered-0 n a in
-        let p : Passes lim message store reply (h .tables) (r .data-bytes)
+        let p : Passes c lim message store reply (h .tables) (r .data-bytes)
         = record { buffer = big; store-is = s; holds = h .holds; in-size = sized; opens = request-opens r } in
-        let (l, u, w, z) = taken-exactly lim message store reply b (h .tables) (r .data-bytes) p x a .0 n in
-        (l, record { before = h .tables; after = u; data-bytes = r .data-bytes; passes = p; written = w; in-turn = z })
+        let (l, u, w, z) = taken-exactly c lim message store reply b (h .tables) (r .data-bytes) p x a .0 n in
+        (l, record { coding = c; before = h .tables; after = u; data-bytes = r .data-bytes; passes = p; written = w; in-turn = z })
 
     -- what takes none leaves the store
     pub nothing-changed : ((l : List Setting) → Takes lim message store reply l → ⊥) → x .store ≡ store
@@ -100,8 +101,8 @@ module _ (lim : Limits) (message store reply : List ℕ) (b : Bytes message) (s 
     -- and what takes settings leaves the tables after them
     pub tables-after : (l : List Setting) (k : Takes lim message store reply l) → Holds lim (k .after) (x .store)
     tables-after l k =
-        let e = taken-leaves lim message store reply b (k .before) (k .data-bytes) (k .passes) x a l (k .after) (k .written) (k .in-turn) in (
-          in-turn-allowed lim (length l) (forget (k .before)) (k .after) l (k .written .settings) (forget-allowed lim (k .before) (k .passes .holds .0)) (k .written .written) (k .in-turn),
+        let e = taken-leaves (k .coding) lim message store reply b (k .before) (k .data-bytes) (k .passes) x a l (k .after) (k .written) (k .in-turn) in (
+          in-turn-allowed (k .coding) lim (length l) (forget (k .before)) (k .after) l (k .written .settings) (forget-allowed lim (k .before) (k .passes .holds .0)) (k .written .written) (k .in-turn),
           ap (λ (y : AfterTaking). y .store) e,
         )
 
@@ -114,7 +115,7 @@ module _ (lim : Limits) (message store reply : List ℕ) (b : Bytes message) (s 
 
         -- a request that is taken is answered 0
         taken-0 : (l : List Setting) → Takes lim message store reply l → x .answer .number ≡ 0
-        taken-0 l k = taken-exactly lim message store reply b (k .before) (k .data-bytes) (k .passes) x a .1 (l, k .after, k .written, k .in-turn)
+        taken-0 l k = taken-exactly (k .coding) lim message store reply b (k .before) (k .data-bytes) (k .passes) x a .1 (l, k .after, k .written, k .in-turn)
 
         -- answered 0: a request, or a query that matches
         by-kind : x .answer .number ≡ 0 → (h : Handled lim message store reply x) → AsRequest lim message store reply (h .tables) x ⊎ AsQuery lim message store reply (h .tables) x → Goal

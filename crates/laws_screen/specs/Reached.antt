@@ -9,7 +9,8 @@ use lib.ListN.{length}
 use Rattle.lists.specs.Bytes.{Bytes}
 use Rattle.lists.specs.Every.{All}
 use Rattle.lists.specs.Ladder.{Answers}
-use Rattle.writing.specs.Settings.{Setting, unicode16, lines, key, quick-texts, home, channels, system, status-texts, group, individual, last}
+use Rattle.writing.specs.declared.Coding.{Coding}
+use Rattle.writing.specs.Settings.{Setting, lines, key, quick-texts, home, channels, system, status-texts, group, individual, last}
 use Rattle.writing.specs.Writing.{WrittenAs}
 use Rattle.tables.specs.declared.limits.Limits.{Limits}
 use Rattle.tables.specs.declared.start.Started.the-variants.{Fresh}
@@ -22,13 +23,14 @@ use Rattle.station.specs.Taking.{AfterTaking, taken}
 
 -- ---- messages, one after another
 
--- the message is a request that is taken, with these settings: demand 3
+-- the message is a request that is taken, with these settings under its own coding type: demand 3
 pub record Takes (lim : Limits) (message store reply : List ℕ) (l : List Setting) : Type 0 where
+  pub coding : Coding
   pub before : Tables
   pub after : Tables
   pub data-bytes : List ℕ
-  pub passes : Passes lim message store reply before data-bytes
-  pub written : WrittenAs unicode16 l data-bytes
+  pub passes : Passes coding lim message store reply before data-bytes
+  pub written : WrittenAs coding l data-bytes
   pub in-turn : InTurn lim (length l) (forget before) l after
 
 -- what a message adds to the lists of settings taken: a taken request its own, any other message nothing

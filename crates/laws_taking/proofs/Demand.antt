@@ -1,9 +1,10 @@
 -- Runs, in demand 3's words: settings written one after the other, in range and with room in turn. Assumes nothing.
-use Rattle.lists.proofs.Kit.{ℕ, zero, suc, _≡_, refl, sym, ap, _∙_, subst, List, [], _∷_, _++_, append-assoc, Option, none, some, Option·some-injective, arith, length, drop-at}
+use Rattle.lists.proofs.Kit.{ℕ, zero, suc, _≡_, refl, sym, ap, _∙_, subst, List, [], _∷_, _++_, append-assoc, Option, none, some, Option·some-injective, arith}
 use Rattle.lists.specs.Bytes.{Bytes}
-use Rattle.lists.proofs.Bytes.{bytes-drop}
 use Rattle.read_fields.proofs.Parts.{bytes-left}
-use Rattle.writing.specs.Settings.{Setting, Hash, unicode16, lines, key, quick-texts, home, channels, system, status-texts, group, individual, last}
+use Rattle.read_carrier.proofs.KindLaws.{bytes-right}
+use Rattle.writing.specs.declared.Coding.{Coding}
+use Rattle.writing.specs.Settings.{Setting, Hash, lines, key, quick-texts, home, channels, system, status-texts, group, individual, last}
 use Rattle.writing.specs.Writing.{WrittenAll}
 use Rattle.tables.specs.declared.limits.Limits.{Limits}
 use Rattle.tables.specs.Allowed.{Allowed}
@@ -19,35 +20,36 @@ use Rattle.requests.specs.Judge.{done, step}
 use Rattle.requests.proofs.RunLaws.{not-ff}
 use Rattle.requests.specs.Requests.{Runs, LastItem, item-of, or-else, last-item}
 
-module _ (lim : Limits) where
+module _ (c : Coding) (lim : Limits) where
   -- a run's settings are written at the start, and can be taken in turn
-  pub run-written : {n : ℕ} {t u : Tables} {bs rest : List ℕ} {l : List Setting} → Runs lim n t bs l u rest
-      → (w : List ℕ) × (bs ≡ w ++ rest) × WrittenAll unicode16 l w × InTurn lim n t l u
+  pub run-written : {n : ℕ} {t u : Tables} {bs rest : List ℕ} {l : List Setting} → Runs c lim n t bs l u rest
+      → (w : List ℕ) × (bs ≡ w ++ rest) × WrittenAll c l w × InTurn lim n t l u
   run-written done = ([], refl, refl, refl)
   run-written (step {t′} {w = v} {rest = rest} p x i a q) =
       let (w, e, y, z) = run-written q in
       (v ++ w, p ∙ ap (λ r. v ++ r) e ∙ sym (append-assoc v w rest), (v, w, refl, x .0, y), (i, t′, a, z))
 
   -- and back, in a message of bytes
-  pub written-runs : (n : ℕ) (t u : Tables) (bs w rest : List ℕ) (l : List Setting) → Bytes bs → bs ≡ w ++ rest → WrittenAll unicode16 l w → InTurn lim n t l u
-      → Runs lim n t bs l u rest
+  pub written-runs : (n : ℕ) (t u : Tables) (bs w rest : List ℕ) (l : List Setting) → Bytes bs → bs ≡ w ++ rest → WrittenAll c l w → InTurn lim n t l u
+      → Runs c lim n t bs l u rest
   written-runs n t u bs w rest [] b e y z =
       let same : bs ≡ rest = e ∙ ap (λ r. r ++ rest) y in
-      subst (λ (x : Tables). Runs lim n t bs [] x rest) z (subst (λ (x : List ℕ). Runs lim n t bs [] t x) same done)
+      subst (λ (x : Tables). Runs c lim n t bs [] x rest) z (subst (λ (x : List ℕ). Runs c lim n t bs [] t x) same done)
   written-runs zero t u bs w rest (s ∷ l) b e y z = absurd z
   written-runs (suc n) t u bs w rest (s ∷ l) b e (v, r, p, x, y) (i, t′, a, z) =
       let q : bs ≡ v ++ (r ++ rest) = e ∙ ap (λ k. k ++ rest) p ∙ append-assoc v r rest in
-      let c : Bytes (v ++ (r ++ rest)) = subst Bytes q b in
-      step {w = v} {s = s} q (x, bytes-left v (r ++ rest) c) i a (written-runs n t′ u (r ++ rest) r rest l (subst Bytes (drop-at v (r ++ rest) (length v) refl) (bytes-drop (length v) (v ++ (r ++ rest)) c)) refl y z)
+      let d : Bytes (v ++ (r ++ rest)) = subst Bytes q b in
+      step {w = v} {s = s} q (x, bytes-left v (r ++ rest) d) i a (written-runs n t′ u (r ++ rest) r rest l (bytes-right v (r ++ rest) d) refl y z)
 
   -- what a run leaves, the rules allow
-  pub run-allowed : {n : ℕ} {t u : Tables} {bs rest : List ℕ} {l : List Setting} → Runs lim n t bs l u rest → Allowed lim t → Allowed lim u
+  pub run-allowed : {n : ℕ} {t u : Tables} {bs rest : List ℕ} {l : List Setting} → Runs c lim n t bs l u rest → Allowed lim t → Allowed lim u
   run-allowed done ok = ok
   run-allowed (step {n} {t} {t′ = v} {w = w} {s = s} p (x, _) i a q) ok =
-      run-allowed q (apply-allowed lim t v n s ok i (has-writing unicode16 s w x) a)
+      run-allowed q (apply-allowed lim t v c n s ok i (has-writing c s w x) a)
 
-  -- ---- the hash that is kept
+-- ---- the hash that is kept
 
+module _ (lim : Limits) where
   -- the hash of an FF, and another where there is none
   abbrev hash-or : Option LastItem → Hash → Hash
   hash-or none h = h
@@ -78,6 +80,6 @@ module _ (lim : Limits) where
       sym (ap (λ (x : Tables). x .hash) z) ∙ kept-by s t t′ a ∙ ap (hash-or (item-of s)) e ∙ hash-or-none (item-of s)
   hash-own (suc zero) t u (s ∷ r ∷ l) e (i, t′, a, z) = absurd z
   hash-own (suc (suc n)) t u (s ∷ r ∷ l) e (i, t′, a, z) =
-      let w : item-of s ≡ none = not-ff lim s (suc n) i (omega arith) in
+      let w : item-of s ≡ none = not-ff s (suc n) i (omega arith) in
       let k : t′ .hash ≡ no-hash = kept-by s t t′ a ∙ ap (λ (o : Option LastItem). hash-or o (t .hash)) w ∙ e in
       hash-own (suc n) t′ u (r ∷ l) k z ∙ sym (ap (λ (o : Option LastItem). or-else o (last-item (r ∷ l)) .hash) w)

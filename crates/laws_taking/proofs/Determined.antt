@@ -3,11 +3,12 @@ use Rattle.lists.proofs.Kit.{ℕ, _≡_, sym, ap, _∙_, subst, subst₂, _⊎_
 use Rattle.lists.proofs.Bytes.{bytes-all}
 use Rattle.lists.specs.Ladder.{Answers}
 use Rattle.lists.proofs.Ladder.{one-answer}
+use Rattle.writing.specs.declared.Coding.{Coding}
 use Rattle.writing.specs.Ranges.{text-limits, InRange}
-use Rattle.writing.specs.Settings.{Setting, Hash, unicode16, kind}
+use Rattle.writing.specs.Settings.{Setting, Hash, kind}
 use Rattle.writing.proofs.Unique.{unique}
 use Rattle.writing.proofs.Whole.{headed}
-use Rattle.read_carrier.proofs.KindLaws.{request-one, not-both}
+use Rattle.read_carrier.proofs.KindLaws.{request-one, one-coding, not-both}
 use Rattle.read_carrier.proofs.MessageOne.{query-hash}
 use Rattle.tables.specs.declared.limits.Limits.{Limits}
 use Rattle.tables.specs.Apply.{apply}
@@ -21,17 +22,17 @@ use Rattle.station.proofs.AnswerLaws.{said-one}
 use Rattle.laws_taking.proofs.JudgeLaws.{determined}
 
 -- no setting's writing starts another's
-pub one-writing : (s s′ : Setting) (w w′ r r′ : List ℕ) → WrittenIn s w → WrittenIn s′ w′ → w ++ r ≡ w′ ++ r′ → (s ≡ s′) × (w ≡ w′)
-one-writing s s′ w w′ r r′ (x, _) (y, _) e = unique unicode16 s s′ w w′ r r′ x y e
+pub one-writing : (c : Coding) (s s′ : Setting) (w w′ r r′ : List ℕ) → WrittenIn c s w → WrittenIn c s′ w′ → w ++ r ≡ w′ ++ r′ → (s ≡ s′) × (w ≡ w′)
+one-writing c s s′ w w′ r r′ (x, _) (y, _) e = unique c s s′ w w′ r r′ x y e
 
 -- a writing starts with a type byte
-pub type-first : (s : Setting) (w : List ℕ) → WrittenIn s w → (b : ℕ) × (v : List ℕ) × (w ≡ b ∷ v) × Known b
-type-first s w (x, y) = let (b, v, e, k) = headed unicode16 s w (bytes-all w y) x in (b, v, e, (kind s, sym k))
+pub type-first : (c : Coding) (s : Setting) (w : List ℕ) → WrittenIn c s w → (b : ℕ) × (v : List ℕ) × (w ≡ b ∷ v) × Known b
+type-first c s w (x, y) = let (b, v, e, k) = headed c s w (bytes-all w y) x in (b, v, e, (kind s, sym k))
 
 -- a request comes to one thing
-pub judged-determined : (lim : Limits) (n : ℕ) (t : Tables) (bs : List ℕ) (a b : Outcome Setting Tables) → Judged lim n t bs a → Judged lim n t bs b → a ≡ b
-judged-determined lim n t bs a b p q =
-    determined Setting Tables WrittenIn (InRange text-limits) (apply lim) Known one-writing type-first p q
+pub judged-determined : (c : Coding) (lim : Limits) (n : ℕ) (t : Tables) (bs : List ℕ) (a b : Outcome Setting Tables) → Judged c lim n t bs a → Judged c lim n t bs b → a ≡ b
+judged-determined c lim n t bs a b p q =
+    determined Setting Tables (WrittenIn c) (InRange text-limits) (apply lim) Known (one-writing c) (type-first c) p q
 
 module _ (lim : Limits) (message store reply : List ℕ) where
   -- a query is answered in one way
@@ -44,12 +45,13 @@ module _ (lim : Limits) (message store reply : List ℕ) where
   -- a message comes to one thing
   one-outcome : (t : Tables) (a b : AfterTaking) → AsRequest lim message store reply t a ⊎ AsQuery lim message store reply t a
       → AsRequest lim message store reply t b ⊎ AsQuery lim message store reply t b → a ≡ b
-  one-outcome t a b (inl (count, settings, r, o, x, p)) (inl (count′, settings′, r′, o′, y, q)) =
+  one-outcome t a b (inl (c, count, settings, r, o, x, p)) (inl (c′, count′, settings′, r′, o′, y, q)) =
       let (n, s) = request-one r r′ in
-      let z : Judged lim count′ (forget t) settings′ o = subst₂ (λ (i : ℕ) (l : List ℕ). Judged lim i (forget t) l o) n s x in
-      p ∙ ap (settled lim message store reply) (judged-determined lim count′ _ _ o o′ z y) ∙ sym q
-  one-outcome t a b (inl (count, settings, r, o, x, p)) (inr (h, y, q)) = absurd (not-both r y)
-  one-outcome t a b (inr (h, x, p)) (inl (count, settings, r, o, y, q)) = absurd (not-both r x)
+      let z : Judged c′ lim count′ (forget t) settings′ o
+      = subst (λ (d : Coding). Judged d lim count′ (forget t) settings′ o) (one-coding r r′) (subst₂ (λ (i : ℕ) (l : List ℕ). Judged c lim i (forget t) l o) n s x) in
+      p ∙ ap (settled lim message store reply) (judged-determined c′ lim count′ _ _ o o′ z y) ∙ sym q
+  one-outcome t a b (inl (c, count, settings, r, o, x, p)) (inr (h, y, q)) = absurd (not-both r y)
+  one-outcome t a b (inr (h, x, p)) (inl (c, count, settings, r, o, y, q)) = absurd (not-both r x)
   one-outcome t a b (inr (h, x, p)) (inr (k, y, q)) =
       one-asked k (t .hash) a b (subst (λ (z : Hash). Asked lim message store reply z (t .hash) a) (query-hash x y) p) q
 

@@ -1,3 +1,4 @@
+pub mod Alike
 pub mod Demand
 pub mod Determined
 pub mod JudgeLaws

@@ -1,6 +1,7 @@
 -- Demand 2's "the reply is the standard's", over the contract of take: for every message, store and reply buffer. Assumes nothing.
 use Rattle.lists.proofs.Kit.{ℕ, _+_, _≤_, _<_, _≡_, refl, ap, subst⁻¹, inl, inr, ⊎-elim, Bool, true, false, List, _++_, arith, length, take, drop, take-at}
 use Rattle.lists.specs.Ladder.{Answers}
+use Rattle.writing.specs.declared.Coding.{Coding}
 use Rattle.writing.specs.Carrier.{Reply, Counted}
 use Rattle.writing.specs.Ranges.{text-limits, InRange}
 use Rattle.writing.specs.Settings.{Setting, Hash}
@@ -28,9 +29,9 @@ counted-small : {count : ℕ} {settings ds : List ℕ} → Counted count setting
 counted-small k = let z = k .says .5 .5 in omega (arith, z .2, z .3)
 
 -- a failed ID is at most ParamSum
-failed-counted : (lim : Limits) (t : Tables) {n number failed : ℕ} {bs : List ℕ} → Judged lim n t bs (refused number failed) → failed ≤ n
-failed-counted lim t (over e q) = omega arith
-failed-counted lim t (fault left e q f) = omega arith
+failed-counted : (c : Coding) (lim : Limits) (t : Tables) {n number failed : ℕ} {bs : List ℕ} → Judged c lim n t bs (refused number failed) → failed ≤ n
+failed-counted c lim t (over e q) = omega arith
+failed-counted c lim t (fault left e q f) = omega arith
 
 module _ (lim : Limits) (message store reply : List ℕ) where
   -- a reply that was written over the buffer
@@ -46,13 +47,13 @@ module _ (lim : Limits) (message store reply : List ℕ) where
 
   -- a request's reply: 0 carries the hash kept now, a refusal none
   request-reply : (t : Tables) → Allowed lim t → (x : AfterTaking) → AsRequest lim message store reply t x → StandardReply lim x
-  request-reply t ok x (count, settings, r, kept l u, all-taken _ q, e) =
-      let now : Allowed lim u = run-allowed lim q (forget-allowed lim t ok) in
+  request-reply t ok x (c, count, settings, r, kept l u, all-taken _ q, e) =
+      let now : Allowed lim u = run-allowed c lim q (forget-allowed lim t ok) in
       written 0 0 (last-item l .flags .reply) (last-item l .flags .reboot) (u .hash) (layout lim u) (omega arith) (omega arith) (now .hash)
       (kept-afterwards (inl refl) u (now, refl) refl) x e
-  request-reply t ok x (count, settings, r, refused number failed, j, e) =
-      let (a, b) = refused-number Setting Tables WrittenIn (InRange text-limits) (apply lim) Known one-writing type-first j in
-      written number failed true false no-hash store (omega arith) (omega (arith, failed-counted lim (forget t) j, counted-small (r .counted)))
+  request-reply t ok x (c, count, settings, r, refused number failed, j, e) =
+      let (a, b) = refused-number Setting Tables (WrittenIn c) (InRange text-limits) (apply lim) Known (one-writing c) (type-first c) j in
+      written number failed true false no-hash store (omega arith) (omega (arith, failed-counted c lim (forget t) j, counted-small (r .counted)))
       no-hash-ok (code-0 (omega arith) b refl) x e
 
   -- a result query's reply: the store stays, and so does its hash

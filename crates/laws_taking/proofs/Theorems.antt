@@ -2,13 +2,14 @@
 use Rattle.lists.proofs.Kit.{ℕ, _-_, _≤_, _≡_, refl, sym, ap, _∙_, subst, subst₂, subst⁻¹, _≢_, _⊎_, inl, inr, ⊎-elim, _↔_, Bool, true, false, List, [], _++_, append-nil, nil≢cons, arith, length, midOf}
 use Rattle.lists.specs.Bytes.{Bytes}
 use Rattle.lists.specs.Ladder.{Answers}
+use Rattle.writing.specs.declared.Coding.{Coding}
 use Rattle.writing.specs.Carrier.{Counted}
 use Rattle.writing.specs.Fields.{bitsOf, Shows}
 use Rattle.writing.specs.Ranges.{text-limits, InRange}
-use Rattle.writing.specs.Settings.{Setting, Hash, unicode16}
+use Rattle.writing.specs.Settings.{Setting, Hash}
 use Rattle.writing.specs.Writing.{WrittenAs, request-head}
 use Rattle.read_carrier.proofs.CarrierLaws.{carries-one}
-use Rattle.read_carrier.proofs.MessageOne.{counted-one}
+use Rattle.read_carrier.proofs.MessageOne.{coding-one, counted-one}
 use Rattle.read_carrier.proofs.KindLaws.{request-bytes, opens-no-query}
 use Rattle.tables.specs.declared.limits.Limits.{Limits}
 use Rattle.tables.specs.Apply.{apply}
@@ -25,20 +26,21 @@ use Rattle.requests.specs.Judge as J
 use Rattle.requests.specs.Judge.{Outcome, kept, refused}
 use Rattle.requests.specs.Requests.{WrittenIn, Known, Runs, Judged, forget, last-item}
 use Rattle.station.specs.Taking.{AfterTaking, settled, replies, stays, turned-down, AsRequest, AsQuery, taken}
+use Rattle.laws_taking.proofs.Alike.{judged-alike}
 use Rattle.laws_taking.proofs.Demand.{run-allowed, run-written, written-runs, hash-own}
 use Rattle.laws_taking.proofs.Determined.{judged-determined, one-writing, type-first}
 use Rattle.laws_taking.proofs.JudgeLaws.{Says, Stands, judged-says, RefusedWith, refused-number}
 
 -- ---- what judging says
 
-module _ (lim : Limits) (t : Tables) {n : ℕ} {bs : List ℕ} {o : Outcome Setting Tables} where
+module _ (c : Coding) (lim : Limits) (t : Tables) {n : ℕ} {bs : List ℕ} {o : Outcome Setting Tables} where
   -- what each outcome says
-  says : Judged lim n t bs o → Says Setting Tables WrittenIn (InRange text-limits) (apply lim) Known one-writing type-first n t bs o
-  says = judged-says Setting Tables WrittenIn (InRange text-limits) (apply lim) Known one-writing type-first
+  says : Judged c lim n t bs o → Says Setting Tables (WrittenIn c) (InRange text-limits) (apply lim) Known (one-writing c) (type-first c) n t bs o
+  says = judged-says Setting Tables (WrittenIn c) (InRange text-limits) (apply lim) Known (one-writing c) (type-first c)
 
   -- with which number
-  numbered : Judged lim n t bs o → RefusedWith Setting Tables WrittenIn (InRange text-limits) (apply lim) Known one-writing type-first o
-  numbered = refused-number Setting Tables WrittenIn (InRange text-limits) (apply lim) Known one-writing type-first
+  numbered : Judged c lim n t bs o → RefusedWith Setting Tables (WrittenIn c) (InRange text-limits) (apply lim) Known (one-writing c) (type-first c) o
+  numbered = refused-number Setting Tables (WrittenIn c) (InRange text-limits) (apply lim) Known (one-writing c) (type-first c)
 
 -- ---- how a message ends
 
@@ -50,8 +52,8 @@ module _ (lim : Limits) (message store reply : List ℕ) where
     stored : (l : List Setting) (u : Tables) → Allowed lim u → x ≡ settled lim message store reply (kept l u) → Ends x
 
   request-ends : (t : Tables) → Allowed lim t → (x : AfterTaking) → AsRequest lim message store reply t x → Ends x
-  request-ends t ok x (count, settings, r, kept l u, j, e) = stored l u (run-allowed lim (says lim (forget t) j .1) (forget-allowed lim t ok)) e
-  request-ends t ok x (count, settings, r, refused number failed, j, e) = replied number failed true false no-hash (omega (arith, numbered lim (forget t) j .1)) e
+  request-ends t ok x (c, count, settings, r, kept l u, j, e) = stored l u (run-allowed c lim (says c lim (forget t) j .1) (forget-allowed lim t ok)) e
+  request-ends t ok x (c, count, settings, r, refused number failed, j, e) = replied number failed true false no-hash (omega (arith, numbered c lim (forget t) j .1)) e
 
   query-ends : (t : Tables) (x : AfterTaking) → AsQuery lim message store reply t x → Ends x
   query-ends t x (h, q, inl (_, _, e)) = replied 0 0 true false (t .hash) (omega arith) e
@@ -106,21 +108,22 @@ module _ (lim : Limits) (message store reply : List ℕ) where
 -- ---- a request that passes the checks
 
 -- settings that are written as the data bytes are counted, and follow ParamSum
-written-counted : {l : List Setting} {d : List ℕ} (w : WrittenAs unicode16 l d) → Counted (length l) (w .settings) d
+written-counted : {c : Coding} {l : List Setting} {d : List ℕ} (w : WrittenAs c l d) → Counted (length l) (w .settings) d
 written-counted w = record { head = w .head; parts = w .parts; says = w .counted; some-setting = w .some-setting }
 
-module _ (lim : Limits) (message store reply : List ℕ) (b : Bytes message) (t : Tables) (d : List ℕ) (p : Passes lim message store reply t d) where
+module _ (c : Coding) (lim : Limits) (message store reply : List ℕ) (b : Bytes message) (t : Tables) (d : List ℕ) (p : Passes c lim message store reply t d) where
   -- what such a request comes to: it is not counted, or its settings are judged from the tables of the store
   data Comes (x : AfterTaking) : Type 0 where
     not-counted : ((count : ℕ) (settings : List ℕ) → Counted count settings d → ⊥) → x ≡ turned-down lim message store reply 4 0 → Comes x
-    judged : {count : ℕ} {settings : List ℕ} → Counted count settings d → Bytes settings → (o : Outcome Setting Tables) → Judged lim count (forget t) settings o
+    judged : {count : ℕ} {settings : List ℕ} → Counted count settings d → Bytes settings → (o : Outcome Setting Tables) → Judged c lim count (forget t) settings o
         → x ≡ settled lim message store reply o → Comes x
 
   -- a request among the messages that are handled
   foot-comes : (x : AfterTaking) (u : Tables) → u ≡ t → AsRequest lim message store reply u x ⊎ AsQuery lim message store reply u x → Comes x
-  foot-comes x u i (inl (count, settings, r, o, j, e)) =
-      judged (subst (Counted count settings) (carries-one (r .carried) (p .opens .carried) .1) (r .counted)) (request-bytes r b) o
-      (subst (λ (v : Tables). Judged lim count (forget v) settings o) i j) e
+  foot-comes x u i (inl (c′, count, settings, r, o, j, e)) =
+      let (k, s) = carries-one (r .carried) (p .opens .carried) in
+      judged (subst (Counted count settings) s (r .counted)) (request-bytes r b) o
+      (subst₂ (λ (a : Coding) (v : Tables). Judged a lim count (forget v) settings o) (coding-one c′ c k) i j) e
   foot-comes x u i (inr (h, q, _)) = absurd (opens-no-query (p .opens) refl h q)
 
   comes : (x : AfterTaking) → Answers (taken lim message store reply) x → Comes x
@@ -131,59 +134,64 @@ module _ (lim : Limits) (message store reply : List ℕ) (b : Bytes message) (t 
   comes x (inr (_, inr (_, inr (_, inr (_, inl (n, _)))))) = absurd (n _ _ _ _ (inl refl) (p .opens))
   comes x (inr (_, inr (_, inr (_, inr (_, inr (_, inl (n, _))))))) = absurd (n _ _ _ (p .opens))
   comes x (inr (_, inr (_, inr (_, inr (_, inr (_, inr (_, inl (n, e)))))))) =
-      not-counted (λ count settings c. n .0 count settings (record { data-bytes = d; carried = p .opens .carried; counted = c })) e
+      not-counted (λ count settings k. n .0 c count settings (record { data-bytes = d; carried = p .opens .carried; counted = k })) e
   comes x (inr (_, inr (_, inr (_, inr (_, inr (_, inr (_, inr (_, h)))))))) =
       foot-comes x (h .tables) (layout-one lim (h .tables) t (h .holds .0) (p .holds .0) (sym (h .holds .1) ∙ p .holds .1)) (h .comes-to)
 
   -- the settings of a run, as they stand
-  abbrev stand : {n k : ℕ} {bs rest : List ℕ} {l : List Setting} {u : Tables} → length l ≡ k → Runs lim n (forget t) bs l u rest → Stand lim n (forget t) bs k
+  abbrev stand : {n k : ℕ} {bs rest : List ℕ} {l : List Setting} {u : Tables} → length l ≡ k → Runs c lim n (forget t) bs l u rest → Stand c lim n (forget t) bs k
   stand {rest} {l} {u} e q =
-      let (w, p, y, z) = run-written lim q in
+      let (w, p, y, z) = run-written c lim q in
       record { settings = l; tables = u; written = w; rest = rest; parts = p; counted = e; writing = y; in-turn = z }
 
   abbrev Stood : ℕ → List ℕ → ℕ → Type 0
-  Stood n bs k = Stands Setting Tables WrittenIn (InRange text-limits) (apply lim) Known one-writing type-first n (forget t) bs k
+  Stood n bs k = Stands Setting Tables (WrittenIn c) (InRange text-limits) (apply lim) Known (one-writing c) (type-first c) n (forget t) bs k
 
   -- and back
-  stands : {n k : ℕ} {bs : List ℕ} → Bytes bs → Stand lim n (forget t) bs k → Stood n bs k
-  stands {n} {bs} c z =
-      (z .settings, z .tables, z .rest, z .counted, written-runs lim n (forget t) (z .tables) bs (z .written) (z .rest) (z .settings) c (z .parts) (z .writing) (z .in-turn))
+  stands : {n k : ℕ} {bs : List ℕ} → Bytes bs → Stand c lim n (forget t) bs k → Stood n bs k
+  stands {n} {bs} bytes z =
+      (z .settings, z .tables, z .rest, z .counted, written-runs c lim n (forget t) (z .tables) bs (z .written) (z .rest) (z .settings) bytes (z .parts) (z .writing) (z .in-turn))
 
   module _ (x : AfterTaking) (a : Answers (taken lim message store reply) x) where
-    -- WHAT IS LEFT: settings that are written as the data bytes, in range and with room in turn, leave their tables and no others
-    pub taken-leaves : (l : List Setting) (u : Tables) → WrittenAs unicode16 l d → InTurn lim (length l) (forget t) l u → x ≡ settled lim message store reply (kept l u)
-    taken-leaves l u w z = by (comes x a)
+    -- settings that are written as the data bytes are judged
+    listed : (l : List Setting) (w : WrittenAs c l d)
+        → (o : Outcome Setting Tables) × Judged c lim (length l) (forget t) (w .settings) o × Bytes (w .settings) × (x ≡ settled lim message store reply o)
+    listed l w = by (comes x a)
       where
-        by : Comes x → x ≡ settled lim message store reply (kept l u)
+        by : Comes x → (o : Outcome Setting Tables) × Judged c lim (length l) (forget t) (w .settings) o × Bytes (w .settings) × (x ≡ settled lim message store reply o)
         by (not-counted never e) = absurd (never _ _ (written-counted w))
-        by (judged {count} {settings} c bytes o j e) =
-            let (n, r) = counted-one (written-counted w) c in
-            let q : Runs lim (length l) (forget t) (w .settings) l u []
-            = written-runs lim (length l) (forget t) u (w .settings) (w .settings) [] l (subst Bytes (sym r) bytes) (sym (append-nil (w .settings))) (w .written) z in
-            let i : Judged lim count (forget t) settings (kept l u)
-            = subst₂ (λ (k : ℕ) (s : List ℕ). Judged lim k (forget t) s (kept l u)) n r (J.taken refl q) in
-            e ∙ ap (settled lim message store reply) (judged-determined lim count (forget t) settings o (kept l u) j i)
+        by (judged counts bytes o j e) =
+            let (n, r) = counted-one counts (written-counted w) in
+            (o, subst₂ (λ (k : ℕ) (s : List ℕ). Judged c lim k (forget t) s o) n r j, subst Bytes r bytes, e)
 
-    -- TAKEN EXACTLY: demand 3's first half
-    pub taken-exactly : (x .answer .number ≡ 0) ↔ ((l : List Setting) × (u : Tables) × WrittenAs unicode16 l d × InTurn lim (length l) (forget t) l u)
+    -- WHAT IS LEFT: settings that are written as the data bytes under the request's coding type, in range and with room in turn, leave their tables and no others
+    pub taken-leaves : (l : List Setting) (u : Tables) → WrittenAs c l d → InTurn lim (length l) (forget t) l u → x ≡ settled lim message store reply (kept l u)
+    taken-leaves l u w z =
+        let (o, j, bytes, e) = listed l w in
+        let q : Runs c lim (length l) (forget t) (w .settings) l u []
+        = written-runs c lim (length l) (forget t) u (w .settings) (w .settings) [] l bytes (sym (append-nil (w .settings))) (w .written) z in
+        e ∙ ap (settled lim message store reply) (judged-determined c lim (length l) (forget t) (w .settings) o (kept l u) j (J.taken refl q))
+
+    -- TAKEN EXACTLY: demand 3's first half, under the request's coding type
+    pub taken-exactly : (x .answer .number ≡ 0) ↔ ((l : List Setting) × (u : Tables) × WrittenAs c l d × InTurn lim (length l) (forget t) l u)
     taken-exactly = (λ e. by e (comes x a), λ (l, u, w, z). ap (λ (y : AfterTaking). y .answer .number) (taken-leaves l u w z))
       where
         by : x .answer .number ≡ 0 → Comes x
-            → (l : List Setting) × (u : Tables) × WrittenAs unicode16 l d × InTurn lim (length l) (forget t) l u
+            → (l : List Setting) × (u : Tables) × WrittenAs c l d × InTurn lim (length l) (forget t) l u
         by n (not-counted never e) = absurd (omega (arith, n, ap (λ (y : AfterTaking). y .answer .number) e))
-        by n (judged c bytes (refused number failed) j e) = absurd (omega (arith, n, ap (λ (y : AfterTaking). y .answer .number) e, numbered lim (forget t) j .0))
-        by n (judged {settings = settings} c bytes (kept l u) j e) =
-            let (q, r) = says lim (forget t) j in
-            let (w, k, y, z) = run-written lim r in
+        by n (judged counts bytes (refused number failed) j e) = absurd (omega (arith, n, ap (λ (y : AfterTaking). y .answer .number) e, numbered c lim (forget t) j .0))
+        by n (judged {settings = settings} counts bytes (kept l u) j e) =
+            let (q, r) = says c lim (forget t) j in
+            let (w, k, y, z) = run-written c lim r in
             let s : settings ≡ w = k ∙ append-nil w in (
               l,
               u,
               record {
-                some-setting = subst (λ (i : ℕ). 1 ≤ i) (sym q) (c .some-setting);
-                head = c .head;
+                some-setting = subst (λ (i : ℕ). 1 ≤ i) (sym q) (counts .some-setting);
+                head = counts .head;
                 settings = w;
-                parts = c .parts ∙ ap (λ (i : List ℕ). c .head ++ i) s;
-                counted = subst (λ (i : ℕ). Shows (request-head i) (bitsOf (c .head))) (sym q) (c .says);
+                parts = counts .parts ∙ ap (λ (i : List ℕ). counts .head ++ i) s;
+                counted = subst (λ (i : ℕ). Shows (request-head i) (bitsOf (counts .head))) (sym q) (counts .says);
                 written = y;
               },
               subst (λ (i : ℕ). InTurn lim i (forget t) l u) (sym q) z,
@@ -193,28 +201,28 @@ module _ (lim : Limits) (message store reply : List ℕ) (b : Bytes message) (t 
     pub hash-kept : (l : List Setting) (u : Tables) → InTurn lim (length l) (forget t) l u → u .hash ≡ last-item l .hash
     hash-kept l u z = hash-own lim (length l) (forget t) u l refl z
 
-    -- FIRST FAULT: demand 3's other half; the reply is that of a refusal
-    pub first-fault : x .answer .number ≢ 0 → Refused lim (forget t) d (x .answer .number) (x .answer .failed) × (x ≡ turned-down lim message store reply (x .answer .number) (x .answer .failed))
+    -- FIRST FAULT: demand 3's other half, under the request's coding type; the reply is that of a refusal
+    pub first-fault : x .answer .number ≢ 0 → Refused c lim (forget t) d (x .answer .number) (x .answer .failed) × (x ≡ turned-down lim message store reply (x .answer .number) (x .answer .failed))
     first-fault n = by (comes x a)
       where
         -- the refusal with this number and failed ID is the answer
-        as-said : (number failed : ℕ) → x ≡ turned-down lim message store reply number failed → Refused lim (forget t) d number failed
-            → Refused lim (forget t) d (x .answer .number) (x .answer .failed) × (x ≡ turned-down lim message store reply (x .answer .number) (x .answer .failed))
+        as-said : (number failed : ℕ) → x ≡ turned-down lim message store reply number failed → Refused c lim (forget t) d number failed
+            → Refused c lim (forget t) d (x .answer .number) (x .answer .failed) × (x ≡ turned-down lim message store reply (x .answer .number) (x .answer .failed))
         as-said number failed e r =
             let i : number ≡ x .answer .number = sym (ap (λ (y : AfterTaking). y .answer .number) e) in
             let j : failed ≡ x .answer .failed = sym (ap (λ (y : AfterTaking). y .answer .failed) e) in
-            (subst₂ (Refused lim (forget t) d) i j r, subst₂ (λ (k f : ℕ). x ≡ turned-down lim message store reply k f) i j e)
+            (subst₂ (Refused c lim (forget t) d) i j r, subst₂ (λ (k f : ℕ). x ≡ turned-down lim message store reply k f) i j e)
 
         by : Comes x
-            → Refused lim (forget t) d (x .answer .number) (x .answer .failed) × (x ≡ turned-down lim message store reply (x .answer .number) (x .answer .failed))
+            → Refused c lim (forget t) d (x .answer .number) (x .answer .failed) × (x ≡ turned-down lim message store reply (x .answer .number) (x .answer .failed))
         by (not-counted never e) = as-said 4 0 e (no-count never refl refl)
-        by (judged c bytes (kept l u) j e) = absurd (n (ap (λ (y : AfterTaking). y .answer .number) e))
-        by (judged {count} {settings} c bytes (refused number failed) j e) = as-said number failed e (why (says lim (forget t) j))
+        by (judged counts bytes (kept l u) j e) = absurd (n (ap (λ (y : AfterTaking). y .answer .number) e))
+        by (judged {count} {settings} counts bytes (refused number failed) j e) = as-said number failed e (why (says c lim (forget t) j))
           where
-            why : Says Setting Tables WrittenIn (InRange text-limits) (apply lim) Known one-writing type-first count (forget t) settings (refused number failed)
-                → Refused lim (forget t) d number failed
-            why (inl (f, k, l, u, y, rest, q, r)) = left-over c (stand q r) (λ z. nil≢cons (sym z)) k f
-            why (inr (one, most, fewer, never, l, u, rest, q, r, at-it)) = at-setting c (record {
+            why : Says Setting Tables (WrittenIn c) (InRange text-limits) (apply lim) Known (one-writing c) (type-first c) count (forget t) settings (refused number failed)
+                → Refused c lim (forget t) d number failed
+            why (inl (f, k, l, u, y, rest, q, r)) = left-over counts (stand q r) (λ z. nil≢cons (sym z)) k f
+            why (inr (one, most, fewer, never, l, u, rest, q, r, at-it)) = at-setting counts (record {
               from-1 = one;
               up-to = most;
               least = λ k h. let y = fewer k h in stand (y .3) (y .4);
@@ -222,3 +230,21 @@ module _ (lim : Limits) (message store reply : List ℕ) (b : Bytes message) (t 
               before = stand (let i : length l ≡ failed - 1 = omega arith in i) r;
               at-fault = at-it;
             })
+
+-- ---- one list under either coding type
+
+-- what an outcome leaves, it leaves for every message
+left-alike : (lim : Limits) (m m′ store reply : List ℕ) (o : Outcome Setting Tables) → settled lim m store reply o ≡ settled lim m′ store reply o
+left-alike lim m m′ store reply (kept l u) = refl
+left-alike lim m m′ store reply (refused number failed) = refl
+
+-- TEXTS ALIKE: one list, sent under either coding type, is answered alike, and leaves the same tables and the same reply
+pub texts-alike : (c c′ : Coding) (lim : Limits) (m m′ store reply : List ℕ) → Bytes m → Bytes m′ → (t : Tables) (d d′ : List ℕ)
+    → Passes c lim m store reply t d → Passes c′ lim m′ store reply t d′ → (l : List Setting) → WrittenAs c l d → WrittenAs c′ l d′
+    → (x x′ : AfterTaking) → Answers (taken lim m store reply) x → Answers (taken lim m′ store reply) x′ → x ≡ x′
+texts-alike c c′ lim m m′ store reply b b′ t d d′ p p′ l w w′ x x′ a a′ =
+    let (o, j, s, e) = listed c lim m store reply b t d p x a l w in
+    let (o′, j′, s′, e′) = listed c′ lim m′ store reply b′ t d′ p′ x′ a′ l w′ in
+    let same : o ≡ o′ = judged-determined c′ lim (length l) (forget t) (w′ .settings) o o′
+    (judged-alike c c′ lim (forget t) l (w .settings) (w′ .settings) o (w .written) (w′ .written) s s′ j) j′ in
+    e ∙ ap (settled lim m store reply) same ∙ left-alike lim m m′ store reply o′ ∙ sym e′

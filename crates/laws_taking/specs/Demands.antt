@@ -7,7 +7,8 @@ use mathlib.Core.Logic.{_≢_, _⊎_}
 use lib.ListN.{length}
 use Rattle.writing.specs.Ranges.{text-limits, InRange}
 use Rattle.writing.specs.Carrier.{coding-type, Opens, Counted, InSize}
-use Rattle.writing.specs.Settings.{Setting, unicode16}
+use Rattle.writing.specs.declared.Coding.{Coding}
+use Rattle.writing.specs.Settings.{Setting}
 use Rattle.writing.specs.Writing.{WrittenAll}
 use Rattle.tables.specs.declared.limits.Limits.{Limits}
 use Rattle.tables.specs.Apply.{apply}
@@ -21,40 +22,40 @@ InTurn lim n t [] u = t ≡ u
 InTurn lim zero t (s ∷ l) u = ⊥
 InTurn lim (suc n) t (s ∷ l) u = InRange text-limits n s × (after : Tables) × (apply lim s t ≡ some after) × InTurn lim n after l u
 
--- "k settings, in range and with room in turn, are written at the start of what follows ParamSum, reserved bits aside"
-pub record Stand (lim : Limits) (count : ℕ) (t : Tables) (bytes : List ℕ) (k : ℕ) : Type 0 where
+-- "k settings, in range and with room in turn, are written at the start of what follows ParamSum, reserved bits aside", under this coding type
+pub record Stand (c : Coding) (lim : Limits) (count : ℕ) (t : Tables) (bytes : List ℕ) (k : ℕ) : Type 0 where
   pub settings : List Setting
   pub tables : Tables
   pub written : List ℕ
   pub rest : List ℕ
   pub parts : bytes ≡ written ++ rest
   pub counted : length settings ≡ k
-  pub writing : WrittenAll unicode16 settings written
+  pub writing : WrittenAll c settings written
   pub in-turn : InTurn lim count t settings tables
 
--- a request that passes the buffer, carrier, version and coding checks, to a store of these tables
-pub record Passes (lim : Limits) (message store reply : List ℕ) (t : Tables) (data-bytes : List ℕ) : Type 0 where
+-- a request of this coding type that passes the buffer, carrier, version and coding checks, to a store of these tables
+pub record Passes (c : Coding) (lim : Limits) (message store reply : List ℕ) (t : Tables) (data-bytes : List ℕ) : Type 0 where
   pub buffer : 20 ≤ length reply
   pub store-is : StoreOf lim store
   pub holds : Holds lim t store
   pub in-size : InSize (lim .message) message
-  pub opens : Opens 1 0 (coding-type unicode16) data-bytes message
+  pub opens : Opens 1 0 (coding-type c) data-bytes message
 
 -- "FailedCfgID is the number of the first setting at fault, from 1: the least k, up to ParamSum, for which no k settings .. are written at the start"
-pub record FirstFault (lim : Limits) (count : ℕ) (t : Tables) (bytes : List ℕ) (number failed : ℕ) : Type 0 where
+pub record FirstFault (c : Coding) (lim : Limits) (count : ℕ) (t : Tables) (bytes : List ℕ) (number failed : ℕ) : Type 0 where
   pub from-1 : 1 ≤ failed
   pub up-to : failed ≤ count
-  pub least : (k : ℕ) → k < failed → Stand lim count t bytes k
-  pub not-so-many : Stand lim count t bytes failed → ⊥
-  pub before : Stand lim count t bytes (failed - 1)
-  pub at-fault : Fault lim (count - failed) (before .tables) (before .rest) number
+  pub least : (k : ℕ) → k < failed → Stand c lim count t bytes k
+  pub not-so-many : Stand c lim count t bytes failed → ⊥
+  pub before : Stand c lim count t bytes (failed - 1)
+  pub at-fault : Fault c lim (count - failed) (before .tables) (before .rest) number
 
 -- why a request that passes the checks is refused, with this number and failed ID
-pub data Refused (lim : Limits) (t : Tables) (data-bytes : List ℕ) (number failed : ℕ) : Type 0 where
+pub data Refused (c : Coding) (lim : Limits) (t : Tables) (data-bytes : List ℕ) (number failed : ℕ) : Type 0 where
   -- "ParamSum missing or 0 .. (4, failed ID 0)"
-  no-count : ((count : ℕ) (settings : List ℕ) → Counted count settings data-bytes → ⊥) → number ≡ 4 → failed ≡ 0 → Refused lim t data-bytes number failed
+  no-count : ((count : ℕ) (settings : List ℕ) → Counted count settings data-bytes → ⊥) → number ≡ 4 → failed ≡ 0 → Refused c lim t data-bytes number failed
   -- "last, bytes left over (4, ID 0)"
-  left-over : {count : ℕ} {settings : List ℕ} → Counted count settings data-bytes → (z : Stand lim count t settings count) → z .rest ≢ [] → number ≡ 4 → failed ≡ 0
-      → Refused lim t data-bytes number failed
+  left-over : {count : ℕ} {settings : List ℕ} → Counted count settings data-bytes → (z : Stand c lim count t settings count) → z .rest ≢ [] → number ≡ 4 → failed ≡ 0
+      → Refused c lim t data-bytes number failed
   -- "then settings in order"
-  at-setting : {count : ℕ} {settings : List ℕ} → Counted count settings data-bytes → FirstFault lim count t settings number failed → Refused lim t data-bytes number failed
+  at-setting : {count : ℕ} {settings : List ℕ} → Counted count settings data-bytes → FirstFault c lim count t settings number failed → Refused c lim t data-bytes number failed

@@ -3,6 +3,7 @@ use tables::limits::HANDHELD_SIZE;
 
 mod channel_cases;
 mod count_cases;
+mod eight_bit_cases;
 mod line_cases;
 mod screen_cases;
 mod slot_cases;
@@ -15,5 +16,6 @@ fn main() {
     count_cases::run(&mut store);
     text_cases::run(&mut store);
     slot_cases::run(&mut store);
+    eight_bit_cases::run(&mut store);
     screen_cases::run(&mut store);
 }

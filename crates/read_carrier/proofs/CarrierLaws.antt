@@ -8,7 +8,7 @@ use Rattle.writing.proofs.Bits.{shows-length, length-bitsOf}
 use Rattle.writing.proofs.Ends.{Agree, val-ends, res-ends}
 use Rattle.read_fields.specs.Places.{FieldsAt, be}
 use Rattle.read_carrier.specs.Message.{StartsWith, LengthIs, CarrierIs}
-use Rattle.read_carrier.specs.declared.carrier.CarrierRead.the-variants.{Coding, NotCarried}
+use Rattle.read_carrier.specs.declared.carrier.CarrierRead.the-variants.{Carried, NotCarried}
 use Rattle.read_fields.proofs.Heads.{Cut, cut-in, cut-out, head-in, head-out, be-small}
 use Rattle.read_fields.proofs.Parts.{nothing}
 
@@ -101,7 +101,7 @@ module _ (m : List ℕ) (h : Bytes m) {N : ℕ} (number : N ≡ be 0 (take 4 (dr
       )
 
   -- a message with a carrier carries what follows it
-  pub carries-in : (coding : ℕ) → Head m N coding → CarrierIs m (Coding coding)
+  pub carries-in : (coding : ℕ) → Head m N coding → CarrierIs m (Carried coding)
   carries-in coding k =
       let p : FieldsAt (carrier (N / 65536) coding) m 2 6 = head-in (carrier (N / 65536) coding) [] m 2 4 refl (omega arith) h 6 (k .room)
       (subst (Cut (carrier (N / 65536) coding)) number (omega (arith, small (k .room)), (omega (arith, k .mfid), (tt, (omega (arith, k .coded), tt))))) (nothing m 6) in

@@ -2,34 +2,39 @@
 use Rattle.lists.proofs.Kit.{ℕ, _≤_, _≡_, refl, sym, ap, _∙_, subst, subst⁻¹, _≢_, _⊎_, ⊎-elim, Bool, true, false, List, _++_, arith, ltb, length, drop, drop-append-seam, ltb-true, ltb-false}
 use Rattle.lists.specs.Bytes.{Bytes}
 use Rattle.lists.proofs.Bytes.{bytes-drop}
-use Rattle.writing.specs.Settings.{Hash, unicode16}
+use Rattle.writing.specs.declared.Coding.{Coding}
+use Rattle.writing.specs.Settings.{Hash}
 use Rattle.writing.specs.Carrier.{start-bytes, Carries, coding-type, Opens, Counted, RequestOf, Query, InSize, OtherKind, OtherType, OtherVersion, NoRequest, NoQuery}
 use Rattle.read_carrier.proofs.CarrierLaws.{carries-one}
-use Rattle.read_carrier.proofs.MessageOne.{opens-one, counted-one, counted-opens, query-opens}
+use Rattle.read_carrier.proofs.MessageOne.{opens-one, coding-one, counted-one, counted-opens, query-opens}
 
 -- ---- requests
 
 -- REQUEST ONE: a request has one count, and one rest after it
-pub request-one : {n k : ℕ} {s r m : List ℕ} → RequestOf n s m → RequestOf k r m → (n ≡ k) × (s ≡ r)
-request-one {n} {k} {s} {r} a b =
+pub request-one : {c d : Coding} {n k : ℕ} {s r m : List ℕ} → RequestOf c n s m → RequestOf d k r m → (n ≡ k) × (s ≡ r)
+request-one {n} {s} a b =
     counted-one (subst (Counted n s) (carries-one (a .carried) (b .carried) .1) (a .counted)) (b .counted)
 
+-- ONE CODING: a request's texts are coded in one way
+pub one-coding : {c d : Coding} {n k : ℕ} {s r m : List ℕ} → RequestOf c n s m → RequestOf d k r m → c ≡ d
+one-coding {c} {d} a b = coding-one c d (carries-one (a .carried) (b .carried) .0)
+
 -- it opens with version 1 and type 0
-pub request-opens : {n : ℕ} {s m : List ℕ} (q : RequestOf n s m) → Opens 1 0 (coding-type unicode16) (q .data-bytes) m
+pub request-opens : {c : Coding} {n : ℕ} {s m : List ℕ} (q : RequestOf c n s m) → Opens 1 0 (coding-type c) (q .data-bytes) m
 request-opens q = counted-opens (q .carried) (q .counted)
 
 -- what is behind a list of bytes, in bytes
-bytes-right : (a b : List ℕ) → Bytes (a ++ b) → Bytes b
+pub bytes-right : (a b : List ℕ) → Bytes (a ++ b) → Bytes b
 bytes-right a b h = subst Bytes (drop-append-seam a b) (bytes-drop (length a) (a ++ b) h)
 
 -- a request's settings are bytes where the message is
-pub request-bytes : {n : ℕ} {s m : List ℕ} → RequestOf n s m → Bytes m → Bytes s
-request-bytes {n} {s} {m} q h =
+pub request-bytes : {c : Coding} {n : ℕ} {s m : List ℕ} → RequestOf c n s m → Bytes m → Bytes s
+request-bytes {s} q h =
     let d : Bytes (q .data-bytes) = bytes-right (start-bytes ++ q .carried .header) (q .data-bytes) (subst Bytes (q .carried .whole) h) in
     bytes-right (q .counted .head) s (subst Bytes (q .counted .parts) d)
 
 -- NOT BOTH: no request is a result query
-pub not-both : {n : ℕ} {s m : List ℕ} {h : Hash} → RequestOf n s m → Query h m → ⊥
+pub not-both : {c : Coding} {n : ℕ} {s m : List ℕ} {h : Hash} → RequestOf c n s m → Query h m → ⊥
 not-both a b = omega (arith, opens-one (request-opens a) (query-opens b) .1)
 
 -- ---- messages that are neither
@@ -62,10 +67,10 @@ module _ {version kind coding : ℕ} {d m : List ℕ} (o : Opens version kind co
 
   -- and one that opens as a query is no request
   pub opens-no-request : kind ≡ 5 → NoRequest m
-  opens-no-request e n s r = omega (arith, e, opens-one o (request-opens r) .1)
+  opens-no-request e c n s r = omega (arith, e, opens-one o (request-opens r) .1)
 
   -- data bytes that are not counted, or of another coding type, are no request
-  pub uncounted : ((count : ℕ) (settings : List ℕ) → coding ≡ coding-type unicode16 → Counted count settings d → ⊥) → NoRequest m
-  uncounted never n s r =
+  pub uncounted : ((c : Coding) (count : ℕ) (settings : List ℕ) → coding ≡ coding-type c → Counted count settings d → ⊥) → NoRequest m
+  uncounted never c n s r =
       let (e, x) = carries-one (o .carried) (r .carried) in
-      never n s e (subst⁻¹ (Counted n s) x (r .counted))
+      never c n s e (subst⁻¹ (Counted n s) x (r .counted))

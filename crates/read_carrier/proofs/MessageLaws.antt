@@ -2,10 +2,12 @@
 use Rattle.lists.proofs.Kit.{ℕ, _+_, _%_, _≤_, _<_, _≡_, refl, sym, ap, _∙_, subst, subst⁻¹, _≢_, List, [], _∷_, _++_, map, append-nil, arith, length, drop, take, length-drop, drop-length}
 use Rattle.lists.specs.Bytes.{Bytes}
 use Rattle.writing.specs.Fields.{bitsOf, val, res, Shows}
+use Rattle.writing.specs.declared.Coding.{Coding}
+use Rattle.writing.specs.declared.Coding.the-variants.{Unicode16, EightBit}
 use Rattle.writing.specs.Settings.{Hash}
 use Rattle.writing.specs.Writing.{request-head}
 use Rattle.writing.specs.Ranges.{HashSize}
-use Rattle.writing.specs.Carrier.{Carries, first-byte, Opens, Counted, query, Query, InSize}
+use Rattle.writing.specs.Carrier.{Carries, coding-type, first-byte, Opens, Counted, query, Query, InSize}
 use Rattle.read_fields.specs.Places.{FieldsAt, be}
 use Rattle.read_fields.specs.Hashes.{HashAt}
 use Rattle.read_carrier.specs.Message.{MessageIs}
@@ -17,6 +19,11 @@ use Rattle.read_fields.proofs.Heads.{Cut, head-in, head-out, be-small}
 use Rattle.read_fields.proofs.Parts.{nothing}
 use Rattle.read_fields.proofs.HashLaws.{one-size, bytes-out}
 use Rattle.read_carrier.proofs.CarrierLaws.{wide-bytes, part-rest, carries-one, opens-cut, opens-room}
+
+-- a number that is neither coding type is that of no coding
+pub other-coding : {n : ℕ} → n ≢ 7 → n ≢ 4 → (c : Coding) → n ≡ coding-type c → ⊥
+other-coding a b Unicode16 e = a e
+other-coding a b EightBit e = b e
 
 module _ (m : List ℕ) (h : Bytes m) (coding : ℕ) {M : ℕ} (byte : M ≡ be 0 (take 1 (drop 7 m))) where
   -- the byte after the first data byte is small
@@ -37,20 +44,20 @@ module _ (m : List ℕ) (h : Bytes m) (coding : ℕ) {M : ℕ} (byte : M ≡ be 
       (r′, omega (arith, d .0))
 
   -- no request where coding type or count are not those of one
-  pub no-request : (most : ℕ) → Opens 1 0 coding (drop 6 m) m → ((count : ℕ) → coding ≡ 7 → 8 ≤ length m → count ≡ M % 256 → 1 ≤ count → ⊥)
+  pub no-request : (most : ℕ) → Opens 1 0 coding (drop 6 m) m → ((c : Coding) (count : ℕ) → coding ≡ coding-type c → 8 ≤ length m → count ≡ M % 256 → 1 ≤ count → ⊥)
       → InSize most m → MessageIs most m NoRequest
   no-request most o never i =
-      (i, coding, drop 6 m, o, λ count settings e k. let (r, c) = counted-out count settings k in never count e r c (k .some-setting))
+      (i, coding, drop 6 m, o, λ c count settings e k. let (r, n) = counted-out count settings k in never c count e r n (k .some-setting))
 
   -- a request where they are
-  pub the-request : (most : ℕ) → Opens 1 0 coding (drop 6 m) m → coding ≡ 7 → 8 ≤ length m → 1 ≤ M % 256 → InSize most m
-      → MessageIs most m (Request (M % 256) 8)
-  the-request most o e room some i =
+  pub the-request : (most : ℕ) (c : Coding) → Opens 1 0 coding (drop 6 m) m → coding ≡ coding-type c → 8 ≤ length m → 1 ≤ M % 256 → InSize most m
+      → MessageIs most m (Request (M % 256) 8 c)
+  the-request most c o e room some i =
       let p : FieldsAt (request-head (M % 256)) m 6 8 = head-in (first-byte 1 0) (val 8 (M % 256) ∷ []) m 6 1 refl (omega arith) h 8 (omega arith) (opens-cut o)
       (head-in (val 8 (M % 256) ∷ []) [] m 7 1 refl (omega arith) h 8 room (subst (Cut (val 8 (M % 256) ∷ [])) byte (omega arith, tt)) (nothing m 8)) in (
         i,
         drop 6 m,
-        subst (λ (c : ℕ). Carries c (drop 6 m) m) e (o .carried),
+        subst (λ (k : ℕ). Carries k (drop 6 m) m) e (o .carried),
         record { head = p .bytes; parts = part-rest p; says = p .written; some-setting = some },
         refl,
       )

@@ -2,7 +2,9 @@
 use Rattle.lists.proofs.Kit.{ℕ, zero, suc, _+_, _*_, _≡_, refl, sym, ap, ap₂, _∙_, subst, subst⁻¹, _≢_, _⊎_, ⊎-elim, List, [], _∷_, _++_, map, append-nil, cond, mul-comm, arith, eqb, length, drop, length-append, ne-eqb}
 use Rattle.lists.proofs.Seqs.{cut}
 use Rattle.writing.specs.Fields.{bits, bitsOf, Field, val, res, Shows, widths}
-use Rattle.writing.specs.Settings.{Hash, unicode16}
+use Rattle.writing.specs.declared.Coding.{Coding}
+use Rattle.writing.specs.declared.Coding.the-variants.{Unicode16, EightBit}
+use Rattle.writing.specs.Settings.{Hash}
 use Rattle.writing.specs.Writing.{request-head}
 use Rattle.writing.specs.Ranges.{HashSize}
 use Rattle.writing.specs.Carrier.{Carries, coding-type, first-byte, Opens, Counted, query, Query, InSize}
@@ -48,6 +50,13 @@ opened-determined most m (Open v k c) Uncarried p q = absurd (q .1 _ _ (p .1 .ca
 opened-determined most m (Open v k c) (Open v′ k′ c′) p q =
     let (e, f, g, _) = opens-one (p .1) (q .1) in
     λ i. Open (e i) (f i) (g i)
+
+-- a coding type is that of one coding
+pub coding-one : (c d : Coding) → coding-type c ≡ coding-type d → c ≡ d
+coding-one Unicode16 Unicode16 e = refl
+coding-one Unicode16 EightBit e = absurd (omega (arith, e))
+coding-one EightBit Unicode16 e = absurd (omega (arith, e))
+coding-one EightBit EightBit e = refl
 
 -- a request has one count, and one rest after it
 pub counted-one : {n k : ℕ} {s t x : List ℕ} → Counted n s x → Counted k t x → (n ≡ k) × (s ≡ t)
@@ -105,9 +114,9 @@ query-opens {h} q =
 -- ---- what the answers say, once the message opens
 
 -- a request, or none
-data RequestOr (c : ℕ) (x m : List ℕ) : Message → Type 0 where
-  no-request : ((count : ℕ) (settings : List ℕ) → c ≡ coding-type unicode16 → Counted count settings x → ⊥) → RequestOr c x m NoRequest
-  a-request : {count at : ℕ} → c ≡ coding-type unicode16 → Counted count (drop at m) x → at ≡ 8 → RequestOr c x m (Request count at)
+data RequestOr (n : ℕ) (x m : List ℕ) : Message → Type 0 where
+  no-request : ((c : Coding) (count : ℕ) (settings : List ℕ) → n ≡ coding-type c → Counted count settings x → ⊥) → RequestOr n x m NoRequest
+  a-request : {count at : ℕ} {c : Coding} → n ≡ coding-type c → Counted count (drop at m) x → at ≡ 8 → RequestOr n x m (Request count at c)
 
 -- a query, or none
 data QueryOr (m : List ℕ) : Message → Type 0 where
@@ -117,9 +126,12 @@ data QueryOr (m : List ℕ) : Message → Type 0 where
 -- a request is one
 request-one : {c : ℕ} {x m : List ℕ} {a b : Message} → RequestOr c x m a → RequestOr c x m b → a ≡ b
 request-one (no-request n) (no-request k) = refl
-request-one (no-request n) (a-request e k z) = absurd (n _ _ e k)
-request-one (a-request e k z) (no-request n) = absurd (n _ _ e k)
-request-one (a-request e k z) (a-request d l y) = ap₂ Request (counted-one k l .0) (z ∙ sym y)
+request-one (no-request n) (a-request {c = c} e k z) = absurd (n c _ _ e k)
+request-one (a-request {c = c} e k z) (no-request n) = absurd (n c _ _ e k)
+request-one (a-request {c = c} e k z) (a-request {c = d} f l y) =
+    let p = counted-one k l .0 in
+    let q = coding-one c d (sym e ∙ f) in
+    λ i. Request (p i) ((z ∙ sym y) i) (q i)
 
 -- a hash value starts as far before the message's end as it is long
 value-start : (v m : List ℕ) (from : ℕ) → FieldsAt (map (val 8) v) m from (length m) → length m ≡ from + length v
@@ -187,7 +199,7 @@ view most m OtherType y =
 view most m Version y =
     opened (y .0) (y .5) (subst⁻¹ (λ (k : ℕ). Answer k (y .3) (y .4) m Version) (which-version (y .1) (y .2) (y .6) (y .7)) refl)
 view most m NoRequest y = opened (y .0) (y .3) (no-request (y .4))
-view most m (Request count at) y = opened (y .0) (counted-opens (y .2) (y .3)) (a-request refl (y .3) (y .4))
+view most m (Request count at c) y = opened (y .0) (counted-opens (y .2) (y .3)) (a-request refl (y .3) (y .4))
 view most m NoQuery y = opened (y .0) (y .3) (no-query (y .4))
 view most m (AQuery p) y = opened (y .0) (query-opens (y .2)) (a-query (y .1) (y .2) (y .3) (y .4))
 

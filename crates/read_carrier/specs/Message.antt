@@ -7,7 +7,8 @@ use mathlib.Core.List.{List, _++_, map}
 use mathlib.Core.Bool.{Bool, true, false}
 use lib.ListN.{length, drop}
 use Rattle.writing.specs.Fields.{val}
-use Rattle.writing.specs.Settings.{Hash, unicode16}
+use Rattle.writing.specs.declared.Coding.{Coding}
+use Rattle.writing.specs.Settings.{Hash}
 use Rattle.writing.specs.Carrier.{start-bytes, States, Carries, coding-type, Opens, Counted, Query, InSize, NothingCarried}
 use Rattle.read_fields.specs.Places.{FieldsAt}
 use Rattle.read_carrier.specs.declared.carrier.Message.{Message}
@@ -15,7 +16,7 @@ use Rattle.read_carrier.specs.declared.carrier.Message.the-variants.{Siz
 use Rattle.read_carrier.specs.declared.carrier.Opened.{Opened}
 use Rattle.read_carrier.specs.declared.carrier.Opened.the-variants.{Size as OutOfSize, Carrier as Uncarried, Open}
 use Rattle.read_carrier.specs.declared.carrier.CarrierRead.{CarrierRead}
-use Rattle.read_carrier.specs.declared.carrier.CarrierRead.the-variants.{Coding, NotCarried}
+use Rattle.read_carrier.specs.declared.carrier.CarrierRead.the-variants.{Carried, NotCarried}
 
 -- ---- the carrier
 
@@ -31,7 +32,7 @@ LengthIs stated after false = States stated after → ⊥
 
 -- what follows the carrier's six bytes is carried under this coding type, or nothing is carried
 abbrev pub CarrierIs : List ℕ → CarrierRead → Type 0
-CarrierIs m (Coding coding) = Carries coding (drop 6 m) m
+CarrierIs m (Carried coding) = Carries coding (drop 6 m) m
 CarrierIs m NotCarried = NothingCarried m
 
 -- ---- the message
@@ -54,9 +55,9 @@ MessageIs most m Version =
     × ((kind ≡ 0) ⊎ (kind ≡ 5)) × (version ≢ 1)
 MessageIs most m NoRequest =
     InSize most m × (coding : ℕ) × (data-bytes : List ℕ) × Opens 1 0 coding data-bytes m
-    × ((count : ℕ) (settings : List ℕ) → coding ≡ coding-type unicode16 → Counted count settings data-bytes → ⊥)
-MessageIs most m (Request count at) =
-    InSize most m × (data-bytes : List ℕ) × Carries (coding-type unicode16) data-bytes m × Counted count (drop at m) data-bytes × (at ≡ 8)
+    × ((c : Coding) (count : ℕ) (settings : List ℕ) → coding ≡ coding-type c → Counted count settings data-bytes → ⊥)
+MessageIs most m (Request count at c) =
+    InSize most m × (data-bytes : List ℕ) × Carries (coding-type c) data-bytes m × Counted count (drop at m) data-bytes × (at ≡ 8)
 MessageIs most m NoQuery =
     InSize most m × (coding : ℕ) × (data-bytes : List ℕ) × Opens 1 5 coding data-bytes m × ((h : Hash) → Query h m → ⊥)
 MessageIs most m (AQuery p) =

@@ -4,6 +4,7 @@ use read_fields::bytes::remaining;
 use read_fields::hashes::HashPlace;
 use read_fields::hashes::HashRead;
 use read_fields::hashes::read_hash;
+use writing::Coding;
 ghost use Prim.Native.Nat.{ℕ};
 ghost use lib.ListN.{drop};
 ghost use Rattle.writing.specs.Carrier.{Opens, InSize};
@@ -18,6 +19,9 @@ pub const MFID: u8 = 0x08;
 // The coding type of 16-bit Unicode.
 pub const UNICODE16: u8 = 0b0111;
 
+// The coding type of eight-bit characters.
+pub const EIGHT_BIT: u8 = 0b0100;
+
 // The OTAPVer that is taken.
 pub const VERSION: u8 = 1;
 
@@ -29,21 +33,21 @@ pub enum Opened {
 }
 
 // A message is out of size, not carried, of another type or version, or a request or a result query, well formed or not.
-// A request has the count of its settings and the place where they start, a query the place of its hash.
+// A request has the count of its settings, the place where they start and how their texts are coded, a query the place of its hash.
 pub enum Message {
     Size,
     Carrier,
     Type,
     Version,
     NoRequest,
-    Request(u8, usize),
+    Request(u8, usize, Coding),
     NoQuery,
     Query(HashPlace),
 }
 
 // The coding type under which data bytes are carried.
 enum CarrierRead {
-    Coding(u8),
+    Carried(u8),
     NotCarried,
 }
 
@@ -88,7 +92,7 @@ fn read_carrier(m: &[u8]) -> CarrierRead
         return CarrierRead::NotCarried;
     }
     let coding = (head % 16) as u8;
-    CarrierRead::Coding(coding)
+    CarrierRead::Carried(coding)
 }
 
 // What every message opens with, whatever its type, where at most so many bytes are taken.
@@ -102,7 +106,7 @@ pub fn open_message(m: &[u8], most: usize) -> Opened
         return Opened::Size;
     }
     let carrier = read_carrier(m);
-    let CarrierRead::Coding(coding) = carrier else {
+    let CarrierRead::Carried(coding) = carrier else {
         return Opened::Carrier;
     };
     let first = number(m, 6, 1);
@@ -116,9 +120,6 @@ fn read_request(m: &[u8], coding: u8) -> Message
     requires { ⌜ Opens 1 0 coding (drop 6 (now m)) (now m) ⌝ }
     ensures { λ r. ⌜ ((most : ℕ) → InSize most (now (m .entry)) → MessageIs most (now (m .entry)) r) ⌝ }
 {
-    if coding != UNICODE16 {
-        return Message::NoRequest;
-    }
     if remaining(m, 7) < 1 {
         return Message::NoRequest;
     }
@@ -126,7 +127,11 @@ fn read_request(m: &[u8], coding: u8) -> Message
     if count == 0 {
         return Message::NoRequest;
     }
-    Message::Request(count, 8)
+    match coding {
+        UNICODE16 => Message::Request(count, 8, Coding::Unicode16),
+        EIGHT_BIT => Message::Request(count, 8, Coding::EightBit),
+        _ => Message::NoRequest,
+    }
 }
 
 // A result query, or none, where the first data byte says one.

@@ -1,5 +1,5 @@
 -- What reading a text, a number or an address answers: it is there, with its place and what follows it, or none is.
-use Prim.Native.Nat.{ℕ, zero, suc, _+_, _/_, _%_, _≤_}
+use Prim.Native.Nat.{ℕ, _*_, _/_, _%_, _≤_}
 use mathlib.Core.Path.{_≡_}
 use mathlib.Core.Bool.{Bool, true, false}
 use mathlib.Core.Logic.{_≢_, _⊎_}
@@ -9,7 +9,7 @@ use Rattle.lists.specs.Every.{All}
 use Rattle.writing.specs.Fields.{Field, each}
 use Rattle.writing.specs.declared.Coding.{Coding}
 use Rattle.writing.specs.Settings.{Contact, Entry, Text, Number}
-use Rattle.writing.specs.Writing.{text, number, contact, quick-text, status-text, fill}
+use Rattle.writing.specs.Writing.{unit-width, text, number}
 use Rattle.writing.specs.Ranges.{TextLimits, InNumber, InContact, InAddress}
 use Rattle.read_fields.specs.Places.{FieldsAt}
 use Rattle.read_fields.specs.declared.texts.TextPlace.{TextPlace}
@@ -22,6 +22,12 @@ use Rattle.read_fields.specs.declared.numbers.Digits.{Digits}
 use Rattle.read_fields.specs.declared.numbers.Digits.the-variants.{Two, One, Zero, Bad}
 
 -- ---- texts
+
+-- a unit has so many bytes: one or two
+pub record UnitBytes (c : Coding) (n : ℕ) : Type 0 where
+  pub wide : unit-width c ≡ 8 * n
+  pub some-byte : 1 ≤ n
+  pub few : n ≤ 2
 
 -- the text stands at this place, under the coding that the place says, up to `next`
 pub record TextIs (m : List ℕ) (p : TextPlace) (us : Text) (next : ℕ) : Type 0 where

@@ -2,13 +2,12 @@
 use Rattle.lists.proofs.Kit.{ℕ, _+_, _-_, _/_, _%_, _≤_, _<_, _≡_, refl, sym, ap, _∙_, subst, subst⁻¹, List, [], _∷_, Option, none, some, arith, length, getD, drop, take}
 use Rattle.lists.specs.Bytes.{Bytes}
 use Rattle.writing.specs.declared.Coding.{Coding}
-use Rattle.writing.specs.declared.Coding.the-variants.{Unicode16}
 use Rattle.writing.specs.declared.Kind.{Kind}
 use Rattle.writing.specs.declared.Kind.the-variants.{Lines, Key, QuickTexts, Home, Channels, System, StatusTexts, Group, Individual, Last}
 use Rattle.writing.specs.Fields.{val}
 use Rattle.writing.specs.Ranges.{text-limits, HashSize, InRange}
-use Rattle.writing.specs.Bounds.{bounds, AtMost, Within}
-use Rattle.writing.specs.Settings.{Setting, kind, unicode16}
+use Rattle.writing.specs.Bounds.{bounds, AtMost}
+use Rattle.writing.specs.Settings.{Setting, kind}
 use Rattle.writing.specs.Writing.{type-byte, body, data-length}
 use Rattle.writing.proofs.Bits.{length-bitsOf, shows-length}
 use Rattle.writing.proofs.ByKind.{Contents, make, of-kind}
@@ -35,11 +34,11 @@ use Rattle.read_fields.proofs.Walk.{agree-at, ends-at}
 -- ---- fields by their row
 
 -- the fields of the row's kind are the fields of the kind that its type byte says
-pub by-row : (c : Coding) (K k : Kind) (r : Bounds) (left : ℕ) (m : List ℕ) (p : ℕ) (b : BodyRead) → BoundsAre k r → r .«type_byte» ≡ type-byte K → (BoundsAre K r → BodyAt c K left m p b)
+pub by-row : (c : Coding) (K k : Kind) (r : Bounds) (left : ℕ) (m : List ℕ) (p : ℕ) (b : BodyRead) → BoundsAre c k r → r .«type_byte» ≡ type-byte K → (BoundsAre c K r → BodyAt c K left m p b)
     → BodyAt c k left m p b
 by-row c K k r left m p b is e f =
     let same : k ≡ K = one-kind k K (sym (is .type) ∙ e) in
-    subst⁻¹ (λ (l : Kind). BodyAt c l left m p b) same (f (subst (λ (l : Kind). BoundsAre l r) same is))
+    subst⁻¹ (λ (l : Kind). BodyAt c l left m p b) same (f (subst (λ (l : Kind). BoundsAre c l r) same is))
 
 -- ---- two settings of one kind
 
@@ -115,28 +114,20 @@ at-most : (o : Option ℕ) (n : ℕ) → AtMost o n → n ≤ 65535 → n ≤ mo
 at-most none n a l = l
 at-most (some k) n a l = a
 
--- the rows are those of 16-bit Unicode
-one-row : (c : Coding) → c ≡ unicode16
-one-row Unicode16 = refl
-
 -- ---- the answers of read_setting
 
 -- the type byte is none of the ten
-pub no-type : (c : Coding) (left : ℕ) (m : List ℕ) (at : ℕ) {f : BoundsRead} → at < length m → BoundsAt (getD m at 0) f → f ≡ NoRow → SettingAt c left m at Unknown
-no-type c left m at l found e = (l, subst (BoundsAt (getD m at 0)) e found)
+pub no-type : (c : Coding) (left : ℕ) (m : List ℕ) (at : ℕ) {f : BoundsRead} → at < length m → BoundsAt c (getD m at 0) f → f ≡ NoRow → SettingAt c left m at Unknown
+no-type c left m at l found e = (l, subst (BoundsAt c (getD m at 0)) e found)
 
-module _ (c : Coding) (left : ℕ) (m : List ℕ) (at : ℕ) (h : Bytes m) {f : BoundsRead} (r : Bounds) (found : BoundsAt (getD m at 0) f) (e : f ≡ Found r) where
+module _ (c : Coding) (left : ℕ) (m : List ℕ) (at : ℕ) (h : Bytes m) {f : BoundsRead} (r : Bounds) (found : BoundsAt c (getD m at 0) f) (e : f ≡ Found r) where
   -- the row's kind, which the type byte says
-  the-row : (k : Kind) × (type-byte k ≡ getD m at 0) × BoundsAre k r
-  the-row = subst (BoundsAt (getD m at 0)) e found
-
-  -- the row of every coding is the code's
-  row-within : (s : Setting) → InRange text-limits left s → Within (bounds unicode16 text-limits (kind s)) (data-length c s)
-  row-within s i = subst (λ (d : Coding). Within (bounds d text-limits (kind s)) (data-length c s)) (one-row c) (within-row c text-limits left s i)
+  the-row : (k : Kind) × (type-byte k ≡ getD m at 0) × BoundsAre c k r
+  the-row = subst (BoundsAt c (getD m at 0)) e found
 
   -- none stands there where none of the row's kind has this DataLength and fields
   no-setting : at < length m
-      → ((s : Setting) (next : ℕ) → BoundsAre (kind s) r → InRange text-limits left s → at + 3 ≤ length m → data-length c s ≡ be 0 (take 2 (drop (at + 1) m))
+      → ((s : Setting) (next : ℕ) → BoundsAre c (kind s) r → InRange text-limits left s → at + 3 ≤ length m → data-length c s ≡ be 0 (take 2 (drop (at + 1) m))
       → FieldsAt (body c s) m (at + 3) next → ⊥)
       → SettingAt c left m at BadField
   no-setting l never =
@@ -146,7 +137,7 @@ module _ (c : Coding) (left : ℕ) (m : List ℕ) (at : ℕ) (h : Bytes m) {f : 
         t,
         λ s next i x.
             let (room, u, d, y) = setting-out c m at h s next x in
-            never s next (subst (λ (z : Kind). BoundsAre z r) (one-kind k (kind s) (t ∙ sym u)) is) i room d y,
+            never s next (subst (λ (z : Kind). BoundsAre c z r) (one-kind k (kind s) (t ∙ sym u)) is) i room d y,
       )
 
   -- none where fewer than three bytes are left
@@ -157,16 +148,16 @@ module _ (c : Coding) (left : ℕ) (m : List ℕ) (at : ℕ) (h : Bytes m) {f : 
     -- none where DataLength is below the row's least
     pub too-little : N < r .least → SettingAt c left m at BadField
     too-little l =
-        no-setting (omega arith) (λ s next is i room d y. omega (arith, is .least, row-within s i .least))
+        no-setting (omega arith) (λ s next is i room d y. omega (arith, is .least, within-row c text-limits left s i .least))
 
     -- none where it is above the row's most
     pub too-much : r .most < N → SettingAt c left m at BadField
     too-much l =
         let small : be 0 (take 2 (drop (at + 1) m)) < 65536 = be-small m (at + 1) 2 h (omega arith) in
         no-setting (omega arith) (λ s next is i room d y.
-        omega (arith, is .most, at-most (bounds unicode16 text-limits (kind s) .most) (data-length c s) (row-within s i .most) (omega (arith, small, d))))
+        omega (arith, is .most, at-most (bounds c text-limits (kind s) .most) (data-length c s) (within-row c text-limits left s i .most) (omega (arith, small, d))))
 
-    module _ {b : BodyRead} (fields : (k : Kind) → BoundsAre k r → BodyAt c k left m (at + 3) b) where
+    module _ {b : BodyRead} (fields : (k : Kind) → BoundsAre c k r → BodyAt c k left m (at + 3) b) where
       -- none where no fields of the row's kind stand after DataLength
       pub no-fields : b ≡ NoBody → SettingAt c left m at BadField
       no-fields z =

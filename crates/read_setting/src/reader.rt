@@ -32,7 +32,7 @@ pub enum SettingRead {
 
 // The fields after DataLength, by the type of the row.
 fn read_body(m: &[u8], p: usize, left: usize, row: Bounds, coding: Coding) -> BodyRead
-    ensures { λ r. ⌜ ((k : Kind) → BoundsAre k row → BodyAt coding k left (now (m .entry)) p r) ⌝ }
+    ensures { λ r. ⌜ ((k : Kind) → BoundsAre coding k row → BodyAt coding k left (now (m .entry)) p r) ⌝ }
 {
     let type_byte = row.type_byte;
     let operations = row.operations;
@@ -58,7 +58,7 @@ pub fn read_setting(m: &[u8], at: usize, left: usize, coding: Coding) -> Setting
     if remaining(m, at) < 1 {
         return SettingRead::Missing;
     }
-    let found = bounds_of(m[at]);
+    let found = bounds_of(m[at], coding);
     let BoundsRead::Found(row) = found else {
         return SettingRead::Unknown;
     };

@@ -2,8 +2,9 @@
 use Rattle.lists.proofs.Kit.{ℕ, suc, _+_, _<_, _≡_, refl, sym, ap, _∙_, subst, List, [], _∷_, _++_, Option, none, some, arith, length, drop, drop-of-length-le, drop-cons, drop-drop, drop-at}
 use Rattle.lists.specs.Bytes.{Bytes}
 use Rattle.lists.proofs.Bytes.{bytes-drop}
+use Rattle.writing.specs.declared.Coding.{Coding}
 use Rattle.writing.specs.Ranges.{text-limits, InRange}
-use Rattle.writing.specs.Settings.{Setting, unicode16, lines, key, quick-texts, home, channels, system, status-texts, group, individual, last}
+use Rattle.writing.specs.Settings.{Setting, lines, key, quick-texts, home, channels, system, status-texts, group, individual, last}
 use Rattle.read_fields.specs.Places.{StandsAt}
 use Rattle.read_setting.specs.SettingAt.{SettingAt}
 use Rattle.read_setting.specs.declared.reader.SettingRead.the-variants.{Missing, Unknown, Field as BadField}
@@ -15,28 +16,28 @@ use Rattle.requests.specs.Judge.{done, step, missing, unknown, field, ro
 use Rattle.requests.specs.Requests.{WrittenIn, Known, Runs, Fault, item-of, or-else, LastItem, last-item}
 use Rattle.requests.proofs.Joining.{then-run}
 
-module _ (lim : Limits) where
-  -- one setting more at the end
-  pub one-more : (left : ℕ) (s : Setting) (w r : List ℕ) {n : ℕ} {t u u′ : Tables} {bs rest : List ℕ} {l : List Setting} → Runs lim n t bs l u rest
-      → length l + suc left ≡ n → rest ≡ w ++ r → WrittenIn s w → InRange text-limits left s → apply lim s u ≡ some u′ → Runs lim n t bs (l ++ (s ∷ [])) u′ r
-  one-more left s w r q e p x i a =
-      then-run Setting Tables WrittenIn (InRange text-limits) (apply lim) Known (suc left) q e (step {w = w} {s = s} p x i a done)
+-- a setting that is not the last one counted is no FF
+pub not-ff : (s : Setting) (n : ℕ) → InRange text-limits n s → 0 < n → item-of s ≡ none
+not-ff (lines o f es) n i l = refl
+not-ff (key t f) n i l = refl
+not-ff (quick-texts o es) n i l = refl
+not-ff (home h) n i l = refl
+not-ff (channels o ns) n i l = refl
+not-ff (system x) n i l = refl
+not-ff (status-texts o es) n i l = refl
+not-ff (group o f x) n i l = refl
+not-ff (individual o f x) n i l = refl
+not-ff (last f h) n i l = absurd (omega (arith, i .1))
 
-  -- a setting that is not the last one counted is no FF
-  pub not-ff : (s : Setting) (n : ℕ) → InRange text-limits n s → 0 < n → item-of s ≡ none
-  not-ff (lines o f es) n i l = refl
-  not-ff (key t f) n i l = refl
-  not-ff (quick-texts o es) n i l = refl
-  not-ff (home h) n i l = refl
-  not-ff (channels o ns) n i l = refl
-  not-ff (system x) n i l = refl
-  not-ff (status-texts o es) n i l = refl
-  not-ff (group o f x) n i l = refl
-  not-ff (individual o f x) n i l = refl
-  not-ff (last f h) n i l = absurd (omega (arith, i .1))
+module _ (c : Coding) (lim : Limits) where
+  -- one setting more at the end
+  pub one-more : (left : ℕ) (s : Setting) (w r : List ℕ) {n : ℕ} {t u u′ : Tables} {bs rest : List ℕ} {l : List Setting} → Runs c lim n t bs l u rest
+      → length l + suc left ≡ n → rest ≡ w ++ r → WrittenIn c s w → InRange text-limits left s → apply lim s u ≡ some u′ → Runs c lim n t bs (l ++ (s ∷ [])) u′ r
+  one-more left s w r q e p x i a =
+      then-run Setting Tables (WrittenIn c) (InRange text-limits) (apply lim) Known (suc left) q e (step {w = w} {s = s} p x i a done)
 
   -- so the FF of a run is that of its last setting
-  pub item-end : {n : ℕ} {t u : Tables} {bs rest : List ℕ} {l : List Setting} → Runs lim n t bs l u rest → length l < n → (s : Setting)
+  pub item-end : {n : ℕ} {t u : Tables} {bs rest : List ℕ} {l : List Setting} → Runs c lim n t bs l u rest → length l < n → (s : Setting)
       → last-item (l ++ (s ∷ [])) ≡ or-else (item-of s) (last-item [])
   item-end done h s = refl
   item-end (step {n} {s = x} {l = l} p w i a q) h s =
@@ -46,7 +47,7 @@ module _ (lim : Limits) where
 
   module _ (m : List ℕ) (b : Bytes m) (left : ℕ) (u : Tables) (p : ℕ) where
     -- a setting that stands at p: its bytes, and what follows
-    pub stands-in : (s : Setting) (next : ℕ) → StandsAt unicode16 m p next s → (w : List ℕ) × (drop p m ≡ w ++ drop next m) × WrittenIn s w
+    pub stands-in : (s : Setting) (next : ℕ) → StandsAt c m p next s → (w : List ℕ) × (drop p m ≡ w ++ drop next m) × WrittenIn c s w
     stands-in s next x =
         let e : drop next m ≡ x .rest
         = ap (λ (k : ℕ). drop k m) (x .ends) ∙ sym (drop-drop (length (x .bytes)) p m) ∙ ap (drop (length (x .bytes))) (x .split)
@@ -57,26 +58,26 @@ module _ (lim : Limits) where
         )
 
     -- and back
-    stands-at : (s : Setting) (w r : List ℕ) → drop p m ≡ w ++ r → WrittenIn s w → StandsAt unicode16 m p (p + length w) s
+    stands-at : (s : Setting) (w r : List ℕ) → drop p m ≡ w ++ r → WrittenIn c s w → StandsAt c m p (p + length w) s
     stands-at s w r e (x, _) = record { bytes = w; rest = r; split = e; ends = refl; written = x }
 
     -- no byte is left: 4
-    pub at-end : SettingAt unicode16 left m p Missing → Fault lim left u (drop p m) 4
-    at-end h = subst (λ (l : List ℕ). Fault lim left u l 4) (sym (drop-of-length-le m h)) missing
+    pub at-end : SettingAt c left m p Missing → Fault c lim left u (drop p m) 4
+    at-end h = subst (λ (l : List ℕ). Fault c lim left u l 4) (sym (drop-of-length-le m h)) missing
 
     -- the type is none of the ten: 3
-    pub at-unknown : SettingAt unicode16 left m p Unknown → Fault lim left u (drop p m) 3
+    pub at-unknown : SettingAt c left m p Unknown → Fault c lim left u (drop p m) 3
     at-unknown (h, never) =
-        subst (λ (l : List ℕ). Fault lim left u l 3) (sym (drop-cons m p 0 h)) (unknown (λ k. never (k .0) (k .1)))
+        subst (λ (l : List ℕ). Fault c lim left u l 3) (sym (drop-cons m p 0 h)) (unknown (λ k. never (k .0) (k .1)))
 
     -- no setting in range is written there: 4
-    pub at-field : SettingAt unicode16 left m p BadField → Fault lim left u (drop p m) 4
+    pub at-field : SettingAt c left m p BadField → Fault c lim left u (drop p m) 4
     at-field (h, k, e, never) =
-        subst (λ (l : List ℕ). Fault lim left u l 4) (sym (drop-cons m p 0 h))
+        subst (λ (l : List ℕ). Fault c lim left u l 4) (sym (drop-cons m p 0 h))
         (field (k, e) (λ s w r q x i. never s (p + length w) i (stands-at s w r (drop-cons m p 0 h ∙ q) x)))
 
     -- the setting that stands there has no room: 2
-    pub at-full : (s : Setting) (next : ℕ) → p < length m → InRange text-limits left s → StandsAt unicode16 m p next s → apply lim s u ≡ none → Fault lim left u (drop p m) 2
+    pub at-full : (s : Setting) (next : ℕ) → p < length m → InRange text-limits left s → StandsAt c m p next s → apply lim s u ≡ none → Fault c lim left u (drop p m) 2
     at-full s next h i x a =
         let (w, e, q) = stands-in s next x in
-        subst (λ (l : List ℕ). Fault lim left u l 2) (sym (drop-cons m p 0 h)) (room {w = w} {s = s} (drop next m) (sym (drop-cons m p 0 h) ∙ e) q i a)
+        subst (λ (l : List ℕ). Fault c lim left u l 2) (sym (drop-cons m p 0 h)) (room {w = w} {s = s} (drop next m) (sym (drop-cons m p 0 h) ∙ e) q i a)

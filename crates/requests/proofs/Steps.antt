@@ -3,10 +3,11 @@ use Rattle.lists.proofs.Kit.{ℕ, suc, _+_, _-_, _≤_, _<_, _≡_, refl, sym, 
 use denote.Enum.Declared.{tagOf}
 use types.Run.{OneOf, miss}
 use Rattle.lists.specs.Bytes.{Bytes}
+use Rattle.writing.specs.declared.Coding.{Coding}
 use Rattle.writing.specs.declared.LastFlags.{LastFlags}
 use Rattle.writing.specs.declared.Result.the-variants.{NoRoom}
 use Rattle.writing.specs.Canonical.{Fits}
-use Rattle.writing.specs.Settings.{Setting, unicode16}
+use Rattle.writing.specs.Settings.{Setting}
 use Rattle.writing.proofs.CanonicalLaws.{has-writing}
 use Rattle.writing.proofs.Whole.{length-written}
 use Rattle.read_fields.specs.declared.hashes.HashPlace.{HashPlace}
@@ -46,31 +47,31 @@ flags-none (Group o f p) k m s (es, e, _) = said-none e refl
 flags-none (Individual o f p) k m s (es, e, _) = said-none e refl
 flags-none (Last f p) k m s x = absurd (miss (0 ∷ 1 ∷ 2 ∷ 3 ∷ 4 ∷ 5 ∷ 6 ∷ 7 ∷ 8 ∷ []) 9 tt k)
 
-module _ (lim : Limits) (m : List ℕ) where
+module _ (c : Coding) (lim : Limits) (m : List ℕ) where
   -- ---- one setting
 
   module _ (b : Bytes m) (left at : ℕ) (s t : List ℕ) where
     -- a setting that stands there has a byte there
-    stands-within : (x : Setting) (next : ℕ) → StandsAt unicode16 m at next x → at < length m
+    stands-within : (x : Setting) (next : ℕ) → StandsAt c m at next x → at < length m
     stands-within x next y =
-        let n : length (y .bytes) ≡ suc _ = length-written unicode16 x (y .bytes) (y .written) in
+        let n : length (y .bytes) ≡ suc _ = length-written c x (y .bytes) (y .written) in
         let e : length m - at ≡ length (y .bytes ++ y .rest) = sym (length-drop at m) ∙ ap length (y .split) in
         omega (arith, n, e, length-append (y .bytes) (y .rest))
 
     -- a setting that was read fits its fields, since it is written
-    fits : (x : Setting) (next : ℕ) → StandsAt unicode16 m at next x → Fits unicode16 x
-    fits x next y = has-writing unicode16 x (y .bytes) (y .written)
+    fits : (x : Setting) (next : ℕ) → StandsAt c m at next x → Fits c x
+    fits x next y = has-writing c x (y .bytes) (y .written)
 
-    pub step-taken : (r : Read) (next : ℕ) (f : LastFlags) (k : Bool) → SettingAt unicode16 left m at (Taken r next) → FlagsAre r f
-        → Applied lim m r s t k → k ≡ true → StepIs lim left m at s t (Next next f)
+    pub step-taken : (r : Read) (next : ℕ) (f : LastFlags) (k : Bool) → SettingAt c left m at (Taken r next) → FlagsAre r f
+        → Applied lim m r s t k → k ≡ true → StepIs c lim left m at s t (Next next f)
     step-taken r next f k (x, means, i, stands) g a e was roomy holds =
-        let (u, q, h) = a was x left roomy holds means i (fits x next stands) .room e in
+        let (u, q, h) = a was x c left roomy holds means i (fits x next stands) .room e in
         record { setting = x; tables = u; range = i; stands = stands; applied = q; holds = h; flags = g m x means }
 
-    pub step-full : (r : Read) (next : ℕ) (k : Bool) → SettingAt unicode16 left m at (Taken r next)
-        → Applied lim m r s t k → k ≡ false → StepIs lim left m at s t (StepFault NoRoom)
+    pub step-full : (r : Read) (next : ℕ) (k : Bool) → SettingAt c left m at (Taken r next)
+        → Applied lim m r s t k → k ≡ false → StepIs c lim left m at s t (StepFault NoRoom)
     step-full r next k (x, means, i, stands) a e was roomy holds =
-        at-full lim m b left was at x next (stands-within x next stands) i stands (a was x left roomy holds means i (fits x next stands) .full e)
+        at-full c lim m b left was at x next (stands-within x next stands) i stands (a was x c left roomy holds means i (fits x next stands) .full e)
 
   -- ---- all of them
 
@@ -80,7 +81,7 @@ module _ (lim : Limits) (m : List ℕ) where
       pub settings : List Setting
       pub tables : Tables
       pub counted : length settings ≡ n
-      pub runs : Runs lim count was (drop at m) settings tables (drop p m)
+      pub runs : Runs c lim count was (drop at m) settings tables (drop p m)
       pub holds : Works lim tables work
       pub flags : f ≡ last-item settings .flags
 
@@ -89,36 +90,36 @@ module _ (lim : Limits) (m : List ℕ) where
 
     module _ (work : List ℕ) (p n : ℕ) (f : LastFlags) (l : Along work p n f) where
       -- one setting more
-      pub along-on : Bytes m → (t : List ℕ) (next : ℕ) (g : LastFlags) → n < count → Stepped lim (count - n - 1) m p next (l .tables) t g → Along t next (n + 1) g
+      pub along-on : Bytes m → (t : List ℕ) (next : ℕ) (g : LastFlags) → n < count → Stepped c lim (count - n - 1) m p next (l .tables) t g → Along t next (n + 1) g
       along-on b t next g h z =
-          let (w, e, q) = stands-in lim m b (count - n - 1) was p (z .setting) next (z .stands) in
-          let c : length (l .settings) ≡ n = l .counted in
+          let (w, e, q) = stands-in c lim m b (count - n - 1) was p (z .setting) next (z .stands) in
+          let d : length (l .settings) ≡ n = l .counted in
           let k : length (l .settings ++ (z .setting ∷ [])) ≡ n + 1 = length-append (l .settings) (z .setting ∷ []) ∙ omega arith in
           record {
             settings = l .settings ++ (z .setting ∷ []);
             tables = z .tables;
             counted = k;
-            runs = one-more lim (count - n - 1) (z .setting) w (drop next m) (l .runs) (omega arith) e q (z .range) (z .applied);
+            runs = one-more c lim (count - n - 1) (z .setting) w (drop next m) (l .runs) (omega arith) e q (z .range) (z .applied);
             holds = z .holds;
-            flags = z .flags ∙ sym (ap (λ (x : LastItem). x .flags) (item-end lim (l .runs) (omega arith) (z .setting)));
+            flags = z .flags ∙ sym (ap (λ (x : LastItem). x .flags) (item-end c lim (l .runs) (omega arith) (z .setting)));
           }
 
       -- the next is at fault
-      pub along-fault : (number : ℕ) → n < count → Fault lim (count - n - 1) (l .tables) (drop p m) number → Judged lim count was (drop at m) (refused number (n + 1))
+      pub along-fault : (number : ℕ) → n < count → Fault c lim (count - n - 1) (l .tables) (drop p m) number → Judged c lim count was (drop at m) (refused number (n + 1))
       along-fault number h z =
-          let c : length (l .settings) ≡ n = l .counted in
-          subst (λ (k : ℕ). Judged lim count was (drop at m) (refused number (k + 1))) c (fault (count - n - 1) (omega arith) (l .runs) z)
+          let d : length (l .settings) ≡ n = l .counted in
+          subst (λ (k : ℕ). Judged c lim count was (drop at m) (refused number (k + 1))) d (fault (count - n - 1) (omega arith) (l .runs) z)
 
       -- bytes are left over
-      pub along-over : count ≤ n → n ≤ count → p < length m → Judged lim count was (drop at m) (refused 4 0)
+      pub along-over : count ≤ n → n ≤ count → p < length m → Judged c lim count was (drop at m) (refused 4 0)
       along-over x y h =
-          let c : length (l .settings) ≡ n = l .counted in
-          let q = subst (λ (r : List ℕ). Runs lim count was (drop at m) (l .settings) (l .tables) r) (drop-cons m p 0 h) (l .runs) in
+          let d : length (l .settings) ≡ n = l .counted in
+          let q = subst (λ (r : List ℕ). Runs c lim count was (drop at m) (l .settings) (l .tables) r) (drop-cons m p 0 h) (l .runs) in
           over {l = l .settings} (omega arith) q
 
       -- none are
-      pub along-end : count ≤ n → n ≤ count → length m ≤ p → Ran lim count m at was work f
+      pub along-end : count ≤ n → n ≤ count → length m ≤ p → Ran c lim count m at was work f
       along-end x y h =
-          let c : length (l .settings) ≡ n = l .counted in
-          let q = subst (λ (r : List ℕ). Runs lim count was (drop at m) (l .settings) (l .tables) r) (drop-of-length-le m h) (l .runs) in
+          let d : length (l .settings) ≡ n = l .counted in
+          let q = subst (λ (r : List ℕ). Runs c lim count was (drop at m) (l .settings) (l .tables) r) (drop-of-length-le m h) (l .runs) in
           record { settings = l .settings; tables = l .tables; judged = taken {l = l .settings} (omega arith) q; holds = l .holds; flags = l .flags }

@@ -5,10 +5,11 @@ use mathlib.Core.Bool.{false}
 use mathlib.Core.List.{List, [], _∷_}
 use mathlib.Core.Option.{Option, none, some}
 use Rattle.lists.specs.Bytes.{Bytes}
+use Rattle.writing.specs.declared.Coding.{Coding}
 use Rattle.writing.specs.declared.Kind.{Kind}
 use Rattle.writing.specs.declared.LastFlags.{LastFlags}
 use Rattle.writing.specs.Ranges.{text-limits, InRange}
-use Rattle.writing.specs.Settings.{Setting, Hash, unicode16, lines, key, quick-texts, home, channels, system, status-texts, group, individual, last}
+use Rattle.writing.specs.Settings.{Setting, Hash, lines, key, quick-texts, home, channels, system, status-texts, group, individual, last}
 use Rattle.writing.specs.Writing.{Written, type-byte}
 use Rattle.tables.specs.declared.limits.Limits.{Limits}
 use Rattle.tables.specs.Apply.{apply}
@@ -20,25 +21,25 @@ use Rattle.requests.specs.Judge.{Outcome}
 
 -- ---- a request's settings
 
--- these bytes are a writing of the setting, reserved bits aside
-abbrev pub WrittenIn : Setting → List ℕ → Type 0
-WrittenIn s bs = Written unicode16 s bs × Bytes bs
+-- these bytes are a writing of the setting under the request's coding type, reserved bits aside
+abbrev pub WrittenIn : Coding → Setting → List ℕ → Type 0
+WrittenIn c s bs = Written c s bs × Bytes bs
 
 -- a type byte is one of the ten
 abbrev pub Known : ℕ → Type 0
 Known b = (k : Kind) × (type-byte k ≡ b)
 
 -- these settings stand at the start of the bytes, in range and with room in turn
-abbrev pub Runs : Limits → ℕ → Tables → List ℕ → List Setting → Tables → List ℕ → Type 0
-Runs lim = Judge.Runs Setting Tables WrittenIn (InRange text-limits) (apply lim) Known
+abbrev pub Runs : Coding → Limits → ℕ → Tables → List ℕ → List Setting → Tables → List ℕ → Type 0
+Runs c lim = Judge.Runs Setting Tables (WrittenIn c) (InRange text-limits) (apply lim) Known
 
 -- what is at fault where the next setting should stand
-abbrev pub Fault : Limits → ℕ → Tables → List ℕ → ℕ → Type 0
-Fault lim = Judge.Fault Setting Tables WrittenIn (InRange text-limits) (apply lim) Known
+abbrev pub Fault : Coding → Limits → ℕ → Tables → List ℕ → ℕ → Type 0
+Fault c lim = Judge.Fault Setting Tables (WrittenIn c) (InRange text-limits) (apply lim) Known
 
 -- what a request of so many settings in these bytes comes to, from these tables
-abbrev pub Judged : Limits → ℕ → Tables → List ℕ → Outcome Setting Tables → Type 0
-Judged lim = Judge.Judged Setting Tables WrittenIn (InRange text-limits) (apply lim) Known
+abbrev pub Judged : Coding → Limits → ℕ → Tables → List ℕ → Outcome Setting Tables → Type 0
+Judged c lim = Judge.Judged Setting Tables (WrittenIn c) (InRange text-limits) (apply lim) Known
 
 -- "After each taken request the hash kept is that request's own; with code 0 or no FF, none"
 abbrev pub forget : Tables → Tables

@@ -4,10 +4,11 @@ use mathlib.Core.Path.{_≡_}
 use mathlib.Core.List.{List, []}
 use mathlib.Core.Option.{some}
 use lib.ListN.{drop}
+use Rattle.writing.specs.declared.Coding.{Coding}
 use Rattle.writing.specs.declared.LastFlags.{LastFlags}
 use Rattle.writing.specs.Carrier.{result-number}
 use Rattle.writing.specs.Ranges.{text-limits, InRange}
-use Rattle.writing.specs.Settings.{Setting, unicode16}
+use Rattle.writing.specs.Settings.{Setting}
 use Rattle.settings.specs.declared.settings.Setting.{Setting as Read}
 use Rattle.read_fields.specs.Places.{StandsAt}
 use Rattle.settings.specs.Meant.{Meant}
@@ -28,30 +29,30 @@ abbrev pub FlagsAre : Read → LastFlags → Type 0
 FlagsAre r f = (m : List ℕ) (s : Setting) → Meant m r s → f ≡ or-else (item-of s) (last-item []) .flags
 
 -- a setting in range that stands at a place and had room
-pub record Stepped (lim : Limits) (left : ℕ) (m : List ℕ) (at next : ℕ) (was : Tables) (after : List ℕ) (f : LastFlags) : Type 0 where
+pub record Stepped (c : Coding) (lim : Limits) (left : ℕ) (m : List ℕ) (at next : ℕ) (was : Tables) (after : List ℕ) (f : LastFlags) : Type 0 where
   pub setting : Setting
   pub tables : Tables
   pub range : InRange text-limits left setting
-  pub stands : StandsAt unicode16 m at next setting
+  pub stands : StandsAt c m at next setting
   pub applied : apply lim setting was ≡ some tables
   pub holds : Works lim tables after
   pub flags : f ≡ or-else (item-of setting) (last-item []) .flags
 
 -- what taking the setting at a place answers, on a copy that was s and becomes t
-abbrev pub StepIs : Limits → ℕ → List ℕ → ℕ → List ℕ → List ℕ → Step → Type 0
-StepIs lim left m at s t (Next next f) = (was : Tables) → Roomy lim → Works lim was s → Stepped lim left m at next was t f
-StepIs lim left m at s t (StepFault result) = (was : Tables) → Roomy lim → Works lim was s → Fault lim left was (drop at m) (result-number result)
+abbrev pub StepIs : Coding → Limits → ℕ → List ℕ → ℕ → List ℕ → List ℕ → Step → Type 0
+StepIs c lim left m at s t (Next next f) = (was : Tables) → Roomy lim → Works lim was s → Stepped c lim left m at next was t f
+StepIs c lim left m at s t (StepFault result) = (was : Tables) → Roomy lim → Works lim was s → Fault c lim left was (drop at m) (result-number result)
 
 -- all settings counted were taken, and no byte is left
-pub record Ran (lim : Limits) (count : ℕ) (m : List ℕ) (at : ℕ) (was : Tables) (after : List ℕ) (f : LastFlags) : Type 0 where
+pub record Ran (c : Coding) (lim : Limits) (count : ℕ) (m : List ℕ) (at : ℕ) (was : Tables) (after : List ℕ) (f : LastFlags) : Type 0 where
   pub settings : List Setting
   pub tables : Tables
-  pub judged : Judged lim count was (drop at m) (kept settings tables)
+  pub judged : Judged c lim count was (drop at m) (kept settings tables)
   pub holds : Works lim tables after
   pub flags : f ≡ last-item settings .flags
 
 -- what taking the settings from a place on answers, on a copy that was s and becomes t
-abbrev pub RunIs : Limits → ℕ → List ℕ → ℕ → List ℕ → List ℕ → Run → Type 0
-RunIs lim count m at s t (Good f) = (was : Tables) → Roomy lim → Works lim was s → Ran lim count m at was t f
-RunIs lim count m at s t (RunFault result failed) =
-    (was : Tables) → Roomy lim → Works lim was s → Judged lim count was (drop at m) (refused (result-number result) failed)
+abbrev pub RunIs : Coding → Limits → ℕ → List ℕ → ℕ → List ℕ → List ℕ → Run → Type 0
+RunIs c lim count m at s t (Good f) = (was : Tables) → Roomy lim → Works lim was s → Ran c lim count m at was t f
+RunIs c lim count m at s t (RunFault result failed) =
+    (was : Tables) → Roomy lim → Works lim was s → Judged c lim count was (drop at m) (refused (result-number result) failed)

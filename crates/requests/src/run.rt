@@ -34,11 +34,18 @@ fn flags_of(setting: Setting) -> LastFlags
     }
 }
 
-// The setting at a place, where so many settings are still counted after it.
-fn take_setting(work: &mut [u8], limits: Limits, m: &[u8], at: usize, left: usize) -> Step
-    ensures { λ r. ⌜ StepIs limits left (now (m .entry)) at (now (work .entry)) (now (work .exit)) r ⌝ }
+// The setting at a place, where so many settings are still counted after it and texts are coded so.
+fn take_setting(
+    work: &mut [u8],
+    limits: Limits,
+    m: &[u8],
+    at: usize,
+    left: usize,
+    coding: Coding,
+) -> Step
+    ensures { λ r. ⌜ StepIs coding limits left (now (m .entry)) at (now (work .entry)) (now (work .exit)) r ⌝ }
 {
-    let read = read_setting(m, at, left, Coding::Unicode16);
+    let read = read_setting(m, at, left, coding);
     match read {
         SettingRead::Taken(setting, next) => {
             let flags = flags_of(setting);
@@ -53,9 +60,16 @@ fn take_setting(work: &mut [u8], limits: Limits, m: &[u8], at: usize, left: usiz
     }
 }
 
-// So many settings from a place to the message's end.
-pub fn take_settings(work: &mut [u8], limits: Limits, m: &[u8], at: usize, count: u8) -> Run
-    ensures { λ r. ⌜ RunIs limits count (now (m .entry)) at (now (work .entry)) (now (work .exit)) r ⌝ }
+// So many settings from a place to the message's end, their texts coded so.
+pub fn take_settings(
+    work: &mut [u8],
+    limits: Limits,
+    m: &[u8],
+    at: usize,
+    count: u8,
+    coding: Coding,
+) -> Run
+    ensures { λ r. ⌜ RunIs coding limits count (now (m .entry)) at (now (work .entry)) (now (work .exit)) r ⌝ }
 {
     let mut p = at;
     let mut taken: u8 = 0;
@@ -65,7 +79,7 @@ pub fn take_settings(work: &mut [u8], limits: Limits, m: &[u8], at: usize, count
     };
     while taken < count {
         let left = (count - taken - 1) as usize;
-        let step = take_setting(work, limits, m, p, left);
+        let step = take_setting(work, limits, m, p, left, coding);
         match step {
             Step::Next(next, said) => {
                 p = next;

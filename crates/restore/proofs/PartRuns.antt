@@ -47,13 +47,13 @@ turn-append {T = T} next (x ∷ a) b t = go (next x t) (turn-append next a b)
 
 -- settings that fit, are in range and have room in turn run to their end
 pub turn-runs : (lim : Limits) (ss : List Setting) (u v : Tables) → All (Fits unicode16) ss → All (λ s. (left : ℕ) → InRange text-limits left s) ss
-    → in-turn (apply lim) ss u ≡ some v → Runs lim (length ss) u (canonical-all unicode16 ss) ss v []
-turn-runs lim [] u v f r e = subst (λ (w : Tables). Runs lim 0 u [] [] w []) (cc) done
+    → in-turn (apply lim) ss u ≡ some v → Runs unicode16 lim (length ss) u (canonical-all unicode16 ss) ss v []
+turn-runs lim [] u v f r e = subst (λ (w : Tables). Runs unicode16 lim 0 u [] [] w []) (cc) done
 turn-runs lim (s ∷ ss) u v f r e = go (apply lim s u) refl e (λ w. turn-runs lim ss w v (f .1) (r .1))
   where
     go : (o : Option Tables) → apply lim s u ≡ o → and-then o (in-turn (apply lim) ss) ≡ some v
-        → ((w : Tables) → in-turn (apply lim) ss w ≡ some v → Runs lim (length ss) w (canonical-all unicode16 ss) ss v [])
-        → Runs lim (suc (length ss)) u (canonical-all unicode16 (s ∷ ss)) (s ∷ ss) v []
+        → ((w : Tables) → in-turn (apply lim) ss w ≡ some v → Runs unicode16 lim (length ss) w (canonical-all unicode16 ss) ss v [])
+        → Runs unicode16 lim (suc (length ss)) u (canonical-all unicode16 (s ∷ ss)) (s ∷ ss) v []
     go none d h more = let z : _≡_ {A = ℕ} 0 1 = cc in absurd (omega arith)
     go (some w) d h more =
         step {w = canonical unicode16 s} {s = s} refl (canonical-written unicode16 s (f .0), all-bytes (canonical unicode16 s) (plain-bytes (fields unicode16 s))) (r .0 (length ss)) d (more w h)
@@ -177,7 +177,7 @@ module _ (lim : Limits) (t u : Tables) (ok : Allowed lim t) (old : Allowed lim u
       (old .individuals .0 ∙ sym (ok .individuals .0))
 
   -- PART RUNS: so they run to their end over their canonical writing
-  pub part-runs : Exportable lim → (p : Part) → Runs lim (length (exported p t)) u (canonical-all unicode16 (exported p t)) (exported p t) (with-part p t u) []
+  pub part-runs : Exportable lim → (p : Part) → Runs unicode16 lim (length (exported p t)) u (canonical-all unicode16 (exported p t)) (exported p t) (with-part p t u) []
   part-runs x p =
       let r : AllReadable _ (exported p t) = exported-readable lim x t ok p in
       turn-runs lim (exported p t) u (with-part p t u) (r .fits) (r .ranged) (part-turn p)

@@ -33,7 +33,7 @@ request-counted ss some few = record {
 
 -- and are a request, where its length has 16 bits
 pub request-is : (ss : List Setting) → 1 ≤ length ss → length ss ≤ 255 → length (request-bytes ss) ≤ 65535
-    → RequestOf (length ss) (canonical-all unicode16 ss) (request-bytes ss)
+    → RequestOf unicode16 (length ss) (canonical-all unicode16 ss) (request-bytes ss)
 request-is ss some few short =
     record { data-bytes = data-bytes ss; carried = plain-carries 7 (data-bytes ss) (omega arith) (omega arith) .0; counted = request-counted ss some few }
 
@@ -59,7 +59,7 @@ module _ (lim : Limits) (x : Exportable lim) (t : Tables) (ok : Allowed lim t) (
   exported-length = omega (arith, request-length (exported p t), exported-readable lim x t ok p .small)
 
   -- EXPORTED IS: a part's bytes are a request of as many settings, and its settings are what follows
-  pub exported-is : RequestOf (length (exported p t)) (canonical-all unicode16 (exported p t)) (request-bytes (exported p t))
+  pub exported-is : RequestOf unicode16 (length (exported p t)) (canonical-all unicode16 (exported p t)) (request-bytes (exported p t))
   exported-is =
       let (some, few) = exported-count lim x t ok p in
       let b : length (request-bytes (exported p t)) ≤ longest lim p = exported-length in

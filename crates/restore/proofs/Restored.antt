@@ -78,6 +78,7 @@ module _ (lim : Limits) (x : Exportable lim) (room : Roomy lim) (t : Tables) (ok
     -- the part's request comes to it
     part-request : AsRequest lim (request-bytes (exported p t)) store reply u after-part
     part-request = (
+      unicode16,
       length (exported p t),
       canonical-all unicode16 (exported p t),
       exported-is lim x t ok p,

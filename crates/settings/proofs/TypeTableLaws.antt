@@ -1,25 +1,42 @@
 -- The ten rows, and what they say of settings in range. Assumes nothing.
-use Rattle.lists.proofs.Kit.{ℕ, zero, suc, _+_, _≤_, _<_, _≡_, refl, sym, List, [], _∷_, arith, length, getD}
+use Rattle.lists.proofs.Kit.{ℕ, zero, suc, _+_, _≤_, _<_, _≡_, refl, sym, ap, _∙_, subst⁻¹, map, arith, getD}
+use Rattle.lists.proofs.Seqs.{getD-map}
+use Rattle.writing.specs.declared.Coding.{Coding}
 use Rattle.writing.specs.declared.Kind.{Kind}
 use Rattle.writing.specs.declared.Kind.the-variants.{Lines, Key, QuickTexts, Home, Channels, System, StatusTexts, Group, Individual, Last}
 use Rattle.writing.specs.declared.Operation.{Operation}
 use Rattle.writing.specs.declared.Operation.the-variants.{Add, Delete, Replace}
+use Rattle.writing.specs.Bounds.{bounds}
+use Rattle.writing.specs.Ranges.{text-limits}
+use Rattle.writing.specs.Settings.{unicode16}
 use Rattle.writing.specs.Writing.{type-byte, op-code}
-use Rattle.settings.specs.TypeTable.{BoundsAre, kinds}
+use Rattle.settings.specs.TypeTable.{most-of, largest, BoundsAre, row-of, kinds}
 use Rattle.settings.specs.declared.type_table.Bounds.{Bounds}
+use Rattle.settings.specs.declared.type_table.TypeRow.{TypeRow}
 
--- each row is its kind's
-abbrev pub RowsAre : List Kind → List Bounds → Type 0
-RowsAre [] rs = Unit {0}
-RowsAre (k ∷ ks) [] = ⊥
-RowsAre (k ∷ ks) (r ∷ rs) = BoundsAre k r × RowsAre ks rs
+-- the row in any place of the table is its kind's
+pub row-at : (i : ℕ) (r : TypeRow) → i < 10 → getD (map row-of kinds) i r ≡ row-of (getD kinds i Last)
+row-at i r l = getD-map row-of kinds i Last r l
 
--- so is the row in any place
-pub row-at : (ks : List Kind) (rs : List Bounds) → RowsAre ks rs → (i : ℕ) (k : Kind) (r : Bounds) → i < length ks → BoundsAre (getD ks i k) (getD rs i r)
-row-at [] rs h i k r l = absurd (omega arith)
-row-at (x ∷ ks) [] h i k r l = absurd h
-row-at (x ∷ ks) (y ∷ rs) h zero k r l = h .0
-row-at (x ∷ ks) (y ∷ rs) h (suc i) k r l = row-at ks rs (h .1) i k r (omega arith)
+-- the operations of a kind are the same under every coding
+same-operations : (c : Coding) (k : Kind) → bounds unicode16 text-limits k .operations ≡ bounds c text-limits k .operations
+same-operations c Lines = refl
+same-operations c Key = refl
+same-operations c QuickTexts = refl
+same-operations c Home = refl
+same-operations c Channels = refl
+same-operations c System = refl
+same-operations c StatusTexts = refl
+same-operations c Group = refl
+same-operations c Individual = refl
+same-operations c Last = refl
+
+-- the columns of one coding are the bounds under it
+pub columns-are : (d : Coding) {c : Coding} {k : Kind} {b : Bounds} → c ≡ d → b .«type_byte» ≡ type-byte k → b .least ≡ bounds d text-limits k .least
+    → b .most ≡ most-of (bounds d text-limits k .most) → b .operations ≡ largest (bounds unicode16 text-limits k .operations) → BoundsAre c k b
+columns-are d {k = k} {b = b} e type least most operations =
+    subst⁻¹ (λ (x : Coding). BoundsAre x k b) e
+    (record { type = type; least = least; most = most; operations = operations ∙ ap largest (same-operations d k) })
 
 -- the type bytes are CA to D2 and FF
 pub type-bytes : (k : Kind) {b : ℕ} → type-byte k ≡ b → ((202 ≤ b → b ≤ 210 → ⊥) → b ≡ 255)

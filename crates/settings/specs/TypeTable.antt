@@ -1,9 +1,10 @@
 -- What asking the table of the ten types answers: document 01's row of a type byte, and the operations that it allows.
 use Prim.Native.Nat.{ℕ, _≤_, _<_}
 use mathlib.Core.Path.{_≡_}
-use mathlib.Core.List.{List, [], _∷_, map}
+use mathlib.Core.List.{List, [], _∷_}
 use mathlib.Core.Option.{Option, none, some}
 use lib.ListN.{getD}
+use Rattle.writing.specs.declared.Coding.{Coding}
 use Rattle.writing.specs.declared.Kind.{Kind}
 use Rattle.writing.specs.declared.Kind.the-variants.{Lines, Key, QuickTexts, Home, Channels, System, StatusTexts, Group, Individual, Last}
 use Rattle.writing.specs.declared.Operation.{Operation}
@@ -11,9 +12,10 @@ use Rattle.writing.specs.declared.Operations.{Operations}
 use Rattle.writing.specs.declared.Operations.the-variants.{NoOperation, AnyOperation, AddOrDelete}
 use Rattle.writing.specs.Ranges.{text-limits}
 use Rattle.writing.specs.Bounds.{bounds}
-use Rattle.writing.specs.Settings.{unicode16}
+use Rattle.writing.specs.Settings.{unicode16, eight-bit}
 use Rattle.writing.specs.Writing.{type-byte, op-code}
 use Rattle.settings.specs.declared.type_table.Bounds.{Bounds}
+use Rattle.settings.specs.declared.type_table.TypeRow.{TypeRow}
 use Rattle.settings.specs.declared.type_table.BoundsRead.{BoundsRead}
 use Rattle.settings.specs.declared.type_table.BoundsRead.the-variants.{Found, Unknown}
 use Rattle.settings.specs.declared.type_table.OperationRead.{OperationRead}
@@ -30,12 +32,23 @@ largest NoOperation = 0
 largest AnyOperation = 3
 largest AddOrDelete = 2
 
--- the code's row is document 01's row of this kind
-pub record BoundsAre (k : Kind) (r : Bounds) : Type 0 where
+-- the code's row is document 01's row of this kind under this coding
+pub record BoundsAre (c : Coding) (k : Kind) (r : Bounds) : Type 0 where
   pub type : r .«type_byte» ≡ type-byte k
-  pub least : r .least ≡ bounds unicode16 text-limits k .least
-  pub most : r .most ≡ most-of (bounds unicode16 text-limits k .most)
-  pub operations : r .operations ≡ largest (bounds unicode16 text-limits k .operations)
+  pub least : r .least ≡ bounds c text-limits k .least
+  pub most : r .most ≡ most-of (bounds c text-limits k .most)
+  pub operations : r .operations ≡ largest (bounds c text-limits k .operations)
+
+-- a kind's row of the code's table: type; least and most under 0111; least and most under 0100; operations
+abbrev pub row-of : Kind → TypeRow
+row-of k = record {
+  0 = type-byte k;
+  1 = bounds unicode16 text-limits k .least;
+  2 = most-of (bounds unicode16 text-limits k .most);
+  3 = bounds eight-bit text-limits k .least;
+  4 = most-of (bounds eight-bit text-limits k .most);
+  5 = largest (bounds unicode16 text-limits k .operations);
+}
 
 -- the ten, in the order of the table
 abbrev pub kinds : List Kind
@@ -46,10 +59,10 @@ pub record PlaceIs (b place : ℕ) : Type 0 where
   pub found : place < 10 → type-byte (getD kinds place Last) ≡ b
   pub none : 10 ≤ place → (k : Kind) → type-byte k ≡ b → ⊥
 
--- the row of a type byte, or that it is none of the ten
-abbrev pub BoundsAt : ℕ → BoundsRead → Type 0
-BoundsAt b (Found r) = (k : Kind) × (type-byte k ≡ b) × BoundsAre k r
-BoundsAt b Unknown = (k : Kind) → type-byte k ≡ b → ⊥
+-- the row of a type byte under a coding, or that it is none of the ten
+abbrev pub BoundsAt : Coding → ℕ → BoundsRead → Type 0
+BoundsAt c b (Found r) = (k : Kind) × (type-byte k ≡ b) × BoundsAre c k r
+BoundsAt c b Unknown = (k : Kind) → type-byte k ≡ b → ⊥
 
 -- the operation of a code among those allowed, or that there is none
 abbrev pub OperationIs : ℕ → ℕ → OperationRead → Type 0

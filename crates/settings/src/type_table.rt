@@ -1,6 +1,9 @@
-// Document 01's table of the ten types of setting, which the reader asks before any field.
+// Document 01's table of the ten types of setting, for both codings of texts, which the reader asks before any field.
+use writing::Coding;
 use writing::Operation;
-ghost use Rattle.settings.specs.TypeTable.{PlaceIs, BoundsAt, OperationIs};
+ghost use mathlib.Core.Path.{_≡_};
+ghost use Rattle.writing.specs.declared.Kind.{Kind};
+ghost use Rattle.settings.specs.TypeTable.{PlaceIs, row-of, BoundsAre, BoundsAt, OperationIs};
 
 // The least and the most of DataLength, 65535 where the type has no most; operations is the largest code allowed, 0 where it has none.
 pub struct Bounds {
@@ -20,67 +23,20 @@ pub enum OperationRead {
     NoSuch,
 }
 
-const ROWS: [Bounds; 10] = [
-    Bounds {
-        type_byte: 0xCA,
-        least: 4,
-        most: 65535,
-        operations: 3,
-    },
-    Bounds {
-        type_byte: 0xCB,
-        least: 3,
-        most: 6,
-        operations: 0,
-    },
-    Bounds {
-        type_byte: 0xCC,
-        least: 3,
-        most: 65535,
-        operations: 3,
-    },
-    Bounds {
-        type_byte: 0xCD,
-        least: 5,
-        most: 5,
-        operations: 0,
-    },
-    Bounds {
-        type_byte: 0xCE,
-        least: 4,
-        most: 65535,
-        operations: 3,
-    },
-    Bounds {
-        type_byte: 0xCF,
-        least: 5,
-        most: 5,
-        operations: 0,
-    },
-    Bounds {
-        type_byte: 0xD0,
-        least: 4,
-        most: 65535,
-        operations: 3,
-    },
-    Bounds {
-        type_byte: 0xD1,
-        least: 9,
-        most: 41,
-        operations: 2,
-    },
-    Bounds {
-        type_byte: 0xD2,
-        least: 9,
-        most: 41,
-        operations: 2,
-    },
-    Bounds {
-        type_byte: 0xFF,
-        least: 3,
-        most: 13,
-        operations: 0,
-    },
+// Columns: the type; least and most under 0111; least and most under 0100; operations.
+struct TypeRow(u8, u16, u16, u16, u16, u8);
+
+const ROWS: [TypeRow; 10] = [
+    TypeRow(0xCA, 4, 65535, 4, 65535, 3),
+    TypeRow(0xCB, 3, 6, 3, 6, 0),
+    TypeRow(0xCC, 3, 65535, 3, 65535, 3),
+    TypeRow(0xCD, 5, 5, 5, 5, 0),
+    TypeRow(0xCE, 4, 65535, 4, 65535, 3),
+    TypeRow(0xCF, 5, 5, 5, 5, 0),
+    TypeRow(0xD0, 4, 65535, 4, 65535, 3),
+    TypeRow(0xD1, 9, 41, 8, 24, 2),
+    TypeRow(0xD2, 9, 41, 8, 24, 2),
+    TypeRow(0xFF, 3, 13, 3, 13, 0),
 ];
 
 // The place of a type byte among the rows, or 10.
@@ -94,16 +50,35 @@ fn place_of(b: u8) -> usize
     }
 }
 
-// The row of a type byte.
-pub fn bounds_of(b: u8) -> BoundsRead
-    ensures { λ r. ⌜ BoundsAt b r ⌝ }
+// What a row says under a coding.
+fn under(row: TypeRow, coding: Coding) -> Bounds
+    ensures { λ r. ⌜ ((k : Kind) → row ≡ row-of k → BoundsAre coding k r) ⌝ }
+{
+    match coding {
+        Coding::Unicode16 => Bounds {
+            type_byte: row.0,
+            least: row.1,
+            most: row.2,
+            operations: row.5,
+        },
+        Coding::EightBit => Bounds {
+            type_byte: row.0,
+            least: row.3,
+            most: row.4,
+            operations: row.5,
+        },
+    }
+}
+
+// The row of a type byte under a coding.
+pub fn bounds_of(b: u8, coding: Coding) -> BoundsRead
+    ensures { λ r. ⌜ BoundsAt coding b r ⌝ }
 {
     let i = place_of(b);
-    if i < 10 {
-        BoundsRead::Found(ROWS[i])
-    } else {
-        BoundsRead::Unknown
+    if 10 <= i {
+        return BoundsRead::Unknown;
     }
+    BoundsRead::Found(under(ROWS[i], coding))
 }
 
 // The operation of a code, where the row allows it.

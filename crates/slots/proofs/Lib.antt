@@ -9,3 +9,4 @@ pub mod Runs
 pub mod Search
 pub mod Tables
 pub mod Walks
+pub mod Widening

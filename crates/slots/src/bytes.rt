@@ -1,11 +1,11 @@
-// Runs of bytes: copied, wiped and compared. Every length is taken.
+// Runs of bytes: copied, widened, wiped and compared. Every length is taken.
 ghost use mathlib.Core.Path.{_≡_};
 ghost use mathlib.Core.Bool.{_&&_};
-ghost use mathlib.Core.List.{_++_};
+ghost use mathlib.Core.List.{_++_, map};
 ghost use Prim.Native.Nat.{min};
 ghost use lib.Dec.{eqb};
 ghost use lib.ListN.{length, take, drop, replicate};
-ghost use Rattle.slots.specs.Slots.{pad, zeros?, same?};
+ghost use Rattle.slots.specs.Slots.{flat, pad, u16, zeros?, same?};
 
 // The smaller of two.
 fn smaller(a: usize, b: usize) -> usize
@@ -44,6 +44,19 @@ pub fn copy_padded(dst: &mut [u8], src: &[u8])
     let n = smaller(dst.len(), src.len());
     copy(dst, src);
     wipe(&mut dst[n..]);
+}
+
+// Writes each byte of src as a number of two bytes, high byte first, as far as dst goes, and wipes what is left of dst.
+pub fn widen_padded(dst: &mut [u8], src: &[u8])
+    ensures { λ _. ⌜ now (dst .exit) ≡ pad 0 (length (now (dst .entry))) (flat (map u16 (now (src .entry)))) ⌝ }
+{
+    wipe(dst);
+    let n = smaller(dst.len() / 2, src.len());
+    let mut i = 0;
+    while i < n {
+        dst[2 * i + 1] = src[i];
+        i += 1;
+    }
 }
 
 // Whether every byte is 0.

@@ -1,6 +1,7 @@
 -- A message handled step by step comes to what the contract of taking says. Assumes nothing.
 use Rattle.lists.proofs.Kit.{ℕ, _≤_, _<_, _≡_, refl, sym, ap, ap₂, _∙_, subst, _⊎_, inl, inr, List, Bool, true, false, arith, midOf, putMid, mid-len, length, drop}
 use Rattle.lists.specs.Ladder.{Ladder, rung, foot, Answers}
+use Rattle.writing.specs.declared.Coding.{Coding}
 use Rattle.writing.specs.declared.LastFlags.{LastFlags}
 use Rattle.writing.specs.declared.Result.{Result}
 use Rattle.writing.specs.declared.Result.the-variants.{Taken, NoMatch}
@@ -86,23 +87,23 @@ forgotten lim t w y room (ok, is) e =
     let l : length w ≡ lim .size = ap length is ∙ layout-length lim t room ok in
     (forget-allowed lim t ok, ap₂ (putMid 0 hash-size) is (e (mid-len 0 11 w (omega arith))) ∙ hash-put lim t ok no-hash)
 
-module _ (lim : Limits) (message : List ℕ) (count at : ℕ) (store reply : List ℕ) (s : StoreOf lim store) (t : Tables) (w v : List ℕ) (h : Works lim (forget t) w) where
+module _ (c : Coding) (lim : Limits) (message : List ℕ) (count at : ℕ) (store reply : List ℕ) (s : StoreOf lim store) (t : Tables) (w v : List ℕ) (h : Works lim (forget t) w) where
   -- what the settings from a place on come to
   abbrev Settled : AfterTaking → Type 0
-  Settled a = (o : Outcome Setting Tables) × Judged lim count (forget t) (drop at message) o × (a ≡ settled lim message store reply o)
+  Settled a = (o : Outcome Setting Tables) × Judged c lim count (forget t) (drop at message) o × (a ≡ settled lim message store reply o)
 
   -- a fault turns it down
-  pub request-refused : (result : Result) (failed : ℕ) (after : List ℕ) (a : Answer) → RunIs lim count message at w v (RunFault result failed)
+  pub request-refused : (result : Result) (failed : ℕ) (after : List ℕ) (a : Answer) → RunIs c lim count message at w v (RunFault result failed)
       → TurnedDown result failed reply after a → Settled (leaves a store after)
   request-refused result failed after a r d = (refused (result-number result) failed, r (forget t) (s .roomy) h, d lim message store)
 
   -- all good: the copy is saved, and the reply carries the hash that is kept now
-  pub request-taken : (f : LastFlags) (n : ℕ) (store-after after : List ℕ) → RunIs lim count message at w v (Good f)
+  pub request-taken : (f : LastFlags) (n : ℕ) (store-after after : List ℕ) → RunIs c lim count message at w v (Good f)
       → Saved lim v store store-after → ReplyWritten 0 0 (midOf 0 hash-size store-after) reply after n
       → Settled (leaves (Replied (record { result = Taken; failed = 0; send = f .reply; reboot = f .reboot; length = n })) store-after after)
-  request-taken f n store-after after r c x =
+  request-taken f n store-after after r d x =
       let z = r (forget t) (s .roomy) h in
-      let (ok, e) = c (s .size) (z .tables) (s .roomy) (z .holds) in
+      let (ok, e) = d (s .size) (z .tables) (s .roomy) (z .holds) in
       let b : midOf 0 hash-size store-after ≡ hash-bytes (z .tables .hash) = ap (midOf 0 hash-size) e ∙ hash-get lim (z .tables) ok in (
         kept (z .settings) (z .tables),
         z .judged,
@@ -143,7 +144,7 @@ module _ (lim : Limits) (message store reply : List ℕ) (x : AfterTaking) (big 
 
   -- REQUEST ANSWERS: a request in size is answered as its settings come to, from the tables of the store
   pub request-answers : (t : Tables) → Holds lim t store → InSize (lim .message) message → AsRequest lim message store reply t x → Answers (taken lim message store reply) x
-  request-answers t h i r = past-1 i (request-opens (r .2)) (inl refl) (inr (λ n. n .0 (r .0) (r .1) (r .2), record { tables = t; holds = h; comes-to = inl r }))
+  request-answers t h i r = past-1 i (request-opens (r .3)) (inl refl) (inr (λ n. n .0 (r .0) (r .1) (r .2) (r .3), record { tables = t; holds = h; comes-to = inl r }))
 
   -- a query in size, as its hash and the one kept say
   query-answers : (t : Tables) → Holds lim t store → InSize (lim .message) message → AsQuery lim message store reply t x → Answers (taken lim message store reply) x
@@ -158,7 +159,7 @@ module _ (lim : Limits) (message store reply : List ℕ) (x : AfterTaking) (big 
   ByKind t NotRequest = x ≡ turned-down lim message store reply 4 0
   ByKind t NotQuery = x ≡ turned-down lim message store reply 4 0
   ByKind t (AQuery p) = AsQuery lim message store reply t x
-  ByKind t (Request count at) = (o : Outcome Setting Tables) × Judged lim count (forget t) (drop at message) o × (x ≡ settled lim message store reply o)
+  ByKind t (Request count at c) = (o : Outcome Setting Tables) × Judged c lim count (forget t) (drop at message) o × (x ≡ settled lim message store reply o)
 
   by-kind : (t : Tables) → Holds lim t store → (k : Message) → MessageIs (lim .message) message k → ByKind t k → Answers (taken lim message store reply) x
   by-kind t h Size z e = past-11 (inl (z, e))
@@ -168,8 +169,8 @@ module _ (lim : Limits) (message store reply : List ℕ) (x : AfterTaking) (big 
   by-kind t h NotRequest z e = past-1 (z .0) (z .3) (inl refl) (inl ((uncounted (z .3) (z .4), opens-no-query (z .3) refl), e))
   by-kind t h NotQuery z e = past-1 (z .0) (z .3) (inr refl) (inl ((opens-no-request (z .3) refl, z .4), e))
   by-kind t h (AQuery p) z e = query-answers t h (z .0) e
-  by-kind t h (Request count at) z e =
-      request-answers t h (z .0) (count, drop at message, record { data-bytes = z .1; carried = z .2; counted = z .3 }, e .0, e .1, e .2)
+  by-kind t h (Request count at c) z e =
+      request-answers t h (z .0) (c, count, drop at message, record { data-bytes = z .1; carried = z .2; counted = z .3 }, e .0, e .1, e .2)
 
   -- HANDLED: a message to a store, by what it was read as
   pub handled : (k : Message) → MessageIs (lim .message) message k → ((t : Tables) → Holds lim t store → ByKind t k) → Answers (taken lim message store reply) x

@@ -6,6 +6,7 @@ use lib.ListN.{drop}
 use Rattle.read_carrier.specs.Message.{MessageIs}
 use Rattle.read_fields.specs.declared.hashes.HashPlace.{HashPlace}
 use Rattle.read_carrier.specs.declared.carrier.Message.the-variants.{Query as AQuery}
+use Rattle.writing.specs.declared.Coding.{Coding}
 use Rattle.writing.specs.declared.Result.{Result}
 use Rattle.writing.specs.Carrier.{result-number}
 use Rattle.writing.specs.Settings.{Setting}
@@ -28,8 +29,8 @@ Queried message place store reply after a =
     (lim : Limits) (t : Tables) → Holds lim t store → MessageIs (lim .message) message (AQuery place)
     → AsQuery lim message store reply t (leaves a store after)
 
--- a request of so many settings from a place on that was judged
-abbrev pub Requested : Limits → List ℕ → (count at : ℕ) → List ℕ → List ℕ → List ℕ → List ℕ → Answer → Type 0
-Requested lim message count at store store-after reply reply-after a =
+-- a request of so many settings from a place on that was judged under its coding type
+abbrev pub Requested : Coding → Limits → List ℕ → (count at : ℕ) → List ℕ → List ℕ → List ℕ → List ℕ → Answer → Type 0
+Requested c lim message count at store store-after reply reply-after a =
     (t : Tables) → Holds lim t store
-    → (o : Outcome Setting Tables) × Judged lim count (forget t) (drop at message) o × (leaves a store-after reply-after ≡ settled lim message store reply o)
+    → (o : Outcome Setting Tables) × Judged c lim count (forget t) (drop at message) o × (leaves a store-after reply-after ≡ settled lim message store reply o)

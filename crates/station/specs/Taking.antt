@@ -7,6 +7,7 @@ use mathlib.Core.List.{List}
 use lib.ListN.{length}
 use Rattle.lists.specs.Ladder.{Ladder, rung, foot}
 use Rattle.writing.specs.Carrier.{RequestOf, Query, InSize, NothingCarried, OtherType, OtherVersion, NoRequest, NoQuery}
+use Rattle.writing.specs.declared.Coding.{Coding}
 use Rattle.writing.specs.Settings.{Setting, Hash}
 use Rattle.tables.specs.declared.limits.Limits.{Limits}
 use Rattle.tables.specs.Layout.{layout}
@@ -59,10 +60,11 @@ module _ (lim : Limits) (message store reply : List ℕ) where
       ((h .code ≢ 0) × (h ≡ k) × (a ≡ replies 0 0 true false k store))
       ⊎ ((h .code ≢ 0 → h ≡ k → ⊥) × (a ≡ replies 5 0 true false k store))
 
-  -- a counted request: what its settings come to, from the tables of the store
+  -- a counted request: what its settings come to under its coding type, from the tables of the store
   abbrev pub AsRequest : Tables → AfterTaking → Type 0
   AsRequest t a =
-      (count : ℕ) × (settings : List ℕ) × RequestOf count settings message × (o : Outcome Setting Tables) × Judged lim count (forget t) settings o × (a ≡ settled o)
+      (c : Coding) × (count : ℕ) × (settings : List ℕ) × RequestOf c count settings message
+      × (o : Outcome Setting Tables) × Judged c lim count (forget t) settings o × (a ≡ settled o)
 
   -- a result query: its hash and the one kept
   abbrev pub AsQuery : Tables → AfterTaking → Type 0

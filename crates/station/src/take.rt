@@ -17,6 +17,7 @@ use tables::places::HASH;
 use tables::places::KEY;
 use tables::working::load;
 use tables::working::save;
+use writing::Coding;
 use writing::Result;
 ghost use Prim.Native.Nat.{_≤_};
 ghost use mathlib.Core.Path.{_≡_};
@@ -67,17 +68,18 @@ fn take_request(
     m: &[u8],
     count: u8,
     at: usize,
+    coding: Coding,
     store: &mut [u8],
     reply: &mut [u8],
     limits: Limits,
     work: &mut [u8],
 ) -> Answer
     requires { ⌜ (20 ≤ length (now reply)) × StoreOf limits (now store) × (length (now work) ≡ limits .size) ⌝ }
-    ensures { λ r. ⌜ Requested limits (now (m .entry)) count at (now (store .entry)) (now (store .exit)) (now (reply .entry)) (now (reply .exit)) r ⌝ }
+    ensures { λ r. ⌜ Requested coding limits (now (m .entry)) count at (now (store .entry)) (now (store .exit)) (now (reply .entry)) (now (reply .exit)) r ⌝ }
 {
     load(work, store, limits);
     clear_hash(&mut work[HASH..KEY]);
-    let run = take_settings(work, limits, m, at, count);
+    let run = take_settings(work, limits, m, at, count, coding);
     match run {
         Run::Fault(result, failed) => turn_down(reply, result, failed),
         Run::Good(flags) => {
@@ -120,7 +122,9 @@ pub(crate) fn take_in(
         Message::NoRequest => turn_down(reply, Result::BadField, 0),
         Message::NoQuery => turn_down(reply, Result::BadField, 0),
         Message::Query(place) => answer_query(m, place, store, reply),
-        Message::Request(count, at) => take_request(m, count, at, store, reply, limits, work),
+        Message::Request(count, at, coding) => {
+            take_request(m, count, at, coding, store, reply, limits, work)
+        }
     }
 }
 

@@ -9,6 +9,7 @@ use borrow.Rule.Slice.PartMut.{putMid, midOf, mid-len}
 use lib.ListN.{length, set}
 use Rattle.counted_lists.specs.Counted.{Tried}
 use Rattle.counted_lists.proofs.ListLaws.{tried-room}
+use Rattle.writing.specs.declared.Coding.{Coding}
 use Rattle.writing.specs.declared.KeyTarget.{KeyTarget}
 use Rattle.writing.specs.declared.KeyTarget.the-variants.{Current, ToGroup, ToIndividual}
 use Rattle.writing.specs.declared.KeyFlags.{KeyFlags}
@@ -21,7 +22,7 @@ use Rattle.writing.specs.declared.SystemCode.{SystemCode}
 use Rattle.writing.specs.declared.Operation.{Operation}
 use Rattle.writing.specs.Canonical.{Fits}
 use Rattle.writing.specs.Ranges.{text-limits, InRange}
-use Rattle.writing.specs.Settings.{Setting, Hash, unicode16, kind, lines, key, quick-texts, home, channels, system, status-texts, group, individual, last}
+use Rattle.writing.specs.Settings.{Setting, Hash, kind, lines, key, quick-texts, home, channels, system, status-texts, group, individual, last}
 use Rattle.read_fields.specs.declared.hashes.HashPlace.{HashPlace}
 use Rattle.settings.specs.declared.settings.Entries.{Entries}
 use Rattle.settings.specs.declared.settings.GroupPlace.{GroupPlace}
@@ -46,15 +47,15 @@ use Rattle.tables.proofs.LayoutLaws.{layout-length}
 -- ---- a region put back
 
 -- x is the setting v that was meant
-module _ (l : Limits) (was : Tables) (s : List ℕ) (is : Works l was s) (left : ℕ) (x v : Setting) (q : x ≡ v) (r : InRange text-limits left x) (p : Fits unicode16 x) where
+module _ (l : Limits) (was : Tables) (s : List ℕ) (is : Works l was s) (c : Coding) (left : ℕ) (x v : Setting) (q : x ≡ v) (r : InRange text-limits left x) (p : Fits c x) where
   -- what was tried on its table was tried on the tables
   joined : (Is : Own (kind v) → List ℕ → Type 0) (y t : List ℕ) (k : Bool) → ((u : Own (kind v)) → Is u y → t ≡ layout l (put-own (kind v) was u))
       → Tried Is (own-after l v (own (kind v) was)) y k → Tried (Works l) (apply l x was) t k
   joined Is y t k back h = subst⁻¹ (λ z. Tried (Works l) (apply l z was) t k) q (record {
     room = λ e.
-        let (u, c, i) = h .room e in
-        let f : apply l v was ≡ some (put-own (kind v) was u) = ap (with-room (put-own (kind v) was)) c in
-        (put-own (kind v) was u, f, (apply-allowed l was (put-own (kind v) was u) left v (is .0) (subst (InRange text-limits left) q r) (subst (Fits unicode16) q p) f, back u i));
+        let (u, d, i) = h .room e in
+        let f : apply l v was ≡ some (put-own (kind v) was u) = ap (with-room (put-own (kind v) was)) d in
+        (put-own (kind v) was u, f, (apply-allowed l was (put-own (kind v) was u) c left v (is .0) (subst (InRange text-limits left) q r) (subst (Fits c) q p) f, back u i));
     full = λ e. ap (with-room (put-own (kind v) was)) (h .full e);
   })
 
@@ -85,78 +86,78 @@ target-fits (ToIndividual a) h = h .1
 
 module _ (l : Limits) (m s y : List ℕ) where
   pub store-key : (target : KeyTarget) (f : KeyFlags) → KeyPut target f (midOf key-at key-size s) y → Applied l m (Key target f) s (putMid key-at key-size s y) true
-  store-key target f h was x left room is q r p =
-      fixed l was s is left x (key target f) q r p key-bytes key-at key-size y (key-back l was (is .0)) (record { target = target; flags = f }) refl
-      (h (target-fits target (fits-key target f left (subst (InRange text-limits left) q r) (subst (Fits unicode16) q p))) (wide l was s room is 11 4 (omega arith)))
+  store-key target f h was x c left room is q r p =
+      fixed l was s is c left x (key target f) q r p key-bytes key-at key-size y (key-back l was (is .0)) (record { target = target; flags = f }) refl
+      (h (target-fits target (fits-key c target f left (subst (InRange text-limits left) q r) (subst (Fits c) q p))) (wide l was s room is 11 4 (omega arith)))
 
   pub store-home : (n : HomeNumbers) → (length (midOf home-at home-size s) ≡ 4 → y ≡ home-bytes n) → Applied l m (Home n) s (putMid home-at home-size s y) true
-  store-home n h was x left room is q r p =
-      fixed l was s is left x (home n) q r p home-bytes home-at home-size y (home-back l was (is .0)) n refl (h (wide l was s room is 15 4 (omega arith)))
+  store-home n h was x c left room is q r p =
+      fixed l was s is c left x (home n) q r p home-bytes home-at home-size y (home-back l was (is .0)) n refl (h (wide l was s room is 15 4 (omega arith)))
 
-  pub store-system : (c : SystemCode) → SystemPut c (midOf system-at system-size s) y → Applied l m (System c) s (putMid system-at system-size s y) true
-  store-system c h was x left room is q r p =
-      let f = fits-system c left (subst (InRange text-limits left) q r) (subst (Fits unicode16) q p) in
-      fixed l was s is left x (system c) q r p system-bytes system-at system-size y (system-back l was (is .0)) c refl
+  pub store-system : (n : SystemCode) → SystemPut n (midOf system-at system-size s) y → Applied l m (System n) s (putMid system-at system-size s y) true
+  store-system n h was x c left room is q r p =
+      let f = fits-system c n left (subst (InRange text-limits left) q r) (subst (Fits c) q p) in
+      fixed l was s is c left x (system n) q r p system-bytes system-at system-size y (system-back l was (is .0)) n refl
       (h (omega (arith, f .la)) (omega (arith, f .roaming)) (wide l was s room is 19 3 (omega arith)))
 
   pub store-hash : (f : LastFlags) (a : HashPlace) → HashPut m a (midOf 0 hash-size s) y → Applied l m (Last f a) s (putMid 0 hash-size s y) true
-  store-hash f a h was x left room is (v, q, at, size) r p =
+  store-hash f a h was x c left room is (v, q, at, size) r p =
       let k : Hash = record { code = a .code; value = v } in
-      fixed l was s is left x (last f k) q r p hash-bytes 0 hash-size y (hash-back l was (is .0)) k refl (h v size at (wide l was s room is 0 11 (omega arith)))
+      fixed l was s is c left x (last f k) q r p hash-bytes 0 hash-size y (hash-back l was (is .0)) k refl (h v size at (wide l was s room is 0 11 (omega arith)))
 
   -- ---- the indexed tables
 
   pub store-quick : (o : Operation) (a : Entries) → TextsApplied Quick m o a (midOf quick-at quick-size s) y → Applied l m (QuickTexts o a) s (putMid quick-at quick-size s y) true
-  store-quick o a h was x left room is (es, q, at) r p =
-      let (u, c, i) = h es at (subst (InRange text-limits left) q r) (was .quick) (subst⁻¹ (λ z. TextsAre Quick (was .quick) (midOf quick-at quick-size z)) (is .1) (quick-placed l was (is .0))) in
-      changed l was s is left x (quick-texts o es) q r p (TextsAre Quick) quick-at quick-size y (λ v e. quick-back l was (is .0) v y e) u c i
+  store-quick o a h was x c left room is (es, q, at) r p =
+      let (u, d, i) = h es at (subst (InRange text-limits left) q r) (was .quick) (subst⁻¹ (λ z. TextsAre Quick (was .quick) (midOf quick-at quick-size z)) (is .1) (quick-placed l was (is .0))) in
+      changed l was s is c left x (quick-texts o es) q r p (TextsAre Quick) quick-at quick-size y (λ v e. quick-back l was (is .0) v y e) u d i
 
   pub store-status : (o : Operation) (a : Entries) → TextsApplied Status m o a (midOf status-at status-size s) y → Applied l m (StatusTexts o a) s (putMid status-at status-size s y) true
-  store-status o a h was x left room is (es, q, at) r p =
-      let (u, c, i) = h es at (subst (InRange text-limits left) q r) (was .status) (subst⁻¹ (λ z. TextsAre Status (was .status) (midOf status-at status-size z)) (is .1) (status-placed l was (is .0))) in
-      changed l was s is left x (status-texts o es) q r p (TextsAre Status) status-at status-size y (λ v e. status-back l was (is .0) v y e) u c i
+  store-status o a h was x c left room is (es, q, at) r p =
+      let (u, d, i) = h es at (subst (InRange text-limits left) q r) (was .status) (subst⁻¹ (λ z. TextsAre Status (was .status) (midOf status-at status-size z)) (is .1) (status-placed l was (is .0))) in
+      changed l was s is c left x (status-texts o es) q r p (TextsAre Status) status-at status-size y (λ v e. status-back l was (is .0) v y e) u d i
 
   -- ---- the slots
 
   pub store-group : (o : Operation) (f : GroupFlags) (a : GroupPlace) → GroupApplied m o f a (midOf groups-at member-size s) y → Applied l m (Group o f a) s (putMid groups-at member-size s y) true
-  store-group o f a h was x left room is (us, q, (next, at)) r p =
-      let fit = subst (Fits unicode16) q p in
+  store-group o f a h was x c left room is (us, q, (next, at)) r p =
+      let fit = subst (Fits c) q p in
       let low : a .index < 16 = fit .1 .1 .1 .1 .1 .1 .1 .1 .1 .1 .0 in
-      changed l was s is left x (group o f (record { index = a .index; address = a .address; text = us })) q r p GroupsAre groups-at member-size y (λ u e. groups-back l was (is .0) u y e) (set (was .groups) (a .index) (slot-after o (group-member f a us))) refl
-      (h (was .groups) us next at low (fits-group o f (record { index = a .index; address = a .address; text = us }) left (subst (InRange text-limits left) q r) fit)
+      changed l was s is c left x (group o f (record { index = a .index; address = a .address; text = us })) q r p GroupsAre groups-at member-size y (λ u e. groups-back l was (is .0) u y e) (set (was .groups) (a .index) (slot-after o (group-member f a us))) refl
+      (h (was .groups) us next at low (fits-group c o f (record { index = a .index; address = a .address; text = us }) left (subst (InRange text-limits left) q r) fit)
       (subst⁻¹ (λ z. GroupsAre (was .groups) (midOf groups-at member-size z)) (is .1) (groups-placed l was (is .0))))
 
   pub store-individual : (o : Operation) (f : IndividualFlags) (a : IndividualPlace) → IndividualApplied m o f a (midOf individuals-at member-size s) y → Applied l m (Individual o f a) s (putMid individuals-at member-size s y) true
-  store-individual o f a h was x left room is (us, q, (next, at)) r p =
-      let fit = subst (Fits unicode16) q p in
+  store-individual o f a h was x c left room is (us, q, (next, at)) r p =
+      let fit = subst (Fits c) q p in
       let low : a .index < 16 = fit .1 .1 .1 .1 .1 .1 .1 .0 in
-      changed l was s is left x (individual o f (record { index = a .index; address = a .address; text = us })) q r p IndividualsAre individuals-at member-size y (λ u e. individuals-back l was (is .0) u y e) (set (was .individuals) (a .index) (slot-after o (individual-member f a us))) refl
-      (h (was .individuals) us next at low (fits-individual o f (record { index = a .index; address = a .address; text = us }) left (subst (InRange text-limits left) q r) fit)
+      changed l was s is c left x (individual o f (record { index = a .index; address = a .address; text = us })) q r p IndividualsAre individuals-at member-size y (λ u e. individuals-back l was (is .0) u y e) (set (was .individuals) (a .index) (slot-after o (individual-member f a us))) refl
+      (h (was .individuals) us next at low (fits-individual c o f (record { index = a .index; address = a .address; text = us }) left (subst (InRange text-limits left) q r) fit)
       (subst⁻¹ (λ z. IndividualsAre (was .individuals) (midOf individuals-at member-size z)) (is .1) (individuals-placed l was (is .0))))
 
   -- ---- the lists
 
   pub store-channels : (o : Operation) (a : Entries) (n : ℕ) (k : Bool) → n ≡ channels-size l → ChannelsApplied o m a (midOf lists-at n s) y k → Applied l m (Channels o a) s (putMid lists-at n s y) k
-  store-channels o a n k w h was x left room is (es, q, at) r p =
-      joined l was s is left x (channels o es) q r p (ChannelTable (l .channels)) y (putMid lists-at n s y) k
+  store-channels o a n k w h was x c left room is (es, q, at) r p =
+      joined l was s is c left x (channels o es) q r p (ChannelTable (l .channels)) y (putMid lists-at n s y) k
       (λ v e. ap₂ (λ j z. putMid lists-at j z y) w (is .1) ∙ channels-back l was (is .0) v y e)
       (h (l .channels) (was .channels) es
       (subst⁻¹ (ChannelTable (l .channels) (was .channels)) (ap₂ (midOf lists-at) w (is .1)) (channels-counted l was (is .0) room)) at (subst (InRange text-limits left) q r))
 
   pub store-lines : (o : Operation) (f : LineFlags) (a : Entries) (b n : ℕ) (k : Bool) → b ≡ lines-at l → n ≡ lines-size l → LinesApplied o m f a (midOf b n s) y k → Applied l m (Lines o f a) s (putMid b n s y) k
-  store-lines o f a b n k v w h was x left room is (es, q, at) r p =
-      let low : f .priority < 4 = (subst (Fits unicode16) q p) .1 .1 .1 .1 .1 .0 in
-      joined l was s is left x (lines o f es) q r p (LineTable (l .lines)) y (putMid b n s y) k
-      (λ z e. ap₂ (λ c j. putMid c j s y) v w ∙ ap (λ t. putMid (lines-at l) (lines-size l) t y) (is .1) ∙ lines-back l was (is .0) z y e)
+  store-lines o f a b n k v w h was x c left room is (es, q, at) r p =
+      let low : f .priority < 4 = (subst (Fits c) q p) .1 .1 .1 .1 .1 .0 in
+      joined l was s is c left x (lines o f es) q r p (LineTable (l .lines)) y (putMid b n s y) k
+      (λ z e. ap₂ (λ a j. putMid a j s y) v w ∙ ap (λ t. putMid (lines-at l) (lines-size l) t y) (is .1) ∙ lines-back l was (is .0) z y e)
       (h low (l .lines) (was .lines) es
-      (subst⁻¹ (LineTable (l .lines) (was .lines)) (ap₂ (λ c j. midOf c j s) v w ∙ ap (midOf (lines-at l) (lines-size l)) (is .1)) (lines-counted l was (is .0) room))
+      (subst⁻¹ (LineTable (l .lines) (was .lines)) (ap₂ (λ a j. midOf a j s) v w ∙ ap (midOf (lines-at l) (lines-size l)) (is .1)) (lines-counted l was (is .0) room))
       at (subst (InRange text-limits left) q r))
 
   -- ---- no store of these limits
 
   -- a store has the limits' size, and room for its tables
   pub no-store : (r : Read) (t : List ℕ) (k : Bool) → (Roomy l → length s ≡ l .size → ⊥) → Applied l m r s t k
-  no-store r t k h was x left room is q i p = absurd (h room (ap length (is .1) ∙ layout-length l was room (is .0)))
+  no-store r t k h was x c left room is q i p = absurd (h room (ap length (is .1) ∙ layout-length l was room (is .0)))
 
 -- ---- the setting by its case
 

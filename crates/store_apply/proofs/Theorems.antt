@@ -5,9 +5,10 @@ use mathlib.Core.Bool.{Bool, true, false, true≢false}
 use mathlib.Core.List.{List}
 use mathlib.Core.Option.{Option, Option·some-injective, Option·none-ne-some}
 use Rattle.counted_lists.specs.Counted.{Tried}
+use Rattle.writing.specs.declared.Coding.{Coding}
 use Rattle.writing.specs.Canonical.{Fits}
 use Rattle.writing.specs.Ranges.{text-limits, InRange}
-use Rattle.writing.specs.Settings.{Setting, unicode16}
+use Rattle.writing.specs.Settings.{Setting}
 use Rattle.settings.specs.declared.settings.Setting.{Setting as Read}
 use Rattle.settings.specs.Meant.{Meant}
 use Rattle.tables.specs.declared.limits.Limits.{Limits}
@@ -27,6 +28,6 @@ tried-determined lim o t u false true p q = absurd (Option·none-ne-some (q .roo
 tried-determined lim o t u false false p q = (refl, λ e. absurd (true≢false (sym e)))
 
 -- APPLIED-DETERMINED: on a store, one answer, and where there was room one content
-pub applied-determined : (lim : Limits) (msg : List ℕ) (r : Read) (s t u : List ℕ) (a b : Bool) (was : Tables) (set : Setting) (left : ℕ) → Roomy lim → Works lim was s → Meant msg r set → InRange text-limits left set → Fits unicode16 set → Applied lim msg r s t a → Applied lim msg r s u b → (a ≡ b) × (a ≡ true → t ≡ u)
-applied-determined lim msg r s t u a b was set left room is q i f x y =
-    tried-determined lim (apply lim set was) t u a b (x was set left room is q i f) (y was set left room is q i f)
+pub applied-determined : (lim : Limits) (msg : List ℕ) (r : Read) (s t u : List ℕ) (a b : Bool) (was : Tables) (set : Setting) (c : Coding) (left : ℕ) → Roomy lim → Works lim was s → Meant msg r set → InRange text-limits left set → Fits c set → Applied lim msg r s t a → Applied lim msg r s u b → (a ≡ b) × (a ≡ true → t ≡ u)
+applied-determined lim msg r s t u a b was set c left room is q i f x y =
+    tried-determined lim (apply lim set was) t u a b (x was set c left room is q i f) (y was set c left room is q i f)

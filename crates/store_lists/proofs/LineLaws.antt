@@ -32,7 +32,7 @@ use Rattle.tables.proofs.EntryCodes.{line-keyed}
 use Rattle.tables.proofs.EntryWalk.{Starting, Applying, applying-start, applying-next, applying-full, applying-stuck, applying-end}
 use Rattle.tables.proofs.ReplaceLaws.{table-started}
 use Rattle.tables.proofs.TextCodes.{digits-length, digits-same}
-use Rattle.tables.proofs.TextLaws.{text-out}
+use Rattle.tables.proofs.TextLaws.{text-units}
 
 -- ---- a line's slot
 
@@ -87,7 +87,7 @@ line-ok : (m : List ℕ) → Bytes m → (f : LineFlags) (p : ContactPlace) (e :
 line-ok m h f p e is range low = record {
   priority = low;
   number = range .0;
-  text = record { short = range .1; units = text-out (p .text .coding) m (p .text .start) (is .end) (e .text) h (is .text .stands) .units };
+  text = record { short = range .1; units = text-units (p .text .coding) (e .text) (is .text .stands) };
 }
 
 module _ (o : Operation) (m : List ℕ) (f : LineFlags) (p : Entries) (s : List ℕ) where

@@ -1,6 +1,5 @@
 -- Quick texts and status texts: what the functions that change a place and the table have to show. Assumes nothing.
 use Rattle.lists.proofs.Kit.{ℕ, _+_, _-_, _*_, _≤_, _<_, _≡_, refl, sym, ap, _∙_, subst, subst⁻¹, true, false, List, [], _∷_, Option, none, some, arith, length, set, getD, take, drop, replicate}
-use Rattle.lists.specs.Bytes.{Bytes}
 use Rattle.lists.specs.Every.{All}
 use Rattle.slots.specs.Slots.{zeros?, slot, Present}
 use Rattle.slots.proofs.Runs.{zeros-all}
@@ -28,7 +27,7 @@ use Rattle.tables.specs.Layout.{quick-bytes, quick-width, status-bytes, status-
 use Rattle.tables.specs.Limits.{quick-places, status-places}
 use Rattle.tables.proofs.EntryCodes.{quick-code, quick-shown, status-code}
 use Rattle.tables.proofs.EntryWalk.{Applying, entry-applied}
-use Rattle.tables.proofs.TextLaws.{Unit16, text-out}
+use Rattle.tables.proofs.TextLaws.{Unit16, text-units}
 use Rattle.store_places.specs.declared.texts.TextTable.{TextTable}
 use Rattle.store_places.specs.declared.texts.TextTable.the-variants.{Quick, Status}
 use Rattle.store_places.specs.Changes.{entry-form, InTexts, text-step, TextIn, text-code, text-width, text-places, text-place, TextsAre, TextsApplied, Readable, TextStep, SlotPut, SlotSet, PlaceSet}
@@ -85,11 +84,11 @@ status-one Replace e ss = refl
 
 module _ (m : List ℕ) (o : Operation) (p : EntryPlace) (s t : List ℕ) where
   -- a quick text's place was set, and kept where there was one
-  pub quick-stepped : Bytes m → (p .index * quick-width + quick-width ≤ length s → PlaceSet true m o (p .text) [] quick-width (p .index) s t) → TextStep Quick m o p s t
-  quick-stepped b changed e is l i qs h =
+  pub quick-stepped : (p .index * quick-width + quick-width ≤ length s → PlaceSet true m o (p .text) [] quick-width (p .index) s t) → TextStep Quick m o p s t
+  quick-stepped changed e is l i qs h =
       let k : p .index < quick-places = omega (arith, is .index, l) in
       let c : PlaceSet true m o (p .text) [] quick-width (p .index) s t = changed (place-fits QuickOk quick-width quick-bytes (quick-code .long) quick-places qs s h (p .index) k) in
-      let us = text-out (p .text .coding) m (p .text .start) (is .end) (e .text) b (is .text .stands) .units in (
+      let us = text-units (p .text .coding) (e .text) (is .text .stands) in (
         set qs (e .index) (quick-slot o (getD qs (e .index) none) (e .text)),
         quick-one o e qs,
         subst⁻¹ (λ (j : ℕ). TextsAre Quick (set qs j (quick-slot o (getD qs j none) (e .text))) t) (is .index)
@@ -105,10 +104,10 @@ module _ (m : List ℕ) (o : Operation) (p : EntryPlace) (s t : List ℕ) where
   code-outside l e is k i ss h = absurd (omega (arith, is .index, i .0))
 
   -- a status text's place was overwritten
-  pub status-stepped : Bytes m → ((p .index - 32) * status-width + status-width ≤ length s → PlaceSet false m o (p .text) (1 ∷ []) status-width (p .index - 32) s t) → TextStep Status m o p s t
-  status-stepped b changed e is l i ss h =
+  pub status-stepped : ((p .index - 32) * status-width + status-width ≤ length s → PlaceSet false m o (p .text) (1 ∷ []) status-width (p .index - 32) s t) → TextStep Status m o p s t
+  status-stepped changed e is l i ss h =
       let k : p .index - 32 < status-places = omega (arith, is .index, l) in
-      let ok : StatusOk (e .text) = record { short = i .2; units = text-out (p .text .coding) m (p .text .start) (is .end) (e .text) b (is .text .stands) .units } in (
+      let ok : StatusOk (e .text) = record { short = i .2; units = text-units (p .text .coding) (e .text) (is .text .stands) } in (
         set ss (e .index - 32) (slot-after o (e .text)),
         status-one o e ss,
         subst⁻¹ (λ (j : ℕ). TextsAre Status (set ss (j - 32) (slot-after o (e .text))) t) (is .index)

@@ -1,11 +1,12 @@
 -- Every setting leaves allowed tables. Assumes nothing.
 use Rattle.lists.proofs.Kit.{ℕ, _≡_, subst, List, Option, none, some}
 use Rattle.slots.specs.Slots.{Present}
+use Rattle.writing.specs.declared.Coding.{Coding}
 use Rattle.writing.specs.declared.HomeNumbers.{HomeNumbers}
 use Rattle.writing.specs.declared.SystemCode.{SystemCode}
 use Rattle.writing.specs.Canonical.{Fits}
 use Rattle.writing.specs.Ranges.{text-limits, InRange, InChannel, no-hash as hash-0}
-use Rattle.writing.specs.Settings.{Text, Hash, Setting, lines, key, quick-texts, home, channels, system, status-texts, group, individual, last, unicode16}
+use Rattle.writing.specs.Settings.{Text, Hash, Setting, lines, key, quick-texts, home, channels, system, status-texts, group, individual, last}
 use Rattle.tables.specs.declared.limits.Limits.{Limits}
 use Rattle.tables.specs.Allowed.{Allowed, HashOk, TargetOk, HomeOk, SystemOk, QuickOk, StatusOk, GroupOk, IndividualOk, PlacesOk, ListOk, LinesOk}
 use Rattle.tables.specs.Apply.{apply, with-room, slot-after, lines-after, quick-after, status-after, channels-after}
@@ -71,28 +72,28 @@ room-keeps I J f h none p = tt
 room-keeps I J f h (some a) p = h a p
 
 -- APPLY-KEEPS: where there is room, a setting in range whose values fit leaves allowed tables
-pub apply-keeps : (lim : Limits) (t : Tables) (left : ℕ) (s : Setting) → Allowed lim t → InRange text-limits left s → Fits unicode16 s → Present (Allowed lim) (apply lim s t)
-apply-keeps lim t left (lines o f es) ok r p =
+pub apply-keeps : (lim : Limits) (t : Tables) (c : Coding) (left : ℕ) (s : Setting) → Allowed lim t → InRange text-limits left s → Fits c s → Present (Allowed lim) (apply lim s t)
+apply-keeps lim t c left (lines o f es) ok r p =
     room-keeps (LinesOk (lim .lines)) (Allowed lim) (put-own Lines t) (lines-allowed lim t ok) (lines-after (lim .lines) o f es (t .lines))
-    (lines-after-keeps (lim .lines) o f es (t .lines) (fits-lines o f es left r p) (ok .lines, ok .distinct))
-apply-keeps lim t left (key target f) ok r p = key-allowed lim t ok (record { target = target; flags = f }) (fits-key target f left r p)
-apply-keeps lim t left (quick-texts o es) ok r p =
+    (lines-after-keeps (lim .lines) o f es (t .lines) (fits-lines c o f es left r p) (ok .lines, ok .distinct))
+apply-keeps lim t c left (key target f) ok r p = key-allowed lim t ok (record { target = target; flags = f }) (fits-key c target f left r p)
+apply-keeps lim t c left (quick-texts o es) ok r p =
     room-keeps (PlacesOk QuickOk quick-places) (Allowed lim) (put-own QuickTexts t) (quick-allowed lim t ok) (quick-after o es (t .quick))
-    (quick-after-keeps o es (t .quick) (fits-quick o es left r p) (ok .quick))
-apply-keeps lim t left (home h) ok r p = home-allowed lim t ok h (fits-home h left r p)
-apply-keeps lim t left (channels o ns) ok r p =
+    (quick-after-keeps o es (t .quick) (fits-quick c o es left r p) (ok .quick))
+apply-keeps lim t c left (home h) ok r p = home-allowed lim t ok h (fits-home c h left r p)
+apply-keeps lim t c left (channels o ns) ok r p =
     room-keeps (ListOk InChannel (lim .channels)) (Allowed lim) (put-own Channels t) (channels-allowed lim t ok) (channels-after (lim .channels) o ns (t .channels))
     (channels-after-keeps (lim .channels) o ns (t .channels) r (ok .channels))
-apply-keeps lim t left (system s) ok r p = system-allowed lim t ok s (fits-system s left r p)
-apply-keeps lim t left (status-texts o es) ok r p =
+apply-keeps lim t c left (system s) ok r p = system-allowed lim t ok s (fits-system c s left r p)
+apply-keeps lim t c left (status-texts o es) ok r p =
     room-keeps (PlacesOk StatusOk status-places) (Allowed lim) (put-own StatusTexts t) (status-allowed lim t ok) (status-after o es (t .status))
-    (status-after-keeps o es (t .status) (fits-status o es left r p) (ok .status))
-apply-keeps lim t left (group o f s) ok r p =
-    groups-allowed lim t ok _ (place-keeps GroupOk slot-places (s .index) (slot-after o (record { flags = f; address = s .address; text = s .text })) (t .groups) (fits-group o f s left r p) (ok .groups))
-apply-keeps lim t left (individual o f s) ok r p =
-    individuals-allowed lim t ok _ (place-keeps IndividualOk slot-places (s .index) (slot-after o (record { flags = f; address = s .address; text = s .text })) (t .individuals) (fits-individual o f s left r p) (ok .individuals))
-apply-keeps lim t left (last f h) ok r p = hash-allowed lim t ok h (fits-hash f h left r p)
+    (status-after-keeps o es (t .status) (fits-status c o es left r p) (ok .status))
+apply-keeps lim t c left (group o f s) ok r p =
+    groups-allowed lim t ok _ (place-keeps GroupOk slot-places (s .index) (slot-after o (record { flags = f; address = s .address; text = s .text })) (t .groups) (fits-group c o f s left r p) (ok .groups))
+apply-keeps lim t c left (individual o f s) ok r p =
+    individuals-allowed lim t ok _ (place-keeps IndividualOk slot-places (s .index) (slot-after o (record { flags = f; address = s .address; text = s .text })) (t .individuals) (fits-individual c o f s left r p) (ok .individuals))
+apply-keeps lim t c left (last f h) ok r p = hash-allowed lim t ok h (fits-hash c f h left r p)
 
 -- APPLY-ALLOWED: the tables that it leaves are allowed
-pub apply-allowed : (lim : Limits) (t u : Tables) (left : ℕ) (s : Setting) → Allowed lim t → InRange text-limits left s → Fits unicode16 s → apply lim s t ≡ some u → Allowed lim u
-apply-allowed lim t u left s ok r p e = subst (Present (Allowed lim)) e (apply-keeps lim t left s ok r p)
+pub apply-allowed : (lim : Limits) (t u : Tables) (c : Coding) (left : ℕ) (s : Setting) → Allowed lim t → InRange text-limits left s → Fits c s → apply lim s t ≡ some u → Allowed lim u
+apply-allowed lim t u c left s ok r p e = subst (Present (Allowed lim)) e (apply-keeps lim t c left s ok r p)

@@ -6,9 +6,10 @@ use mathlib.Core.List.{List}
 use lib.ListN.{length}
 use Rattle.lists.specs.Ladder.{Ladder, rung, foot}
 use Rattle.counted_lists.specs.Counted.{Tried}
+use Rattle.writing.specs.declared.Coding.{Coding}
 use Rattle.writing.specs.Canonical.{Fits}
 use Rattle.writing.specs.Ranges.{text-limits, InRange}
-use Rattle.writing.specs.Settings.{Setting, unicode16}
+use Rattle.writing.specs.Settings.{Setting}
 use Rattle.settings.specs.declared.settings.Setting.{Setting as Read}
 use Rattle.settings.specs.Meant.{Meant}
 use Rattle.tables.specs.declared.limits.Limits.{Limits}
@@ -68,5 +69,5 @@ Saved lim work store after = length store ≡ lim .size → (t : Tables) → Roo
 -- what applying a setting that was read answers, on a working copy that was s and becomes t
 abbrev pub Applied : Limits → List ℕ → Read → List ℕ → List ℕ → Bool → Type 0
 Applied lim m r s t k =
-    (was : Tables) (set : Setting) (left : ℕ) → Roomy lim → Works lim was s → Meant m r set → InRange text-limits left set → Fits unicode16 set
+    (was : Tables) (set : Setting) (c : Coding) (left : ℕ) → Roomy lim → Works lim was s → Meant m r set → InRange text-limits left set → Fits c set
     → Tried (Works lim) (apply lim set was) t k

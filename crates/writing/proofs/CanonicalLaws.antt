@@ -95,7 +95,7 @@ plain-append fs gs n m e d h =
     ∙ sym (ap₂ (λ x y. x ++ y) (plain-bits fs n e) (plain-bits gs m d)) ∙ sym (bitsOf-append (plain fs) (plain gs)))
 
 -- fields that stand in bits have values that fit
-shows-fits : (fs : List Field) (bs : List ℕ) → Shows fs bs → All FitsField fs
+pub shows-fits : (fs : List Field) (bs : List ℕ) → Shows fs bs → All FitsField fs
 shows-fits [] bs s = tt
 shows-fits (f ∷ fs) bs s = let (x, rest, h, b, e, more) = s in (holds-fits f x h b, shows-fits fs rest more)
 

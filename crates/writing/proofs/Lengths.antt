@@ -10,7 +10,7 @@ use Rattle.writing.specs.Ranges.{TextLimits, text-limits, HashSize, no-h
 use Rattle.writing.specs.Bounds.{bounds, no-text, longest-text, Within, Allows, operation}
 use Rattle.writing.specs.declared.Operations.the-variants.{AddOrDelete}
 use Rattle.writing.specs.declared.Coding.{Coding}
-use Rattle.writing.specs.Settings.{Text, Setting, lines, key, quick-texts, home, channels, system, status-texts, group, individual, last, kind, unicode16}
+use Rattle.writing.specs.Settings.{Text, Setting, lines, key, quick-texts, home, channels, system, status-texts, group, individual, last, kind, unicode16, eight-bit}
 use Rattle.writing.specs.Writing.{unit-width, text, key-address, data-length}
 use Rattle.writing.proofs.Bits.{widths-map}
 use Rattle.writing.proofs.Whole.{unit-whole, text-widths}
@@ -78,3 +78,10 @@ pub rows-are :
     (Lines ∷ Key ∷ QuickTexts ∷ Home ∷ Channels ∷ System ∷ StatusTexts ∷ Group ∷ Individual ∷ Last ∷ [])
     ≡ (4, none) ∷ (3, some 6) ∷ (3, none) ∷ (5, some 5) ∷ (4, none) ∷ (5, some 5) ∷ (4, none) ∷ (9, some 41) ∷ (9, some 41) ∷ (3, some 13) ∷ []
 rows-are = refl
+
+-- the same columns under 0100
+pub rows-are-eight-bit :
+    map {B = ℕ × Option ℕ} (λ t. (bounds eight-bit text-limits t .least, bounds eight-bit text-limits t .most))
+    (Lines ∷ Key ∷ QuickTexts ∷ Home ∷ Channels ∷ System ∷ StatusTexts ∷ Group ∷ Individual ∷ Last ∷ [])
+    ≡ (4, none) ∷ (3, some 6) ∷ (3, none) ∷ (5, some 5) ∷ (4, none) ∷ (5, some 5) ∷ (4, none) ∷ (8, some 24) ∷ (8, some 24) ∷ (3, some 13) ∷ []
+rows-are-eight-bit = refl

@@ -6,3 +6,4 @@ pub mod ByKind
 pub mod Lengths
 pub mod CanonicalLaws
 pub mod Computed
+pub mod TextUnits

@@ -6,7 +6,7 @@ use Rattle.writing.specs.declared.KeyTarget.{KeyTarget}
 use Rattle.writing.specs.declared.KeyTarget.the-variants.{Current, ToGroup, ToIndividual}
 use Rattle.writing.specs.Fields.{bits, bitsOf, Field, val, item, res, widths, each}
 use Rattle.writing.specs.declared.Coding.{Coding}
-use Rattle.writing.specs.declared.Coding.the-variants.{Unicode16}
+use Rattle.writing.specs.declared.Coding.the-variants.{Unicode16, EightBit}
 use Rattle.writing.specs.Settings.{Text, Number, Contact, Setting, lines, key, quick-texts, home, channels, system, status-texts, group, individual, last, kind}
 use Rattle.writing.specs.Writing.{unit-width, text, fill, number, contact, quick-text, status-text, key-address, type-byte, body, data-length, fields, Written}
 use Rattle.writing.proofs.Bits.{bits-val, length-bitsOf, shows-length, widths-append, widths-map}
@@ -31,6 +31,7 @@ each-whole f h (a ∷ l) = append-whole (f a) (each f l) (h a) (each-whole f h l
 -- a text's unit is whole bytes
 pub unit-whole : (c : Coding) → WholeBits (unit-width c)
 unit-whole Unicode16 = (2, refl)
+unit-whole EightBit = (1, refl)
 
 -- a text has a unit more than it says
 pub text-widths : (c : Coding) (t : Text) → widths (text c t) ≡ suc (length t) * unit-width c

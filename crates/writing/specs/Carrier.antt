@@ -10,8 +10,8 @@ use Rattle.writing.specs.declared.Result.the-variants.{Taken, OtherVersi
 use Rattle.writing.specs.Fields.{bitsOf, Field, val, res, Shows}
 use Rattle.writing.specs.Ranges.{HashSize}
 use Rattle.writing.specs.declared.Coding.{Coding}
-use Rattle.writing.specs.declared.Coding.the-variants.{Unicode16}
-use Rattle.writing.specs.Settings.{Setting, Hash, unicode16}
+use Rattle.writing.specs.declared.Coding.the-variants.{Unicode16, EightBit}
+use Rattle.writing.specs.Settings.{Setting, Hash}
 use Rattle.writing.specs.Writing.{hash, request-head, WrittenAs}
 
 -- ---- the carrier
@@ -36,9 +36,10 @@ pub record Carries (coding-type : ℕ) (data-bytes message : List ℕ) : Type 0 
   pub fields : Shows (carrier stated coding-type) (bitsOf header)
   pub length-field : States stated (2 + length data-bytes)
 
--- "Coding type must be 0111 (16-bit Unicode)"
+-- "0111 (16-bit Unicode)"; "coding type 0100, eight-bit characters"
 abbrev pub coding-type : Coding → ℕ
 coding-type Unicode16 = 7
+coding-type EightBit = 4
 
 -- ---- requests, result queries and replies
 
@@ -61,10 +62,10 @@ pub record Counted (count : ℕ) (settings data-bytes : List ℕ) : Type 0 where
   pub says : Shows (request-head count) (bitsOf head)
   pub some-setting : 1 ≤ count
 
--- the message is a request: "Coding type must be 0111"; that its settings are good is not said
-pub record RequestOf (count : ℕ) (settings message : List ℕ) : Type 0 where
+-- the message is a request: the "check of the coding type accepts 0100 and 0111"; that its settings are good is not said
+pub record RequestOf (c : Coding) (count : ℕ) (settings message : List ℕ) : Type 0 where
   pub data-bytes : List ℕ
-  pub carried : Carries (coding-type unicode16) data-bytes message
+  pub carried : Carries (coding-type c) data-bytes message
   pub counted : Counted count settings data-bytes
 
 -- "Request: ParamSum (8 bits, 1 to 255), then that many settings"
@@ -125,9 +126,9 @@ OtherType = OtherKind (λ k. (k ≡ 0) ⊎ (k ≡ 5))
 abbrev pub OtherVersion : List ℕ → Type 0
 OtherVersion message = (kind coding : ℕ) (data-bytes : List ℕ) → Opens 1 kind coding data-bytes message → ⊥
 
--- 4, "ParamSum missing or 0, or coding type"
+-- 4, "ParamSum missing or 0, or coding type": no request under either coding type
 abbrev pub NoRequest : List ℕ → Type 0
-NoRequest message = (count : ℕ) (settings : List ℕ) → RequestOf count settings message → ⊥
+NoRequest message = (c : Coding) (count : ℕ) (settings : List ℕ) → RequestOf c count settings message → ⊥
 
 -- 4, "A malformed query"
 abbrev pub NoQuery : List ℕ → Type 0

@@ -1,14 +1,14 @@
 -- What a setting says: document 01, "The ten settings". Operations, flags and fixed contents are the structs of src/.
 use Prim.Native.Nat.{ℕ}
 use mathlib.Core.Bool.{Bool, true, false}
-use mathlib.Core.List.{List}
+use mathlib.Core.List.{List, [], _∷_, map}
 use Rattle.plan.specs.declared.numbers.GroupAddress.{GroupAddress}
 use Rattle.plan.specs.declared.numbers.IndividualAddress.{IndividualAddress}
 use Rattle.writing.specs.declared.Kind.{Kind}
 use Rattle.writing.specs.declared.Kind.the-variants.{Lines, Key, QuickTexts, Home, Channels, System, StatusTexts, Group, Individual, Last}
 use Rattle.writing.specs.declared.Operation.{Operation}
 use Rattle.writing.specs.declared.Coding.{Coding}
-use Rattle.writing.specs.declared.Coding.the-variants.{Unicode16}
+use Rattle.writing.specs.declared.Coding.the-variants.{Unicode16, EightBit}
 use Rattle.writing.specs.declared.LineFlags.{LineFlags}
 use Rattle.writing.specs.declared.KeyTarget.{KeyTarget}
 use Rattle.writing.specs.declared.KeyFlags.{KeyFlags}
@@ -73,6 +73,23 @@ kind (group o f s) = Group
 kind (individual o f s) = Individual
 kind (last f h) = Last
 
+-- the texts that it carries
+abbrev pub texts : Setting → List Text
+texts (lines o f es) = map (λ e. e .text) es
+texts (key t f) = []
+texts (quick-texts o es) = map (λ e. e .text) es
+texts (home h) = []
+texts (channels o es) = []
+texts (system s) = []
+texts (status-texts o es) = map (λ e. e .text) es
+texts (group o f s) = s .text ∷ []
+texts (individual o f s) = s .text ∷ []
+texts (last f h) = []
+
 -- "0111 (16-bit Unicode)"
 abbrev pub unicode16 : Coding
 unicode16 = Unicode16
+
+-- "0100, eight-bit characters"
+abbrev pub eight-bit : Coding
+eight-bit = EightBit

@@ -39,9 +39,10 @@ pub enum Result {
     NoMatch,
 }
 
-// How texts are coded, by the carrier's coding type.
+// How texts are coded, by the carrier's coding type: 0111 or 0100.
 pub enum Coding {
     Unicode16,
+    EightBit,
 }
 
 // Of all line contacts of one setting.

@@ -120,6 +120,9 @@ impl<'s> Store<'s> {
 
     /// Takes one message, whole or not at all, and writes the reply to the start of the buffer.
     ///
+    /// A request's texts are eight-bit characters, coding type 0100, or 16-bit Unicode, 0111; the store
+    /// keeps 16-bit units of both. Another coding type is a bad field, failed ID 0.
+    ///
     /// ```
     /// # fn main() -> Result<(), otap::Refusal> {
     /// let mut bytes = [0; otap::STORE_SIZE];

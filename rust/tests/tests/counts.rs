@@ -1,9 +1,11 @@
 //! The generator reaches every number a message can come to, and every table's edge.
 
 use otap_reference::inputs::{Inputs, LONGEST_INPUT};
-use otap_reference::reference::message::LONGEST;
+use otap_reference::reference::message::{first_byte, LONGEST, REQUEST};
+use otap_reference::reference::numbers::BAD_FIELD;
 use otap_reference::reference::tables::Set;
 use otap_reference::reference::take::{take, REPLY_ROOM};
+use otap_reference::reference::texts::Text;
 use std::collections::BTreeMap;
 
 const SEEDS: u64 = 200;
@@ -53,6 +55,47 @@ fn tables_fill_and_messages_grow_long() {
     println!("states: {lines} full lines, {channels} full channels, {quick} full quick texts");
     println!("messages: {longest} taken of 4,096 bytes, {over} longer");
     assert!(lines > 1_000 && channels > 1_000 && quick > 100 && longest > 100 && over > 100);
+}
+
+/// Both coding types change texts often. The others are refused as such, and no setting is looked at.
+#[test]
+fn every_coding_type_comes_often() {
+    let (mut changed, mut refused) = ([0; 16], [[0; 2]; 16]);
+    for seed in 0..SEEDS {
+        let mut inputs = Inputs::new(seed);
+        let mut set = Set::default();
+        for _ in 0..MESSAGES {
+            let message = inputs.message();
+            let before = names(&set);
+            let answer = take(&message, &mut set, &mut [0; REPLY_ROOM]);
+            if answer.length == 0 || message[6] != first_byte(REQUEST) {
+                continue;
+            }
+            let coding = usize::from(message[5] & 0x0F);
+            changed[coding] += usize::from(names(&set) != before);
+            let bad_field = usize::from(answer.number == BAD_FIELD);
+            refused[coding][usize::from(answer.failed.min(1))] += bad_field;
+        }
+    }
+    println!("texts changed, by coding type: {changed:?}");
+    println!("refused with 4, failed ID 0 and above, by coding type: {refused:?}");
+    for coding in 0..16 {
+        let [without_place, with_place] = refused[coding];
+        let known = matches!(coding, 4 | 7);
+        assert_eq!((changed[coding] > 2_000, changed[coding] > 0), (known, known));
+        assert_eq!((with_place > 2_000, with_place > 0), (known, known), "{coding}");
+        assert!(without_place > 10, "{coding}");
+    }
+}
+
+/// All texts of a set.
+fn names(set: &Set) -> Vec<Text> {
+    let tables = &set.tables;
+    let held = tables.quick_texts.iter().chain(&tables.status_texts).flatten().cloned();
+    let lines = tables.lines.iter().map(|line| line.text.clone());
+    let groups = tables.groups.iter().flatten().map(|slot| slot.text.clone());
+    let individuals = tables.individuals.iter().flatten().map(|slot| slot.text.clone());
+    held.chain(lines).chain(groups).chain(individuals).collect()
 }
 
 #[test]

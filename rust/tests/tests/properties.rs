@@ -1,15 +1,16 @@
-//! Properties of the reference itself: conversions both ways, writing and reading, exports.
+//! Properties of the reference itself: conversions both ways, writing and reading under both coding types, exports.
 
 use otap_reference::inputs::random::Random;
 use otap_reference::inputs::Inputs;
 use otap_reference::reference::export::{export, part_bytes, Exported, EXPORT_ROOM, PARTS};
-use otap_reference::reference::message::LONGEST;
+use otap_reference::reference::message::{request_as, LONGEST};
 use otap_reference::reference::numbers::*;
 use otap_reference::reference::plan::*;
 use otap_reference::reference::screen::{row_number, row_part, Row, Shown, SCRATCH_ROOM};
-use otap_reference::reference::settings::{parse, Operation};
+use otap_reference::reference::settings::{parse, Operation, Setting};
 use otap_reference::reference::tables::Set;
 use otap_reference::reference::take::{take, REPLY_ROOM};
+use otap_reference::reference::texts::Coding;
 use otap_tests::{number_in, request, taken, units};
 use std::collections::HashSet;
 
@@ -156,24 +157,104 @@ fn export_refusals_touch_nothing() {
     assert!(buffer[12..].iter().all(|&byte| byte == 0xEE));
 }
 
-/// Every setting of a taken request can be written and read again to the same.
+/// The settings that a message's bytes begin with, each with its own bytes.
+fn settings_of(message: &[u8], coding: Coding) -> Vec<(Setting, &[u8])> {
+    let mut rest = message.get(8..).unwrap_or(&[]);
+    let mut settings = Vec::new();
+    while let Ok((setting, length)) = parse(rest, coding, true) {
+        let (bytes, behind) = rest.split_at(length);
+        settings.push((setting, bytes));
+        rest = behind;
+    }
+    settings
+}
+
+fn has_texts(setting: &Setting) -> bool {
+    match setting {
+        Setting::Lines { entries, .. } => !entries.is_empty(),
+        Setting::QuickTexts { entries, .. } => !entries.is_empty(),
+        Setting::StatusTexts { entries, .. } => !entries.is_empty(),
+        Setting::Group { .. } | Setting::Individual { .. } => true,
+        _ => false,
+    }
+}
+
+fn for_each_message(seeds: u64, messages: usize, mut check: impl FnMut(&[u8])) {
+    for seed in 0..seeds {
+        let mut inputs = Inputs::new(seed);
+        (0..messages).for_each(|_| check(&inputs.message()));
+    }
+}
+
+/// Every setting that is read can be written and read again to the same, under each coding type that it has a writing for.
 #[test]
 fn writing_and_reading_agree() {
-    let mut settings = 0;
-    for seed in 0..40 {
-        let mut inputs = Inputs::new(seed);
-        for _ in 0..50 {
-            let message = inputs.message();
-            let mut rest = message.get(8..).unwrap_or(&[]);
-            while let Ok((setting, length)) = parse(rest, true) {
-                let written = setting.write();
-                assert_eq!(parse(&written, true), Ok((setting, written.len())));
-                rest = &rest[length..];
-                settings += 1;
+    let (mut own, mut other) = (0, 0);
+    for_each_message(40, 50, |message| {
+        for coding in Coding::ALL {
+            for (setting, _) in settings_of(message, coding) {
+                assert!(setting.write_as(coding).is_some(), "what was read has a writing");
+                for written_as in Coding::ALL {
+                    let Some(written) = setting.write_as(written_as) else { continue };
+                    let again = parse(&written, written_as, true);
+                    assert_eq!(again, Ok((setting.clone(), written.len())));
+                    *if written_as == coding { &mut own } else { &mut other } += 1;
+                }
             }
         }
-    }
-    assert!(settings > 5_000, "{settings} settings");
+    });
+    assert!(own > 5_000 && other > 2_500, "{own} settings, {other} of them also the other way");
+}
+
+/// A setting with a text is read under one coding type at most, and one without is read to the same under both.
+#[test]
+fn bytes_of_texts_are_read_one_way() {
+    let (mut texts, mut others) = (0, 0);
+    for_each_message(40, 50, |message| {
+        for (coding, other) in [(Coding::Eight, Coding::Unicode), (Coding::Unicode, Coding::Eight)]
+        {
+            for (setting, bytes) in settings_of(message, coding) {
+                let read = parse(bytes, other, true);
+                if has_texts(&setting) {
+                    assert!(read.is_err(), "{bytes:02X?}");
+                    texts += 1;
+                } else {
+                    assert_eq!(read, Ok((setting, bytes.len())));
+                    others += 1;
+                }
+            }
+        }
+    });
+    assert!(texts > 2_000 && others > 2_000, "{texts} settings with texts, {others} without");
+}
+
+/// The same settings as a request under a coding type, where they have one of an allowed length.
+fn rewritten(settings: &[(Setting, &[u8])], coding: Coding) -> Option<Vec<u8>> {
+    let written = settings.iter().map(|(setting, _)| setting.write_as(coding));
+    let message = request_as(coding, &written.collect::<Option<Vec<_>>>()?);
+    let allowed = (1..=255).contains(&settings.len()) && message.len() <= LONGEST;
+    allowed.then_some(message)
+}
+
+/// The same settings under both coding types come to the same number, failed ID and set.
+#[test]
+fn both_coding_types_leave_the_same_set() {
+    let (mut set, mut changed, mut refused) = (Set::default(), 0, 0);
+    for_each_message(60, 60, |message| {
+        for settings in Coding::ALL.map(|coding| settings_of(message, coding)) {
+            let both = Coding::ALL.map(|coding| rewritten(&settings, coding));
+            let [Some(narrow), Some(wide)] = both else { continue };
+            let (mut one, mut two) = (set.clone(), set.clone());
+            let number = number_in(&narrow, &mut one);
+            assert_eq!(number, number_in(&wide, &mut two), "{narrow:02X?}");
+            assert_eq!(one, two, "{narrow:02X?}");
+            let texts = settings.iter().any(|(setting, _)| has_texts(setting));
+            changed += usize::from(texts && one != set);
+            refused += usize::from(texts && number != (TAKEN, 0));
+        }
+        number_in(message, &mut set);
+    });
+    assert!(changed > 300 && refused > 100, "{changed} changed the set, {refused} were refused");
 }
 
 /// A refusal leaves the set, whatever the message.

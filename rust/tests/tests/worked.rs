@@ -6,6 +6,7 @@ use otap_reference::reference::plan::*;
 use otap_reference::reference::settings::{parse, Fault, HomeNumbers, Setting};
 use otap_reference::reference::tables::Set;
 use otap_reference::reference::take::{take, Answer};
+use otap_reference::reference::texts::Coding;
 use otap_tests::{bytes, lines_add, number_of, request, taken};
 
 #[test]
@@ -57,8 +58,10 @@ fn example_8_line_numbers() {
 fn example_9_home_numbers() {
     let home = Setting::Home(HomeNumbers { nzi: 15, np: 806 });
     assert_eq!(home.write(), bytes("CD 00 05 07 E4 C0"));
-    assert_eq!(parse(&home.write(), true), Ok((home, 6)));
-    assert_eq!(parse(&bytes("CD 00 05 07 E4 E0"), true), Err(Fault::Field));
+    for coding in Coding::ALL {
+        assert_eq!(parse(&home.write(), coding, true), Ok((home.clone(), 6)));
+        assert_eq!(parse(&bytes("CD 00 05 07 E4 E0"), coding, true), Err(Fault::Field));
+    }
 }
 
 #[test]

@@ -4,8 +4,9 @@ use otap_reference::records::push_record;
 use otap_reference::reference::message::{query, reply, request, Hash};
 use otap_reference::reference::plan::{group, individual};
 use otap_reference::reference::settings::{
-    GroupSlot, IndividualSlot, LastItem, LineEntry, LineFlags, Operation, Setting, Text, TextEntry,
+    GroupSlot, IndividualSlot, LastItem, LineEntry, LineFlags, Operation, Setting, TextEntry,
 };
+use otap_reference::reference::texts::Text;
 use std::io::{self, Write};
 
 const MORNING: Hash = Hash::Crc(*b"\x20\x26\x11\x15");

@@ -7,7 +7,7 @@ use std::process::ExitCode;
 
 fn main() -> ExitCode {
     let place = std::env::args().nth(1).and_then(|word| word.parse::<usize>().ok());
-    let Some(base) = place.and_then(|place| BASES.get(place)) else {
+    let Some(&base) = place.and_then(|place| BASES.get(place)) else {
         eprintln!("usage: sweep BASE, from 0 to {}", BASES.len() - 1);
         return ExitCode::FAILURE;
     };

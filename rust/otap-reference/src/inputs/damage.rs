@@ -4,6 +4,7 @@ use super::draft::{restate, Draft};
 use super::maker::{Maker, Size, TYPES};
 use super::random::Random;
 use crate::reference::tables::Tables;
+use crate::reference::texts::Coding;
 
 pub fn damaged(random: &mut Random, tables: &Tables, mut draft: Draft) -> Vec<u8> {
     for _ in 0..random.pick(&[0, 1, 1, 1, 1, 2]) {
@@ -11,14 +12,14 @@ pub fn damaged(random: &mut Random, tables: &Tables, mut draft: Draft) -> Vec<u8
     }
     let mut message = draft.bytes();
     if random.percent(25) {
-        damage_bytes(random, tables, &mut message);
+        damage_bytes(random, tables, draft.coding, &mut message);
     }
     message
 }
 
 fn damage_draft(random: &mut Random, tables: &Tables, draft: &mut Draft) {
     let place = random.below(draft.settings.len());
-    match random.below(16) {
+    match random.below(18) {
         0 => data_length(random, draft, place),
         1 => sum(random, draft),
         2 => count(random, &mut draft.settings[place]),
@@ -27,11 +28,12 @@ fn damage_draft(random: &mut Random, tables: &Tables, draft: &mut Draft) {
         11 | 12 => unknown_type(random, draft, place),
         13 => padded(random, &mut draft.settings[place]),
         14 => unended(random, &mut draft.settings[place]),
-        _ => draft.coding = random.bits(8) as u8,
+        15 => other_coding(random, tables, draft, place),
+        _ => coding_byte(random, &mut draft.coding_byte),
     }
 }
 
-fn damage_bytes(random: &mut Random, tables: &Tables, message: &mut Vec<u8>) {
+fn damage_bytes(random: &mut Random, tables: &Tables, coding: Coding, message: &mut Vec<u8>) {
     let place = random.within(6..=message.len() - 1);
     match random.below(6) {
         0 => message[place] = random.bits(8) as u8,
@@ -50,7 +52,7 @@ fn damage_bytes(random: &mut Random, tables: &Tables, message: &mut Vec<u8>) {
         }
         _ => {
             // What is left over may look like a setting.
-            message.extend(Maker { random, tables, slip_after: None }.any(Size::Small));
+            message.extend(Maker { random, tables, coding, slip_after: None }.any(Size::Small));
             restate(random, message);
         }
     }
@@ -90,7 +92,7 @@ fn count(random: &mut Random, setting: &mut [u8]) {
 
 fn last_early(random: &mut Random, tables: &Tables, draft: &mut Draft) {
     let place = random.below(draft.settings.len());
-    let last = Maker { random, tables, slip_after: None }.last();
+    let last = Maker { random, tables, coding: draft.coding, slip_after: None }.last();
     draft.settings.insert(place, last);
     draft.settings.truncate(255);
 }
@@ -102,7 +104,7 @@ fn out_of_range(random: &mut Random, tables: &Tables, draft: &mut Draft) {
     // Small settings may have fewer values than were to stay good: then once more.
     loop {
         let slip_after = Some(random.below(6));
-        let mut maker = Maker { random, tables, slip_after };
+        let mut maker = Maker { random, tables, coding: draft.coding, slip_after };
         let setting = maker.of_type(kind, Size::Small);
         if maker.slip_after.is_none() {
             draft.settings[place] = setting;
@@ -120,6 +122,27 @@ fn unknown_type(random: &mut Random, draft: &mut Draft, place: usize) {
             draft.settings.truncate(255);
         }
         _ => draft.settings[place][0] = unknown,
+    }
+}
+
+/// A setting whose texts are written in the other coding type, its DataLength true for that one.
+fn other_coding(random: &mut Random, tables: &Tables, draft: &mut Draft, place: usize) {
+    let coding = match draft.coding {
+        Coding::Eight => Coding::Unicode,
+        Coding::Unicode => Coding::Eight,
+    };
+    let kind = random.pick(&[0xCA, 0xCC, 0xD0, 0xD1, 0xD2]);
+    let mut maker = Maker { random, tables, coding, slip_after: None };
+    draft.settings[place] = maker.of_type(kind, Size::Small);
+}
+
+/// The other coding type, one bit off, any of the sixteen, or reserved bits, which must not matter.
+fn coding_byte(random: &mut Random, byte: &mut u8) {
+    match random.below(4) {
+        0 => *byte ^= Coding::Eight.number() ^ Coding::Unicode.number(),
+        1 => *byte ^= 1 << random.below(4),
+        2 => *byte = random.bits(8) as u8,
+        _ => *byte |= (random.bits(4) as u8) << 4,
     }
 }
 

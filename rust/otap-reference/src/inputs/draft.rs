@@ -1,20 +1,27 @@
 //! A request still in pieces, so that it can be damaged where it hurts.
 
 use super::random::Random;
-use crate::reference::message::{first_byte, CODING_UNICODE, MFID, REQUEST, START};
+use crate::reference::message::{first_byte, LONGEST, MFID, REQUEST, START};
+use crate::reference::texts::Coding;
 
 pub struct Draft {
     pub settings: Vec<Vec<u8>>,
     /// ParamSum where it is not the number of settings.
     pub sum: Option<u8>,
-    pub coding: u8,
+    /// What the texts are written in.
+    pub coding: Coding,
+    /// The carrier's byte with the coding type, which need not be that one.
+    pub coding_byte: u8,
     /// Whether the carrier states its length or says 0.
     pub stated: bool,
 }
 
 impl Draft {
-    pub fn new(settings: Vec<Vec<u8>>, stated: bool) -> Self {
-        Draft { settings, sum: None, coding: CODING_UNICODE, stated }
+    /// No settings yet, and either coding type.
+    pub fn new(random: &mut Random) -> Self {
+        let coding = random.pick(&Coding::ALL);
+        let stated = random.percent(70);
+        Draft { settings: Vec::new(), sum: None, coding, coding_byte: coding.number(), stated }
     }
 
     /// Bytes the request takes.
@@ -22,11 +29,17 @@ impl Draft {
         8 + self.settings.iter().map(Vec::len).sum::<usize>()
     }
 
+    pub fn push_if_room(&mut self, setting: Vec<u8>) {
+        if self.size() + setting.len() <= LONGEST && self.settings.len() < 255 {
+            self.settings.push(setting);
+        }
+    }
+
     pub fn bytes(&self) -> Vec<u8> {
         let sum = self.sum.unwrap_or(self.settings.len() as u8);
         let mut data = vec![first_byte(REQUEST), sum];
         self.settings.iter().for_each(|setting| data.extend(setting));
-        carried(self.coding, &data, self.stated)
+        carried(self.coding_byte, &data, self.stated)
     }
 }
 

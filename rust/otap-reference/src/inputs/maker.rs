@@ -4,6 +4,7 @@ use super::random::Random;
 use crate::reference::bits::BitWriter;
 use crate::reference::message::Hash;
 use crate::reference::tables::Tables;
+use crate::reference::texts::Coding;
 
 pub const TYPES: [u8; 9] = [0xCA, 0xCB, 0xCC, 0xCD, 0xCE, 0xCF, 0xD0, 0xD1, 0xD2];
 
@@ -29,6 +30,8 @@ enum Keys {
 pub struct Maker<'a> {
     pub random: &'a mut Random,
     pub tables: &'a Tables,
+    /// What texts are written in.
+    pub coding: Coding,
     /// How many ranged values stay good before one is put out of range, if any is.
     pub slip_after: Option<usize>,
 }
@@ -137,15 +140,20 @@ impl Maker<'_> {
         let slipped = if least > 0 && self.random.flag() { 0 } else { self.random.pick(&too_many) };
         let length = if self.slip() { slipped } else { length };
         self.units(bits, length);
-        bits.bits(0, 16);
+        bits.bits(0, self.coding.width());
     }
 
     fn units(&mut self, bits: &mut BitWriter, length: usize) {
-        let odd = [0x0041, 0x4100, 0x0001, 0x8000, 0x0100, 0xFFFF, 0xD800, 0xDC00, 0x4E2D];
+        let low = [0x0041, 0x0001, 0x007F, 0x0080, 0x00FF];
+        let wide = [0x0041, 0x4100, 0x0001, 0x00FF, 0x8000, 0x0100, 0xFFFF, 0xD800, 0xDC00, 0x4E2D];
+        let (odd, most) = match self.coding {
+            Coding::Eight => (&low[..], 0xFF),
+            Coding::Unicode => (&wide[..], 0xFFFF),
+        };
         for _ in 0..length {
-            let any = self.random.within(1..=0xFFFF) as u32;
-            let unit = if self.random.flag() { self.random.pick(&odd) } else { any };
-            bits.bits(unit, 16);
+            let any = self.random.within(1..=most) as u32;
+            let unit = if self.random.flag() { self.random.pick(odd) } else { any };
+            bits.bits(unit, self.coding.width());
         }
     }
 

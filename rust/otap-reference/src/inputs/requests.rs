@@ -20,8 +20,8 @@ pub fn request(random: &mut Random, tables: &Tables) -> Draft {
     }
 }
 
-fn maker<'a>(random: &'a mut Random, tables: &'a Tables) -> Maker<'a> {
-    Maker { random, tables, slip_after: None }
+fn maker<'a>(random: &'a mut Random, tables: &'a Tables, draft: &Draft) -> Maker<'a> {
+    Maker { random, tables, coding: draft.coding, slip_after: None }
 }
 
 fn any_size(random: &mut Random) -> Size {
@@ -33,63 +33,57 @@ fn any_size(random: &mut Random) -> Size {
 }
 
 fn few(random: &mut Random, tables: &Tables) -> Draft {
-    let mut draft = Draft::new(Vec::new(), random.percent(70));
+    let mut draft = Draft::new(random);
     for _ in 0..random.pick(&[0, 1, 1, 1, 2, 3, 5]) {
         let size = any_size(random);
-        push_if_room(&mut draft, maker(random, tables).any(size));
+        draft.push_if_room(maker(random, tables, &draft).any(size));
     }
     if draft.settings.is_empty() || random.flag() {
-        push_if_room(&mut draft, maker(random, tables).last());
+        draft.push_if_room(maker(random, tables, &draft).last());
     }
     draft
 }
 
 /// Up to 255 small settings, ParamSum's whole width.
 fn many(random: &mut Random, tables: &Tables) -> Draft {
-    let mut draft = Draft::new(Vec::new(), random.percent(70));
+    let mut draft = Draft::new(random);
     let count = random.pick(&[20, 100, 254, 254]);
     for _ in 0..count {
         // Mostly types that always have room, or few such requests would be taken.
         let kind = random.pick(&[0xCB, 0xCC, 0xCD, 0xCF, 0xCF, 0xCB, 0xD1, 0xD2, 0xCE, 0xCA]);
         let few_room = matches!(kind, 0xCA | 0xCE) && random.percent(90);
         let kind = if few_room { 0xCD } else { kind };
-        push_if_room(&mut draft, maker(random, tables).of_type(kind, Size::Small));
+        draft.push_if_room(maker(random, tables, &draft).of_type(kind, Size::Small));
     }
-    push_if_room(&mut draft, maker(random, tables).last());
+    draft.push_if_room(maker(random, tables, &draft).last());
     draft
-}
-
-fn push_if_room(draft: &mut Draft, setting: Vec<u8>) {
-    if draft.size() + setting.len() <= LONGEST && draft.settings.len() < 255 {
-        draft.settings.push(setting);
-    }
 }
 
 /// A request of exactly `length` bytes.
 pub fn long(random: &mut Random, tables: &Tables, length: usize) -> Draft {
-    let mut draft = Draft::new(Vec::new(), random.percent(70));
+    let mut draft = Draft::new(random);
     for _ in 0..random.below(5) {
-        let setting = maker(random, tables).any(Size::Large);
+        let setting = maker(random, tables, &draft).any(Size::Large);
         if draft.size() + setting.len() + 60 <= length {
             draft.settings.push(setting);
         }
     }
-    let last = random.flag().then(|| maker(random, tables).last());
+    let last = random.flag().then(|| maker(random, tables, &draft).last());
     let kept = last.as_ref().map_or(0, Vec::len);
     while draft.size() + kept < length {
         let left = length - draft.size() - kept;
-        draft.settings.push(filler(random, tables, left));
+        draft.settings.push(filler(random, tables, &draft, left));
     }
     draft.settings.extend(last);
     draft
 }
 
 /// A setting that always has room, of a size that leaves nothing or at least 4 bytes.
-fn filler(random: &mut Random, tables: &Tables, left: usize) -> Vec<u8> {
+fn filler(random: &mut Random, tables: &Tables, draft: &Draft, left: usize) -> Vec<u8> {
     loop {
         let kind = random.pick(&[0xCB, 0xCD, 0xD0, 0xD1, 0xD2, 0xCC, 0xCE]);
         let size = if left > 1_000 { Size::Large } else { Size::Small };
-        let setting = maker(random, tables).of_type(kind, size);
+        let setting = maker(random, tables, draft).of_type(kind, size);
         let is_channel_add = setting[0] == 0xCE && setting[3] >> 6 != 2;
         let fits = setting.len() == left || setting.len() + 4 <= left;
         if fits && (!is_channel_add || left < 60) {
@@ -100,11 +94,11 @@ fn filler(random: &mut Random, tables: &Tables, left: usize) -> Vec<u8> {
 
 /// Deletes some lines and adds as many new ones as then fit, at times one more.
 fn fill_lines(random: &mut Random, tables: &Tables) -> Draft {
-    let mut draft = Draft::new(Vec::new(), random.percent(70));
+    let mut draft = Draft::new(random);
     let deleted = if random.flag() { 0 } else { random.below(tables.lines.len() + 1) };
     let gone: Vec<_> = tables.lines[..deleted].iter().map(|line| line.digits.clone()).collect();
     if deleted > 0 {
-        draft.settings.push(maker(random, tables).delete_lines(gone));
+        draft.settings.push(maker(random, tables, &draft).delete_lines(gone));
     }
     let free = MOST_LINES - tables.lines.len() + deleted;
     let new = match random.below(4) {
@@ -112,24 +106,24 @@ fn fill_lines(random: &mut Random, tables: &Tables) -> Draft {
         1 => free.saturating_sub(random.below(4)),
         _ => free,
     };
-    let mut keys: Vec<_> = (0..new).map(|_| maker(random, tables).fresh_key()).collect();
+    let mut keys: Vec<_> = (0..new).map(|_| maker(random, tables, &draft).fresh_key()).collect();
     // Lines still there need no new place, wherever they stand among the new ones.
     for line in &tables.lines[deleted..] {
         if random.percent(20) {
             keys.insert(random.below(keys.len() + 1), line.digits.clone());
         }
     }
-    push_if_room(&mut draft, maker(random, tables).add_lines(keys));
+    draft.push_if_room(maker(random, tables, &draft).add_lines(keys));
     finish_fill(random, tables, draft)
 }
 
 fn fill_channels(random: &mut Random, tables: &Tables) -> Draft {
-    let mut draft = Draft::new(Vec::new(), random.percent(70));
+    let mut draft = Draft::new(random);
     let mut kept = tables.channels.clone();
     if !kept.is_empty() && random.flag() {
         let gone = random.pick(&kept);
         kept.retain(|&channel| channel != gone);
-        draft.settings.push(maker(random, tables).delete_channel(gone));
+        draft.settings.push(maker(random, tables, &draft).delete_channel(gone));
     }
     let free = MOST_CHANNELS - kept.len();
     let new = match random.below(4) {
@@ -137,16 +131,16 @@ fn fill_channels(random: &mut Random, tables: &Tables) -> Draft {
         1 => free / 2,
         _ => free,
     };
-    draft.settings.push(maker(random, tables).add_channels(new));
+    draft.settings.push(maker(random, tables, &draft).add_channels(new));
     finish_fill(random, tables, draft)
 }
 
 fn finish_fill(random: &mut Random, tables: &Tables, mut draft: Draft) -> Draft {
     for _ in 0..random.pick(&[0, 0, 1, 2]) {
-        push_if_room(&mut draft, maker(random, tables).any(Size::Small));
+        draft.push_if_room(maker(random, tables, &draft).any(Size::Small));
     }
     if random.percent(60) {
-        push_if_room(&mut draft, maker(random, tables).last());
+        draft.push_if_room(maker(random, tables, &draft).last());
     }
     draft
 }

@@ -1,34 +1,42 @@
-//! Every one-byte change of some small good requests and queries.
+//! Every one-byte change of some small good requests and queries, under both coding types.
 
 use super::draft::carried;
 
-/// One or more settings each, every type with every operation among them.
-pub const BASES: [&[u8]; 20] = [
-    &[8, 1, 0xCA, 0, 9, 0x42, 1, 0x23, 0x45, 0xFF, 0, 0],
-    &[8, 1, 0xCA, 0, 14, 0xC0, 2, 0x12, 0x3F, 0, 0x41, 0, 0, 0x1F, 0, 0],
-    &[8, 1, 0xCA, 0, 8, 0x80, 1, 0x12, 0x3F, 0, 0],
-    &[8, 1, 0xCB, 0, 6, 0x78, 0x10, 0x00, 0x01],
-    &[8, 2, 0xCB, 0, 3, 0xC8, 0xFF, 0, 3, 0xC0],
-    &[8, 1, 0xCC, 0, 13, 0xC2, 5, 0, 0x41, 0, 0, 6, 0, 0x41, 0, 0],
-    &[8, 1, 0xCC, 0, 6, 0x81, 5, 0, 0],
-    &[8, 1, 0xCC, 0, 8, 0x41, 63, 0x4E, 0x2D, 0, 0],
-    &[8, 1, 0xCD, 0, 5, 0x07, 0xE4, 0xC0],
-    &[8, 1, 0xCE, 0, 7, 0xC0, 2, 0x0F, 0x12, 0x80],
-    &[8, 1, 0xCE, 0, 6, 0x80, 1, 0x0F, 0x1F],
-    &[8, 2, 0xCE, 0, 9, 0x40, 3, 0x0F, 0x12, 0x80, 0x0F, 0x1F, 0xCD, 0, 5, 0, 0, 0],
-    &[8, 1, 0xCF, 0, 5, 0x12, 0x38, 0xA0],
-    &[8, 1, 0xD0, 0, 12, 0xC0, 2, 0x20, 0, 0, 0x7F, 0, 0x41, 0, 0],
-    &[8, 1, 0xD1, 0, 11, 0x60, 0x0F, 0x10, 0x00, 0x01, 0, 0x41, 0, 0],
-    &[8, 1, 0xD1, 0, 9, 0x80, 0x0F, 0, 0, 0, 0, 0],
-    &[8, 2, 0xD2, 0, 9, 0x40, 0x0F, 0xFF, 0xFF, 0xFF, 0, 0, 0xFF, 0, 7, 0xC1, 1, 2, 3, 4],
-    &[8, 1, 0xFF, 0, 13, 2, 1, 2, 3, 4, 5, 6, 7, 8, 9, 10],
-    &[13, 1, 1, 2, 3, 4],
-    &[13, 2, 1, 2, 3, 4, 5, 6, 7, 8, 9, 10],
+/// A coding type, and data with one or more settings: every type with every operation among them, and those with texts under both.
+pub const BASES: [(u8, &[u8]); 28] = [
+    (7, &[8, 1, 0xCA, 0, 9, 0x42, 1, 0x23, 0x45, 0xFF, 0, 0]),
+    (7, &[8, 1, 0xCA, 0, 14, 0xC0, 2, 0x12, 0x3F, 0, 0x41, 0, 0, 0x1F, 0, 0]),
+    (7, &[8, 1, 0xCA, 0, 8, 0x80, 1, 0x12, 0x3F, 0, 0]),
+    (7, &[8, 1, 0xCB, 0, 6, 0x78, 0x10, 0x00, 0x01]),
+    (7, &[8, 2, 0xCB, 0, 3, 0xC8, 0xFF, 0, 3, 0xC0]),
+    (7, &[8, 1, 0xCC, 0, 13, 0xC2, 5, 0, 0x41, 0, 0, 6, 0, 0x41, 0, 0]),
+    (7, &[8, 1, 0xCC, 0, 6, 0x81, 5, 0, 0]),
+    (7, &[8, 1, 0xCC, 0, 8, 0x41, 63, 0x4E, 0x2D, 0, 0]),
+    (7, &[8, 1, 0xCD, 0, 5, 0x07, 0xE4, 0xC0]),
+    (7, &[8, 1, 0xCE, 0, 7, 0xC0, 2, 0x0F, 0x12, 0x80]),
+    (7, &[8, 1, 0xCE, 0, 6, 0x80, 1, 0x0F, 0x1F]),
+    (7, &[8, 2, 0xCE, 0, 9, 0x40, 3, 0x0F, 0x12, 0x80, 0x0F, 0x1F, 0xCD, 0, 5, 0, 0, 0]),
+    (7, &[8, 1, 0xCF, 0, 5, 0x12, 0x38, 0xA0]),
+    (7, &[8, 1, 0xD0, 0, 12, 0xC0, 2, 0x20, 0, 0, 0x7F, 0, 0x41, 0, 0]),
+    (7, &[8, 1, 0xD1, 0, 11, 0x60, 0x0F, 0x10, 0x00, 0x01, 0, 0x41, 0, 0]),
+    (7, &[8, 1, 0xD1, 0, 9, 0x80, 0x0F, 0, 0, 0, 0, 0]),
+    (7, &[8, 2, 0xD2, 0, 9, 0x40, 0x0F, 0xFF, 0xFF, 0xFF, 0, 0, 0xFF, 0, 7, 0xC1, 1, 2, 3, 4]),
+    (7, &[8, 1, 0xFF, 0, 13, 2, 1, 2, 3, 4, 5, 6, 7, 8, 9, 10]),
+    (7, &[13, 1, 1, 2, 3, 4]),
+    (7, &[13, 2, 1, 2, 3, 4, 5, 6, 7, 8, 9, 10]),
+    (4, &[8, 1, 0xCA, 0, 12, 0x42, 2, 0x23, 0x45, 0xFF, 0x41, 0, 0x12, 0x3F, 0]),
+    (4, &[8, 1, 0xCA, 0, 8, 0x80, 1, 0x12, 0x3F, 0xFF, 0]),
+    (4, &[8, 1, 0xCC, 0, 10, 0xC2, 5, 0x41, 0, 6, 0xFF, 0x80, 0]),
+    (4, &[8, 1, 0xCC, 0, 5, 0x81, 5, 0]),
+    (4, &[8, 1, 0xD0, 0, 10, 0xC0, 2, 0x20, 0, 0x7F, 0x41, 0xFF, 0]),
+    (4, &[8, 1, 0xD1, 0, 10, 0x60, 0, 0x10, 0, 1, 0x41, 0x31, 0]),
+    (4, &[8, 1, 0xD1, 0, 8, 0x80, 15, 0, 0, 0, 0]),
+    (4, &[8, 2, 0xD2, 0, 8, 0x40, 15, 0xFF, 0xFF, 0xFF, 0, 0xCE, 0, 6, 0xC0, 1, 15, 0x1F]),
 ];
 
 /// The base, its every one-byte change, every cut with a true length, and every extension by one.
-pub fn sweep(base: &[u8]) -> Vec<Vec<u8>> {
-    let good = carried(7, base, true);
+pub fn sweep((coding, base): (u8, &[u8])) -> Vec<Vec<u8>> {
+    let good = carried(coding, base, true);
     let mut messages = vec![good.clone()];
     for place in 0..good.len() {
         for value in 0..=255 {
@@ -39,7 +47,7 @@ pub fn sweep(base: &[u8]) -> Vec<Vec<u8>> {
         // Once more, so that later changes meet the state the base leaves.
         messages.push(good.clone());
     }
-    messages.extend((1..base.len()).map(|length| carried(7, &base[..length], true)));
-    messages.extend((0..=255).map(|value| carried(7, &[base, &[value]].concat(), true)));
+    messages.extend((1..base.len()).map(|length| carried(coding, &base[..length], true)));
+    messages.extend((0..=255).map(|value| carried(coding, &[base, &[value]].concat(), true)));
     messages
 }

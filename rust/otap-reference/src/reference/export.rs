@@ -2,8 +2,9 @@
 
 use super::message::request;
 use super::numbers::{BUFFER_SHORT, NOT_A_STORE, NO_SUCH_PART, TAKEN};
-use super::settings::{LineEntry, LineFlags, Operation, Setting, Text, TextEntry};
+use super::settings::{LineEntry, LineFlags, Operation, Setting, TextEntry};
 use super::tables::{Set, Tables, FIRST_STATUS};
+use super::texts::Text;
 
 pub const EXPORT_ROOM: usize = 4_096;
 pub const PARTS: u8 = 7;

@@ -1,6 +1,7 @@
 //! The carrier and the three messages in it: request, result query, reply.
 
 use super::bits::{BitReader, BitWriter};
+use super::texts::Coding;
 
 pub const START: [u8; 2] = [0x02, 0x02];
 pub const MFID: u8 = 0x08;
@@ -9,7 +10,6 @@ pub const REQUEST: u8 = 0;
 pub const REPLY: u8 = 1;
 pub const QUERY: u8 = 5;
 pub const CODING_BINARY: u8 = 0;
-pub const CODING_UNICODE: u8 = 7;
 pub const SHORTEST: usize = 7;
 pub const LONGEST: usize = 4_096;
 
@@ -95,10 +95,15 @@ pub fn asked(body: &[u8]) -> Option<Hash> {
     bits.at_end().then_some(hash)
 }
 
+/// A request under 0111, as every export is.
 pub fn request(settings: &[Vec<u8>]) -> Vec<u8> {
+    request_as(Coding::Unicode, settings)
+}
+
+pub fn request_as(coding: Coding, settings: &[Vec<u8>]) -> Vec<u8> {
     let mut data = vec![first_byte(REQUEST), settings.len() as u8];
     settings.iter().for_each(|setting| data.extend(setting));
-    carry(CODING_UNICODE, &data)
+    carry(coding.number(), &data)
 }
 
 pub fn query(hash: &Hash) -> Vec<u8> {

@@ -10,4 +10,5 @@ pub mod screen;
 pub mod settings;
 pub mod tables;
 pub mod take;
+pub mod texts;
 pub mod writing;

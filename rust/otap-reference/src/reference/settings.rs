@@ -3,11 +3,9 @@
 use super::bits::BitReader;
 use super::message::Hash;
 use super::plan::{GroupAddress, IndividualAddress};
+use super::texts::{Coding, Text, QUICK_TEXT, SHORT_TEXT};
+use std::ops::RangeInclusive;
 
-pub type Text = Vec<u16>;
-
-pub const SHORT_TEXT: usize = 16;
-pub const QUICK_TEXT: usize = 23;
 pub const MOST_DIGITS: usize = 18;
 
 #[derive(Clone, Copy, Debug, PartialEq, Eq)]
@@ -111,14 +109,28 @@ pub enum Fault {
     Field,
 }
 
+/// The DataLengths that a type may have; those of D1 and D2, which end with one text, go by its coding type.
+pub fn bounds(kind: u8, coding: Coding) -> RangeInclusive<usize> {
+    const ANY: usize = u16::MAX as usize;
+    match (kind, coding) {
+        (0xCB, _) => 3..=6,
+        (0xCC, _) => 3..=ANY,
+        (0xCD | 0xCF, _) => 5..=5,
+        (0xD1 | 0xD2, Coding::Eight) => 8..=24,
+        (0xD1 | 0xD2, Coding::Unicode) => 9..=41,
+        (0xFF, _) => 3..=13,
+        _ => 4..=ANY,
+    }
+}
+
 /// Reads one setting at the start of `bytes`, and says how many bytes it took.
-pub fn parse(bytes: &[u8], is_last: bool) -> Result<(Setting, usize), Fault> {
+pub fn parse(bytes: &[u8], coding: Coding, is_last: bool) -> Result<(Setting, usize), Fault> {
     let kind = *bytes.first().ok_or(Fault::Field)?;
     if !matches!(kind, 0xCA..=0xD2 | 0xFF) {
         return Err(Fault::UnknownType);
     }
     let mut bits = BitReader::new(&bytes[1..]);
-    let (length, setting) = read_fields(kind, &mut bits).ok_or(Fault::Field)?;
+    let (length, setting) = read_fields(kind, coding, &mut bits).ok_or(Fault::Field)?;
     // DataLength is only ever compared, never used to skip.
     if length != bits.bytes_read() || (kind == 0xFF && !is_last) {
         return Err(Fault::Field);
@@ -126,24 +138,27 @@ pub fn parse(bytes: &[u8], is_last: bool) -> Result<(Setting, usize), Fault> {
     Ok((setting, 1 + length))
 }
 
-fn read_fields(kind: u8, bits: &mut BitReader) -> Option<(usize, Setting)> {
-    let length = bits.bits(16)? as usize;
+fn read_fields(kind: u8, coding: Coding, bits: &mut BitReader) -> Option<(usize, Setting)> {
+    let length = bits.bits(16).map(|length| length as usize)?;
+    if !bounds(kind, coding).contains(&length) {
+        return None;
+    }
     let setting = match kind {
-        0xCA => read_lines(bits),
+        0xCA => read_lines(coding, bits),
         0xCB => read_emergency(bits),
-        0xCC => read_quick_texts(bits),
+        0xCC => read_quick_texts(coding, bits),
         0xCD => read_home(bits),
         0xCE => read_channels(bits),
         0xCF => read_system(bits),
-        0xD0 => read_status_texts(bits),
-        0xD1 => read_group(bits),
-        0xD2 => read_individual(bits),
+        0xD0 => read_status_texts(coding, bits),
+        0xD1 => read_group(coding, bits),
+        0xD2 => read_individual(coding, bits),
         _ => read_last(bits),
     }?;
     Some((length, setting))
 }
 
-fn read_lines(bits: &mut BitReader) -> Option<Setting> {
+fn read_lines(coding: Coding, bits: &mut BitReader) -> Option<Setting> {
     let operation = read_operation(bits)?;
     let flags = LineFlags {
         encryption: bits.flag()?,
@@ -154,7 +169,12 @@ fn read_lines(bits: &mut BitReader) -> Option<Setting> {
     bits.bits(1)?;
     let count = bits.bits(8)?;
     let entries = (0..count)
-        .map(|_| Some(LineEntry { digits: read_digits(bits)?, text: read_text(bits, SHORT_TEXT)? }))
+        .map(|_| {
+            Some(LineEntry {
+                digits: read_digits(bits)?,
+                text: coding.read_text(bits, SHORT_TEXT)?,
+            })
+        })
         .collect::<Option<_>>()?;
     Some(Setting::Lines { operation, flags, entries })
 }
@@ -175,14 +195,14 @@ fn read_emergency(bits: &mut BitReader) -> Option<Setting> {
     Some(Setting::Emergency(key))
 }
 
-fn read_quick_texts(bits: &mut BitReader) -> Option<Setting> {
+fn read_quick_texts(coding: Coding, bits: &mut BitReader) -> Option<Setting> {
     let operation = read_operation(bits)?;
     let count = bits.bits(6)?;
     let entries = (0..count)
         .map(|_| {
             bits.bits(2)?;
             let key = bits.bits(6)? as u8;
-            let text = read_text(bits, QUICK_TEXT)?;
+            let text = coding.read_text(bits, QUICK_TEXT)?;
             let allowed = operation == Operation::Delete || !text.is_empty();
             allowed.then_some(TextEntry { key, text })
         })
@@ -220,20 +240,20 @@ fn read_system(bits: &mut BitReader) -> Option<Setting> {
     (code.la <= 8 && code.roaming != 0b11).then_some(Setting::System(code))
 }
 
-fn read_status_texts(bits: &mut BitReader) -> Option<Setting> {
+fn read_status_texts(coding: Coding, bits: &mut BitReader) -> Option<Setting> {
     let operation = read_operation(bits)?;
     bits.bits(6)?;
     let count = bits.bits(8)?;
     let entries = (0..count)
         .map(|_| {
             let key = bits.byte().filter(|code| (32..=127).contains(code))?;
-            Some(TextEntry { key, text: read_text(bits, SHORT_TEXT)? })
+            Some(TextEntry { key, text: coding.read_text(bits, SHORT_TEXT)? })
         })
         .collect::<Option<_>>()?;
     Some(Setting::StatusTexts { operation, entries })
 }
 
-fn read_group(bits: &mut BitReader) -> Option<Setting> {
+fn read_group(coding: Coding, bits: &mut BitReader) -> Option<Setting> {
     let operation = read_operation(bits).filter(|&op| op != Operation::Replace)?;
     let mut slot = GroupSlot {
         attribute: bits.bits(2)? as u8,
@@ -248,7 +268,7 @@ fn read_group(bits: &mut BitReader) -> Option<Setting> {
     bits.bits(2)?;
     let index = bits.bits(4)? as u8;
     slot.address = GroupAddress(bits.bits(24)?);
-    slot.text = read_text(bits, SHORT_TEXT)?;
+    slot.text = coding.read_text(bits, SHORT_TEXT)?;
     // In a delete only the index counts, but the text was held to its form above.
     if operation == Operation::Delete {
         return Some(Setting::Group { index, slot: None });
@@ -257,7 +277,7 @@ fn read_group(bits: &mut BitReader) -> Option<Setting> {
     allowed.then_some(Setting::Group { index, slot: Some(slot) })
 }
 
-fn read_individual(bits: &mut BitReader) -> Option<Setting> {
+fn read_individual(coding: Coding, bits: &mut BitReader) -> Option<Setting> {
     let operation = read_operation(bits).filter(|&op| op != Operation::Replace)?;
     let mut slot = IndividualSlot {
         encryption: bits.flag()?,
@@ -269,7 +289,7 @@ fn read_individual(bits: &mut BitReader) -> Option<Setting> {
     bits.bits(6)?;
     let index = bits.bits(4)? as u8;
     slot.address = IndividualAddress(bits.bits(24)?);
-    slot.text = read_text(bits, SHORT_TEXT)?;
+    slot.text = coding.read_text(bits, SHORT_TEXT)?;
     // In a delete only the index counts, but the text was held to its form above.
     if operation == Operation::Delete {
         return Some(Setting::Individual { index, slot: None });
@@ -291,18 +311,6 @@ fn read_operation(bits: &mut BitReader) -> Option<Operation> {
         0b10 => Some(Operation::Delete),
         0b11 => Some(Operation::Replace),
         _ => None,
-    }
-}
-
-/// Units up to the end unit 0000, which must come after at most `most` of them.
-fn read_text(bits: &mut BitReader, most: usize) -> Option<Text> {
-    let mut text = Text::new();
-    loop {
-        match bits.bits(16)? as u16 {
-            0 => return Some(text),
-            _ if text.len() == most => return None,
-            unit => text.push(unit),
-        }
     }
 }
 

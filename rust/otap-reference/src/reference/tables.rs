@@ -3,8 +3,9 @@
 use super::message::Hash;
 use super::settings::{
     EmergencyKey, GroupSlot, HomeNumbers, IndividualSlot, LineEntry, LineFlags, Operation, Setting,
-    SystemCode, Text, TextEntry,
+    SystemCode, TextEntry,
 };
+use super::texts::Text;
 
 pub const MOST_LINES: usize = 32;
 pub const MOST_CHANNELS: usize = 64;

@@ -4,6 +4,7 @@ use super::message::{self, asked, open, Hash, Opened};
 use super::numbers::*;
 use super::settings::{parse, Fault, LastItem, Setting};
 use super::tables::{NoRoom, Set};
+use super::texts::Coding;
 
 pub const REPLY_ROOM: usize = 20;
 
@@ -104,15 +105,13 @@ fn answer_query(body: &[u8], set: &Set) -> Verdict {
 /// The set after the request and its last item, or the number and failed ID.
 fn read_request(opened: &Opened, set: &Set) -> Result<(Set, Option<LastItem>), (u8, u8)> {
     let sum = *opened.body.first().unwrap_or(&0);
-    if sum == 0 || opened.coding != message::CODING_UNICODE {
-        return Err((BAD_FIELD, 0));
-    }
+    let coding = Coding::from_number(opened.coding).filter(|_| sum != 0).ok_or((BAD_FIELD, 0))?;
     let mut rest = &opened.body[1..];
     let mut tables = set.tables.clone();
     let mut last = None;
     for place in 1..=sum {
         let (setting, length) =
-            parse(rest, place == sum).map_err(|fault| (fault_number(fault), place))?;
+            parse(rest, coding, place == sum).map_err(|fault| (fault_number(fault), place))?;
         rest = &rest[length..];
         if let Setting::Last(item) = &setting {
             last = Some(item.clone());

@@ -5,47 +5,58 @@ use super::settings::{
     EmergencyKey, GroupSlot, HomeNumbers, IndividualSlot, LastItem, LineEntry, LineFlags,
     Operation, Setting, SystemCode, TextEntry,
 };
+use super::texts::Coding;
 
 impl Setting {
-    /// The type byte, DataLength and fields, reserved bits 0.
+    /// The writing under 0111, which every text of units has.
     pub fn write(&self) -> Vec<u8> {
+        self.write_as(Coding::Unicode).expect("no unit is 0")
+    }
+
+    /// The type byte, DataLength and fields, reserved bits 0; nothing where a text has no writing under the coding type.
+    pub fn write_as(&self, coding: Coding) -> Option<Vec<u8>> {
         let mut bits = BitWriter::new();
-        let kind = self.write_fields(&mut bits);
+        let kind = self.write_fields(coding, &mut bits)?;
         let fields = bits.finish();
         let mut bytes = vec![kind];
         bytes.extend((fields.len() as u16 + 2).to_be_bytes());
         bytes.extend(fields);
-        bytes
+        Some(bytes)
     }
 
-    fn write_fields(&self, bits: &mut BitWriter) -> u8 {
+    fn write_fields(&self, coding: Coding, bits: &mut BitWriter) -> Option<u8> {
         match self {
             Setting::Lines { operation, flags, entries } => {
-                write_lines(bits, *operation, flags, entries)
+                write_lines(coding, bits, *operation, flags, entries)
             }
-            Setting::Emergency(key) => write_emergency(bits, key),
+            Setting::Emergency(key) => Some(write_emergency(bits, key)),
             Setting::QuickTexts { operation, entries } => {
-                write_quick_texts(bits, *operation, entries)
+                write_quick_texts(coding, bits, *operation, entries)
             }
-            Setting::Home(home) => write_home(bits, home),
-            Setting::Channels { operation, channels } => write_channels(bits, *operation, channels),
-            Setting::System(code) => write_system(bits, code),
+            Setting::Home(home) => Some(write_home(bits, home)),
+            Setting::Channels { operation, channels } => {
+                Some(write_channels(bits, *operation, channels))
+            }
+            Setting::System(code) => Some(write_system(bits, code)),
             Setting::StatusTexts { operation, entries } => {
-                write_status_texts(bits, *operation, entries)
+                write_status_texts(coding, bits, *operation, entries)
             }
-            Setting::Group { index, slot } => write_group(bits, *index, slot.as_ref()),
-            Setting::Individual { index, slot } => write_individual(bits, *index, slot.as_ref()),
-            Setting::Last(item) => write_last(bits, item),
+            Setting::Group { index, slot } => write_group(coding, bits, *index, slot.as_ref()),
+            Setting::Individual { index, slot } => {
+                write_individual(coding, bits, *index, slot.as_ref())
+            }
+            Setting::Last(item) => Some(write_last(bits, item)),
         }
     }
 }
 
 fn write_lines(
+    coding: Coding,
     bits: &mut BitWriter,
     operation: Operation,
     flags: &LineFlags,
     entries: &[LineEntry],
-) -> u8 {
+) -> Option<u8> {
     write_operation(bits, operation);
     bits.flag(flags.encryption);
     bits.flag(flags.emergency);
@@ -55,9 +66,9 @@ fn write_lines(
     bits.bits(entries.len() as u32, 8);
     for entry in entries {
         write_digits(bits, &entry.digits);
-        write_text(bits, &entry.text);
+        coding.write_text(bits, &entry.text)?;
     }
-    0xCA
+    Some(0xCA)
 }
 
 fn write_emergency(bits: &mut BitWriter, key: &EmergencyKey) -> u8 {
@@ -72,15 +83,20 @@ fn write_emergency(bits: &mut BitWriter, key: &EmergencyKey) -> u8 {
     0xCB
 }
 
-fn write_quick_texts(bits: &mut BitWriter, operation: Operation, entries: &[TextEntry]) -> u8 {
+fn write_quick_texts(
+    coding: Coding,
+    bits: &mut BitWriter,
+    operation: Operation,
+    entries: &[TextEntry],
+) -> Option<u8> {
     write_operation(bits, operation);
     bits.bits(entries.len() as u32, 6);
     for entry in entries {
         bits.bits(0, 2);
         bits.bits(u32::from(entry.key), 6);
-        write_text(bits, &entry.text);
+        coding.write_text(bits, &entry.text)?;
     }
-    0xCC
+    Some(0xCC)
 }
 
 fn write_home(bits: &mut BitWriter, home: &HomeNumbers) -> u8 {
@@ -112,18 +128,28 @@ fn write_system(bits: &mut BitWriter, code: &SystemCode) -> u8 {
     0xCF
 }
 
-fn write_status_texts(bits: &mut BitWriter, operation: Operation, entries: &[TextEntry]) -> u8 {
+fn write_status_texts(
+    coding: Coding,
+    bits: &mut BitWriter,
+    operation: Operation,
+    entries: &[TextEntry],
+) -> Option<u8> {
     write_operation(bits, operation);
     bits.bits(0, 6);
     bits.bits(entries.len() as u32, 8);
     for entry in entries {
         bits.bits(u32::from(entry.key), 8);
-        write_text(bits, &entry.text);
+        coding.write_text(bits, &entry.text)?;
     }
-    0xD0
+    Some(0xD0)
 }
 
-fn write_group(bits: &mut BitWriter, index: u8, slot: Option<&GroupSlot>) -> u8 {
+fn write_group(
+    coding: Coding,
+    bits: &mut BitWriter,
+    index: u8,
+    slot: Option<&GroupSlot>,
+) -> Option<u8> {
     write_operation(bits, slot_operation(slot));
     bits.bits(slot.map_or(0, |slot| u32::from(slot.attribute)), 2);
     bits.flag(slot.is_some_and(|slot| slot.broadcast));
@@ -134,11 +160,16 @@ fn write_group(bits: &mut BitWriter, index: u8, slot: Option<&GroupSlot>) -> u8 
     bits.bits(0, 2);
     bits.bits(u32::from(index), 4);
     bits.bits(slot.map_or(0, |slot| slot.address.0), 24);
-    write_text(bits, slot.map_or(&[], |slot| &slot.text[..]));
-    0xD1
+    coding.write_text(bits, slot.map_or(&[], |slot| &slot.text[..]))?;
+    Some(0xD1)
 }
 
-fn write_individual(bits: &mut BitWriter, index: u8, slot: Option<&IndividualSlot>) -> u8 {
+fn write_individual(
+    coding: Coding,
+    bits: &mut BitWriter,
+    index: u8,
+    slot: Option<&IndividualSlot>,
+) -> Option<u8> {
     write_operation(bits, slot_operation(slot));
     bits.flag(slot.is_some_and(|slot| slot.encryption));
     bits.flag(slot.is_some_and(|slot| slot.emergency));
@@ -146,8 +177,8 @@ fn write_individual(bits: &mut BitWriter, index: u8, slot: Option<&IndividualSlo
     bits.bits(0, 6);
     bits.bits(u32::from(index), 4);
     bits.bits(slot.map_or(0, |slot| slot.address.0), 24);
-    write_text(bits, slot.map_or(&[], |slot| &slot.text[..]));
-    0xD2
+    coding.write_text(bits, slot.map_or(&[], |slot| &slot.text[..]))?;
+    Some(0xD2)
 }
 
 fn write_last(bits: &mut BitWriter, item: &LastItem) -> u8 {
@@ -172,11 +203,6 @@ fn write_operation(bits: &mut BitWriter, operation: Operation) {
         Operation::Replace => 0b11,
     };
     bits.bits(value, 2);
-}
-
-fn write_text(bits: &mut BitWriter, text: &[u16]) {
-    text.iter().for_each(|&unit| bits.bits(u32::from(unit), 16));
-    bits.bits(0, 16);
 }
 
 fn write_digits(bits: &mut BitWriter, digits: &[u8]) {

@@ -1,5 +1,4 @@
 use Rattle.lists.proofs.Kit.{needs, subst, not-true, not-false}
-use Rattle.writing.specs.Settings.{unicode16}
 use Rattle.read_setting.specs.SettingAt.{SettingAt}
 use Rattle.requests.proofs.RunLaws.{at-end, at-unknown, at-field}
 use Rattle.requests.proofs.Steps.{step-taken, step-full}
@@ -25,8 +24,8 @@ returns : tie.Need-returns
 returns c =
     let a = c .before .before .before .before .before .before .before .before .before .before .before .before .args in
     let k = c .before .before .before .apply in
-    let z = subst (SettingAt unicode16 (a .left) (a .m .now) (a .at)) (c .before .before .before .before .before .before .before .read .given .1) (c .before .before .before .before .before .before .before .before .before .read-setting .ensures) in
-    step-full (a .limits) (a .m .now) (λ i. (c .before .before .before .before .before .before .before .before .before .before .shared-slice-known .given i) .fits) (a .left) (a .at) (a .work .now) _ (c .before .before .before .before .before .before .before .read .given .0 .0) (c .before .before .before .before .before .before .before .read .given .0 .1 .0) (k .result) z (k .ensures) (not-true (k .result) (c .if1 .taken))
+    let z = subst (SettingAt (a .coding) (a .left) (a .m .now) (a .at)) (c .before .before .before .before .before .before .before .read .given .1) (c .before .before .before .before .before .before .before .before .before .read-setting .ensures) in
+    step-full (a .coding) (a .limits) (a .m .now) (λ i. (c .before .before .before .before .before .before .before .before .before .before .shared-slice-known .given i) .fits) (a .left) (a .at) (a .work .now) _ (c .before .before .before .before .before .before .before .read .given .0 .0) (c .before .before .before .before .before .before .before .read .given .0 .1 .0) (k .result) z (k .ensures) (not-true (k .result) (c .if1 .taken))
 
 enum-told : tie.Need-enum-told
 enum-told c = search needs
@@ -44,26 +43,26 @@ returns-2 : tie.Need-returns-2
 returns-2 c =
     let a = c .before .before .before .before .before .before .before .before .before .before .before .before .args in
     let k = c .before .before .before .apply in
-    let z = subst (SettingAt unicode16 (a .left) (a .m .now) (a .at)) (c .before .before .before .before .before .before .before .read .given .1) (c .before .before .before .before .before .before .before .before .before .read-setting .ensures) in
-    step-taken (a .limits) (a .m .now) (λ i. (c .before .before .before .before .before .before .before .before .before .before .shared-slice-known .given i) .fits) (a .left) (a .at) (a .work .now) _ (c .before .before .before .before .before .before .before .read .given .0 .0) (c .before .before .before .before .before .before .before .read .given .0 .1 .0) _ (k .result) z (c .before .before .before .before .before .flags-of .ensures) (k .ensures) (not-false (k .result) (c .if1 .left))
+    let z = subst (SettingAt (a .coding) (a .left) (a .m .now) (a .at)) (c .before .before .before .before .before .before .before .read .given .1) (c .before .before .before .before .before .before .before .before .before .read-setting .ensures) in
+    step-taken (a .coding) (a .limits) (a .m .now) (λ i. (c .before .before .before .before .before .before .before .before .before .before .shared-slice-known .given i) .fits) (a .left) (a .at) (a .work .now) _ (c .before .before .before .before .before .before .before .read .given .0 .0) (c .before .before .before .before .before .before .before .read .given .0 .1 .0) _ (k .result) z (c .before .before .before .before .before .flags-of .ensures) (k .ensures) (not-false (k .result) (c .if1 .left))
 
 returns-3 : tie.Need-returns-3
 returns-3 c =
     let a = c .before .before .before .before .before .args in
-    let z = subst (SettingAt unicode16 (a .left) (a .m .now) (a .at)) (c .enum-told .given .1) (c .before .before .read-setting .ensures) in
-    λ was roomy holds. at-end (a .limits) (a .m .now) (λ i. (c .before .before .before .shared-slice-known .given i) .fits) (a .left) was (a .at) z
+    let z = subst (SettingAt (a .coding) (a .left) (a .m .now) (a .at)) (c .enum-told .given .1) (c .before .before .read-setting .ensures) in
+    λ was roomy holds. at-end (a .coding) (a .limits) (a .m .now) (λ i. (c .before .before .before .shared-slice-known .given i) .fits) (a .left) was (a .at) z
 
 returns-4 : tie.Need-returns-4
 returns-4 c =
     let a = c .before .before .before .before .before .args in
-    let z = subst (SettingAt unicode16 (a .left) (a .m .now) (a .at)) (c .enum-told2 .given .1) (c .before .before .read-setting .ensures) in
-    λ was roomy holds. at-unknown (a .limits) (a .m .now) (λ i. (c .before .before .before .shared-slice-known .given i) .fits) (a .left) was (a .at) z
+    let z = subst (SettingAt (a .coding) (a .left) (a .m .now) (a .at)) (c .enum-told2 .given .1) (c .before .before .read-setting .ensures) in
+    λ was roomy holds. at-unknown (a .coding) (a .limits) (a .m .now) (λ i. (c .before .before .before .shared-slice-known .given i) .fits) (a .left) was (a .at) z
 
 returns-5 : tie.Need-returns-5
 returns-5 c =
     let a = c .before .before .before .before .before .args in
-    let z = subst (SettingAt unicode16 (a .left) (a .m .now) (a .at)) (c .enum-told3 .given .1) (c .before .before .read-setting .ensures) in
-    λ was roomy holds. at-field (a .limits) (a .m .now) (λ i. (c .before .before .before .shared-slice-known .given i) .fits) (a .left) was (a .at) z
+    let z = subst (SettingAt (a .coding) (a .left) (a .m .now) (a .at)) (c .enum-told3 .given .1) (c .before .before .read-setting .ensures) in
+    λ was roomy holds. at-field (a .coding) (a .limits) (a .m .now) (λ i. (c .before .before .before .shared-slice-known .given i) .fits) (a .left) was (a .at) z
 
 pub take-setting-spec : {M : Type 1} → statement M
 take-setting-spec =

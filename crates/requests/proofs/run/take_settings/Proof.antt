@@ -8,17 +8,17 @@ use Rattle.requests.proofs.run.take_settings.Statement.{statement}
 use Rattle.requests.proofs.run.take_settings.Tie as tie
 
 abbrev Inv-loop : tie.InvT-loop
-Inv-loop work₀ limits m at count p₀ taken₀ flags₀ work p taken flags =
-    (length work ≡ length work₀) × (taken ≤ count) × ((was : Tables) → Roomy limits → Works limits was work₀ → Along limits m count at was work p taken flags)
+Inv-loop work₀ limits m at count coding p₀ taken₀ flags₀ work p taken flags =
+    (length work ≡ length work₀) × (taken ≤ count) × ((was : Tables) → Roomy limits → Works limits was work₀ → Along coding limits m count at was work p taken flags)
 
 abbrev μ-loop : tie.MeasureT-loop
-μ-loop work₀ limits m at count p₀ taken₀ flags₀ work p taken flags =
+μ-loop work₀ limits m at count coding p₀ taken₀ flags₀ work p taken flags =
     count - taken
 
 loop-holds : tie.Need-loop-holds Inv-loop μ-loop
 loop-holds c =
     let a = c .before .before .args in
-    (refl, omega arith, λ was roomy h. along-start (a .limits) (a .m .now) (a .count) (a .at) was (a .work .now) h)
+    (refl, omega arith, λ was roomy h. along-start (a .coding) (a .limits) (a .m .now) (a .count) (a .at) was (a .work .now) h)
 
 sub-left : tie.Need-sub-left Inv-loop μ-loop
 sub-left c = search needs
@@ -38,8 +38,8 @@ enum-known-step c = search needs
 enum-known-step-2 : tie.Need-enum-known-step-2 Inv-loop μ-loop
 enum-known-step-2 c = search needs
 
-add-t19 : tie.Need-add-t19 Inv-loop μ-loop
-add-t19 c = search needs
+add-t20 : tie.Need-add-t20 Inv-loop μ-loop
+add-t20 c = search needs
 
 same-length : tie.Need-same-length Inv-loop μ-loop
 same-length c = search needs
@@ -49,10 +49,10 @@ returns c =
     let a = c .before .before .before .before .before .before .before .before .before .before .before .args in
     let l = c .before .before .before .before .before .before .before .before .loop in
     let k = c .before .before .before .before .before .take-setting in
-    let z = subst (StepIs (a .limits) (a .count - l .taken - 1) (a .m .now) (l .p) (l .work) (k .last .0)) (c .before .step2 .given .1) (k .ensures) in
+    let z = subst (StepIs (a .coding) (a .limits) (a .count - l .taken - 1) (a .m .now) (l .p) (l .work) (k .last .0)) (c .before .step2 .given .1) (k .ensures) in
     λ was roomy h.
     let x = l .inv .2 was roomy h in
-    along-fault (a .limits) (a .m .now) (a .count) (a .at) was (l .work) (l .p) (l .taken) (l .flags) x _ (c .before .before .before .before .before .before .before .loop-test .taken) (z (x .tables) roomy (x .holds))
+    along-fault (a .coding) (a .limits) (a .m .now) (a .count) (a .at) was (l .work) (l .p) (l .taken) (l .flags) x _ (c .before .before .before .before .before .before .before .loop-test .taken) (z (x .tables) roomy (x .holds))
 
 add-taken : tie.Need-add-taken Inv-loop μ-loop
 add-taken c = search needs
@@ -65,12 +65,12 @@ loop-again c =
     let a = c .before .before .before .before .before .before .before .before .before .before .before .args in
     let l = c .before .before .before .before .before .before .before .before .loop in
     let k = c .before .before .before .before .before .take-setting in
-    let z = subst (StepIs (a .limits) (a .count - l .taken - 1) (a .m .now) (l .p) (l .work) (k .last .0)) (c .before .step .given .1) (k .ensures) in (
+    let z = subst (StepIs (a .coding) (a .limits) (a .count - l .taken - 1) (a .m .now) (l .p) (l .work) (k .last .0)) (c .before .step .given .1) (k .ensures) in (
       search needs,
       search needs,
       λ was roomy h.
           let x = l .inv .2 was roomy h in
-          along-on (a .limits) (a .m .now) (a .count) (a .at) was (l .work) (l .p) (l .taken) (l .flags) x (λ i. (c .before .before .before .before .before .before .before .before .before .shared-slice-known .given i) .fits) (k .last .0) _ _ (c .before .before .before .before .before .before .before .loop-test .taken) (z (x .tables) roomy (x .holds)),
+          along-on (a .coding) (a .limits) (a .m .now) (a .count) (a .at) was (l .work) (l .p) (l .taken) (l .flags) x (λ i. (c .before .before .before .before .before .before .before .before .before .shared-slice-known .given i) .fits) (k .last .0) _ _ (c .before .before .before .before .before .before .before .loop-test .taken) (z (x .tables) roomy (x .holds)),
     )
 
 same-length-2 : tie.Need-same-length-2 Inv-loop μ-loop
@@ -81,7 +81,7 @@ returns-2 c =
     let a = c .before .before .before .before .before .args in
     let l = c .before .before .loop in
     λ was roomy h.
-    along-over (a .limits) (a .m .now) (a .count) (a .at) was (l .work) (l .p) (l .taken) (l .flags) (l .inv .2 was roomy h) (c .before .loop-test .left) (l .inv .1) (c .if1 .taken)
+    along-over (a .coding) (a .limits) (a .m .now) (a .count) (a .at) was (l .work) (l .p) (l .taken) (l .flags) (l .inv .2 was roomy h) (c .before .loop-test .left) (l .inv .1) (c .if1 .taken)
 
 same-length-3 : tie.Need-same-length-3 Inv-loop μ-loop
 same-length-3 c = search needs
@@ -91,7 +91,7 @@ returns-3 c =
     let a = c .before .before .before .before .before .args in
     let l = c .before .before .loop in
     λ was roomy h.
-    along-end (a .limits) (a .m .now) (a .count) (a .at) was (l .work) (l .p) (l .taken) (l .flags) (l .inv .2 was roomy h) (c .before .loop-test .left) (l .inv .1) (c .if1 .left)
+    along-end (a .coding) (a .limits) (a .m .now) (a .count) (a .at) was (l .work) (l .p) (l .taken) (l .flags) (l .inv .2 was roomy h) (c .before .loop-test .left) (l .inv .1) (c .if1 .left)
 
 pub take-settings-spec : {M : Type 1} → statement M
 take-settings-spec =
@@ -106,7 +106,7 @@ take-settings-spec =
     take-setting-requires
     enum-known-step
     enum-known-step-2
-    add-t19
+    add-t20
     same-length
     returns
     add-taken

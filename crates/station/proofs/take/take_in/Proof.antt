@@ -150,7 +150,7 @@ same-length-15 c = search needs
 returns-10 : tie.Need-returns-10
 returns-10 c =
     let a = c .before .before .before .before .before .before .before .before .before .before .before .before .before .before .before .before .before .before .before .before .before .before .args in
-    handled (a .limits) (a .m .now) (a .store .now) (a .reply .now) _ (c .before .before .before .before .before .before .before .before .before .before .before .before .before .before .before .before .before .if1 .left) (was-said (c .before .before .before .before .before .before .before .before .before .before .before .before .before .before .before .is-store .result) (c .before .before .before .before .before .before .before .before .before .before .before .before .before .before .before .is-store .ensures) (c .before .before .before .before .before .before .before .before .before .before .before .before .before .before .if2 .left)) (Request (c .before .before .before .before .before .before .before .before .before .before .before .message2 .given .0 .0) (c .before .before .before .before .before .before .before .before .before .before .before .message2 .given .0 .1 .0)) (subst (MessageIs (a .limits .message) (a .m .now)) (c .before .before .before .before .before .before .before .before .before .before .before .message2 .given .1) (c .before .before .before .before .before .before .before .before .before .before .before .before .before .read-message .ensures)) (λ t h. c .before .before .before .before .before .before .take-request .ensures t h)
+    handled (a .limits) (a .m .now) (a .store .now) (a .reply .now) _ (c .before .before .before .before .before .before .before .before .before .before .before .before .before .before .before .before .before .if1 .left) (was-said (c .before .before .before .before .before .before .before .before .before .before .before .before .before .before .before .is-store .result) (c .before .before .before .before .before .before .before .before .before .before .before .before .before .before .before .is-store .ensures) (c .before .before .before .before .before .before .before .before .before .before .before .before .before .before .if2 .left)) (Request (c .before .before .before .before .before .before .before .before .before .before .before .message2 .given .0 .0) (c .before .before .before .before .before .before .before .before .before .before .before .message2 .given .0 .1 .0) (c .before .before .before .before .before .before .before .before .before .before .before .message2 .given .0 .1 .1 .0)) (subst (MessageIs (a .limits .message) (a .m .now)) (c .before .before .before .before .before .before .before .before .before .before .before .message2 .given .1) (c .before .before .before .before .before .before .before .before .before .before .before .before .before .read-message .ensures)) (λ t h. c .before .before .before .before .before .before .take-request .ensures t h)
 
 pub take-in-spec : {M : Type 1} → statement M
 take-in-spec =

@@ -63,10 +63,10 @@ returns c =
     let y = c .before .before .before .before .before .before .before .before .before .before .before .before .before .clear-hash in
     let k = c .before .before .before .before .before .before .before .before .before .take-settings in
     let g = c .before .before .before .before .before .run .given in
-    let z = subst (RunIs (a .limits) (a .count) (a .m .now) (a .at) _ (k .last .0)) (g .1) (k .ensures) in
+    let z = subst (RunIs (a .coding) (a .limits) (a .count) (a .m .now) (a .at) _ (k .last .0)) (g .1) (k .ensures) in
     λ t h.
     let f = forgotten (a .limits) t (w .last .0) (y .last .0) (s .roomy) (w .ensures l t (s .roomy) h) (y .ensures) in
-    request-refused (a .limits) (a .m .now) (a .count) (a .at) (a .store .now) (a .reply .now) s t _ (k .last .0) f (g .0 .0) _ _ (c .before .before .turn-down .result) z (c .before .before .turn-down .ensures)
+    request-refused (a .coding) (a .limits) (a .m .now) (a .count) (a .at) (a .store .now) (a .reply .now) s t _ (k .last .0) f (g .0 .0) _ _ (c .before .before .turn-down .result) z (c .before .before .turn-down .ensures)
 
 same-length-4 : tie.Need-same-length-4
 same-length-4 c = search needs
@@ -85,10 +85,10 @@ returns-2 c =
     let y = c .before .before .before .before .before .before .before .before .before .before .before .before .before .before .before .before .before .before .before .before .clear-hash in
     let k = c .before .before .before .before .before .before .before .before .before .before .before .before .before .before .before .before .take-settings in
     let g = c .before .before .before .before .before .before .before .before .before .before .before .before .run2 .given in
-    let z = subst (RunIs (a .limits) (a .count) (a .m .now) (a .at) _ (k .last .0)) (g .1) (k .ensures) in
+    let z = subst (RunIs (a .coding) (a .limits) (a .count) (a .m .now) (a .at) _ (k .last .0)) (g .1) (k .ensures) in
     λ t h.
     let f = forgotten (a .limits) t (w .last .0) (y .last .0) (s .roomy) (w .ensures l t (s .roomy) h) (y .ensures) in
-    request-taken (a .limits) (a .m .now) (a .count) (a .at) (a .store .now) (a .reply .now) s t _ (k .last .0) f (g .0 .0) _ _ _ z (c .before .before .before .before .before .before .before .before .save .ensures) (c .before .before .write-reply .ensures big)
+    request-taken (a .coding) (a .limits) (a .m .now) (a .count) (a .at) (a .store .now) (a .reply .now) s t _ (k .last .0) f (g .0 .0) _ _ _ z (c .before .before .before .before .before .before .before .before .save .ensures) (c .before .before .write-reply .ensures big)
 
 pub take-request-spec : {M : Type 1} → statement M
 take-request-spec =

@@ -39,7 +39,7 @@ returns-2 : tie.Need-returns-2
 returns-2 c =
     let a = c .before .before .before .before .before .before .before .before .before .before .args in
     let y = c .before .before .set-place in
-    rw (c .before .before .before .before .before .before .enum-told .given .1) (quick-stepped (a .m .now) (a .operation) (a .place) (a .region .now) (y .last .0) (λ i. (c .before .before .before .before .before .before .before .before .shared-slice-known .given i) .fits) (y .ensures))
+    rw (c .before .before .before .before .before .before .enum-told .given .1) (quick-stepped (a .m .now) (a .operation) (a .place) (a .region .now) (y .last .0) (y .ensures))
 
 same-length-2 : tie.Need-same-length-2
 same-length-2 c = search needs
@@ -48,7 +48,7 @@ returns-3 : tie.Need-returns-3
 returns-3 c =
     let a = c .before .before .before .before .before .before .before .before .before .before .before .before .args in
     let y = c .before .before .set-place2 in
-    rw (c .before .before .before .before .before .before .before .before .enum-told2 .given .1) (status-stepped (a .m .now) (a .operation) (a .place) (a .region .now) (y .last .0) (λ i. (c .before .before .before .before .before .before .before .before .before .before .shared-slice-known .given i) .fits) (y .ensures))
+    rw (c .before .before .before .before .before .before .before .before .enum-told2 .given .1) (status-stepped (a .m .now) (a .operation) (a .place) (a .region .now) (y .last .0) (y .ensures))
 
 pub apply-entry-spec : {M : Type 1} → statement M
 apply-entry-spec =

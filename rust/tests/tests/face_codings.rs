@@ -1,0 +1,142 @@
+//! Texts under coding types 0100 and 0111: the archive behind the face against the reference, and by hand.
+
+use otap::{Outcome, Slice, Store, Table, REPLY_ROOM, SCRATCH_ROOM};
+use otap_reference::inputs::Inputs;
+use otap_reference::reference::message::{request_as, LONGEST};
+use otap_reference::reference::settings::Operation::{self, Add, Delete, Replace};
+use otap_reference::reference::settings::{Setting, TextEntry};
+use otap_reference::reference::texts::Coding;
+use otap_tests::bytes;
+use otap_tests::pair::Pair;
+
+/// Group slot 0: address 100001 hex, name A1.
+const NARROW: &str = "02 02 00 0F 08 04 08 01 D1 00 0A 60 00 10 00 01 41 31 00";
+const WIDE: &str = "02 02 00 12 08 07 08 01 D1 00 0D 60 00 10 00 01 00 41 00 31 00 00";
+
+/// Outcome and failed ID of a message to a fresh store; the reference says the same.
+fn outcome(message: &[u8]) -> (Outcome, u8) {
+    let mut pair = Pair::fresh();
+    let mut bytes = pair.bytes.clone();
+    pair.take(message);
+    let mut reply = [0; REPLY_ROOM];
+    let answer = Store::lent(&mut bytes).take(message, &mut reply);
+    (answer.outcome, answer.failed_id)
+}
+
+/// The same of a request under 0100 with one setting in hex.
+fn narrow(setting: &str) -> (Outcome, u8) {
+    outcome(&request_as(Coding::Eight, &[bytes(setting)]))
+}
+
+const TAKEN: (Outcome, u8) = (Outcome::Taken, 0);
+const FIRST_BAD: (Outcome, u8) = (Outcome::BadField, 1);
+const NONE_READ: (Outcome, u8) = (Outcome::BadField, 0);
+
+/// What a row shows, and of which slice, after a message that is taken.
+fn shown(message: &[u8], table: Table, row: u32) -> (Slice, Vec<u8>) {
+    let mut pair = Pair::fresh();
+    assert_eq!(pair.take(message), 0);
+    let mut scratch = [0; SCRATCH_ROOM];
+    let store = Store::lent(&mut pair.bytes);
+    let row = store.row(table, row, &mut scratch).expect("the row is there");
+    (row.slice(), row.bytes().to_vec())
+}
+
+#[test]
+fn one_name_both_ways() {
+    for message in [NARROW, WIDE] {
+        let row = shown(&bytes(message), Table::Groups, 0);
+        assert_eq!(row, (Slice::Store, bytes("00 41 00 31")));
+    }
+    let (mut one, mut two) = (Pair::fresh(), Pair::fresh());
+    assert_eq!((one.take(&bytes(NARROW)), two.take(&bytes(WIDE))), (0, 0));
+    assert!(one.bytes == two.bytes, "the same names leave the same store");
+    one.compare_exports();
+    assert_eq!(one.compare_rows(), 1);
+}
+
+#[test]
+fn lengths_of_a_slot() {
+    for kind in ["D1", "D2"] {
+        let of = |length: u8, units: usize| {
+            let text = " FF".repeat(units);
+            narrow(&format!("{kind} 00 {length:02X} 60 00 10 00 01{text} 00"))
+        };
+        assert_eq!(of(8, 0), TAKEN);
+        assert_eq!(of(24, 16), TAKEN);
+        assert_eq!(of(25, 17), FIRST_BAD);
+        assert_eq!(of(9, 0), FIRST_BAD);
+        assert_eq!(of(41, 33), FIRST_BAD);
+        assert_eq!(narrow(&format!("{kind} 00 09 60 00 10 00 01 00 00")), FIRST_BAD);
+        assert_eq!(narrow(&format!("{kind} 00 09 60 00 10 00 01 41 31")), FIRST_BAD);
+        assert_eq!(narrow(&format!("{kind} 00 08 80 00 00 00 00 00")), TAKEN);
+    }
+    let nameless = request_as(Coding::Eight, &[bytes("D1 00 08 60 00 10 00 01 00")]);
+    let digits = b"32820900".iter().flat_map(|&digit| [0, digit]).collect();
+    assert_eq!(shown(&nameless, Table::Groups, 0), (Slice::Scratch, digits));
+}
+
+fn quick(operation: Operation, units: usize, coding: Coding) -> (Outcome, u8) {
+    let entries = vec![TextEntry { key: 63, text: vec![0xE9; units] }];
+    let setting = Setting::QuickTexts { operation, entries };
+    outcome(&request_as(coding, &[setting.write_as(coding).expect("E9 is below 256")]))
+}
+
+#[test]
+fn quick_texts_of_both() {
+    for coding in Coding::ALL {
+        for operation in [Add, Delete, Replace] {
+            let empty = if operation == Delete { TAKEN } else { FIRST_BAD };
+            assert_eq!(quick(operation, 0, coding), empty);
+            assert_eq!(quick(operation, 23, coding), TAKEN);
+            assert_eq!(quick(operation, 24, coding), FIRST_BAD);
+        }
+    }
+}
+
+#[test]
+fn other_settings_under_0100() {
+    let status = request_as(Coding::Eight, &[bytes("D0 00 07 40 01 20 FF 00")]);
+    assert_eq!(shown(&status, Table::StatusTexts, 32), (Slice::Store, vec![0x00, 0xFF]));
+    let line = request_as(Coding::Eight, &[bytes("CA 00 0A 42 01 23 45 FF 41 31 00")]);
+    assert_eq!(shown(&line, Table::Lines, 0), (Slice::Store, bytes("00 41 00 31")));
+    assert_eq!(narrow("CE 00 07 C0 02 0F 12 80"), TAKEN);
+    assert_eq!(narrow("D4 00 03 00"), (Outcome::UnknownType, 1));
+}
+
+/// Every value of the carrier's byte, reserved bits too.
+#[test]
+fn coding_types() {
+    for coding in 0..=255 {
+        let (mut narrow, mut wide) = (bytes(NARROW), bytes(WIDE));
+        narrow[5] = coding;
+        wide[5] = coding;
+        let expected = match coding & 0x0F {
+            0b0100 => [TAKEN, FIRST_BAD],
+            0b0111 => [FIRST_BAD, TAKEN],
+            _ => [NONE_READ, NONE_READ],
+        };
+        assert_eq!([outcome(&narrow), outcome(&wide)], expected, "{coding:08b}");
+    }
+}
+
+/// Messages as they come, and each with the coding type of the other: the texts are then misread.
+#[test]
+fn messages_under_the_other_coding_type() {
+    let mut misread = 0;
+    for seed in 7_000..7_060 {
+        let mut inputs = Inputs::new(seed);
+        let mut pair = Pair::fresh();
+        for _ in 0..60 {
+            let message = inputs.message();
+            let number = pair.take(&message);
+            if (7..=LONGEST).contains(&message.len()) {
+                let mut other = message.clone();
+                other[5] ^= 0b0011;
+                misread += usize::from(pair.take(&other) == 4 && number == 0);
+            }
+        }
+        pair.compare_exports();
+    }
+    assert!(misread > 300, "{misread} taken under one coding type only");
+}
