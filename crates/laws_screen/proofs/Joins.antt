@@ -8,6 +8,8 @@ use Rattle.tables.specs.Limits.{slot-places}
 use Rattle.tables.specs.Store.{StoreOf, Holds}
 use Rattle.tables.specs.Tables.{Tables, GroupMember, IndividualMember, fresh}
 use Rattle.tables.proofs.LayoutLaws.{holds-store}
+use Rattle.menu.specs.Menu.{Told, counting, counts-of}
+use Rattle.menu.proofs.Theorems.{counts-are}
 use Rattle.screen.specs.declared.rows.Row.{Row}
 use Rattle.screen.specs.declared.rows.Row.the-variants.{Group, Individual}
 use Rattle.screen.specs.Rows.{Caption, group, individual, caption, of, Display, units, text-or, unit-bytes}
@@ -46,6 +48,10 @@ module _ (lim : Limits) (log : List (List Setting)) (store : List ℕ) (r : Reac
       by (inr (l, inr (s, inl (none-there, e)))) c k = subst (λ (d : Option Caption). RowNumber d n) (sym (none-there t (reached-tables .1)) ∙ k) e
       by (inr (l, inr (s, inr (some-there, e)))) none k = absurd (some-there (λ u h. ap (λ v. caption v row) (one-tables lim store u t h (reached-tables .1)) ∙ k))
       by (inr (l, inr (s, inr (some-there, e)))) (some c) k = e
+
+  -- JOINED COUNTS: the counts' call answers 0 and the lengths of the lists of those tables
+  pub joined-counts : (a : Told) → Answers (counting lim store) a → a ≡ counts-of t
+  joined-counts a x = counts-are lim store t a (reached-tables .0 .roomy) (reached-tables .1) x
 
 -- JOINED PART: the same of the part that the call gives
 pub joined-part : (lim : Limits) (log : List (List Setting)) (store scratch : RefT (List ℕ)) (row : Row) (r : RefT (List ℕ)) (t : Tables) → Reached lim log (store .now) → InOrder lim fresh log t → 36 ≤ length (scratch .now)

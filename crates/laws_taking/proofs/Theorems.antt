@@ -1,5 +1,5 @@
 -- Demands 1 to 3 for taking a message, over the contract of take: for every message, store and reply buffer. Assumes nothing.
-use Rattle.lists.proofs.Kit.{ℕ, _-_, _≤_, _≡_, refl, sym, ap, _∙_, subst, subst₂, subst⁻¹, _≢_, _⊎_, inl, inr, ⊎-elim, _↔_, Bool, true, false, List, [], _++_, append-nil, nil≢cons, arith, length}
+use Rattle.lists.proofs.Kit.{ℕ, _-_, _≤_, _≡_, refl, sym, ap, _∙_, subst, subst₂, subst⁻¹, _≢_, _⊎_, inl, inr, ⊎-elim, _↔_, Bool, true, false, List, [], _++_, append-nil, nil≢cons, arith, length, midOf}
 use Rattle.lists.specs.Bytes.{Bytes}
 use Rattle.lists.specs.Ladder.{Answers}
 use Rattle.writing.specs.Carrier.{Counted}
@@ -13,8 +13,10 @@ use Rattle.read_carrier.proofs.KindLaws.{request-bytes, opens-no-query}
 use Rattle.tables.specs.declared.limits.Limits.{Limits}
 use Rattle.tables.specs.Apply.{apply}
 use Rattle.tables.specs.Allowed.{Allowed}
-use Rattle.tables.specs.Layout.{layout}
-use Rattle.tables.specs.Store.{StoreOf}
+use Rattle.tables.specs.Layout.{layout, count-size, lines-at, lists-at}
+use Rattle.tables.specs.Store.{StoreOf, Holds}
+use Rattle.slots.specs.Slots.{u16}
+use Rattle.tables.proofs.Frames.{counts-stand}
 use Rattle.tables.proofs.AllowedLaws.{forget-allowed}
 use Rattle.tables.specs.Tables.{Tables, no-hash}
 use Rattle.tables.proofs.LayoutLaws.{layout-one, holds-store}
@@ -92,6 +94,14 @@ module _ (lim : Limits) (message store reply : List ℕ) where
       by (replied number failed send reboot h l e) = subst⁻¹ (λ (y : AfterTaking). StoreOf lim (y .store)) e s
       by (stored l u ok e) =
           subst⁻¹ (λ (y : AfterTaking). StoreOf lim (y .store)) e (holds-store lim u (layout lim u) (s .roomy) (ok, refl))
+
+  -- COUNTS KEPT: and its counts are the lengths of the lists that it then holds
+  pub counts-kept : StoreOf lim store → (x : AfterTaking) → Answers (taken lim message store reply) x
+      → (t : Tables) × Holds lim t (x .store) × (midOf lists-at count-size (x .store) ≡ u16 (length (t .channels))) × (midOf (lines-at lim) count-size (x .store) ≡ u16 (length (t .lines)))
+  counts-kept s x a =
+      let k = store-kept s x a .store in
+      let c = counts-stand lim (k .tables) (k .allowed) in
+      (k .tables, (k .allowed, k .bytes-are), ap (midOf lists-at count-size) (k .bytes-are) ∙ c .0, ap (midOf (lines-at lim) count-size) (k .bytes-are) ∙ c .1)
 
 -- ---- a request that passes the checks
 

@@ -5,4 +5,4 @@ use Rattle.export.proofs.RequestLaws.{handheld-exportable}
 use Rattle.packing.specs.Packing.{Packable}
 
 pub handheld-packable : Packable handheld
-handheld-packable = record { roomy = omega arith; size = omega arith; exportable = handheld-exportable }
+handheld-packable = record { roomy = record { fits = omega arith; few-channels = omega arith; few-lines = omega arith }; size = omega arith; exportable = handheld-exportable }

@@ -82,7 +82,7 @@ module _ (message : List ℕ) (place : HashPlace) (store reply after : List ℕ)
 -- a working copy with no hash kept
 pub forgotten : (lim : Limits) (t : Tables) (w y : List ℕ) → Roomy lim → Works lim t w → (length (midOf 0 hash-size w) ≡ 11 → y ≡ hash-bytes no-hash) → Works lim (forget t) (putMid 0 hash-size w y)
 forgotten lim t w y room (ok, is) e =
-    let r : used-size lim ≤ lim .size = room in
+    let r : used-size lim ≤ lim .size = room .fits in
     let l : length w ≡ lim .size = ap length is ∙ layout-length lim t room ok in
     (forget-allowed lim t ok, ap₂ (putMid 0 hash-size) is (e (mid-len 0 11 w (omega arith))) ∙ hash-put lim t ok no-hash)
 

@@ -33,14 +33,14 @@ use Rattle.tables.specs.declared.limits.Limits.{Limits}
 use Rattle.tables.specs.Allowed.{Allowed, TargetOk}
 use Rattle.tables.specs.Apply.{apply, own-after, with-room, slot-after}
 use Rattle.store_places.specs.Changes.{TextsAre, TextsApplied, GroupsAre, GroupApplied, group-member, IndividualsAre, IndividualApplied, individual-member, KeyPut, SystemPut, HashPut}
-use Rattle.tables.specs.Layout.{layout, used-size, key-address, key-bytes, home-bytes, system-bytes, hash-bytes, channel-width, line-width, groups-at, hash-size, home-at, home-size, individuals-at, key-at, key-size, lists-at, member-size, quick-at, quick-size, status-at, status-size, system-at, system-size}
+use Rattle.tables.specs.Layout.{Roomy, channels-size, groups-at, hash-bytes, hash-size, home-at, home-bytes, home-size, individuals-at, key-address, key-at, key-bytes, key-size, layout, lines-at, lines-size, lists-at, member-size, quick-at, quick-size, status-at, status-size, system-at, system-bytes, system-size}
 use Rattle.store_lists.specs.Lists.{ChannelTable, ChannelsApplied, LineTable, LinesApplied}
 use Rattle.tables.specs.Store.{Works, Applied}
 use Rattle.tables.specs.Tables.{Tables}
 use Rattle.tables.specs.Owns.{Own, own, put-own}
 use Rattle.tables.proofs.AllowedLaws.{apply-allowed}
 use Rattle.tables.proofs.FitsLaws.{fits-key, fits-system, fits-group, fits-individual}
-use Rattle.tables.proofs.Frames.{hash-put as hash-back, key-put as key-back, home-put as home-back, system-put as system-back, quick-placed, quick-back, status-placed, status-back, groups-placed, groups-back, individuals-placed, individuals-back, channels-listed, channels-back, lines-listed, lines-back}
+use Rattle.tables.proofs.Frames.{hash-put as hash-back, key-put as key-back, home-put as home-back, system-put as system-back, quick-placed, quick-back, status-placed, status-back, groups-placed, groups-back, individuals-placed, individuals-back, channels-counted, channels-back, lines-counted, lines-back}
 use Rattle.tables.proofs.LayoutLaws.{layout-length}
 
 -- ---- a region put back
@@ -69,11 +69,11 @@ module _ (l : Limits) (was : Tables) (s : List ℕ) (is : Works l was s) (left :
   fixed bytes a n y back = changed (λ u z. z ≡ bytes u) a n y (λ u e. ap (putMid a n (layout l was)) e ∙ back u)
 
 -- a fixed region has its length
-wide : (l : Limits) (was : Tables) (s : List ℕ) → used-size l ≤ l .size → Works l was s → (a n : ℕ) → a + n ≤ lists-at → length (midOf a n s) ≡ n
+wide : (l : Limits) (was : Tables) (s : List ℕ) → Roomy l → Works l was s → (a n : ℕ) → a + n ≤ lists-at → length (midOf a n s) ≡ n
 wide l was s room is a n h =
     let e : length s ≡ l .size = ap length (is .1) ∙ layout-length l was room (is .0) in
     let k : a + n - a ≡ n = omega arith in
-    ap (λ j. length (midOf a j s)) (sym k) ∙ mid-len a (a + n) s (omega (arith, e, room)) ∙ k
+    ap (λ j. length (midOf a j s)) (sym k) ∙ mid-len a (a + n) s (omega (arith, e, room .fits)) ∙ k
 
 -- a target's address has 24 bits
 target-fits : (t : KeyTarget) → TargetOk t → key-address t < 16777216
@@ -136,26 +136,26 @@ module _ (l : Limits) (m s y : List ℕ) where
 
   -- ---- the lists
 
-  pub store-channels : (o : Operation) (a : Entries) (n : ℕ) (k : Bool) → n ≡ l .channels * channel-width → ChannelsApplied o m a (midOf lists-at n s) y k → Applied l m (Channels o a) s (putMid lists-at n s y) k
+  pub store-channels : (o : Operation) (a : Entries) (n : ℕ) (k : Bool) → n ≡ channels-size l → ChannelsApplied o m a (midOf lists-at n s) y k → Applied l m (Channels o a) s (putMid lists-at n s y) k
   store-channels o a n k w h was x left room is (es, q, at) r p =
       joined l was s is left x (channels o es) q r p (ChannelTable (l .channels)) y (putMid lists-at n s y) k
       (λ v e. ap₂ (λ j z. putMid lists-at j z y) w (is .1) ∙ channels-back l was (is .0) v y e)
       (h (l .channels) (was .channels) es
-      (subst⁻¹ (ChannelTable (l .channels) (was .channels)) (ap₂ (midOf lists-at) w (is .1)) (channels-listed l was (is .0))) at (subst (InRange text-limits left) q r))
+      (subst⁻¹ (ChannelTable (l .channels) (was .channels)) (ap₂ (midOf lists-at) w (is .1)) (channels-counted l was (is .0) room)) at (subst (InRange text-limits left) q r))
 
-  pub store-lines : (o : Operation) (f : LineFlags) (a : Entries) (b n : ℕ) (k : Bool) → b ≡ lists-at + l .channels * channel-width → n ≡ l .lines * line-width → LinesApplied o m f a (midOf b n s) y k → Applied l m (Lines o f a) s (putMid b n s y) k
+  pub store-lines : (o : Operation) (f : LineFlags) (a : Entries) (b n : ℕ) (k : Bool) → b ≡ lines-at l → n ≡ lines-size l → LinesApplied o m f a (midOf b n s) y k → Applied l m (Lines o f a) s (putMid b n s y) k
   store-lines o f a b n k v w h was x left room is (es, q, at) r p =
       let low : f .priority < 4 = (subst (Fits unicode16) q p) .1 .1 .1 .1 .1 .0 in
       joined l was s is left x (lines o f es) q r p (LineTable (l .lines)) y (putMid b n s y) k
-      (λ z e. ap₂ (λ c j. putMid c j s y) v w ∙ ap (λ t. putMid (lists-at + l .channels * channel-width) (l .lines * line-width) t y) (is .1) ∙ lines-back l was (is .0) z y e)
+      (λ z e. ap₂ (λ c j. putMid c j s y) v w ∙ ap (λ t. putMid (lines-at l) (lines-size l) t y) (is .1) ∙ lines-back l was (is .0) z y e)
       (h low (l .lines) (was .lines) es
-      (subst⁻¹ (LineTable (l .lines) (was .lines)) (ap₂ (λ c j. midOf c j s) v w ∙ ap (midOf (lists-at + l .channels * channel-width) (l .lines * line-width)) (is .1)) (lines-listed l was (is .0)))
+      (subst⁻¹ (LineTable (l .lines) (was .lines)) (ap₂ (λ c j. midOf c j s) v w ∙ ap (midOf (lines-at l) (lines-size l)) (is .1)) (lines-counted l was (is .0) room))
       at (subst (InRange text-limits left) q r))
 
   -- ---- no store of these limits
 
   -- a store has the limits' size, and room for its tables
-  pub no-store : (r : Read) (t : List ℕ) (k : Bool) → (used-size l ≤ l .size → length s ≡ l .size → ⊥) → Applied l m r s t k
+  pub no-store : (r : Read) (t : List ℕ) (k : Bool) → (Roomy l → length s ≡ l .size → ⊥) → Applied l m r s t k
   no-store r t k h was x left room is q i p = absurd (h room (ap length (is .1) ∙ layout-length l was room (is .0)))
 
 -- ---- the setting by its case

@@ -13,6 +13,7 @@ use store_places::texts::apply_texts;
 use tables::limits::Limits;
 use tables::limits::roomy;
 use tables::places::CHANNEL_SLOT;
+use tables::places::COUNT;
 use tables::places::GROUPS;
 use tables::places::HASH;
 use tables::places::HOME;
@@ -33,8 +34,8 @@ fn apply_region(store: &mut [u8], limits: Limits, m: &[u8], setting: Setting) ->
     requires { ⌜ Roomy limits × (length (now store) ≡ limits .size) ⌝ }
     ensures { λ r. ⌜ Applied limits (now (m .entry)) setting (now (store .entry)) (now (store .exit)) r ⌝ }
 {
-    let lines = LISTS + limits.channels * CHANNEL_SLOT;
-    let end = lines + limits.lines * LINE_SLOT;
+    let lines = LISTS + (COUNT + limits.channels * CHANNEL_SLOT);
+    let end = lines + (COUNT + limits.lines * LINE_SLOT);
     match setting {
         Setting::Lines(op, flags, list) => {
             return apply_lines(&mut store[lines..end], m, op, flags, list);

@@ -1,5 +1,5 @@
 -- Where the regions of the store stand: each is read at its place, and put back it changes that table and no other. Assumes nothing.
-use Rattle.lists.proofs.Kit.{ℕ, _+_, _*_, _-_, _≤_, _<_, _≡_, refl, ap, _∙_, List, [], _∷_, _++_, Option, arith, putMid, midOf, getD, set, take, drop, length}
+use Rattle.lists.proofs.Kit.{ℕ, _+_, _*_, _-_, _≤_, _<_, _≡_, refl, sym, ap, _∙_, List, [], _∷_, _++_, Option, arith, putMid, midOf, getD, set, take, take-take, drop, length}
 use Rattle.lists.specs.Every.{All}
 use Rattle.slots.specs.Slots.{flat, front, places, u16, Placed, Listed, sum}
 use Rattle.counted_lists.specs.Counted.{CountedOf}
@@ -128,6 +128,13 @@ module _ (lim : Limits) (t : Tables) (ok : Allowed lim t) where
   pub lines-back : (x : List Line) (y : List ℕ) → CountedOf LineOk line-width line-bytes (lim .lines) x y → putMid (lines-at lim) (lines-size lim) (layout lim t) y ≡ layout lim (put-own Lines t x)
   lines-back x y p =
       region-put lim t ok 9 (omega arith) (lines-at lim) (lines-size lim) (omega arith) refl (put-own Lines t x) y (ap (set (regions lim t) 9) (entries-bytes LineOk line-width line-bytes (lim .lines) x y p))
+
+  -- COUNTS-STAND: the bytes that the two lists begin with are their lengths
+  pub counts-stand : (midOf lists-at count-size (layout lim t) ≡ u16 (length (t .channels))) × (midOf (lines-at lim) count-size (layout lim t) ≡ u16 (length (t .lines)))
+  counts-stand = (
+    sym (take-take count-size (channels-size lim) (drop lists-at (layout lim t)) (omega arith)) ∙ ap (take count-size) (region-get lim t ok 8 (omega arith) lists-at (channels-size lim) refl refl),
+    sym (take-take count-size (lines-size lim) (drop (lines-at lim) (layout lim t)) (omega arith)) ∙ ap (take count-size) (region-get lim t ok 9 (omega arith) (lines-at lim) (lines-size lim) (omega arith) refl),
+  )
 
   -- ---- the slots behind a count
 

@@ -58,7 +58,7 @@ answer-query-requires : tie.Need-answer-query-requires
 answer-query-requires c κs =
     let s = was-said (c .before .before .before .before .before .before .before .is-store .result) (c .before .before .before .before .before .before .before .is-store .ensures) (c .before .before .before .before .before .before .if2 .left) in
     let e : length (c .before .before .before .before .before .before .before .before .before .before .before .before .before .before .args .store .now) ≡ c .before .before .before .before .before .before .before .before .before .before .before .before .before .before .args .limits .size = s .size in
-    let r : used-size (c .before .before .before .before .before .before .before .before .before .before .before .before .before .before .args .limits) ≤ c .before .before .before .before .before .before .before .before .before .before .before .before .before .before .args .limits .size = s .roomy in
+    let r : used-size (c .before .before .before .before .before .before .before .before .before .before .before .before .before .before .args .limits) ≤ c .before .before .before .before .before .before .before .before .before .before .before .before .before .before .args .limits .size = s .roomy .fits in
     (c .before .before .before .before .before .before .before .before .before .if1 .left, omega arith)
 
 enum-known-message-2 : tie.Need-enum-known-message-2

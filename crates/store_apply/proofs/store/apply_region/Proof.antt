@@ -1,9 +1,9 @@
 use borrow.Author.Needs.{needs}
 use native.Mathlib.Omega.{arith}
-use Prim.Native.Nat.{_+_, _*_, _-_}
+use Prim.Native.Nat.{_+_, _-_}
 use mathlib.Core.Bool.{true}
 use Rattle.settings.specs.declared.settings.Setting.the-variants.{Lines, Key, QuickTexts, Home, Channels, System, StatusTexts, Group, Individual, Last}
-use Rattle.tables.specs.Layout.{line-width, lists-at}
+use Rattle.tables.specs.Layout.{channels-size, lines-at, lines-size, lists-at}
 use Rattle.store_apply.proofs.StoreLaws.{as-read, store-key, store-home, store-system, store-hash, store-quick, store-status, store-group, store-individual, store-channels, store-lines}
 use Rattle.store_apply.proofs.store.apply_region.Statement.{statement}
 use Rattle.store_apply.proofs.store.apply_region.Tie as tie
@@ -14,11 +14,17 @@ mul-lines c = search needs
 add-lines : tie.Need-add-lines
 add-lines c = search needs
 
+add-lines-2 : tie.Need-add-lines-2
+add-lines-2 c = search needs
+
 mul-end : tie.Need-mul-end
 mul-end c = search needs
 
 add-end : tie.Need-add-end
 add-end c = search needs
+
+add-end-2 : tie.Need-add-end-2
+add-end-2 c = search needs
 
 enum-known-setting : tie.Need-enum-known-setting
 enum-known-setting c = search needs
@@ -44,7 +50,7 @@ returns c =
     let g = c .before .before .before .before .before .setting .given in
     let y = c .before .before .apply-lines in
     as-read (a .limits) (a .m .now) (a .store .now) _ (y .result) (a .setting) (Lines (g .0 .0) (g .0 .1 .0) (g .0 .1 .1 .0)) (g .1)
-    (store-lines (a .limits) (a .m .now) (a .store .now) (y .last .0) (g .0 .0) (g .0 .1 .0) (g .0 .1 .1 .0) (lists-at + a .limits .channels * 2) (lists-at + a .limits .channels * 2 + a .limits .lines * line-width - (lists-at + a .limits .channels * 2)) (y .result) (omega arith) (omega arith) (y .ensures))
+    (store-lines (a .limits) (a .m .now) (a .store .now) (y .last .0) (g .0 .0) (g .0 .1 .0) (g .0 .1 .1 .0) (lines-at (a .limits)) (lines-at (a .limits) + lines-size (a .limits) - lines-at (a .limits)) (y .result) (omega arith) (omega arith) (y .ensures))
 
 enum-known-setting-2 : tie.Need-enum-known-setting-2
 enum-known-setting-2 c = search needs
@@ -70,7 +76,7 @@ returns-2 c =
     let g = c .before .before .before .before .before .setting2 .given in
     let y = c .before .before .apply-channels in
     as-read (a .limits) (a .m .now) (a .store .now) _ (y .result) (a .setting) (Channels (g .0 .0) (g .0 .1 .0)) (g .1)
-    (store-channels (a .limits) (a .m .now) (a .store .now) (y .last .0) (g .0 .0) (g .0 .1 .0) (lists-at + a .limits .channels * 2 - lists-at) (y .result) (omega arith) (y .ensures))
+    (store-channels (a .limits) (a .m .now) (a .store .now) (y .last .0) (g .0 .0) (g .0 .1 .0) (lists-at + channels-size (a .limits) - lists-at) (y .result) (omega arith) (y .ensures))
 
 enum-known-setting-3 : tie.Need-enum-known-setting-3
 enum-known-setting-3 c = search needs
@@ -286,8 +292,10 @@ apply-region-spec =
     (tie.spec
     mul-lines
     add-lines
+    add-lines-2
     mul-end
     add-end
+    add-end-2
     enum-known-setting
     sub-apply-lines
     part-apply-lines-start
