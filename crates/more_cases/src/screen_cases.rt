@@ -60,7 +60,7 @@ fn show(store: &[u8], row: Row, scratch: &mut [u8]) {
     hex(part, part.len());
 }
 
-fn row(store: &[u8], table: u32, place: u32) {
+pub(crate) fn row(store: &[u8], table: u32, place: u32) {
     text(b"row of table ");
     decimal(table);
     text(b", place ");
