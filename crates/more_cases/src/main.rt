@@ -1,7 +1,8 @@
-// Runs cases that were worked out by hand, of the tables and the screen's rows: a line each, with the number answered and what was left behind.
+// Runs cases that were worked out by hand, of the tables, their counts and the screen's rows: a line each, with the number answered and what was left behind.
 use tables::limits::HANDHELD_SIZE;
 
 mod channel_cases;
+mod count_cases;
 mod line_cases;
 mod screen_cases;
 mod slot_cases;
@@ -13,6 +14,7 @@ fn main() {
     line_cases::run(&mut store);
     type_cases::run(&mut store);
     channel_cases::run(&mut store);
+    count_cases::run(&mut store);
     text_cases::run(&mut store);
     slot_cases::run(&mut store);
     screen_cases::run(&mut store);

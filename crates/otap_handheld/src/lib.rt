@@ -1,5 +1,6 @@
 // The functions that the firmware of a hand-held calls, in C or Rust. Crate packing says which bits of an answer are what.
 mod conversions;
+mod counts;
 mod exports;
 mod messages;
 mod rows;

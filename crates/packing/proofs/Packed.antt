@@ -12,7 +12,10 @@ use Rattle.station.specs.declared.answers.Answer.the-variants.{Untouched, Repli
 use Rattle.station.specs.declared.answers.Refusal.{Refusal}
 use Rattle.station.specs.declared.answers.Reply.{Reply}
 use Rattle.station.specs.Answers.{refusal-number, said}
-use Rattle.packing.specs.Packing.{Starts, Packs, PacksValue}
+use Rattle.menu.specs.declared.counting.Counts.{Counts as Menu}
+use Rattle.menu.specs.declared.counting.Counts.the-variants.{Held, NotAStore}
+use Rattle.menu.specs.Menu.{told}
+use Rattle.packing.specs.Packing.{Starts, Packs, PacksCounts, PacksValue}
 
 -- ---- conversions
 
@@ -47,3 +50,14 @@ packed-reply a x number send reboot e k p q hr hf hl =
       reply-length = hl;
       bits = λ t. k t + x .failed * 256 + p t * 65536 + q t * 131072 + x .length * 16777216;
     })
+
+-- ---- the menu's counts
+
+-- both counts
+pub counts-packed : (a : Menu) (l c : ℕ) → a ≡ Held l c → l < 65536 → c < 65536 → PacksCounts (told a) (l * 65536 + c * 4294967296)
+counts-packed a l c e p q =
+    subst (λ x. PacksCounts (told x) (l * 65536 + c * 4294967296)) (sym e) (record { number = omega arith; lines = p; channels = q; bits = omega arith })
+
+-- the number alone, where there are none
+pub no-counts-packed : (a : Menu) → a ≡ NotAStore → PacksCounts (told a) 11
+no-counts-packed a e = subst (λ x. PacksCounts (told x) 11) (sym e) (record { number = omega arith; lines = omega arith; channels = omega arith; bits = omega arith })

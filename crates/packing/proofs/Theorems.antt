@@ -15,7 +15,9 @@ use Rattle.export.proofs.Determined.{outcome-determined as export-determined}
 use Rattle.screen.specs.Rows.{row-named}
 use Rattle.screen.specs.Screen.{RowPart, of-store, of-scratch, AfterRow as Row}
 use Rattle.screen.proofs.Determined.{shown-determined, number-one}
-use Rattle.packing.specs.Packing.{Starts, packed, Packs, Takes, packed-export, PacksExport, Exports, AnswersNumber, packed-part, start-of, length-of, PacksPart, AnswersPart, packed-value, PacksValue, Converts}
+use Rattle.menu.specs.Menu.{Told as ToldCounts}
+use Rattle.menu.proofs.Theorems.{counts-one}
+use Rattle.packing.specs.Packing.{Starts, packed, Packs, Takes, packed-export, PacksExport, Exports, packed-counts, PacksCounts, Counts, AnswersNumber, packed-part, start-of, length-of, PacksPart, AnswersPart, packed-value, PacksValue, Converts}
 
 -- ---- one answer
 
@@ -40,6 +42,11 @@ exports-determined lim part store buffer s t r q x y =
       x .packs .bits ∙ ap (λ (a : Exported). packed-export (a .answer)) e ∙ sym (y .packs .bits),
       ap (λ (a : Exported). a .buffer) e,
     )
+
+-- THE COUNTS: one number
+pub counts-determined : (lim : Limits) (store : List ℕ) (r q : ℕ) → Counts lim store r → Counts lim store q → r ≡ q
+counts-determined lim store r q x y =
+    x .packs .bits ∙ ap packed-counts (counts-one lim store _ _ (x .allowed) (y .allowed)) ∙ sym (y .packs .bits)
 
 -- A ROW'S NUMBER: one
 pub numbers-determined : (lim : Limits) (table row : ℕ) (store scratch : List ℕ) (r q : ℕ) → AnswersNumber lim table row store scratch r → AnswersNumber lim table row store scratch q → r ≡ q
@@ -79,6 +86,16 @@ export-unpacked t r p =
     let l = p .request-length in
     let e = p .bits in
     (omega arith, omega arith, omega arith)
+
+-- THE COUNTS
+pub counts-unpacked : (t : ToldCounts) (r : ℕ) → PacksCounts t r
+    → (r % 256 ≡ t .number) × (r / 256 % 256 ≡ 0) × (r / 65536 % 65536 ≡ t .lines) × (r / 4294967296 ≡ t .channels)
+counts-unpacked t r p =
+    let n = p .number in
+    let l = p .lines in
+    let c = p .channels in
+    let e = p .bits in
+    (omega arith, omega arith, omega arith, omega arith)
 
 -- which slice a part is of
 abbrev pub slice-of : RowPart → ℕ

@@ -15,6 +15,7 @@ use Rattle.export.specs.Exporting.{Told, exporting}
 use Rattle.screen.specs.declared.answers.Place.{Place}
 use Rattle.screen.specs.Rows.{row-named}
 use Rattle.screen.specs.Screen.{RowPart, of-store, of-scratch, leaves, showing, numbering}
+use Rattle.menu.specs.Menu.{Told as ToldCounts, counting}
 
 -- ---- the limits
 
@@ -65,6 +66,24 @@ pub record Exports (lim : Limits) (part : ℕ) (store buffer buffer-after : List
   pub answer : Told
   pub allowed : Answers (exporting lim part store buffer) (record { answer = answer; buffer = buffer-after })
   pub packs : PacksExport answer r
+
+-- ---- the menu's counts
+
+-- bits 0-7 number, 16-31 lines, 32-47 channels
+abbrev pub packed-counts : ToldCounts → ℕ
+packed-counts t = t .number + t .lines * 65536 + t .channels * 4294967296
+
+pub record PacksCounts (t : ToldCounts) (r : ℕ) : Type 0 where
+  pub number : t .number < 256
+  pub lines : t .lines < 65536
+  pub channels : t .channels < 65536
+  pub bits : r ≡ packed-counts t
+
+-- an answer that the contract of the counts' call allows, packed
+pub record Counts (lim : Limits) (store : List ℕ) (r : ℕ) : Type 0 where
+  pub answer : ToldCounts
+  pub allowed : Answers (counting lim store) answer
+  pub packs : PacksCounts answer r
 
 -- ---- the screen's rows
 
