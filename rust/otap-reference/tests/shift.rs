@@ -2,7 +2,7 @@
 
 use otap_reference::records::{Record, Records};
 use otap_reference::reference::screen::{row_part, Row, Shown, SCRATCH_ROOM};
-use otap_reference::reference::tables::Set;
+use otap_reference::reference::tables::{Set, MOST_CHANNELS, MOST_LINES};
 use otap_reference::reference::take::{take, Answer, REPLY_ROOM};
 use std::fs::read;
 use std::process::Command;
@@ -47,6 +47,14 @@ fn rows(set: &Set) -> String {
     }
 }
 
+/// How much of the room for lines and channels is taken.
+fn room(set: &Set) -> String {
+    let (lines, channels) = set.counts();
+    format!(
+        "  room          lines {lines} of {MOST_LINES}, channels {channels} of {MOST_CHANNELS}\n"
+    )
+}
+
 fn words(answer: &Answer, query: bool) -> &'static str {
     match answer.number {
         0 if query => "the hash matches",
@@ -74,7 +82,7 @@ fn message_lines(answer: &Answer, query: bool, reply: &[u8]) -> String {
 
 fn shift_prints(input: &[u8]) -> String {
     let mut set = Set::default();
-    let mut out = format!("A fresh store\n{}", rows(&set));
+    let mut out = format!("A fresh store\n{}{}", rows(&set), room(&set));
     for (place, record) in Records::new(input).enumerate() {
         let Record::Whole { message, .. } = record else {
             panic!("the stored shift has whole records")
@@ -82,7 +90,7 @@ fn shift_prints(input: &[u8]) -> String {
         let mut reply = [0; REPLY_ROOM];
         let answer = take(message, &mut set, &mut reply);
         let told = message_lines(&answer, message[6] & 7 == 5, &reply);
-        out.push_str(&format!("\nMessage {}: {told}{}", place + 1, rows(&set)));
+        out.push_str(&format!("\nMessage {}: {told}{}{}", place + 1, rows(&set), room(&set)));
     }
     out
 }
