@@ -119,7 +119,17 @@ static uint64_t check_counts(const uint8_t *store)
     return counts;
 }
 
-/* And as many lines as are shown, each looked at. */
+/* Whether one of the first lines has the key of this slot: 19 bytes, IDtype and digits, behind its flags. */
+static int has_key(const uint8_t *store, uint32_t lines, const uint8_t *slot)
+{
+    uint32_t row = 0;
+    while (row < lines && !same_bytes(store + slot_of(OTAP_LINES, row).first + 1, slot + 1, 19)) {
+        row++;
+    }
+    return row < lines;
+}
+
+/* And as many lines as are shown, each looked at; no two have one key. */
 static void check_every_line(const uint8_t *store, uint64_t counts)
 {
     uint32_t row, shown = 0;
@@ -127,6 +137,9 @@ static void check_every_line(const uint8_t *store, uint64_t counts)
         shown += row_once(OTAP_LINES, row, store, OTAP_STORE_BYTES, OTAP_SCRATCH_BYTES, 0) == OTAP_OK;
     }
     must(shown == otap_counts_lines(counts), "as many lines as are shown");
+    for (row = 0; row < shown; row++) {
+        must(!has_key(store, row, store + slot_of(OTAP_LINES, row).first), "no two lines of one IDtype and number");
+    }
 }
 
 #endif

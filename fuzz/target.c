@@ -216,6 +216,29 @@ static void poke_count(Input *input)
     memcpy(store, other, OTAP_STORE_BYTES);
 }
 
+/* One line more, like another but for its IDtype: a store exactly if no line has that key yet. It goes on from there if it is one. */
+static void poke_line(Input *input)
+{
+    uint32_t lines = otap_counts_lines(otap_counts(store, OTAP_STORE_BYTES)), like = next_byte(input);
+    uint8_t *slot = store + slot_of(OTAP_LINES, lines % OTAP_LINE_ROWS).first;
+    int held;
+    if (lines == 0 || lines == OTAP_LINE_ROWS) {
+        return;
+    }
+    memcpy(other, store, OTAP_STORE_BYTES);
+    memcpy(slot, store + slot_of(OTAP_LINES, like % lines).first, 52);
+    slot[1] ^= 1;
+    store[7417]++;
+    held = has_key(store, lines, slot);
+    must(known_by_all() == !held, "a line's key is its IDtype and its number");
+    reached[2004 + held] = 1;
+    if (held) {
+        memcpy(store, other, OTAP_STORE_BYTES);
+    } else {
+        check_every_line(store, check_counts(store));
+    }
+}
+
 static void ask_counts(unsigned choice)
 {
     size_t store_length = chosen_store(choice);
@@ -268,7 +291,7 @@ static void one_record(Input *input)
     case 2: case 3: take_built(input, choice); break;
     case 4: ask_row(input, choice); ask_counts(choice); break;
     case 5: ask_export(input, choice); ask_counts(choice); break;
-    case 6: (choice & 8 ? poke_count : poke)(input); break;
+    case 6: (choice & 8 ? poke_count : choice & 16 ? poke_line : poke)(input); break;
     default: (choice & 8 ? convert : start_again)(input); break;
     }
 }

@@ -1,6 +1,8 @@
 /* Wrong libraries, to see that the checks of target.c can fail: the linker puts these before the archive's functions (--wrap). WRONG says which. */
 #include "otap.h"
 
+#include <string.h>
+
 #ifndef WRONG
 #define WRONG 0
 #endif
@@ -15,6 +17,29 @@ uint64_t __wrap_otap_export(uint32_t, const uint8_t *, uint64_t, uint8_t *, uint
 uint32_t __wrap_otap_row_number(uint32_t, uint32_t, const uint8_t *, uint64_t, const uint8_t *, uint64_t);
 uint64_t __wrap_otap_row_part(uint32_t, uint32_t, const uint8_t *, uint64_t, uint8_t *, uint64_t);
 uint64_t __wrap_otap_counts(const uint8_t *, uint64_t);
+
+/* Where a store has a line before the last with the last one's digits, whatever its IDtype; 0 if there is none. */
+static size_t same_number(const uint8_t *store)
+{
+    size_t at, last = store[7417] > 0 ? 7418 + 52u * (store[7417] - 1u) : 0;
+    for (at = 7418; at < last; at += 52) {
+        if (memcmp(store + at + 2, store + last + 2, 18) == 0) {
+            return at;
+        }
+    }
+    return 0;
+}
+
+/* The second line with a number wipes the first. */
+static void wipe(uint8_t *store)
+{
+    size_t first = same_number(store), last = 7418 + 52u * (store[7417] - 1u);
+    if (first != 0) {
+        memcpy(store + first, store + last, 52);
+        memset(store + last, 0, 52);
+        store[7417]--;
+    }
+}
 
 uint64_t __wrap_otap_take(const uint8_t *message, uint64_t message_length, uint8_t *store, uint64_t store_length, uint8_t *reply,
                           uint64_t reply_length)
@@ -32,6 +57,9 @@ uint64_t __wrap_otap_take(const uint8_t *message, uint64_t message_length, uint8
     }
     if (WRONG == 4 && number == OTAP_NO_ROOM) {
         answer -= answer & 0xFF00; /* the setting at fault is not named */
+    }
+    if (WRONG == 16 && number == OTAP_OK) {
+        wipe(store); /* lines by their digits alone */
     }
     return WRONG == 5 && number == OTAP_BAD_CARRIER ? answer + 0x10000 : answer; /* sends what there is not */
 }
@@ -54,6 +82,9 @@ uint32_t __wrap_otap_row_number(uint32_t table, uint32_t row, const uint8_t *sto
     uint32_t number = __real_otap_row_number(table, row, store, store_length, scratch, scratch_length);
     if (WRONG == 8 && number == OTAP_NO_STORE && store_length == OTAP_STORE_BYTES) {
         return OTAP_NO_ROW; /* takes any bytes for a store */
+    }
+    if (WRONG == 17 && (number == OTAP_OK || number == OTAP_NO_ROW) && same_number(store) != 0) {
+        return OTAP_NO_STORE; /* knows no store with two lines of one number */
     }
     return number;
 }

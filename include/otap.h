@@ -131,6 +131,9 @@ uint32_t otap_start(uint8_t *store, uint64_t store_length);
  * fields (4), room for it (2), and last bytes left over (4); of a query, its form (4) or 5. The message is only read.
  * Texts of a request are eight-bit characters if its coding type is 0100, each the unit of the same value, and 16-bit Unicode if it is 0111; another
  * coding type is 4, failed ID 0. The store keeps 16-bit units of both: the same names leave the same store. A query's coding type may be any.
+ * A line contact is known by its IDtype, PSTN or PABX, together with its digits as they are written: PSTN 2345 and PABX 2345 are two lines, and so are
+ * PABX 1 and PABX 01. An add overwrites, and a delete takes away, the line that has both, and no other. A replace empties the list of lines of both
+ * IDtypes, whichever it has itself; the OTAP_LINE_ROWS places are for both.
  * A reply has 10, 14 or 20 bytes; bytes of the reply buffer past them stay. It is written for 0 to 5 also where send is no.
  * Unpack with otap_answer_number, otap_take_failed, otap_take_send, otap_take_reboot, otap_take_reply_length.
  */
@@ -179,7 +182,7 @@ uint32_t otap_row_number(uint32_t table, uint32_t row,
  * The part of the store or of the scratch that shows a row: 16-bit units, high byte first, without an end unit, also of texts that came in eight bits.
  * A row with a text shows it, where it stands in the store; no byte is touched. A line, group or individual without one shows its number: it is
  * written at the scratch's start (line digits, eight dialled digits, or six upper-case hex digits), and the scratch's other bytes stay.
- * An empty status text is an empty part of the store.
+ * An empty status text is an empty part of the store. A row does not say a line's IDtype: two lines with one number and no text look alike.
  * The answer is 0, and no byte is touched, exactly where otap_row_number would not answer 0. So one call is enough for a row: an answer that is not 0 is
  * a row that is shown, also where its part is empty, and a program that gets 0 may ask otap_row_number why. The store is only read.
  * The part is good until the store or the scratch is next written: see "Screens" above.

@@ -297,6 +297,68 @@ static void coding_types(void)
     }
 }
 
+/* A request with one setting of lines without texts; their numbers are two digits, from the first on. Operations are 1 add, 2 delete, 3 replace. */
+static void write_lines(unsigned operation, unsigned pabx, unsigned first, unsigned count)
+{
+    size_t at;
+    unsigned each;
+    open_request(&said, 1);
+    at = open_setting(&said, 0xCA);
+    put(&said, operation * 64 + pabx * 2);
+    put(&said, count);
+    for (each = 0; each < count; each++) {
+        put_number(&said, first + each, 2);
+        put_text(&said, 0);
+    }
+    close_setting(&said, at);
+}
+
+/* IDtype is a part of a line's key: each step's number, and how many lines there are after it. The 32 places are for both IDtypes. */
+static void keys_of_lines(uint8_t *other)
+{
+    static const struct { unsigned operation, pabx, first, count, number, lines; } steps[] = {
+        {1, 1, 23, 1, OTAP_OK, 1}, {2, 0, 23, 1, OTAP_OK, 1}, {1, 0, 23, 1, OTAP_OK, 2}, {1, 1, 23, 1, OTAP_OK, 2},
+        {1, 0, 23, 1, OTAP_OK, 2}, {2, 1, 23, 1, OTAP_OK, 1}, {1, 1, 0, 31, OTAP_OK, 32}, {1, 0, 5, 1, OTAP_NO_ROOM, 32},
+        {1, 1, 5, 1, OTAP_OK, 32}, {2, 0, 5, 1, OTAP_OK, 32}, {2, 1, 5, 1, OTAP_OK, 31}, {1, 0, 5, 1, OTAP_OK, 32},
+        {3, 0, 50, 2, OTAP_OK, 2}, {1, 1, 50, 2, OTAP_OK, 4}, {3, 1, 50, 1, OTAP_OK, 1}, {3, 0, 50, 0, OTAP_OK, 0}
+    };
+    size_t each;
+    same("start", 0, OTAP_OK, otap_start(other, OTAP_STORE_BYTES));
+    for (each = 0; each < sizeof steps / sizeof steps[0]; each++) {
+        uint64_t answer;
+        write_lines(steps[each].operation, steps[each].pabx, steps[each].first, steps[each].count);
+        answer = otap_take(said.bytes, said.length, other, OTAP_STORE_BYTES, reply, sizeof reply);
+        same("a line by its key", steps[each].number, steps[each].number, otap_answer_number(answer));
+        counts_are("lines by their keys", other, steps[each].lines, 0);
+    }
+}
+
+/* Example 11 adds extension 2345; telephone 2345 stands beside it, and one of the two is deleted. */
+static void both_lines(void)
+{
+    static uint8_t one[OTAP_STORE_BYTES], both[OTAP_STORE_BYTES];
+    uint8_t line[] = {2, 2, 0, 0x0E, 8, 7, 8, 1, 0xCA, 0, 9, 0x42, 1, 0x23, 0x45, 0xFF, 0, 0};
+    uint32_t at;
+    keys_of_lines(one);
+    told("example 11", line, sizeof line, OTAP_OK, 0, one);
+    memcpy(both, one, sizeof both);
+    line[11] = 0x40;
+    same("the telephone", 0, OTAP_OK, otap_answer_number(otap_take(line, sizeof line, both, sizeof both, reply, sizeof reply)));
+    counts_are("both lines", both, 2, 0);
+    for (at = 0; at < 2; at++) {
+        same("its number", 1 | (uint64_t)8 << 32, 1 | (uint64_t)8 << 32, otap_row_part(OTAP_LINES, at, both, sizeof both, scratch, sizeof scratch));
+        same("2345", 0, 0, (uint64_t)(memcmp(scratch, "\0" "2\0" "3\0" "4\0" "5", 8) != 0));
+    }
+    both[7471] = 1;
+    no_store("one IDtype and number twice", both);
+    both[7470] = 15;
+    no_store("the same with other flags", both);
+    both[7470] = both[7471] = 0;
+    line[11] = 0x80;
+    same("deleted", 0, OTAP_OK, otap_answer_number(otap_take(line, sizeof line, both, sizeof both, reply, sizeof reply)));
+    same("the extension stays", 0, 0, (uint64_t)(memcmp(one, both, sizeof one) != 0));
+}
+
 /* The bytes of the full store, summed (FNV-1a). If the layout has changed, OTAP_LAYOUT must be another number, and this sum too. */
 static void layout(void)
 {
@@ -338,6 +400,7 @@ int main(void)
     asked_of_stores();
     counted();
     coding_types();
+    both_lines();
     layout();
     conversions();
     printf("every number and constant is as the table says\n");

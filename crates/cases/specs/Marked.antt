@@ -1,4 +1,4 @@
--- The cases that document 01 works by hand and marks P, as one table.
+-- The cases that document 01 works by hand and marks P, and that of request A3, as one table.
 use Prim.Native.Nat.{ℕ, _≤_, _<_}
 use mathlib.Core.Bool.{true, false}
 use mathlib.Core.Path.{_≡_}
@@ -11,7 +11,7 @@ use Rattle.plan.specs.Frequencies.{Transmits}
 use Rattle.plan.specs.Numbers.{Individual, Group}
 use Rattle.writing.specs.declared.Coding.{Coding}
 use Rattle.writing.specs.declared.LineFlags.{LineFlags}
-use Rattle.writing.specs.declared.Operation.the-variants.{Add, Replace}
+use Rattle.writing.specs.declared.Operation.the-variants.{Add, Delete, Replace}
 use Rattle.writing.specs.Canonical.{canonical}
 use Rattle.writing.specs.Fields.{bitsOf, Shows}
 use Rattle.writing.specs.Ranges.{text-limits, InRange}
@@ -68,6 +68,10 @@ CaseHolds (taken-is before message reply after) =
 abbrev pub pabx-only : LineFlags
 pabx-only = record { encryption = false; emergency = false; priority = 0; pabx = true }
 
+-- those of a PSTN line
+abbrev pub pstn-only : LineFlags
+pstn-only = record { encryption = false; emergency = false; priority = 0; pabx = false }
+
 -- the settings of 10 and 11
 abbrev pub two-channels : Setting
 two-channels = channels Replace (241 ∷ 640 ∷ [])
@@ -75,11 +79,18 @@ two-channels = channels Replace (241 ∷ 640 ∷ [])
 abbrev pub one-contact : Setting
 one-contact = lines Add pabx-only (record { number = 2 ∷ 3 ∷ 4 ∷ 5 ∷ []; text = [] } ∷ [])
 
--- the line that 11 adds
+-- the delete of its line
+abbrev pub one-deleted : Setting
+one-deleted = lines Delete pabx-only (record { number = 2 ∷ 3 ∷ 4 ∷ 5 ∷ []; text = [] } ∷ [])
+
+-- the line that 11 adds, and the PSTN line with its digits
 abbrev pub line-2345 : Line
 line-2345 = record { flags = pabx-only; number = 2 ∷ 3 ∷ 4 ∷ 5 ∷ []; text = [] }
 
--- the reply to 10 and 11
+abbrev pub pstn-2345 : Line
+pstn-2345 = record { flags = pstn-only; number = 2 ∷ 3 ∷ 4 ∷ 5 ∷ []; text = [] }
+
+-- the reply to 10 and 11, and to the delete
 abbrev pub reply-0 : List ℕ
 reply-0 = 0x02 ∷ 0x02 ∷ 0x00 ∷ 0x06 ∷ 0x08 ∷ 0x00 ∷ 0x09 ∷ 0x00 ∷ 0x00 ∷ 0x00 ∷ []
 
@@ -112,4 +123,7 @@ marked =
     ∷ taken-is fresh
     (0x02 ∷ 0x02 ∷ 0x00 ∷ 0x0E ∷ 0x08 ∷ 0x07 ∷ 0x08 ∷ 0x01 ∷ 0xCA ∷ 0x00 ∷ 0x09 ∷ 0x42 ∷ 0x01 ∷ 0x23 ∷ 0x45 ∷ 0xFF ∷ 0x00 ∷ 0x00 ∷ []) reply-0
     (put-own Lines fresh (line-2345 ∷ []))  -- 11
+    ∷ taken-is (put-own Lines fresh (line-2345 ∷ pstn-2345 ∷ []))
+    (0x02 ∷ 0x02 ∷ 0x00 ∷ 0x0E ∷ 0x08 ∷ 0x07 ∷ 0x08 ∷ 0x01 ∷ 0xCA ∷ 0x00 ∷ 0x09 ∷ 0x82 ∷ 0x01 ∷ 0x23 ∷ 0x45 ∷ 0xFF ∷ 0x00 ∷ 0x00 ∷ []) reply-0
+    (put-own Lines fresh (pstn-2345 ∷ []))  -- of request A3: both lines there, and one deleted
     ∷ []

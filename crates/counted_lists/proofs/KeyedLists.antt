@@ -1,9 +1,9 @@
 -- Lists by a key, whatever the entries: what putting, adding and taking out mean, when there is no room, and that no key is there twice. Assumes nothing.
-use Rattle.lists.proofs.Kit.{_≡_, refl, sym, ap, _∙_, _↔_, _≢_, Bool, true, false, cond, true≢false, List, [], _∷_, _++_, none, some, Option·some-ne-none, ℕ, suc, _≤_, _<_, arith, lt-ltb, le-ltb, ltb-false, ltb, length, length-append}
+use Rattle.lists.proofs.Kit.{_≡_, refl, sym, ap, _∙_, _↔_, _≢_, Bool, true, false, cond, true≢false, List, [], _∷_, _++_, map, none, some, Option·some-ne-none, Option·none-ne-some, Option·some-injective, ℕ, zero, suc, _≤_, _<_, arith, lt-ltb, le-ltb, ltb-false, ltb, getD, length, length-append}
 use Rattle.lists.proofs.Bools.{is-false}
 use Rattle.lists.specs.Every.{All}
 use Rattle.lists.proofs.Every.{all-turn, all-right}
-use Rattle.slots.specs.Slots.{unless, indexOf, putAt}
+use Rattle.slots.specs.Slots.{unless, indexOf, putAt, Present}
 use Rattle.slots.proofs.Changes.{index-absent, index-end, index-found, unless-absent, unless-found, unless-fewer, put-found}
 use Rattle.slots.proofs.Tables.{index-le, put-all, put-end, unless-all}
 use Rattle.counted_lists.specs.Counted.{put-last, put-keyed, Without, Distinct}
@@ -81,6 +81,59 @@ module _ {A K : Type 0} (key : A → K) (has : K → A → Bool) (decides : (k :
       let s : length (unless (has k) (before ++ b ∷ after)) < length (before ++ b ∷ after) = unless-fewer (has k) before b after (decides k b .1 q) in
       let p = keyed-no-room n a (unless (has k) (before ++ b ∷ after)) (omega arith) .0 e in
       omega (arith, p .0)
+
+  -- ---- what is left alone
+
+  -- p says yes of every entry with the key of a: those of which it says no stay
+  module _ (p : A → Bool) (a : A) (h : (b : A) → key b ≡ key a → p b ≡ true) where
+    put-others : (ls : List A) → unless p (putAt (indexOf (has (key a)) ls) a ls) ≡ unless p ls
+    put-others [] = rw (h a refl)
+    put-others (x ∷ xs) = go (has (key a) x) refl (put-others xs)
+      where
+        go : (b : Bool) → has (key a) x ≡ b → unless p (putAt (indexOf (has (key a)) xs) a xs) ≡ unless p xs
+            → unless p (putAt (cond b 0 (suc (indexOf (has (key a)) xs))) a (x ∷ xs)) ≡ cond (p x) (unless p xs) (x ∷ unless p xs)
+        go true e r = rw (h a refl, h x (decides (key a) x .0 e))
+        go false e r = ap (λ (l : List A). cond (p x) l (x ∷ l)) r
+
+    -- where a is put
+    pub put-leaves : (n : ℕ) (ls ks : List A) → unless p ls ≡ ks → Present (λ ms. unless p ms ≡ ks) (put-keyed (has (key a)) n a ls)
+    put-leaves n ls ks e = go (ltb (indexOf (has (key a)) ls) n)
+      where
+        go : (b : Bool) → Present (λ ms. unless p ms ≡ ks) (cond b (some (putAt (indexOf (has (key a)) ls) a ls)) none)
+        go true = put-others ls ∙ e
+        go false = tt
+
+  -- the same where the entries with a key are taken out
+  pub drop-leaves : (p : A → Bool) (k : K) → ((b : A) → key b ≡ k → p b ≡ true) → (ls : List A) → unless p (unless (has k) ls) ≡ unless p ls
+  drop-leaves p k h [] = refl
+  drop-leaves p k h (x ∷ xs) = go (has k x) refl (drop-leaves p k h xs)
+    where
+      go : (b : Bool) → has k x ≡ b → unless p (unless (has k) xs) ≡ unless p xs → unless p (cond b (unless (has k) xs) (x ∷ unless (has k) xs)) ≡ cond (p x) (unless p xs) (x ∷ unless p xs)
+      go true e r = rw (h x (decides k x .0 e)) r
+      go false e r = ap (λ (l : List A). cond (p x) l (x ∷ l)) r
+
+  -- an entry with another key than a stays in its place
+  module _ (a b : A) (other : key b ≢ key a) where
+    stays-at : (ls : List A) (i : ℕ) → getD (map some ls) i none ≡ some b → getD (map some (putAt (indexOf (has (key a)) ls) a ls)) i none ≡ some b
+    stays-at [] i e = absurd (Option·none-ne-some b e)
+    stays-at (x ∷ xs) zero e = go (has (key a) x) refl
+      where
+        go : (c : Bool) → has (key a) x ≡ c → getD (map some (putAt (cond c 0 (suc (indexOf (has (key a)) xs))) a (x ∷ xs))) zero none ≡ some b
+        go true q = absurd (other (ap key (sym (Option·some-injective x b e)) ∙ decides (key a) x .0 q))
+        go false q = e
+    stays-at (x ∷ xs) (suc i) e = go (has (key a) x) (stays-at xs i e)
+      where
+        go : (c : Bool) → getD (map some (putAt (indexOf (has (key a)) xs) a xs)) i none ≡ some b → getD (map some (putAt (cond c 0 (suc (indexOf (has (key a)) xs))) a (x ∷ xs))) (suc i) none ≡ some b
+        go true r = e
+        go false r = r
+
+    -- where a is put
+    pub put-stays : (n : ℕ) (ls : List A) (i : ℕ) → getD (map some ls) i none ≡ some b → Present (λ ms. getD (map some ms) i none ≡ some b) (put-keyed (has (key a)) n a ls)
+    put-stays n ls i e = go (ltb (indexOf (has (key a)) ls) n)
+      where
+        go : (c : Bool) → Present (λ ms. getD (map some ms) i none ≡ some b) (cond c (some (putAt (indexOf (has (key a)) ls) a ls)) none)
+        go true = stays-at ls i e
+        go false = tt
 
   -- ---- no key is there twice
 

@@ -15,7 +15,7 @@ use Rattle.writing.proofs.Whole.{append-whole, number-whole, text-whole}
 use Rattle.tables.specs.Allowed.{LineOk}
 use Rattle.tables.specs.Layout.{text-bytes, digit-bytes, line-bytes, line-flags, line-width, digits-at}
 use Rattle.tables.specs.Tables.{Line}
-use Rattle.tables.proofs.EntryCodes.{bit-small, line-code, line-keyed, line-shown}
+use Rattle.tables.proofs.EntryCodes.{bit-small, digits-stand, line-code, line-shown}
 use Rattle.tables.proofs.TextCodes.{text-length, digits-length}
 use Rattle.export_write.specs.LineSettings.{no-line-flags, line-add}
 use Rattle.export_write.specs.LineWriters.{LinesIn, line-settings, line-byte}
@@ -72,7 +72,7 @@ line-wrote p at m n end h s t u v z a b c l (ok, e) =
     let N : List ℕ = plain (number (l .number)) in
     let T : List ℕ = plain (text unicode16 (l .text)) in
     let head : List ℕ = h ∷ 1 ∷ [] in
-    let dg : midOf digits-at 18 p ≡ digit-bytes (l .number) = ap (midOf digits-at 18) e ∙ line-keyed .stands l in
+    let dg : midOf digits-at 18 p ≡ digit-bytes (l .number) = ap (midOf digits-at 18) e ∙ digits-stand l in
     let tx : midOf 20 32 p ≡ text-bytes 16 (l .text)
     = ap (midOf 20 32) e ∙ ap (take 32) (drop-at (digit-bytes (l .number)) (text-bytes 16 (l .text)) 18 (digits-length (l .number)))
     ∙ take-all 32 (text-bytes 16 (l .text)) (omega (arith, text-length 16 (l .text))) in

@@ -7,12 +7,12 @@ use Rattle.slots.specs.Slots.{indexOf}
 use Rattle.counted_lists.specs.Counted.{Without}
 use Rattle.counted_lists.proofs.KeyedLists.{keyed-new, last-room, none-found}
 use Rattle.tables.specs.declared.limits.Limits.{Limits}
-use Rattle.tables.specs.Apply.{has-number, put-line, put-channel}
+use Rattle.tables.specs.Apply.{has-key, put-line, put-channel}
 use Rattle.tables.specs.Layout.{Roomy}
 use Rattle.tables.specs.Store.{Holds}
 use Rattle.tables.specs.Tables.{Line, line-key, Tables}
 use Rattle.tables.proofs.LayoutLaws.{layout-one, holds-store}
-use Rattle.tables.proofs.Sentences.{key-is-digits}
+use Rattle.tables.proofs.Sentences.{key-is-both}
 use Rattle.menu.specs.declared.counting.Counts.{Counts}
 use Rattle.menu.specs.declared.counting.Counts.the-variants.{Held, NotAStore}
 use Rattle.menu.specs.Menu.{Told, told, counts-of, counting}
@@ -52,7 +52,7 @@ chosen : {A : Type 0} (b : Bool) (x : A) → HasRoom (cond b (some x) none) → 
 chosen true x h = refl
 chosen false x h = absurd (Option·none-ne-some (h .0) (h .1))
 
--- ROOM-EXACTLY: a line with a new number, or a channel, has a place exactly if the count is below the limit
+-- ROOM-EXACTLY: a line with a new key, or a channel, has a place exactly if the count is below the limit
 pub room-exactly : (lim : Limits) (store : List ℕ) (t : Tables) (a : Told) → Roomy lim → Holds lim t store → Answers (counting lim store) a
     → ((l : Line) → Without line-key (line-key l) (t .lines) → HasRoom (put-line (lim .lines) l (t .lines)) ↔ (a .lines < lim .lines))
     × ((n : ℕ) → HasRoom (put-channel (lim .channels) n (t .channels)) ↔ (a .channels < lim .channels))
@@ -61,9 +61,9 @@ room-exactly lim store t a room h x =
     let l : a .lines ≡ length (t .lines) = ap (λ (y : Told). y .lines) e in
     let c : a .channels ≡ length (t .channels) = ap (λ (y : Told). y .channels) e in (
       λ b new.
-          let i : indexOf (has-number (line-key b)) (t .lines) ≡ length (t .lines) = none-found line-key has-number key-is-digits (line-key b) (t .lines) .1 new in (
-            λ r. omega (arith, l, i, ltb-true (indexOf (has-number (line-key b)) (t .lines)) (lim .lines) (chosen _ _ r)),
-            λ k. (_, keyed-new line-key has-number key-is-digits (lim .lines) b (t .lines) new (omega (arith, l, k))),
+          let i : indexOf (has-key (line-key b)) (t .lines) ≡ length (t .lines) = none-found line-key has-key key-is-both (line-key b) (t .lines) .1 new in (
+            λ r. omega (arith, l, i, ltb-true (indexOf (has-key (line-key b)) (t .lines)) (lim .lines) (chosen _ _ r)),
+            λ k. (_, keyed-new line-key has-key key-is-both (lim .lines) b (t .lines) new (omega (arith, l, k))),
           ),
       λ n. (
         λ r. omega (arith, c, ltb-true (length (t .channels)) (lim .channels) (chosen _ _ r)),

@@ -21,6 +21,7 @@ pub(crate) fn run(store: &mut [u8]) {
         the 33rd line contact: 01 CA 0008 40 01 32FF 0000\n\
         the 33rd line contact, with digit A: 01 CA 0008 40 01 3AFF 0000\n\
         a known line, when full: 01 CA 0008 60 01 31FF 0000\n\
+        its number with the other IDtype, when full: 01 CA 0008 42 01 31FF 0000\n\
         a delete, then the 33rd: 02 CA 0008 80 01 07FF 0000 CA 0008 40 01 32FF 0000\n\
         33 entries, all different: 01 CA 0088 C0 21 {21 x % FF 0000}\n\
         33 entries, 32 different: 01 CA 0088 C0 21 {20 x % FF 0000} 00FF 0000\n\

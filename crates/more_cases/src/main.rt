@@ -8,10 +8,12 @@ mod line_cases;
 mod screen_cases;
 mod slot_cases;
 mod text_cases;
+mod type_cases;
 
 fn main() {
     let mut store = [0u8; HANDHELD_SIZE];
     line_cases::run(&mut store);
+    type_cases::run(&mut store);
     channel_cases::run(&mut store);
     count_cases::run(&mut store);
     text_cases::run(&mut store);

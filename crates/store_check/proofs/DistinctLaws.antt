@@ -1,4 +1,4 @@
--- Lines of which no two have one number: each line's number is looked for behind it. Assumes nothing.
+-- Lines of which no two have one key: each line's key is looked for behind it. Assumes nothing.
 use Rattle.lists.proofs.Kit.{_≡_, refl, sym, ap, _∙_, subst, _↔_, List, [], _∷_, _++_, map, append-assoc, ℕ, _+_, _*_, _-_, _≤_, _<_, mul-le-mul-right, arith, midOf, length, take, drop, length-drop, length-map, take-append-drop, drop-drop, length-take-le, take-add, take-all, take-at}
 use Rattle.lists.specs.Every.{All}
 use Rattle.lists.proofs.Every.{all-made}
@@ -11,12 +11,11 @@ use Rattle.slots.proofs.Tables.{front-bytes}
 use Rattle.counted_lists.specs.Counted.{Without, Distinct}
 use Rattle.counted_lists.proofs.KeyedLists.{none-found}
 use Rattle.tables.specs.Allowed.{LineOk}
-use Rattle.tables.specs.Apply.{has-number}
-use Rattle.tables.specs.Layout.{digit-bytes, line-bytes, line-width, digits-at}
+use Rattle.tables.specs.Apply.{has-key}
+use Rattle.tables.specs.Layout.{line-bytes, line-width, line-key-at, line-key-size}
 use Rattle.tables.specs.Tables.{Line, line-key}
-use Rattle.tables.proofs.EntryCodes.{line-code, line-keyed, line-shown}
-use Rattle.tables.proofs.Sentences.{key-is-digits}
-use Rattle.tables.proofs.TextCodes.{digits-length, digits-same}
+use Rattle.tables.proofs.EntryCodes.{key-of, line-code, line-keyed, keys-same, line-shown}
+use Rattle.tables.proofs.Sentences.{key-is-both}
 
 -- ---- entries that fill their places
 
@@ -79,7 +78,7 @@ module _ (s : List ℕ) (at end : ℕ) (ls : List Line) (fits : end ≤ length s
       go [] p e d = absurd (omega (arith, bytes-left, ap length e))
       go (l ∷ ms) p e d = record { line = l; later = ms; each = p; here = e; same = d }
 
-  -- where none are, no line is left, and none has a number twice
+  -- where none are, no line is left, and none has a key twice
   pub lines-end : end - at < line-width → Distinct line-key ls
   lines-end h = go (q .left) (q .each) (q .here) (q .same)
     where
@@ -99,38 +98,37 @@ module _ (s : List ℕ) (at end : ℕ) (ls : List Line) (fits : end ≤ length s
         let c = cut (take line-width (drop at s)) (line-bytes (n .line)) l e in
         (c .0, ap (take (end - (at + line-width))) (sym (drop-drop line-width at s)) ∙ c .1)
 
-    -- its number
-    number-read : midOf (at + digits-at) (at + digits-at + 18 - (at + digits-at)) s ≡ digit-bytes (next h .line .number)
-    number-read =
+    -- its key
+    key-read : midOf (at + line-key-at) (at + line-key-at + line-key-size - (at + line-key-at)) s ≡ key-of (next h .line)
+    key-read =
         let l = next h .line in
-        let k : at + digits-at + 18 - (at + digits-at) ≡ 18 = omega arith in
+        let k : at + line-key-at + line-key-size - (at + line-key-at) ≡ line-key-size = omega arith in
         let e : drop at s ≡ line-bytes l ++ drop line-width (drop at s) = sym (take-append-drop line-width (drop at s)) ∙ ap (λ (x : List ℕ). x ++ drop line-width (drop at s)) (line-cut .0) in
-        ap (λ (i : ℕ). take i (drop (at + digits-at) s)) k ∙ ap (take 18) (sym (drop-drop digits-at at s) ∙ ap (drop digits-at) e ∙ append-assoc (digit-bytes (l .number)) _ (drop line-width (drop at s)))
-        ∙ take-at (digit-bytes (l .number)) _ 18 (digits-length (l .number))
+        ap (λ (i : ℕ). take i (drop (at + line-key-at) s)) k ∙ ap (take line-key-size) (sym (drop-drop line-key-at at s) ∙ ap (drop line-key-at) e ∙ append-assoc (key-of l) _ (drop line-width (drop at s)))
+        ∙ take-at (key-of l) _ line-key-size (line-keyed .key-long l)
 
-    module _ (r : ℕ) (found : Found (KeyAt line-width digits-at (midOf (at + digits-at) (at + digits-at + 18 - (at + digits-at)) s) × (length (midOf (at + digits-at) (at + digits-at + 18 - (at + digits-at)) s) ≡ 18)) (fit digits-at (midOf (at + digits-at) (at + digits-at + 18 - (at + digits-at)) s)) line-width (midOf (at + line-width) (end - (at + line-width)) s) r) where
-      -- the search ends at the first line behind that has the number
-      key-found : r ≡ indexOf (has-number (line-key (next h .line))) (next h .later) * line-width
+    module _ (r : ℕ) (found : Found (KeyAt line-width line-key-at (midOf (at + line-key-at) (at + line-key-at + line-key-size - (at + line-key-at)) s) × (length (midOf (at + line-key-at) (at + line-key-at + line-key-size - (at + line-key-at)) s) ≡ line-key-size)) (fit line-key-at (midOf (at + line-key-at) (at + line-key-at + line-key-size - (at + line-key-at)) s)) line-width (midOf (at + line-width) (end - (at + line-width)) s) r) where
+      -- the search ends at the first line behind that has the key
+      key-found : r ≡ indexOf (has-key (line-key (next h .line))) (next h .later) * line-width
       key-found =
           let n = next h in
-          let d = n .line .number in
-          let o = n .each .0 .number in
-          key-at LineOk line-width line-bytes digits-at 18 (λ l. digit-bytes (l .number)) line-keyed (digit-bytes d) (digits-length d) (has-number d)
-          (λ a p. digits-same (a .number) d (p .number .1) (o .1)) (length (n .later)) (n .later) (midOf (at + line-width) (end - (at + line-width)) s)
+          let l = n .line in
+          key-at LineOk line-width line-bytes line-key-at line-key-size key-of line-keyed (key-of l) (line-keyed .key-long l) (has-key (line-key l))
+          (λ a p. keys-same a l p (n .each .0)) (length (n .later)) (n .later) (midOf (at + line-width) (end - (at + line-width)) s)
           (full-listed LineOk line-width line-bytes (line-code .long) (n .later) (midOf (at + line-width) (end - (at + line-width)) s) (n .each .1) (line-cut .1)) r
-          (subst (λ (k : List ℕ). Found (KeyAt line-width digits-at k) (fit digits-at k) line-width (midOf (at + line-width) (end - (at + line-width)) s) r) number-read
-          (found-known line-width digits-at 18 _ (midOf (at + line-width) (end - (at + line-width)) s) _ r (ap length number-read ∙ digits-length d) found))
+          (subst (λ (k : List ℕ). Found (KeyAt line-width line-key-at k) (fit line-key-at k) line-width (midOf (at + line-width) (end - (at + line-width)) s) r) key-read
+          (found-known line-width line-key-at line-key-size _ (midOf (at + line-width) (end - (at + line-width)) s) _ r (ap length key-read ∙ line-keyed .key-long l) found))
 
       -- at the end where none has it
       key-none : (r ≡ end - (at + line-width)) ↔ Without line-key (line-key (next h .line)) (next h .later)
       key-none =
           let n = next h in
-          let t = none-found line-key has-number key-is-digits (line-key (n .line)) (n .later) in
+          let t = none-found line-key has-key key-is-both (line-key (n .line)) (n .later) in
           let l : end - (at + line-width) ≡ length (n .later) * line-width
           = sym (length-take-le (end - (at + line-width)) (drop (at + line-width) s) (omega (arith, length-drop (at + line-width) s))) ∙ ap length (line-cut .1) ∙ bytes-long LineOk line-width line-bytes (line-code .long) (n .later) in
           (λ e. t .0 (omega (arith, key-found)), λ a. omega (arith, key-found, t .1 a))
 
-      -- the line's number is no other's: those behind decide
+      -- the line's key is no other's: those behind decide
       pub lines-more : r ≡ end - (at + line-width) → Behind s (at + line-width) end ls
       lines-more e =
           let n = next h in

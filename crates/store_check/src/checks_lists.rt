@@ -1,4 +1,4 @@
-// Whether bytes are a list table with its count: channels, and lines of which no two have one number.
+// Whether bytes are a list table with its count: channels, and lines of which no two have one key.
 use super::checks_entries::pair;
 use super::checks_tables::Table;
 use super::checks_tables::list_ok;
@@ -6,8 +6,8 @@ use super::checks_tables::width;
 use slots::slots::place_of;
 use slots::slots::used;
 use tables::places::COUNT;
-use tables::places::DIGITS;
-use tables::places::LINE_DIGITS;
+use tables::places::KEY_BYTES;
+use tables::places::LINE_KEY;
 use tables::places::LINE_SLOT;
 ghost use mathlib.Core.Path.{_≡_};
 ghost use mathlib.Core.Bool.{true};
@@ -43,7 +43,7 @@ fn counted_ok(t: Table, s: &[u8]) -> bool
     count_is(s, used(&s[COUNT..], w) / w)
 }
 
-// Whether no two lines of a table have one number.
+// Whether no two lines of a table have one key: IDtype and number.
 fn lines_distinct(s: &[u8]) -> bool
     ensures { λ r. ⌜ ((n : ℕ) (ls : List Line) → Listed LineOk line-width line-bytes n ls (now (s .entry)) → (r ≡ true) ↔ Distinct line-key ls) ⌝ }
 {
@@ -51,9 +51,9 @@ fn lines_distinct(s: &[u8]) -> bool
     let mut at = 0;
     while LINE_SLOT <= end - at {
         let next = at + LINE_SLOT;
-        let a = at + LINE_DIGITS;
-        let b = a + DIGITS;
-        if place_of(&s[next..end], LINE_SLOT, LINE_DIGITS, DIGITS, &s[a..b]) != end - next {
+        let a = at + LINE_KEY;
+        let b = a + KEY_BYTES;
+        if place_of(&s[next..end], LINE_SLOT, LINE_KEY, KEY_BYTES, &s[a..b]) != end - next {
             return false;
         }
         at = next;

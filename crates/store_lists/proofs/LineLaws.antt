@@ -2,7 +2,6 @@
 use Rattle.lists.proofs.Kit.{_≡_, refl, sym, ap, ap₂, _∙_, subst, Bool, true, false, List, [], _∷_, _++_, map, append-nil, ℕ, suc, _+_, _-_, _≤_, _<_, arith, putMid, midOf, length, replicate, length-append}
 use Rattle.lists.specs.Bytes.{Bytes}
 use Rattle.lists.specs.Every.{All}
-use Rattle.slots.specs.Slots.{same?}
 use Rattle.slots.proofs.Pads.{pad-length}
 use Rattle.slots.proofs.Parts.{put-part, get-part}
 use Rattle.counted_lists.specs.Counted.{Tried, KeyedPut, KeyDropped}
@@ -23,15 +22,14 @@ use Rattle.settings.specs.declared.settings.Entries.{Entries}
 use Rattle.read_fields.specs.Entries.{ContactIs, ContactAt}
 use Rattle.settings.specs.Meant.{EntriesAre}
 use Rattle.tables.specs.Allowed.{LineOk}
-use Rattle.tables.specs.Apply.{in-turn, start-from, has-number, line-of, line-step}
+use Rattle.tables.specs.Apply.{in-turn, start-from, has-key, line-of, line-step}
 use Rattle.tables.specs.Changing.{TextPut}
-use Rattle.tables.specs.Layout.{line-flags, digit-bytes, text-bytes, line-bytes, digits-at, line-width}
+use Rattle.tables.specs.Layout.{line-flags, digit-bytes, text-bytes, line-bytes, line-key-at, line-key-size, digits-at, line-width}
 use Rattle.store_lists.specs.Lists.{DigitsPut, LineSlot, LineTable, LinePut, LineDropped, LinesApplied}
-use Rattle.tables.specs.Tables.{Line}
-use Rattle.tables.proofs.EntryCodes.{line-keyed}
+use Rattle.tables.specs.Tables.{Line, line-key}
+use Rattle.tables.proofs.EntryCodes.{key-of, line-keyed, keys-same}
 use Rattle.tables.proofs.EntryWalk.{Starting, Applying, applying-start, applying-next, applying-full, applying-stuck, applying-end}
 use Rattle.tables.proofs.ReplaceLaws.{table-started}
-use Rattle.tables.proofs.TextCodes.{digits-length, digits-same}
 use Rattle.tables.proofs.TextLaws.{text-units}
 
 -- ---- a line's slot
@@ -56,29 +54,21 @@ slot-made m f p b c y z flags kind digits text e is range low =
 
 -- ---- one line
 
--- the digits of a line, as they are kept
-abbrev key : Line → List ℕ
-key l = digit-bytes (l .number)
+-- lines have their keys in their bytes
+keyed : Keyed line-width line-bytes line-key-at line-key-size key-of
+keyed = record { inside = line-keyed .inside; long = line-keyed .long; key-long = line-keyed .key-long; stands = line-keyed .stands }
 
--- they are its key
-numbered : Keyed line-width line-bytes digits-at 18 key
-numbered = record { inside = omega arith; long = line-keyed .long; key-long = line-keyed .key-long; stands = line-keyed .stands }
-
--- the lines with a line's key are those with its number
-key-same : (l : Line) → LineOk l → (a : Line) → LineOk a → same? (key a) (key l) ≡ has-number (l .number) a
-key-same l ok a q = digits-same (a .number) (l .number) (q .number .1) (ok .number .1)
-
--- a line is put by its number
-pub line-put : (x s t : List ℕ) (r : Bool) → KeyedPut line-width digits-at 18 x s t r → LinePut x s t r
+-- a line is put by its key
+pub line-put : (x s t : List ℕ) (r : Bool) → KeyedPut line-width line-key-at line-key-size x s t r → LinePut x s t r
 line-put x s t r h n ls l c ok e =
-    entries-put LineOk line-width line-bytes n ls s c digits-at 18 key numbered (has-number (l .number)) l t r ok (key-same l ok)
-    (subst (λ (v : List ℕ). KeyedPut line-width digits-at 18 v s t r) e h)
+    entries-put LineOk line-width line-bytes n ls s c line-key-at line-key-size key-of keyed (has-key (line-key l)) l t r ok (λ a q. keys-same a l q ok)
+    (subst (λ (v : List ℕ). KeyedPut line-width line-key-at line-key-size v s t r) e h)
 
--- the lines with a line's number are taken out
-pub line-dropped : (x s t : List ℕ) → KeyDropped line-width digits-at (midOf digits-at 18 x) s t → LineDropped x s t
+-- the lines with a line's key are taken out
+pub line-dropped : (x s t : List ℕ) → KeyDropped line-width line-key-at (midOf line-key-at line-key-size x) s t → LineDropped x s t
 line-dropped x s t h n ls l c ok e =
-    entries-drop LineOk line-width line-bytes n ls s c digits-at 18 key numbered (has-number (l .number)) (key l) t (digits-length (l .number)) (key-same l ok)
-    (subst (λ (k : List ℕ). KeyDropped line-width digits-at k s t) (ap (midOf digits-at 18) e ∙ line-keyed .stands l) h)
+    entries-drop LineOk line-width line-bytes n ls s c line-key-at line-key-size key-of keyed (has-key (line-key l)) (key-of l) t (line-keyed .key-long l) (λ a q. keys-same a l q ok)
+    (subst (λ (k : List ℕ). KeyDropped line-width line-key-at k s t) (ap (midOf line-key-at line-key-size) e ∙ line-keyed .stands l) h)
 
 -- ---- the loop
 

@@ -22,7 +22,7 @@ use Rattle.settings.specs.Meant.{EntriesAre}
 use Rattle.tables.specs.Allowed.{LineOk}
 use Rattle.tables.specs.Apply.{channel-step, channels-after, line-of, line-step, put-line, drop-line, lines-after}
 use Rattle.tables.specs.Layout.{channel-width, line-bytes, line-width}
-use Rattle.tables.specs.Tables.{Line}
+use Rattle.tables.specs.Tables.{Line, line-key}
 
 -- ---- channels
 
@@ -73,9 +73,9 @@ LineSlot m f p r = (e : Contact) → ContactIs m p e → InContact text-limits e
 abbrev pub LinePut : List ℕ → List ℕ → List ℕ → Bool → Type 0
 LinePut x s t r = (n : ℕ) (ls : List Line) (l : Line) → LineTable n ls s → LineOk l → x ≡ line-bytes l → Tried (LineTable n) (put-line n l ls) t r
 
--- what taking the line with the number of these bytes out leaves
+-- what taking the line with the key of these bytes out leaves
 abbrev pub LineDropped : List ℕ → List ℕ → List ℕ → Type 0
-LineDropped x s t = (n : ℕ) (ls : List Line) (l : Line) → LineTable n ls s → LineOk l → x ≡ line-bytes l → LineTable n (drop-line (l .number) ls) t
+LineDropped x s t = (n : ℕ) (ls : List Line) (l : Line) → LineTable n ls s → LineOk l → x ≡ line-bytes l → LineTable n (drop-line (line-key l) ls) t
 
 -- what applying an operation to the line of these bytes answers
 abbrev pub LineStepped : Operation → List ℕ → List ℕ → List ℕ → Bool → Type 0

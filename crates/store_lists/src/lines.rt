@@ -5,8 +5,8 @@ use counted_lists::changes::put_keyed;
 use read_fields::entries::ContactRead;
 use read_fields::entries::read_contact;
 use settings::settings::Entries;
-use tables::places::DIGITS;
-use tables::places::LINE_DIGITS;
+use tables::places::KEY_BYTES;
+use tables::places::LINE_KEY;
 use tables::places::LINE_SLOT;
 use tables::places::LINE_TEXT;
 use tables::replacing::empty_to_replace;
@@ -17,19 +17,19 @@ ghost use lib.ListN.{length};
 ghost use Rattle.tables.specs.Layout.{line-width};
 ghost use Rattle.store_lists.specs.Lists.{LinePut, LineDropped, LineStepped, LinesApplied};
 
-// Puts a line in place of the one with its number, or at the end, where there is room.
+// Puts a line in place of the one with its IDtype and number, or at the end, where there is room.
 fn put_line(list: &mut [u8], slot: &[u8]) -> bool
     ensures { λ r. ⌜ LinePut (now (slot .entry)) (now (list .entry)) (now (list .exit)) r ⌝ }
 {
-    put_keyed(list, LINE_SLOT, LINE_DIGITS, DIGITS, slot)
+    put_keyed(list, LINE_SLOT, LINE_KEY, KEY_BYTES, slot)
 }
 
-// Takes the line with the slot's number out.
+// Takes the line with the slot's IDtype and number out.
 fn drop_line(list: &mut [u8], slot: &[u8])
     requires { ⌜ length (now slot) ≡ line-width ⌝ }
     ensures { λ _. ⌜ LineDropped (now (slot .entry)) (now (list .entry)) (now (list .exit)) ⌝ }
 {
-    drop_keyed(list, LINE_SLOT, LINE_DIGITS, &slot[LINE_DIGITS..LINE_TEXT]);
+    drop_keyed(list, LINE_SLOT, LINE_KEY, &slot[LINE_KEY..LINE_TEXT]);
 }
 
 // Applies an operation to the line of a slot: was there room?

@@ -1,8 +1,8 @@
 -- The bytes of an entry of a table: as many as its slot is wide, not all zeros, and they tell the entry. Assumes nothing.
-use Rattle.lists.proofs.Kit.{ℕ, suc, _+_, _*_, _≤_, _<_, _≡_, refl, sym, ap, _∙_, Bool, true, false, true≢false, List, _∷_, _++_, head-eq-of-cons-eq, tail-eq-of-cons-eq, arith, eqb, length, length-append, take-at}
+use Rattle.lists.proofs.Kit.{ℕ, suc, _+_, _*_, _≤_, _<_, _≡_, refl, sym, ap, _∙_, Bool, true, false, _&&_, true≢false, List, _∷_, _++_, head-eq-of-cons-eq, tail-eq-of-cons-eq, arith, eqb, length, length-append, drop, take, take-at}
 use Rattle.lists.proofs.Bools.{is-false, and-parts}
 use Rattle.lists.proofs.Seqs.{cut}
-use Rattle.slots.specs.Slots.{u16, u24, zeros?}
+use Rattle.slots.specs.Slots.{u16, u24, zeros?, same?}
 use Rattle.slots.proofs.Codes.{Code}
 use Rattle.slots.proofs.Keys.{Keyed, keyed-shown}
 use Rattle.slots.proofs.Numbers.{u16-code, u16-shown, u24-one, u24-shown}
@@ -14,12 +14,13 @@ use Rattle.writing.specs.Ranges.{InChannel, text-limits}
 use Rattle.writing.specs.Settings.{Text}
 use Rattle.writing.specs.Writing.{bit}
 use Rattle.tables.specs.Allowed.{TextOk, QuickOk, StatusOk, LineOk, GroupOk, IndividualOk}
-use Rattle.tables.specs.Layout.{text-bytes, digit-bytes, quick-bytes, status-bytes, line-bytes, digits-at, group-bytes, individual-bytes, line-flags, group-flags, individual-flags, quick-width, status-width, member-width, channel-width, line-width}
+use Rattle.tables.specs.Apply.{same-key}
+use Rattle.tables.specs.Layout.{text-bytes, digit-bytes, quick-bytes, status-bytes, line-key-bytes, line-bytes, line-key-at, line-key-size, digits-at, group-bytes, individual-bytes, line-flags, group-flags, individual-flags, quick-width, status-width, member-width, channel-width, line-width}
 use Rattle.tables.specs.declared.members.Members.{Members}
 use Rattle.tables.specs.declared.members.Members.the-variants.{OfGroups, OfIndividuals}
 use Rattle.tables.specs.Members.{MemberIn, member-ok, member-bytes}
-use Rattle.tables.specs.Tables.{Line, Member, GroupMember, IndividualMember}
-use Rattle.tables.proofs.TextCodes.{text-length, text-one, text-shown, digits-length, digits-one, digits-shown}
+use Rattle.tables.specs.Tables.{Line, line-key, Member, GroupMember, IndividualMember}
+use Rattle.tables.proofs.TextCodes.{text-length, text-one, text-shown, digits-length, digits-one, digits-same, digits-shown}
 
 -- ---- flags
 
@@ -100,21 +101,33 @@ line-one a b p q e =
 pub line-code : Code LineOk line-width line-bytes
 line-code = record { long = line-long; one = line-one }
 
--- its number stands behind flags and IDtype, in 18 bytes
-pub line-keyed : Keyed LineOk line-width line-bytes digits-at 18 (λ l. digit-bytes (l .number))
+-- its digits stand behind flags and IDtype, in 18 bytes
+pub digits-stand : (l : Line) → take 18 (drop digits-at (line-bytes l)) ≡ digit-bytes (l .number)
+digits-stand l = take-at (digit-bytes (l .number)) (text-bytes 16 (l .text)) 18 (digits-length (l .number))
+
+-- the bytes of a line's key
+abbrev pub key-of : Line → List ℕ
+key-of l = line-key-bytes (line-key l)
+
+-- they stand behind the flags, and are not all zeros
+pub line-keyed : Keyed LineOk line-width line-bytes line-key-at line-key-size key-of
 line-keyed =
     record {
       wide = omega arith;
       inside = omega arith;
       long = line-long;
-      key-long = λ l. digits-length (l .number);
-      stands = λ l. take-at (digit-bytes (l .number)) (text-bytes 16 (l .text)) 18 (digits-length (l .number));
-      shown = λ l p. digits-shown (l .number) (p .number .0);
+      key-long = λ l. ap suc (digits-length (l .number));
+      stands = λ l. ap (λ (d : List ℕ). bit (l .flags .pabx) ∷ d) (digits-stand l);
+      shown = λ l p. is-false (zeros? (key-of l)) (λ z. true≢false (sym (and-parts (eqb (bit (l .flags .pabx)) 0) (zeros? (digit-bytes (l .number))) z .1) ∙ digits-shown (l .number) (p .number .0)));
     }
+
+-- they compare as the keys do
+pub keys-same : (a b : Line) → LineOk a → LineOk b → same? (key-of a) (key-of b) ≡ same-key (line-key a) (line-key b)
+keys-same a b p q = ap (λ (t : Bool). eqb (bit (a .flags .pabx)) (bit (b .flags .pabx)) && t) (digits-same (a .number) (b .number) (p .number .1) (q .number .1))
 
 -- they are not all zeros
 pub line-shown : (l : Line) → LineOk l → zeros? (line-bytes l) ≡ false
-line-shown = keyed-shown LineOk line-width line-bytes digits-at 18 (λ l. digit-bytes (l .number)) line-keyed
+line-shown = keyed-shown LineOk line-width line-bytes line-key-at line-key-size key-of line-keyed
 
 -- ---- slots, whatever the kind of their flags and address
 

@@ -9,6 +9,7 @@ pub mod Frames
 pub mod FreshLaws
 pub mod HeadLaws
 pub mod LayoutLaws
+pub mod LineTypes
 pub mod Owns
 pub mod ReplaceLaws
 pub mod RoomSentences

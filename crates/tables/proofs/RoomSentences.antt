@@ -6,12 +6,12 @@ use Rattle.writing.specs.declared.Kind.{Kind}
 use Rattle.writing.specs.declared.Kind.the-variants.{Lines, Key, QuickTexts, Home, Channels, System, StatusTexts, Group, Individual, Last}
 use Rattle.writing.specs.declared.Operation.{Operation}
 use Rattle.writing.specs.declared.Operation.the-variants.{Add, Delete, Replace}
-use Rattle.writing.specs.Settings.{Text, Number, Entry, Setting, lines, key, quick-texts, home, channels, system, status-texts, group, individual, last, kind}
+use Rattle.writing.specs.Settings.{Text, Entry, Setting, lines, key, quick-texts, home, channels, system, status-texts, group, individual, last, kind}
 use Rattle.tables.specs.declared.limits.Limits.{Limits}
-use Rattle.tables.specs.Apply.{and-then, in-turn, start-from, has-number, put-line, drop-line, quick-step, quick-after, status-step, status-after, put-channel, drop-channel, with-room, own-after, apply}
+use Rattle.tables.specs.Apply.{and-then, in-turn, start-from, has-key, put-line, drop-line, quick-step, quick-after, status-step, status-after, put-channel, drop-channel, with-room, own-after, apply}
 use Rattle.tables.specs.Limits.{handheld, quick-places, status-places}
-use Rattle.tables.specs.Tables.{Line, line-key, Tables}
-use Rattle.tables.proofs.Sentences.{Without, key-is-digits}
+use Rattle.tables.specs.Tables.{Line, LineKey, line-key, Tables}
+use Rattle.tables.proofs.Sentences.{Without, key-is-both}
 use Rattle.tables.specs.Owns.{Own, own, mix, only, put-own}
 
 -- ---- entries in order
@@ -70,9 +70,9 @@ module _ {A T : Type 0} (step : A → T → Option T) where
 pub room-is : (handheld .lines ≡ 32) × (handheld .channels ≡ 64)
 room-is = (refl, refl)
 
--- a line has no room where the list is full and no line has its number
-pub line-no-room : (room : ℕ) (l : Line) (ls : List Line) → length ls ≤ room → (put-line room l ls ≡ none) ↔ ((length ls ≡ room) × Without (l .number) ls)
-line-no-room = keyed-no-room line-key has-number key-is-digits
+-- a line has no room where the list is full and no line has its key
+pub line-no-room : (room : ℕ) (l : Line) (ls : List Line) → length ls ≤ room → (put-line room l ls ≡ none) ↔ ((length ls ≡ room) × Without (line-key l) ls)
+line-no-room = keyed-no-room line-key has-key key-is-both
 
 -- a channel has no room where the list is full
 pub channel-no-room : (room n : ℕ) (cs : List ℕ) → length cs ≤ room → (put-channel room n cs ≡ none) ↔ (length cs ≡ room)
@@ -81,8 +81,8 @@ channel-no-room = last-no-room
 -- ---- "Room freed earlier in the same message is used."
 
 -- after a line was deleted, any line has room
-pub line-freed : (room : ℕ) (d : Number) (before : List Line) (x : Line) (after : List Line) → x .number ≡ d → length (before ++ x ∷ after) ≤ room → (l : Line) → put-line room l (drop-line d (before ++ x ∷ after)) ≢ none
-line-freed = keyed-freed line-key has-number key-is-digits
+pub line-freed : (room : ℕ) (k : LineKey) (before : List Line) (x : Line) (after : List Line) → line-key x ≡ k → length (before ++ x ∷ after) ≤ room → (l : Line) → put-line room l (drop-line k (before ++ x ∷ after)) ≢ none
+line-freed = keyed-freed line-key has-key key-is-both
 
 -- after a channel was deleted, any channel has room
 pub channel-freed : (room d : ℕ) (before after : List ℕ) → length (before ++ d ∷ after) ≤ room → (n : ℕ) → put-channel room n (drop-channel d (before ++ d ∷ after)) ≢ none

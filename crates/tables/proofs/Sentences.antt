@@ -1,8 +1,7 @@
 -- The sentences of document 01, "What each operation does", each as a law of the definitions. Assumes nothing.
-use Rattle.lists.proofs.Kit.{ℕ, _-_, _≤_, _<_, _≡_, refl, sym, ap, _∙_, _≢_, _↔_, _⊎_, inl, inr, Bool, true, false, true≢false, List, [], _∷_, _++_, Option, none, some, eq-eqb, eqb-true, ne-eqb, eqb-false, eqb, length, getD, set, replicate, length-set, getD-set-same, getD-set-other, set-getD}
+use Rattle.lists.proofs.Kit.{ℕ, _-_, _≤_, _<_, _≡_, refl, sym, ap, _∙_, _≢_, _↔_, _⊎_, inl, inr, Bool, true, false, true≢false, List, [], _∷_, _++_, head-eq-of-cons-eq, tail-eq-of-cons-eq, Option, none, some, eq-eqb, eqb-true, ne-eqb, eqb-false, eqb, length, getD, set, replicate, length-set, getD-set-same, getD-set-other, set-getD}
 use Rattle.lists.specs.Every.{All}
 use Rattle.lists.proofs.Every.{all-turn}
-use Rattle.slots.specs.Slots.{same?}
 use Rattle.slots.proofs.Changes.{unless-append, unless-gone}
 use Rattle.slots.proofs.Runs.{same-are, same-refl}
 use Rattle.counted_lists.specs.Counted as Keys
@@ -19,67 +18,76 @@ use Rattle.writing.specs.declared.Operation.the-variants.{Add, Delete, Replace}
 use Rattle.writing.specs.declared.SystemCode.{SystemCode}
 use Rattle.plan.specs.declared.numbers.GroupAddress.{GroupAddress}
 use Rattle.plan.specs.declared.numbers.IndividualAddress.{IndividualAddress}
-use Rattle.writing.specs.Settings.{Text, Number, Contact, Entry, Slot, Hash, lines, key, quick-texts, home, channels, system, status-texts, group, individual, last}
+use Rattle.writing.specs.Settings.{Text, Contact, Entry, Slot, Hash, lines, key, quick-texts, home, channels, system, status-texts, group, individual, last}
+use Rattle.writing.specs.Writing.{bit}
 use Rattle.tables.specs.declared.limits.Limits.{Limits}
-use Rattle.tables.specs.Apply.{start-from, has-number, line-of, line-step, lines-after, quick-step, quick-after, status-step, status-after, drop-channel, channel-step, channels-after, apply}
+use Rattle.tables.specs.Apply.{start-from, same-key, has-key, line-of, entry-key, line-step, lines-after, quick-step, quick-after, status-step, status-after, drop-channel, channel-step, channels-after, apply}
 use Rattle.tables.specs.Limits.{quick-places, status-places}
-use Rattle.tables.specs.Tables.{Line, line-key, Tables}
+use Rattle.tables.specs.Tables.{Line, LineKey, line-key, Tables}
 use Rattle.writing.specs.declared.Kind.the-variants.{Lines, Key, QuickTexts, Home, Channels, System, StatusTexts, Group, Individual, Last}
 use Rattle.tables.specs.Owns.{put-own}
+use Rattle.tables.proofs.EntryCodes.{bit-one}
 
--- ---- "Line contacts: the key is the digits."
+-- ---- "The identity of a line is its IDtype together with its digits."
 
--- a line has the number that its digits are
-pub key-is-digits : (d : Number) (l : Line) → (has-number d l ≡ true) ↔ (l .number ≡ d)
-key-is-digits d l = (λ e. same-are (l .number) d e, λ e. ap (λ (n : Number). same? n d) e ∙ same-refl d)
+-- KEY-IS-BOTH: a line has the key that its IDtype and its digits are
+pub key-is-both : (k : LineKey) (l : Line) → (has-key k l ≡ true) ↔ (line-key l ≡ k)
+key-is-both k l = (
+  λ e.
+      let q = same-are (bit (l .flags .pabx) ∷ l .number) (bit (k .pabx) ∷ k .number) e in
+      let b = bit-one (l .flags .pabx) (k .pabx) (head-eq-of-cons-eq q) in
+      let d = tail-eq-of-cons-eq q in
+      (λ i. record { pabx = b i; number = d i }),
+  λ e. ap (λ (j : LineKey). same-key j k) e ∙ same-refl (bit (k .pabx) ∷ k .number),
+)
 
--- no line has the number d
-abbrev pub Without : Number → List Line → Type 0
-Without d ls = Keys.Without line-key d ls
+-- no line has the key k
+abbrev pub Without : LineKey → List Line → Type 0
+Without k ls = Keys.Without line-key k ls
 
--- the first line with the number d, and what stands before and after it
-pub record Known (d : Number) (ls : List Line) : Type 0 where
+-- the first line with the key k, and what stands before and after it
+pub record Known (k : LineKey) (ls : List Line) : Type 0 where
   pub before : List Line
   pub line : Line
   pub after : List Line
   pub split : ls ≡ before ++ line ∷ after
-  pub is : line .number ≡ d
-  pub first : Without d before
+  pub is : line-key line ≡ k
+  pub first : Without k before
 
--- a number is known or new
-pub known-or-new : (d : Number) (ls : List Line) → Known d ls ⊎ Without d ls
-known-or-new d [] = inr tt
-known-or-new d (l ∷ ls) = go (has-number d l) refl (known-or-new d ls)
+-- a key is known or new
+pub known-or-new : (k : LineKey) (ls : List Line) → Known k ls ⊎ Without k ls
+known-or-new k [] = inr tt
+known-or-new k (l ∷ ls) = go (has-key k l) refl (known-or-new k ls)
   where
-    go : (b : Bool) → has-number d l ≡ b → Known d ls ⊎ Without d ls → Known d (l ∷ ls) ⊎ Without d (l ∷ ls)
-    go true h r = inl (record { before = []; line = l; after = ls; split = refl; is = key-is-digits d l .0 h; first = tt })
-    go false h (inl k) =
+    go : (b : Bool) → has-key k l ≡ b → Known k ls ⊎ Without k ls → Known k (l ∷ ls) ⊎ Without k (l ∷ ls)
+    go true h r = inl (record { before = []; line = l; after = ls; split = refl; is = key-is-both k l .0 h; first = tt })
+    go false h (inl r) =
         inl (record {
-          before = l ∷ k .before;
-          line = k .line;
-          after = k .after;
-          split = ap (λ (x : List Line). l ∷ x) (k .split);
-          is = k .is;
-          first = (λ e. true≢false (sym (key-is-digits d l .1 e) ∙ h), k .first);
+          before = l ∷ r .before;
+          line = r .line;
+          after = r .after;
+          split = ap (λ (x : List Line). l ∷ x) (r .split);
+          is = r .is;
+          first = (λ e. true≢false (sym (key-is-both k l .1 e) ∙ h), r .first);
         })
-    go false h (inr k) = inr (λ e. true≢false (sym (key-is-digits d l .1 e) ∙ h), k)
+    go false h (inr r) = inr (λ e. true≢false (sym (key-is-both k l .1 e) ∙ h), r)
 
 module _ (room : ℕ) (f : LineFlags) (e : Contact) where
   -- "Add puts a new key at the end"
-  pub line-add-new : (ls : List Line) → Without (e .number) ls → length ls < room → line-step room Add f e ls ≡ some (ls ++ (line-of f e ∷ []))
-  line-add-new = keyed-new line-key has-number key-is-digits room (line-of f e)
+  pub line-add-new : (ls : List Line) → Without (entry-key f e) ls → length ls < room → line-step room Add f e ls ≡ some (ls ++ (line-of f e ∷ []))
+  line-add-new = keyed-new line-key has-key key-is-both room (line-of f e)
 
   -- "and overwrites a known one in its place, flags included"; the others stay, and a full list has room for it
-  pub line-add-known : (before : List Line) (l : Line) (after : List Line) → Without (e .number) before → l .number ≡ e .number → length (before ++ l ∷ after) ≤ room → line-step room Add f e (before ++ l ∷ after) ≡ some (before ++ line-of f e ∷ after)
-  line-add-known = keyed-known line-key has-number key-is-digits room (line-of f e)
+  pub line-add-known : (before : List Line) (l : Line) (after : List Line) → Without (entry-key f e) before → line-key l ≡ entry-key f e → length (before ++ l ∷ after) ≤ room → line-step room Add f e (before ++ l ∷ after) ≡ some (before ++ line-of f e ∷ after)
+  line-add-known = keyed-known line-key has-key key-is-both room (line-of f e)
 
   -- "Delete closes the gap": the others keep their order
-  pub line-delete : (before : List Line) (l : Line) (after : List Line) → Without (e .number) before → l .number ≡ e .number → Without (e .number) after → line-step room Delete f e (before ++ l ∷ after) ≡ some (before ++ after)
-  line-delete before l after h n k = ap some (drop-known line-key has-number key-is-digits (e .number) before l after h n k)
+  pub line-delete : (before : List Line) (l : Line) (after : List Line) → Without (entry-key f e) before → line-key l ≡ entry-key f e → Without (entry-key f e) after → line-step room Delete f e (before ++ l ∷ after) ≡ some (before ++ after)
+  line-delete before l after h n k = ap some (drop-known line-key has-key key-is-both (entry-key f e) before l after h n k)
 
   -- "Deleting what isn't there does nothing"
-  pub line-delete-absent : (ls : List Line) → Without (e .number) ls → line-step room Delete f e ls ≡ some ls
-  line-delete-absent ls h = ap some (drop-absent line-key has-number key-is-digits (e .number) ls h)
+  pub line-delete-absent : (ls : List Line) → Without (entry-key f e) ls → line-step room Delete f e ls ≡ some ls
+  line-delete-absent ls h = ap some (drop-absent line-key has-key key-is-both (entry-key f e) ls h)
 
 -- ---- a place of an indexed table
 

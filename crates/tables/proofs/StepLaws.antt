@@ -11,12 +11,12 @@ use Rattle.writing.specs.declared.Operation.the-variants.{Add, Delete, Replace}
 use Rattle.writing.specs.Ranges.{InChannel}
 use Rattle.writing.specs.Settings.{Text, Contact, Entry}
 use Rattle.tables.specs.Allowed.{QuickOk, StatusOk, LineOk, PlacesOk, ListOk, LinesOk}
-use Rattle.tables.specs.Apply.{and-then, in-turn, start-from, has-number, put-line, line-of, line-step, lines-after, if-absent, quick-step, quick-after, status-step, status-after, put-channel, channel-step, channels-after}
+use Rattle.tables.specs.Apply.{and-then, in-turn, start-from, has-key, put-line, line-of, line-step, lines-after, if-absent, quick-step, quick-after, status-step, status-after, put-channel, channel-step, channels-after}
 use Rattle.tables.specs.Limits.{quick-places, status-places}
 use Rattle.tables.specs.Tables.{Line, line-key}
 use Rattle.tables.proofs.FitsLaws.{QuickFit}
 use Rattle.tables.proofs.FreshLaws.{empty-table}
-use Rattle.tables.proofs.Sentences.{key-is-digits}
+use Rattle.tables.proofs.Sentences.{key-is-both}
 
 -- ---- one place
 
@@ -55,10 +55,10 @@ put-line-keeps : (room : ℕ) (l : Line) (ls : List Line) → LineOk l → Lines
 put-line-keeps room l ls h i = go (ltb at room) refl
   where
     at : ℕ
-    at = indexOf (has-number (line-key l)) ls
+    at = indexOf (has-key (line-key l)) ls
 
     go : (b : Bool) → ltb at room ≡ b → Present (LinesOk room) (cond b (some (putAt at l ls)) none)
-    go true e = ((put-short at room l ls (ltb-true _ _ e) (i .0 .0), put-all LineOk at l ls h (i .0 .1)), put-distinct line-key has-number key-is-digits l ls (i .1))
+    go true e = ((put-short at room l ls (ltb-true _ _ e) (i .0 .0), put-all LineOk at l ls h (i .0 .1)), put-distinct line-key has-key key-is-both l ls (i .1))
     go false e = tt
 
 -- one entry of a setting

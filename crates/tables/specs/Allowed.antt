@@ -1,4 +1,4 @@
--- Which tables the rules allow: the ranges of "The ten settings", the room, and one line to a number.
+-- Which tables the rules allow: the ranges of "The ten settings", the room, and one line to a key.
 use Prim.Native.Nat.{ℕ, _≤_, _<_}
 use mathlib.Core.Path.{_≡_}
 use mathlib.Core.Logic.{_≢_}

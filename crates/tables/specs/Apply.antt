@@ -1,6 +1,6 @@
 -- What each setting does to its table: document 01, "What each operation does". None is "no room".
 use Prim.Native.Nat.{ℕ, _-_}
-use mathlib.Core.Bool.{Bool}
+use mathlib.Core.Bool.{Bool, _&&_}
 use mathlib.Core.List.{List, [], _∷_}
 use mathlib.Core.Option.{Option, none, some}
 use lib.ListN.{getD, set, replicate}
@@ -10,10 +10,11 @@ use Rattle.counted_lists.specs.Counted.{put-last, put-keyed}
 use Rattle.writing.specs.declared.LineFlags.{LineFlags}
 use Rattle.writing.specs.declared.Operation.{Operation}
 use Rattle.writing.specs.declared.Operation.the-variants.{Add, Delete, Replace}
-use Rattle.writing.specs.Settings.{Text, Number, Contact, Entry, Setting, lines, key, quick-texts, home, channels, system, status-texts, group, individual, last, kind}
+use Rattle.writing.specs.Settings.{Text, Contact, Entry, Setting, lines, key, quick-texts, home, channels, system, status-texts, group, individual, last, kind}
+use Rattle.writing.specs.Writing.{bit}
 use Rattle.tables.specs.declared.limits.Limits.{Limits}
 use Rattle.tables.specs.Limits.{quick-places, status-places}
-use Rattle.tables.specs.Tables.{Line, line-key, Tables}
+use Rattle.tables.specs.Tables.{Line, LineKey, line-key, Tables}
 use Rattle.tables.specs.Owns.{Own, own, put-own}
 
 -- ---- entries in turn
@@ -36,24 +37,32 @@ start-from Replace empty t = empty
 
 -- ---- line contacts
 
--- whether a line has the key d
-abbrev pub has-number : Number → Line → Bool
-has-number d l = same? (line-key l) d
+-- "Add, delete and replace compare both"
+abbrev pub same-key : LineKey → LineKey → Bool
+same-key j k = eqb (bit (j .pabx)) (bit (k .pabx)) && same? (j .number) (k .number)
+
+-- whether a line has the key k
+abbrev pub has-key : LineKey → Line → Bool
+has-key k l = same-key (line-key l) k
 
 -- "Add puts a new key at the end and overwrites a known one in its place, flags included"
 abbrev pub put-line : ℕ → Line → List Line → Option (List Line)
-put-line room l ls = put-keyed (has-number (line-key l)) room l ls
+put-line room l ls = put-keyed (has-key (line-key l)) room l ls
 
 -- "Delete closes the gap"; "Deleting what isn't there does nothing"
-abbrev pub drop-line : Number → List Line → List Line
-drop-line d ls = unless (has-number d) ls
+abbrev pub drop-line : LineKey → List Line → List Line
+drop-line k ls = unless (has-key k) ls
 
 abbrev pub line-of : LineFlags → Contact → Line
 line-of f e = record { flags = f; number = e .number; text = e .text }
 
+-- the key of an entry: the IDtype of its setting, and its own digits
+abbrev pub entry-key : LineFlags → Contact → LineKey
+entry-key f e = line-key (line-of f e)
+
 abbrev pub line-step : ℕ → Operation → LineFlags → Contact → List Line → Option (List Line)
 line-step room Add f e ls = put-line room (line-of f e) ls
-line-step room Delete f e ls = some (drop-line (e .number) ls)
+line-step room Delete f e ls = some (drop-line (entry-key f e) ls)
 line-step room Replace f e ls = put-line room (line-of f e) ls
 
 abbrev pub lines-after : ℕ → Operation → LineFlags → List Contact → List Line → Option (List Line)

@@ -17,7 +17,7 @@ use Rattle.writing.specs.Writing.{bit, current, to-group}
 use Rattle.tables.specs.declared.limits.Limits.{Limits}
 use Rattle.tables.specs.Allowed.{Allowed}
 use Rattle.tables.specs.Limits.{quick-places, status-places, slot-places}
-use Rattle.tables.specs.Tables.{Line, GroupMember, IndividualMember, Key, Tables}
+use Rattle.tables.specs.Tables.{Line, LineKey, line-key, GroupMember, IndividualMember, Key, Tables}
 
 -- ---- an entry's bytes
 
@@ -39,9 +39,13 @@ line-flags f = bit (f .encryption) * 8 + bit (f .emergency) * 4 + f .priority
 abbrev pub digit-bytes : List ℕ → List ℕ
 digit-bytes ds = pad 0 18 (map suc ds)
 
--- flags, then IDtype and digits, which stand together, then the text
+-- IDtype and digits, which stand together
+abbrev pub line-key-bytes : LineKey → List ℕ
+line-key-bytes k = bit (k .pabx) ∷ digit-bytes (k .number)
+
+-- flags, then the key, then the text
 abbrev pub line-bytes : Line → List ℕ
-line-bytes l = line-flags (l .flags) ∷ bit (l .flags .pabx) ∷ digit-bytes (l .number) ++ text-bytes (text-limits .short) (l .text)
+line-bytes l = line-flags (l .flags) ∷ line-key-bytes (line-key l) ++ text-bytes (text-limits .short) (l .text)
 
 abbrev pub group-flags : GroupFlags → ℕ
 group-flags f =
@@ -95,7 +99,13 @@ channel-width = 2
 abbrev pub line-width : ℕ
 line-width = 52
 
--- where a line's digits stand in its slot
+-- where a line's key stands in its slot, how many bytes it has, and where its digits stand
+abbrev pub line-key-at : ℕ
+line-key-at = 1
+
+abbrev pub line-key-size : ℕ
+line-key-size = 19
+
 abbrev pub digits-at : ℕ
 digits-at = 2
 

@@ -1,6 +1,6 @@
 -- The tables of a set, and a fresh one: document 01, "What each operation does".
 use Prim.Native.Nat.{ℕ}
-use mathlib.Core.Bool.{false}
+use mathlib.Core.Bool.{Bool, false}
 use mathlib.Core.List.{List, []}
 use mathlib.Core.Option.{Option, none}
 use lib.ListN.{replicate}
@@ -23,9 +23,13 @@ pub record Line : Type 0 where
   pub number : Number
   pub text : Text
 
--- "Line contacts: the key is the digits"
-abbrev pub line-key : Line → Number
-line-key l = l .number
+-- "The identity of a line is its IDtype together with its digits"
+pub record LineKey : Type 0 where
+  pub pabx : Bool
+  pub number : Number
+
+abbrev pub line-key : Line → LineKey
+line-key l = record { pabx = l .flags .pabx; number = l .number }
 
 -- a group or an individual in a slot, by the kind of its flags and address
 pub record Member (Flags Address : Type 0) : Type 0 where

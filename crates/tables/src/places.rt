@@ -49,14 +49,16 @@ pub const COUNT: usize = 2;
 
 pub const COUNTED: usize = 65535;
 
-// In a slot: a line's IDtype and digits, and the text, which stands last.
-pub const LINE_IDTYPE: usize = 1;
+// In a slot: a line's key, which is its IDtype and its digits, and the text, which stands last.
+pub const LINE_KEY: usize = 1;
 
-pub const LINE_DIGITS: usize = 2;
+pub const KEY_BYTES: usize = 19;
 
-pub const DIGITS: usize = 18;
+pub const LINE_IDTYPE: usize = LINE_KEY;
 
-pub const LINE_TEXT: usize = LINE_DIGITS + DIGITS;
+pub const LINE_DIGITS: usize = LINE_IDTYPE + 1;
+
+pub const LINE_TEXT: usize = LINE_KEY + KEY_BYTES;
 
 pub const STATUS_TEXT: usize = 1;
 

@@ -214,8 +214,9 @@ fn is_line(slot: &[u8]) -> bool {
     slot[0] < 16 && slot[1] < 2 && length > 0 && is_empty(&digits[length..]) && is_text(&slot[20..])
 }
 
+/// No two lines have one key: a slot's 19 bytes of IDtype and digits.
 fn keys_differ(bytes: &[u8]) -> bool {
-    let lines: Vec<&[u8]> = bytes.chunks_exact(LINE).filter(|slot| !is_empty(slot)).collect();
-    (1..lines.len())
-        .all(|place| lines[..place].iter().all(|line| line[2..20] != lines[place][2..20]))
+    let lines = bytes.chunks_exact(LINE).filter(|slot| !is_empty(slot));
+    let keys: Vec<&[u8]> = lines.map(|slot| &slot[1..20]).collect();
+    (1..keys.len()).all(|place| !keys[..place].contains(&keys[place]))
 }

@@ -123,6 +123,9 @@ impl<'s> Store<'s> {
     /// A request's texts are eight-bit characters, coding type 0100, or 16-bit Unicode, 0111; the store
     /// keeps 16-bit units of both. Another coding type is a bad field, failed ID 0.
     ///
+    /// A line contact is known by its IDtype together with its digits: PSTN 2345 and PABX 2345 are two
+    /// lines. A replace empties the list of both.
+    ///
     /// ```
     /// # fn main() -> Result<(), otap::Refusal> {
     /// let mut bytes = [0; otap::STORE_SIZE];

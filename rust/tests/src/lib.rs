@@ -42,10 +42,16 @@ pub fn taken(message: &[u8]) -> Set {
     set
 }
 
-pub fn lines(operation: Operation, keys: &[&[u8]]) -> Vec<u8> {
-    let entries =
-        keys.iter().map(|key| LineEntry { digits: key.to_vec(), text: Vec::new() }).collect();
-    Setting::Lines { operation, flags: LineFlags::default(), entries }.write()
+/// PSTN lines without texts.
+pub fn lines(operation: Operation, numbers: &[&[u8]]) -> Vec<u8> {
+    lines_of(false, operation, numbers)
+}
+
+/// The same of an IDtype, PABX if so said.
+pub fn lines_of(pabx: bool, operation: Operation, numbers: &[&[u8]]) -> Vec<u8> {
+    let entry = |digits: &&[u8]| LineEntry { digits: digits.to_vec(), text: Vec::new() };
+    let flags = LineFlags { pabx, ..LineFlags::default() };
+    Setting::Lines { operation, flags, entries: numbers.iter().map(entry).collect() }.write()
 }
 
 pub fn lines_add(keys: &[&[u8]]) -> Vec<u8> {

@@ -3,7 +3,7 @@
 use otap_reference::inputs::{Inputs, LONGEST_INPUT};
 use otap_reference::reference::message::{first_byte, LONGEST, REQUEST};
 use otap_reference::reference::numbers::BAD_FIELD;
-use otap_reference::reference::tables::Set;
+use otap_reference::reference::tables::{Line, Set};
 use otap_reference::reference::take::{take, REPLY_ROOM};
 use otap_reference::reference::texts::Text;
 use std::collections::BTreeMap;
@@ -55,6 +55,41 @@ fn tables_fill_and_messages_grow_long() {
     println!("states: {lines} full lines, {channels} full channels, {quick} full quick texts");
     println!("messages: {longest} taken of 4,096 bytes, {over} longer");
     assert!(lines > 1_000 && channels > 1_000 && quick > 100 && longest > 100 && over > 100);
+}
+
+/// One number often stands with both IDtypes, in full tables too, and each of the two lines is overwritten and deleted alone.
+#[test]
+fn numbers_of_both_idtypes_come_often() {
+    let (mut full, mut overwritten, mut deleted) = (0, 0, 0);
+    for seed in 0..SEEDS {
+        let mut inputs = Inputs::new(seed);
+        let mut set = Set::default();
+        for _ in 0..MESSAGES {
+            let before = set.tables.lines.clone();
+            take(&inputs.message(), &mut set, &mut [0; REPLY_ROOM]);
+            let after = &set.tables.lines;
+            full += usize::from(after.len() == 32 && !of_both_idtypes(after).is_empty());
+            for [pstn, pabx] in of_both_idtypes(&before) {
+                let number = pstn.digits.clone();
+                let left: Vec<_> = after.iter().filter(|line| line.digits == number).collect();
+                let stayed = after.contains(&pstn) != after.contains(&pabx);
+                overwritten += usize::from(stayed && left.len() == 2);
+                deleted += usize::from(stayed && left.len() == 1);
+            }
+        }
+    }
+    println!("{full} full tables, {overwritten} overwritten and {deleted} deleted alone");
+    assert!(full > 1_000 && overwritten > 1_000 && deleted > 1_000);
+}
+
+/// Each two lines with one number, PSTN first.
+fn of_both_idtypes(lines: &[Line]) -> Vec<[Line; 2]> {
+    let pstn = lines.iter().filter(|line| !line.flags.pabx);
+    let with_other = pstn.filter_map(|line| {
+        let other = lines.iter().find(|other| other.key() == (true, &line.digits))?;
+        Some([line.clone(), other.clone()])
+    });
+    with_other.collect()
 }
 
 /// Both coding types change texts often. The others are refused as such, and no setting is looked at.

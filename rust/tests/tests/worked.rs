@@ -1,10 +1,10 @@
-//! Document 01's worked examples 1 to 12, and the input of its program `take`.
+//! Document 01's worked examples 1 to 12, document 02's with both lines, and the input of the program `take`.
 
 use otap_reference::records::{Record, Records};
 use otap_reference::reference::numbers::*;
 use otap_reference::reference::plan::*;
 use otap_reference::reference::settings::{parse, Fault, HomeNumbers, Setting};
-use otap_reference::reference::tables::Set;
+use otap_reference::reference::tables::{Line, Set};
 use otap_reference::reference::take::{take, Answer};
 use otap_reference::reference::texts::Coding;
 use otap_tests::{bytes, lines_add, number_of, request, taken};
@@ -83,6 +83,19 @@ fn example_11_adds_a_line() {
     assert_eq!(line.digits, [2, 3, 4, 5]);
     assert!(line.flags.pabx && !line.flags.encryption && !line.flags.emergency);
     assert!(line.text.is_empty());
+}
+
+/// The case of request A3: extension and telephone 2345 are both present, and one is deleted.
+#[test]
+fn example_11_and_the_telephone() {
+    let [extension, telephone, delete] =
+        ["42", "40", "82"].map(|head| bytes(&format!("CA 00 09 {head} 01 23 45 FF 00 00")));
+    let both = taken(&request(&[extension.clone(), telephone.clone()]));
+    let number: &[u8] = &[2, 3, 4, 5];
+    let keys: Vec<_> = both.tables.lines.iter().map(Line::key).collect();
+    assert_eq!(keys, [(true, number), (false, number)]);
+    let one = taken(&request(&[extension, telephone.clone(), delete]));
+    assert_eq!(one, taken(&request(&[telephone])));
 }
 
 #[test]

@@ -1,5 +1,7 @@
 //! Single settings of every type, with values put out of range as often as asked.
 
+pub mod lines;
+
 use super::random::Random;
 use crate::reference::bits::BitWriter;
 use crate::reference::message::Hash;
@@ -11,7 +13,6 @@ pub const TYPES: [u8; 9] = [0xCA, 0xCB, 0xCC, 0xCD, 0xCE, 0xCF, 0xD0, 0xD1, 0xD2
 const ADD: u32 = 1;
 const DELETE: u32 = 2;
 const REPLACE: u32 = 3;
-const POOL_KEYS: usize = 28;
 
 #[derive(Clone, Copy, PartialEq, Eq)]
 pub enum Size {
@@ -49,16 +50,6 @@ pub fn pool_hash(random: &mut Random) -> Hash {
         _ if random.flag() => Hash::Crc(random.bytes()),
         _ => Hash::Stamped(random.bytes()),
     }
-}
-
-/// Prefixes of one number, and a 1 behind ever more zeros.
-fn pool_key(place: usize) -> Vec<u8> {
-    if place < 18 {
-        return (1..=place as u8 + 1).map(|digit| digit % 10).collect();
-    }
-    let mut key = vec![0; place - 17];
-    key.push(1);
-    key
 }
 
 fn setting(kind: u8, fields: BitWriter) -> Vec<u8> {
@@ -173,75 +164,11 @@ impl Maker<'_> {
         self.random.pick(&[Keys::Pool, Keys::Pool, Keys::Known, Keys::Fresh])
     }
 
-    fn key(&mut self, keys: Keys) -> Vec<u8> {
-        match keys {
-            Keys::Known if !self.tables.lines.is_empty() => {
-                let place = self.random.below(self.tables.lines.len());
-                self.tables.lines[place].digits.clone()
-            }
-            Keys::Fresh => self.fresh_key(),
-            _ => pool_key(self.random.below(POOL_KEYS)),
-        }
-    }
-
-    /// Long enough to be new almost surely.
-    pub fn fresh_key(&mut self) -> Vec<u8> {
-        (0..self.random.within(9..=18)).map(|_| self.random.below(10) as u8).collect()
-    }
-
-    fn number(&mut self, bits: &mut BitWriter, mut digits: Vec<u8>) {
-        if self.slip() {
-            match self.random.below(4) {
-                0 => digits.clear(),
-                1 => digits.resize(19, 7),
-                2 => digits.resize(20, 7),
-                _ => {
-                    let place = self.random.below(digits.len());
-                    digits[place] = self.random.within(10..=14) as u8;
-                }
-            }
-        }
-        digits.iter().for_each(|&digit| bits.bits(u32::from(digit), 4));
-        bits.bits(15, 4);
-        self.fill(bits);
-    }
-
     fn fill(&mut self, bits: &mut BitWriter) {
         if !bits.is_whole() {
             let filling = self.ranged(15, &[0, 1, 7, 14]);
             bits.bits(filling, 4);
         }
-    }
-
-    fn lines(&mut self, size: Size) -> Vec<u8> {
-        let operation = self.operation(&[ADD, ADD, DELETE, REPLACE]);
-        let count = self.count(size, 255);
-        let keys = self.keys();
-        let digits: Vec<_> = (0..count).map(|_| self.key(keys)).collect();
-        self.line_setting(operation, digits)
-    }
-
-    fn line_setting(&mut self, operation: u32, keys: Vec<Vec<u8>>) -> Vec<u8> {
-        let mut bits = BitWriter::new();
-        let most = if keys.len() > 60 { 4 } else { 16 };
-        bits.bits(operation, 2);
-        self.flags(&mut bits, 5);
-        self.reserved(&mut bits, 1);
-        bits.bits(keys.len() as u32, 8);
-        for digits in keys {
-            self.number(&mut bits, digits);
-            self.text(&mut bits, 0, most);
-        }
-        setting(0xCA, bits)
-    }
-
-    /// Adds these keys, for filling the table exactly.
-    pub fn add_lines(&mut self, keys: Vec<Vec<u8>>) -> Vec<u8> {
-        self.line_setting(ADD, keys)
-    }
-
-    pub fn delete_lines(&mut self, keys: Vec<Vec<u8>>) -> Vec<u8> {
-        self.line_setting(DELETE, keys)
     }
 
     fn emergency(&mut self) -> Vec<u8> {

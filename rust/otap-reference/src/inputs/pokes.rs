@@ -51,14 +51,18 @@ pub fn poke_count(random: &mut Random, bytes: &mut [u8]) {
     region.set_count(bytes, poked);
 }
 
-/// Puts an entry at the end of a store's list, or takes the last one away; its count follows half of the time.
+/// Copies the first entry of a store's list to its end, a line at times with the other IDtype, or takes the last one away; half of the time its count
+/// follows.
 pub fn poke_list(random: &mut Random, bytes: &mut [u8]) {
     let region = random.pick(&[CHANNELS, LINES]);
     let count = usize::from(region.count(bytes));
     let longer = if random.percent(50) {
-        // Of a full list the last entry is overwritten, of an empty one a slot stays empty.
+        // Of a full list the last entry is overwritten; of an empty one a slot stays empty, or gets an IDtype alone.
         let end = region.slot(count.min(region.places - 1));
         bytes.copy_within(region.slot(0)..region.slot(1), end);
+        if region == LINES && random.flag() {
+            bytes[end + 1] ^= 1;
+        }
         count + 1
     } else {
         let last = region.slot(count.saturating_sub(1));

@@ -1,10 +1,11 @@
 //! Whole requests in good form, of several shapes.
 
 use super::draft::Draft;
+use super::maker::lines::LineKey;
 use super::maker::{Maker, Size};
 use super::random::Random;
 use crate::reference::message::LONGEST;
-use crate::reference::tables::{Tables, MOST_CHANNELS, MOST_LINES};
+use crate::reference::tables::{Line, Tables, MOST_CHANNELS, MOST_LINES};
 
 /// A request in good form; it may still find no room.
 pub fn request(random: &mut Random, tables: &Tables) -> Draft {
@@ -92,29 +93,36 @@ fn filler(random: &mut Random, tables: &Tables, draft: &Draft, left: usize) -> V
     }
 }
 
-/// Deletes some lines and adds as many new ones as then fit, at times one more.
+/// Deletes some lines and adds as many new ones as then fit, of both IDtypes, at times one more.
 fn fill_lines(random: &mut Random, tables: &Tables) -> Draft {
     let mut draft = Draft::new(random);
     let deleted = if random.flag() { 0 } else { random.below(tables.lines.len() + 1) };
-    let gone: Vec<_> = tables.lines[..deleted].iter().map(|line| line.digits.clone()).collect();
+    let (gone, kept) = tables.lines.split_at(deleted);
     if deleted > 0 {
-        draft.settings.push(maker(random, tables, &draft).delete_lines(gone));
+        let gone = gone.iter().map(key_of).collect();
+        draft.settings.extend(maker(random, tables, &draft).delete_lines(gone));
     }
-    let free = MOST_LINES - tables.lines.len() + deleted;
+    let free = MOST_LINES - kept.len();
     let new = match random.below(4) {
         0 => free + 1,
         1 => free.saturating_sub(random.below(4)),
         _ => free,
     };
-    let mut keys: Vec<_> = (0..new).map(|_| maker(random, tables, &draft).fresh_key()).collect();
+    let mut keys = maker(random, tables, &draft).new_keys(kept, new);
     // Lines still there need no new place, wherever they stand among the new ones.
-    for line in &tables.lines[deleted..] {
+    for line in kept {
         if random.percent(20) {
-            keys.insert(random.below(keys.len() + 1), line.digits.clone());
+            keys.insert(random.below(keys.len() + 1), key_of(line));
         }
     }
-    draft.push_if_room(maker(random, tables, &draft).add_lines(keys));
+    for setting in maker(random, tables, &draft).add_lines(keys) {
+        draft.push_if_room(setting);
+    }
     finish_fill(random, tables, draft)
+}
+
+fn key_of(line: &Line) -> LineKey {
+    (line.flags.pabx, line.digits.clone())
 }
 
 fn fill_channels(random: &mut Random, tables: &Tables) -> Draft {

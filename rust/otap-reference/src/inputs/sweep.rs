@@ -3,7 +3,7 @@
 use super::draft::carried;
 
 /// A coding type, and data with one or more settings: every type with every operation among them, and those with texts under both.
-pub const BASES: [(u8, &[u8]); 28] = [
+pub const BASES: [(u8, &[u8]); 30] = [
     (7, &[8, 1, 0xCA, 0, 9, 0x42, 1, 0x23, 0x45, 0xFF, 0, 0]),
     (7, &[8, 1, 0xCA, 0, 14, 0xC0, 2, 0x12, 0x3F, 0, 0x41, 0, 0, 0x1F, 0, 0]),
     (7, &[8, 1, 0xCA, 0, 8, 0x80, 1, 0x12, 0x3F, 0, 0]),
@@ -32,6 +32,15 @@ pub const BASES: [(u8, &[u8]); 28] = [
     (4, &[8, 1, 0xD1, 0, 10, 0x60, 0, 0x10, 0, 1, 0x41, 0x31, 0]),
     (4, &[8, 1, 0xD1, 0, 8, 0x80, 15, 0, 0, 0, 0]),
     (4, &[8, 2, 0xD2, 0, 8, 0x40, 15, 0xFF, 0xFF, 0xFF, 0, 0xCE, 0, 6, 0xC0, 1, 15, 0x1F]),
+    // One number with both IDtypes: added; added and one of the two deleted.
+    (7, &[8, 2, 0xCA, 0, 7, 0x42, 1, 0x1F, 0, 0, 0xCA, 0, 9, 0x40, 1, 0x1F, 0, 0x41, 0, 0]),
+    (
+        4,
+        &[
+            8, 3, 0xCA, 0, 6, 0x42, 1, 0x1F, 0, 0xCA, 0, 6, 0x40, 1, 0x1F, 0, 0xCA, 0, 6, 0x82, 1,
+            0x1F, 0,
+        ],
+    ),
 ];
 
 /// The base, its every one-byte change, every cut with a true length, and every extension by one.

@@ -1,4 +1,4 @@
-//! The counts among a store's bytes: where they stand, and that a false one makes bytes no store.
+//! The counts among a store's bytes, and the keys of its lines: where they stand, and that a false count or one key twice makes bytes no store.
 
 use super::*;
 use crate::inputs::pokes::{poke_count, poke_list, CHANNELS, LINES};
@@ -75,6 +75,33 @@ fn a_list_and_its_count_change_together() {
             assert!(is_store(&poked), "the list and its count");
         }
     }
+}
+
+/// Two lines are told apart by each of the 19 bytes of IDtype and digits, and by no other byte.
+#[test]
+fn lines_differ_in_their_key() {
+    let mut set = held(0, 0);
+    let line = |text: u16| Line {
+        digits: vec![7; 18],
+        flags: LineFlags { pabx: true, ..LineFlags::default() },
+        text: vec![text],
+    };
+    set.tables.lines = vec![line(0x41), line(0x42)];
+    let equal = bytes(&set);
+    assert!(!is_store(&equal), "two texts, but one key");
+    let second = LINES_AT + COUNT + LINE;
+    let changed = |place: usize, byte: u8| {
+        let mut poked = equal.clone();
+        poked[second + place] = byte;
+        is_store(&poked)
+    };
+    assert!(!changed(0, 15), "other flags, but one key");
+    assert!(changed(1, 0), "the other IDtype");
+    assert!(!changed(1, 2), "no IDtype");
+    for place in 2..20 {
+        assert!(changed(place, 1), "digit {place}");
+    }
+    assert!(changed(19, 0), "a shorter number");
 }
 
 /// What messages make is a store; with another count it is none, and with another list only where that has its count.

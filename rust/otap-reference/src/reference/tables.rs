@@ -7,6 +7,10 @@ use super::settings::{
 };
 use super::texts::Text;
 
+#[cfg(test)]
+mod tests;
+
+/// Places that lines of both IDtypes share.
 pub const MOST_LINES: usize = 32;
 pub const MOST_CHANNELS: usize = 64;
 pub const QUICK_TEXTS: usize = 64;
@@ -19,6 +23,13 @@ pub struct Line {
     pub digits: Vec<u8>,
     pub flags: LineFlags,
     pub text: Text,
+}
+
+impl Line {
+    /// What tells lines apart: IDtype, true for PABX, and digits (document 02, A3).
+    pub fn key(&self) -> (bool, &[u8]) {
+        (self.flags.pabx, &self.digits)
+    }
 }
 
 #[derive(Clone, Debug, PartialEq, Eq)]
@@ -91,20 +102,22 @@ impl Tables {
         entries: Vec<LineEntry>,
     ) -> Result<(), NoRoom> {
         if operation == Operation::Replace {
+            // Of both IDtypes: it is the table that is emptied.
             self.lines.clear();
         }
         for entry in entries {
+            let line = Line { digits: entry.digits, flags, text: entry.text };
             if operation == Operation::Delete {
-                self.lines.retain(|line| line.digits != entry.digits);
+                self.lines.retain(|kept| kept.key() != line.key());
             } else {
-                self.add_line(Line { digits: entry.digits, flags, text: entry.text })?;
+                self.add_line(line)?;
             }
         }
         Ok(())
     }
 
     fn add_line(&mut self, new: Line) -> Result<(), NoRoom> {
-        match self.lines.iter().position(|line| line.digits == new.digits) {
+        match self.lines.iter().position(|line| line.key() == new.key()) {
             Some(place) => self.lines[place] = new,
             None if self.lines.len() == MOST_LINES => return Err(NoRoom),
             None => self.lines.push(new),
