@@ -53,10 +53,10 @@ enum { OTAP_LAYOUT = 3 };
  */
 enum {
     OTAP_START_STACK = 256,      /* measured 40 */
-    OTAP_TAKE_STACK = 14336,     /* 13,632: 12,288 of them are the working copy of the store */
-    OTAP_EXPORT_STACK = 1024,    /* 696 */
-    OTAP_ROW_STACK = 1024,       /* 552 otap_row_number, 632 otap_row_part */
-    OTAP_COUNTS_STACK = 1024,    /* not measured yet */
+    OTAP_TAKE_STACK = 14336,     /* 13,688: 12,288 of them are the working copy of the store */
+    OTAP_EXPORT_STACK = 1024,    /* 816 */
+    OTAP_ROW_STACK = 1024,       /* 672 otap_row_number, 752 otap_row_part */
+    OTAP_COUNTS_STACK = 1024,    /* 476 */
     OTAP_CONVERSION_STACK = 256  /* 63 */
 };
 
