@@ -53,11 +53,11 @@ enum { OTAP_LAYOUT = 4 };
  */
 enum {
     OTAP_START_STACK = 256,      /* measured 40 */
-    OTAP_TAKE_STACK = 26624,     /* 25,976: 24,576 of them are the working copy of the store */
-    OTAP_EXPORT_STACK = 1024,    /* 816 */
-    OTAP_ROW_STACK = 1024,       /* 672 otap_row_number, 752 otap_row_part */
-    OTAP_COUNTS_STACK = 1024,    /* 476 */
-    OTAP_CONVERSION_STACK = 256  /* 63 */
+    OTAP_TAKE_STACK = 26624,     /* 26,220: 24,576 of them are the working copy of the store */
+    OTAP_EXPORT_STACK = 1024,    /* 832 */
+    OTAP_ROW_STACK = 1024,       /* 664 otap_row_number, 744 otap_row_part */
+    OTAP_COUNTS_STACK = 1024,    /* 468 */
+    OTAP_CONVERSION_STACK = 256  /* 64 */
 };
 
 /* The numbers. */
