@@ -43,6 +43,24 @@ static const uint8_t renaming[] = {
     0x80                                /* reboot, no reply, HashCode 0 */
 };
 
+/* Two group contacts, of which the first is a background group and is not shown, an individual contact without a name, and a line slot. */
+static const uint8_t contacts[] = {
+    0x02, 0x02, 0x00, 0x00,             /* length 0: not stated */
+    0x08, 0x04,                         /* MFID; coding type 0100, eight-bit characters */
+    0x08, 0x04,                         /* request, four settings */
+    0xC8, 0x00, 0x0D,                   /* group contacts, DataLength 13 */
+    0x50, 0x00, 0x01, 0x10, 0x00, 0x03, /* add, attribute 01, background; priority 0; one entry: address 100003 */
+    'D', 'a', 't', 'a', 0x00,           /* Data, end */
+    0xC8, 0x00, 0x10,                   /* group contacts, DataLength 16 */
+    0x70, 0x00, 0x01, 0x10, 0x00, 0x04, /* add, attribute 11, member; priority 0; one entry: address 100004 */
+    'T', 'r', 'a', 'f', 'f', 'i', 'c', 0x00, /* Traffic, end */
+    0xC9, 0x00, 0x08,                   /* individual contacts, DataLength 8 */
+    0x40, 0x01, 0x10, 0x00, 0x01, 0x00, /* add; one entry: address 100001; no text, end */
+    0xD3, 0x00, 0x0D,                   /* line slot, DataLength 13 */
+    0x40, 0x02, 0x12, 0x2F,             /* add, IDtype PSTN; index 2; number 122, end */
+    'P', 'o', 'l', 'i', 'c', 'e', 0x00  /* Police, end */
+};
+
 /* Setting 1 is good, setting 2 is not: so that nothing may change. */
 static const uint8_t refused[] = {
     0x02, 0x02, 0x00, 0x00,             /* length 0: not stated */
@@ -110,7 +128,8 @@ static void print_text(const uint8_t *text, size_t length)
     }
 }
 
-/* A task of its own would hold the lock of otap_take from here to the last print_text. Each row is asked for once: 0 is a row that is not shown. */
+/* A task of its own would hold the lock of otap_take from here to the last print_text. Each row is asked for once: 0 is a row that is not shown, which
+ * does not end a list, for it may be a background group's. */
 static void draw_table(const char *name, uint32_t table, uint32_t first, uint32_t last)
 {
     uint32_t row;
@@ -144,6 +163,9 @@ static void draw(const char *title)
     draw_table("status text", OTAP_STATUS_TEXTS, OTAP_STATUS_FIRST, OTAP_STATUS_LAST);
     draw_table("group", OTAP_GROUPS, 0, OTAP_SLOT_ROWS - 1);
     draw_table("individual", OTAP_INDIVIDUALS, 0, OTAP_SLOT_ROWS - 1);
+    draw_table("group contact", OTAP_GROUP_CONTACTS, 0, OTAP_CONTACT_ROWS - 1);
+    draw_table("individual contact", OTAP_INDIVIDUAL_CONTACTS, 0, OTAP_CONTACT_ROWS - 1);
+    draw_table("line slot", OTAP_LINE_SLOTS, 0, OTAP_SLOT_ROWS - 1);
 }
 
 /* Keeps what was saved if it is a store, and starts one only where it is none. */
@@ -207,6 +229,16 @@ static void add_and_rename(void)
     must_be("its send", (uint64_t)otap_take_send(answer), 0);
     must_be("its reboot", (uint64_t)otap_take_reboot(answer), 1);
     draw("rows after the renaming");
+}
+
+/* The background group is held, and exported below; its row is absent, and that of the group behind it is its own. */
+static void add_contacts(void)
+{
+    uint64_t answer = take("contacts", contacts, sizeof contacts);
+    must_be("the number of the contacts", otap_answer_number(answer), OTAP_OK);
+    must_be("a background group's row", otap_row_number(OTAP_GROUP_CONTACTS, 0, store, sizeof store, scratch, sizeof scratch), OTAP_NO_ROW);
+    must_be("a member group's row", otap_row_number(OTAP_GROUP_CONTACTS, 1, store, sizeof store, scratch, sizeof scratch), OTAP_OK);
+    draw("rows after the contacts");
 }
 
 static void try_refused(void)
@@ -278,6 +310,7 @@ int main(void)
     must_be("whether erased flash was kept", (uint64_t)power_on(), 0);
     draw("rows of a fresh store");
     add_and_rename();
+    add_contacts();
     try_refused();
     export_to_other();
     same_rows();

@@ -60,14 +60,25 @@ void draw_menu(void)
 }
 
 /* The screen task: a whole list under one hold of the lock; each row its name, or its number, in 16-bit units, high byte first. */
-void draw_groups(void)
+static void draw_list(uint32_t table, uint32_t rows)
 {
-    uint32_t slot;
+    uint32_t row;
     lock_store();
-    for (slot = 0; slot < OTAP_SLOT_ROWS; slot++) {
-        uint64_t part = otap_row_part(OTAP_GROUPS, slot, store, sizeof store, scratch, sizeof scratch);
+    for (row = 0; row < rows; row++) {
+        uint64_t part = otap_row_part(table, row, store, sizeof store, scratch, sizeof scratch);
         if (part != 0) /* 0 is no row, and a row that is shown is never 0: one call is enough */
-            draw_row(slot, otap_part_bytes(part, store, scratch), otap_part_length(part));
+            draw_row(row, otap_part_bytes(part, store, scratch), otap_part_length(part));
     }
     unlock_store();
+}
+
+void draw_groups(void)
+{
+    draw_list(OTAP_GROUPS, OTAP_SLOT_ROWS);
+}
+
+/* All positions: a background group has no row, and those behind it do not move up. */
+void draw_group_contacts(void)
+{
+    draw_list(OTAP_GROUP_CONTACTS, OTAP_CONTACT_ROWS);
 }

@@ -4,23 +4,59 @@
 
 #include "calls.h"
 
+/* The tables of the screen in the store: their first row and how many they have, the first slot, its width, the bytes before its text and those of it. */
+static const struct { uint32_t from, rows; size_t first, width, before, most; } layout[OTAP_TABLES + 1] = {
+    {0, 0, 0, 0, 0, 0},
+    {0, 32, 12862, 52, 20, 32}, /* lines */
+    {0, 64, 22, 46, 0, 46},     /* quick texts */
+    {32, 96, 2966, 33, 1, 32},  /* status texts */
+    {0, 16, 6134, 36, 4, 32},   /* groups */
+    {0, 16, 6710, 36, 4, 32},   /* individuals */
+    {0, 64, 8120, 36, 4, 32},   /* group contacts */
+    {0, 64, 10426, 36, 4, 32},  /* individual contacts */
+    {0, 16, 7286, 52, 20, 32}   /* line slots */
+};
+
 /* The row's own slot: its first byte, how many bytes stand before its text, and how long the text may be. */
 typedef struct {
     size_t first, before, most;
 } Slot;
 
+static int lies(uint32_t table, uint32_t row)
+{
+    return table >= 1 && table <= OTAP_TABLES && row >= layout[table].from && row - layout[table].from < layout[table].rows;
+}
+
 static Slot slot_of(uint32_t table, uint32_t row)
 {
-    static const Slot none = {0, 0, 0};
-    Slot slot = none;
-    int lies = table == OTAP_LINES ? row < 32 : table == OTAP_QUICK_TEXTS ? row < 64
-             : table == OTAP_STATUS_TEXTS ? row >= 32 && row < 128 : (table == OTAP_GROUPS || table == OTAP_INDIVIDUALS) && row < 16;
-    must(lies, "a row that is shown is one that there can be");
-    slot.first = table == OTAP_LINES ? 7418 + 52 * row : table == OTAP_QUICK_TEXTS ? 22 + 46 * row
-               : table == OTAP_STATUS_TEXTS ? 2966 + 33 * (row - 32) : (table == OTAP_GROUPS ? 6134 : 6710) + 36 * row;
-    slot.before = table == OTAP_LINES ? 20 : table == OTAP_QUICK_TEXTS ? 0 : table == OTAP_STATUS_TEXTS ? 1 : 4;
-    slot.most = table == OTAP_QUICK_TEXTS ? 46 : 32;
+    Slot slot;
+    must(lies(table, row), "a row that is shown is one that there can be");
+    slot.first = layout[table].first + layout[table].width * (row - layout[table].from);
+    slot.before = layout[table].before;
+    slot.most = layout[table].most;
     return slot;
+}
+
+/* Whether something stands in the row's slot: an empty one is 0 before its text, and a quick text is never empty. */
+static int held(const uint8_t *store, uint32_t table, uint32_t row)
+{
+    static const uint8_t none[20];
+    Slot slot = slot_of(table, row);
+    return !same_bytes(store + slot.first, none, slot.before == 0 ? 2 : slot.before);
+}
+
+static int of_groups(uint32_t table)
+{
+    return table == OTAP_GROUPS || table == OTAP_GROUP_CONTACTS;
+}
+
+/* A row is shown exactly where something stands in its slot that is no background group, attribute 01. */
+static void check_shown(const uint8_t *store, uint32_t table, uint32_t row, uint32_t number)
+{
+    int there = lies(table, row) && held(store, table, row);
+    int background = there && of_groups(table) && store[slot_of(table, row).first] >> 6 == 1;
+    must(!background || number == OTAP_NO_ROW, "a background group has no row");
+    must(background || there == (number == OTAP_OK), "a row is shown exactly where something stands");
 }
 
 static int unit_is(const uint8_t *bytes, size_t at, unsigned unit)
@@ -53,11 +89,11 @@ static size_t line_number(const uint8_t *slot, char *text)
 static size_t number_of(uint32_t table, const uint8_t *slot, char *text)
 {
     uint32_t address = slot[1] * 65536u + slot[2] * 256u + slot[3];
-    uint64_t dialled = table == OTAP_GROUPS ? otap_dialled_of_group(address) : otap_dialled_of_individual(address);
-    if (table == OTAP_LINES) {
+    uint64_t dialled = of_groups(table) ? otap_dialled_of_group(address) : otap_dialled_of_individual(address);
+    if (table == OTAP_LINES || table == OTAP_LINE_SLOTS) {
         return line_number(slot, text);
     }
-    must(table == OTAP_GROUPS || table == OTAP_INDIVIDUALS, "only lines, groups and individuals have a number");
+    must(table != OTAP_QUICK_TEXTS && table != OTAP_STATUS_TEXTS, "only lines, groups and individuals have a number");
     return (size_t)(otap_answer_number(dialled) == OTAP_OK ? snprintf(text, 20, "%08u", (unsigned)otap_value(dialled))
                                                            : snprintf(text, 20, "%06X", (unsigned)address));
 }
@@ -88,6 +124,9 @@ static uint32_t row_once(uint32_t table, uint32_t row, const uint8_t *store, siz
     must(number == OTAP_OK || part == 0, "a refused row is an empty part");
     must(wrote <= length && same_bytes(b.bytes + wrote, stale() + wrote, length - wrote), "scratch bytes past the number stay");
     must(same_bytes(s.bytes, store, store_length), "a row leaves the store");
+    if (number == OTAP_OK || number == OTAP_NO_ROW) {
+        check_shown(s.bytes, table, row, number);
+    }
     if (number == OTAP_OK && otap_part_in_scratch(part)) {
         check_number(s.bytes, slot_of(table, row), table, b.bytes, part);
     } else if (number == OTAP_OK) {
@@ -119,27 +158,52 @@ static uint64_t check_counts(const uint8_t *store)
     return counts;
 }
 
-/* Whether one of the first lines has the key of this slot: 19 bytes, IDtype and digits, behind its flags. */
-static int has_key(const uint8_t *store, uint32_t lines, const uint8_t *slot)
+/* The lists by a key: their table, where their count stands, and how many bytes the key has, which stands behind the flags of a slot. */
+typedef struct {
+    uint32_t table;
+    size_t count, bytes;
+} List;
+
+static const List lists[] = {{OTAP_LINES, 12860, 19}, {OTAP_GROUP_CONTACTS, 8118, 3}, {OTAP_INDIVIDUAL_CONTACTS, 10424, 3}};
+
+static uint32_t count_of(const uint8_t *store, const List *list)
 {
-    uint32_t row = 0;
-    while (row < lines && !same_bytes(store + slot_of(OTAP_LINES, row).first + 1, slot + 1, 19)) {
-        row++;
-    }
-    return row < lines;
+    return store[list->count] * 256u + store[list->count + 1];
 }
 
-/* And as many lines as are shown, each looked at; no two have one key. */
-static void check_every_line(const uint8_t *store, uint64_t counts)
+/* Whether one of the list's first entries has the key of this slot. */
+static int has_key(const uint8_t *store, const List *list, uint32_t entries, const uint8_t *slot)
 {
-    uint32_t row, shown = 0;
-    for (row = 0; row <= OTAP_LINE_ROWS; row++) {
-        shown += row_once(OTAP_LINES, row, store, OTAP_STORE_BYTES, OTAP_SCRATCH_BYTES, 0) == OTAP_OK;
+    uint32_t row = 0;
+    while (row < entries && !same_bytes(store + slot_of(list->table, row).first + 1, slot + 1, list->bytes)) {
+        row++;
+    }
+    return row < entries;
+}
+
+/* As many entries as are counted, at the front, and no two of one key. The row behind them is not shown. */
+static void check_list(const uint8_t *store, const List *list)
+{
+    uint32_t row, count = count_of(store, list);
+    must(count <= layout[list->table].rows, "a count within the room");
+    for (row = 0; row < layout[list->table].rows; row++) {
+        must(held(store, list->table, row) == (row < count), "as many entries as are counted");
+        must(row >= count || !has_key(store, list, row, store + slot_of(list->table, row).first), "no two entries of one key");
+    }
+    must(row_once(list->table, count, store, OTAP_STORE_BYTES, OTAP_SCRATCH_BYTES, 0) == OTAP_NO_ROW, "no row behind those counted");
+}
+
+/* Each list; and as many lines as are shown, each looked at. */
+static void check_lists(const uint8_t *store, uint64_t counts)
+{
+    uint32_t each, shown = 0;
+    for (each = 0; each < sizeof lists / sizeof lists[0]; each++) {
+        check_list(store, &lists[each]);
+    }
+    for (each = 0; each <= OTAP_LINE_ROWS; each++) {
+        shown += row_once(OTAP_LINES, each, store, OTAP_STORE_BYTES, OTAP_SCRATCH_BYTES, 0) == OTAP_OK;
     }
     must(shown == otap_counts_lines(counts), "as many lines as are shown");
-    for (row = 0; row < shown; row++) {
-        must(!has_key(store, row, store + slot_of(OTAP_LINES, row).first), "no two lines of one IDtype and number");
-    }
 }
 
 #endif

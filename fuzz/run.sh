@@ -31,7 +31,7 @@ checks_can_fail() {
     $CC $flags $sanitizers -c fuzz/target.c -o "$work/target.o" || return 1
     $CC $flags $sanitizers -c fuzz/driver.c -o "$work/driver.o" || return 1
     wrong=0
-    while [ $wrong -le 17 ]; do
+    while [ $wrong -le 21 ]; do
         $CC $flags -DWRONG=$wrong -c fuzz/wrong.c -o "$work/wrong.o" || return 1
         $CC $sanitizers "$work/target.o" "$work/driver.o" "$work/wrong.o" "$archive" $wrapped -o "$work/wrong" || return 1
         (cd "$work" && ./wrong 0 1 "$seeds"/*) > "$work/log" 2>&1
@@ -43,7 +43,7 @@ checks_can_fail() {
         fi
         wrong=$((wrong + 1))
     done
-    echo "ok      the checks find each of 17 wrong libraries"
+    echo "ok      the checks find each of 21 wrong libraries"
 }
 
 with_libfuzzer() {

@@ -61,25 +61,18 @@ static size_t chosen_store(unsigned choice)
     }
 }
 
-static void count_slots(unsigned table, size_t first, size_t width, unsigned slots)
-{
-    unsigned each, used = 0;
-    for (each = 0; each < slots; each++) {
-        used += store[first + each * width] != 0 || store[first + each * width + 1] != 0;
-    }
-    reached[1024 + table * 100 + used] = 1;
-}
-
 static void note(uint64_t answer)
 {
-    unsigned failed = otap_take_failed(answer);
+    unsigned failed = otap_take_failed(answer), table;
     reached[otap_answer_number(answer) * 32 + (failed < 31 ? failed : 31)] = 1;
-    count_slots(0, 22, 46, 64);
-    count_slots(1, 2966, 33, 96);
-    count_slots(2, 6134, 36, 16);
-    count_slots(3, 6710, 36, 16);
-    count_slots(4, 7288, 2, 64);
-    count_slots(5, 7418, 52, 32);
+    reached[1024 + store[12731] % 65] = 1; /* channels, which have no row */
+    for (table = 1; table <= OTAP_TABLES; table++) {
+        uint32_t row, used = 0;
+        for (row = 0; row < layout[table].rows; row++) {
+            used += (unsigned)held(store, table, layout[table].from + row);
+        }
+        reached[1024 + table * 100 + used] = 1;
+    }
 }
 
 static void take_message(const uint8_t *message, size_t length, unsigned choice)
@@ -106,10 +99,10 @@ static void take_raw(Input *input, unsigned choice)
 /* One setting with a true DataLength, so that inputs get past it to the fields. */
 static size_t build_setting(Input *input, uint8_t *to)
 {
-    static const uint8_t types[] = {0xCA, 0xCB, 0xCC, 0xCD, 0xCE, 0xCF, 0xD0, 0xD1, 0xD2, 0xFF};
+    static const uint8_t types[] = {0xCA, 0xCB, 0xCC, 0xCD, 0xCE, 0xCF, 0xD0, 0xD1, 0xD2, 0xFF, 0xC8, 0xC9, 0xD3};
     unsigned type = next_byte(input);
     size_t length = next_bytes(input, next_byte(input), to + 3);
-    to[0] = type < 0xC0 ? types[type % 10] : (uint8_t)type;
+    to[0] = type < 0xC0 ? types[type % sizeof types] : (uint8_t)type;
     to[1] = (uint8_t)((length + 2) >> 8);
     to[2] = (uint8_t)(length + 2);
     return length + 3;
@@ -149,7 +142,7 @@ static void ask_export(Input *input, unsigned choice)
     must(store_length != OTAP_STORE_BYTES || otap_answer_number(answer) != OTAP_NO_STORE, "a store is known as one");
 }
 
-/* The seven parts of a store, taken by a fresh one, make it the same but for the kept hash: the first 11 bytes. */
+/* The ten parts of a store, taken by a fresh one, make it the same but for the kept hash: the first 11 bytes. */
 static void restore_it(void)
 {
     static uint8_t request[OTAP_EXPORT_BYTES], again[OTAP_EXPORT_BYTES];
@@ -166,7 +159,7 @@ static void restore_it(void)
         must(same_bytes(request, again, length), "the other store's export is the same");
     }
     must(same_bytes(store + 11, other + 11, OTAP_STORE_BYTES - 11), "the other store has the same tables");
-    check_every_line(store, check_counts(store));
+    check_lists(store, check_counts(store));
     must(check_counts(other) == check_counts(store), "the other store has the same counts");
 }
 
@@ -205,7 +198,8 @@ static void poke(Input *input)
 /* A count of the store with any value: it is a store only with its own. */
 static void poke_count(Input *input)
 {
-    size_t at = next_byte(input) % 2 == 0 ? 7286 : 7416;
+    static const size_t counts[] = {12730, 12860, 8118, 10424}; /* channels, lines, group contacts, individual contacts */
+    size_t at = counts[next_byte(input) % 4];
     int own;
     memcpy(other, store, OTAP_STORE_BYTES);
     store[at] = (uint8_t)next_byte(input);
@@ -216,26 +210,39 @@ static void poke_count(Input *input)
     memcpy(store, other, OTAP_STORE_BYTES);
 }
 
-/* One line more, like another but for its IDtype: a store exactly if no line has that key yet. It goes on from there if it is one. */
-static void poke_line(Input *input)
+/* Another key of a slot: a line's other IDtype, or an address that differs in its last bit. Whether it is one. */
+static int other_key(const List *list, uint8_t *slot)
 {
-    uint32_t lines = otap_counts_lines(otap_counts(store, OTAP_STORE_BYTES)), like = next_byte(input);
-    uint8_t *slot = store + slot_of(OTAP_LINES, lines % OTAP_LINE_ROWS).first;
-    int held;
-    if (lines == 0 || lines == OTAP_LINE_ROWS) {
+    if (list->table == OTAP_LINES) {
+        slot[1] ^= 1;
+        return 1;
+    }
+    slot[3] ^= 1;
+    return (slot[2] & 0x7F) != 0 || slot[3] != 0;
+}
+
+/* One entry more, like another but for its key: a store exactly if none has that key yet. It goes on from there if it is one. */
+static void poke_entry(Input *input)
+{
+    unsigned like = next_byte(input);
+    const List *list = &lists[(like >= 96) + (like >= 176)];
+    uint32_t count = count_of(store, list);
+    uint8_t *slot;
+    int good;
+    if (count == 0 || count == layout[list->table].rows) {
         return;
     }
     memcpy(other, store, OTAP_STORE_BYTES);
-    memcpy(slot, store + slot_of(OTAP_LINES, like % lines).first, 52);
-    slot[1] ^= 1;
-    store[7417]++;
-    held = has_key(store, lines, slot);
-    must(known_by_all() == !held, "a line's key is its IDtype and its number");
-    reached[2004 + held] = 1;
-    if (held) {
+    slot = store + slot_of(list->table, count).first;
+    memcpy(slot, store + slot_of(list->table, like % count).first, layout[list->table].width);
+    good = other_key(list, slot) && !has_key(store, list, count, slot);
+    store[list->count + 1]++;
+    must(known_by_all() == good, "an entry's key is its own: IDtype and number, or the address");
+    reached[2004 + good] = 1;
+    if (!good) {
         memcpy(store, other, OTAP_STORE_BYTES);
     } else {
-        check_every_line(store, check_counts(store));
+        check_lists(store, check_counts(store));
     }
 }
 
@@ -291,7 +298,7 @@ static void one_record(Input *input)
     case 2: case 3: take_built(input, choice); break;
     case 4: ask_row(input, choice); ask_counts(choice); break;
     case 5: ask_export(input, choice); ask_counts(choice); break;
-    case 6: (choice & 8 ? poke_count : choice & 16 ? poke_line : poke)(input); break;
+    case 6: (choice & 8 ? poke_count : choice & 16 ? poke_entry : poke)(input); break;
     default: (choice & 8 ? convert : start_again)(input); break;
     }
 }

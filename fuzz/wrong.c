@@ -21,8 +21,8 @@ uint64_t __wrap_otap_counts(const uint8_t *, uint64_t);
 /* Where a store has a line before the last with the last one's digits, whatever its IDtype; 0 if there is none. */
 static size_t same_number(const uint8_t *store)
 {
-    size_t at, last = store[7417] > 0 ? 7418 + 52u * (store[7417] - 1u) : 0;
-    for (at = 7418; at < last; at += 52) {
+    size_t at, last = store[12861] > 0 ? 12862 + 52u * (store[12861] - 1u) : 0;
+    for (at = 12862; at < last; at += 52) {
         if (memcmp(store + at + 2, store + last + 2, 18) == 0) {
             return at;
         }
@@ -33,19 +33,67 @@ static size_t same_number(const uint8_t *store)
 /* The second line with a number wipes the first. */
 static void wipe(uint8_t *store)
 {
-    size_t first = same_number(store), last = 7418 + 52u * (store[7417] - 1u);
+    size_t first = same_number(store), last = 12862 + 52u * (store[12861] - 1u);
     if (first != 0) {
         memcpy(store + first, store + last, 52);
         memset(store + last, 0, 52);
-        store[7417]--;
+        store[12861]--;
     }
+}
+
+/* A group contact that was overwritten in its place is put at the end as well. */
+static void add_twice(const uint8_t *before, uint8_t *store)
+{
+    size_t at, end = 8120 + 36u * store[8119];
+    for (at = 8120; store[8119] == before[8119] && store[8119] < 64 && at < end; at += 36) {
+        if (memcmp(store + at, before + at, 36) != 0 && memcmp(store + at + 1, before + at + 1, 3) == 0) {
+            memcpy(store + end, store + at, 36);
+            store[8119]++;
+        }
+    }
+}
+
+/* A store without its background groups among the contacts. */
+static const uint8_t *without_background(const uint8_t *store)
+{
+    static uint8_t other[OTAP_STORE_BYTES];
+    size_t at, end;
+    memcpy(other, store, sizeof other);
+    end = 8120 + 36u * other[8119];
+    for (at = 8120; at < end;) {
+        if (other[at] >> 6 != 1) {
+            at += 36;
+            continue;
+        }
+        end -= 36;
+        memmove(other + at, other + at + 36, end - at);
+        memset(other + end, 0, 36);
+        other[8119]--;
+    }
+    return other;
+}
+
+/* A store whose background groups are response groups: the same names in the same places. */
+static const uint8_t *all_shown(const uint8_t *store)
+{
+    static uint8_t other[OTAP_STORE_BYTES];
+    size_t at;
+    memcpy(other, store, sizeof other);
+    for (at = 6134; at < 10424; at += at + 36 == 6710 ? 8120 - at : 36) { /* the group slots, then the group contacts */
+        other[at] = (uint8_t)(other[at] >> 6 == 1 ? other[at] + 64 : other[at]);
+    }
+    return other;
 }
 
 uint64_t __wrap_otap_take(const uint8_t *message, uint64_t message_length, uint8_t *store, uint64_t store_length, uint8_t *reply,
                           uint64_t reply_length)
 {
-    uint64_t answer = __real_otap_take(message, message_length, store, store_length, reply, reply_length);
-    uint32_t number = otap_answer_number(answer);
+    static uint8_t before[OTAP_STORE_BYTES];
+    uint64_t answer;
+    uint32_t number;
+    memcpy(before, store, store_length < sizeof before ? store_length : sizeof before);
+    answer = __real_otap_take(message, message_length, store, store_length, reply, reply_length);
+    number = otap_answer_number(answer);
     if (WRONG == 1 && number == OTAP_BAD_FIELD) {
         store[6138] = (uint8_t)(store[6138] + 1); /* the setting before the fault was applied */
     }
@@ -53,7 +101,7 @@ uint64_t __wrap_otap_take(const uint8_t *message, uint64_t message_length, uint8
         reply[reply_length] = 0; /* one byte after the reply buffer */
     }
     if (WRONG == 3 && number == OTAP_OK) {
-        store[12000] = 1; /* not a store any more */
+        store[20000] = 1; /* not a store any more */
     }
     if (WRONG == 4 && number == OTAP_NO_ROOM) {
         answer -= answer & 0xFF00; /* the setting at fault is not named */
@@ -61,12 +109,16 @@ uint64_t __wrap_otap_take(const uint8_t *message, uint64_t message_length, uint8
     if (WRONG == 16 && number == OTAP_OK) {
         wipe(store); /* lines by their digits alone */
     }
+    if (WRONG == 18 && number == OTAP_OK) {
+        add_twice(before, store); /* a known address added twice */
+    }
     return WRONG == 5 && number == OTAP_BAD_CARRIER ? answer + 0x10000 : answer; /* sends what there is not */
 }
 
 uint64_t __wrap_otap_export(uint32_t part, const uint8_t *store, uint64_t store_length, uint8_t *buffer, uint64_t buffer_length)
 {
-    uint64_t answer = __real_otap_export(part, store, store_length, buffer, buffer_length);
+    int lost = WRONG == 19 && part == OTAP_EXPORT_GROUP_CONTACTS && store_length == OTAP_STORE_BYTES; /* a background group is not exported */
+    uint64_t answer = __real_otap_export(part, lost ? without_background(store) : store, store_length, buffer, buffer_length);
     if (WRONG == 6 && part == OTAP_EXPORT_CHANNELS && otap_export_length(answer) > 13) {
         buffer[14] ^= 1; /* another channel */
     }
@@ -79,7 +131,8 @@ uint64_t __wrap_otap_export(uint32_t part, const uint8_t *store, uint64_t store_
 uint32_t __wrap_otap_row_number(uint32_t table, uint32_t row, const uint8_t *store, uint64_t store_length, const uint8_t *scratch,
                                 uint64_t scratch_length)
 {
-    uint32_t number = __real_otap_row_number(table, row, store, store_length, scratch, scratch_length);
+    int shown = WRONG == 20 && store_length == OTAP_STORE_BYTES; /* background groups have rows */
+    uint32_t number = __real_otap_row_number(table, row, shown ? all_shown(store) : store, store_length, scratch, scratch_length);
     if (WRONG == 8 && number == OTAP_NO_STORE && store_length == OTAP_STORE_BYTES) {
         return OTAP_NO_ROW; /* takes any bytes for a store */
     }
@@ -91,7 +144,8 @@ uint32_t __wrap_otap_row_number(uint32_t table, uint32_t row, const uint8_t *sto
 
 uint64_t __wrap_otap_row_part(uint32_t table, uint32_t row, const uint8_t *store, uint64_t store_length, uint8_t *scratch, uint64_t scratch_length)
 {
-    uint64_t part = __real_otap_row_part(table, row, store, store_length, scratch, scratch_length);
+    int shown = (WRONG == 20 || WRONG == 21) && store_length == OTAP_STORE_BYTES; /* 21: they have a part, though no number 0 */
+    uint64_t part = __real_otap_row_part(table, row, shown ? all_shown(store) : store, store_length, scratch, scratch_length);
     if (WRONG == 9 && table == OTAP_GROUPS && part != 0 && !otap_part_in_scratch(part)) {
         return part + ((uint64_t)36 << 16); /* the next group's name */
     }

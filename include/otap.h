@@ -36,7 +36,7 @@ extern "C" {
 
 /* Sizes in bytes. */
 enum {
-    OTAP_STORE_BYTES = 12288,  /* a store has exactly as many */
+    OTAP_STORE_BYTES = 24576,  /* a store has exactly as many */
     OTAP_MESSAGE_BYTES = 4096, /* a message has at most as many, and at least 7 */
     OTAP_REPLY_BYTES = 20,     /* a reply buffer has at least as many */
     OTAP_EXPORT_BYTES = 4096,  /* an export buffer has at least as many */
@@ -45,7 +45,7 @@ enum {
 };
 
 /* The number of a store's layout, docs/STORE.md: it changes where the layout does. No store holds it; firmware saves it beside the store. */
-enum { OTAP_LAYOUT = 3 };
+enum { OTAP_LAYOUT = 4 };
 
 /*
  * Stack in bytes: a ceiling for each call on every processor, which tests/stack.c holds it to, and the most that it measured on x86-64, AArch64,
@@ -53,11 +53,11 @@ enum { OTAP_LAYOUT = 3 };
  */
 enum {
     OTAP_START_STACK = 256,      /* measured 40 */
-    OTAP_TAKE_STACK = 14336,     /* 13,688: 12,288 of them are the working copy of the store */
-    OTAP_EXPORT_STACK = 1024,    /* 816 */
-    OTAP_ROW_STACK = 1024,       /* 672 otap_row_number, 752 otap_row_part */
-    OTAP_COUNTS_STACK = 1024,    /* 476 */
-    OTAP_CONVERSION_STACK = 256  /* 63 */
+    OTAP_TAKE_STACK = 26624,     /* 26,220: 24,576 of them are the working copy of the store */
+    OTAP_EXPORT_STACK = 1024,    /* 832 */
+    OTAP_ROW_STACK = 1024,       /* 664 otap_row_number, 744 otap_row_part */
+    OTAP_COUNTS_STACK = 1024,    /* 468 */
+    OTAP_CONVERSION_STACK = 256  /* 64 */
 };
 
 /* The numbers. */
@@ -65,30 +65,33 @@ enum {
     OTAP_OK = 0,               /* taken, or the query matches; otherwise: done */
     OTAP_BAD_VERSION = 1,      /* OTAPVer is not 1 */
     OTAP_NO_ROOM = 2,          /* a setting needs a place in a full table */
-    OTAP_UNKNOWN_TYPE = 3,     /* a setting's type is not among the ten */
+    OTAP_UNKNOWN_TYPE = 3,     /* a setting's type is not among the thirteen */
     OTAP_BAD_FIELD = 4,        /* bad field, length or count */
     OTAP_NO_MATCH = 5,         /* query: code 0, nothing kept, or code or value differs */
     OTAP_SHORT_REPLY = 10,     /* reply buffer under 20 bytes */
-    OTAP_NO_STORE = 11,        /* store not 12,288 bytes, or not a store */
+    OTAP_NO_STORE = 11,        /* store not 24,576 bytes, or not a store */
     OTAP_MESSAGE_LENGTH = 12,  /* message under 7 or over 4,096 bytes */
     OTAP_BAD_CARRIER = 13,     /* carrier field or length wrong */
     OTAP_OTHER_MESSAGE = 14,   /* MsgType is neither request nor result query */
     OTAP_SHORT_BUFFER = 15,    /* scratch under 36 bytes, or export buffer under 4,096 */
-    OTAP_NO_PART = 16,         /* export part not 1 to 7 */
-    OTAP_NO_ROW = 17,          /* the screen's row is absent */
+    OTAP_NO_PART = 16,         /* export part not 1 to 10 */
+    OTAP_NO_ROW = 17,          /* the screen's row is absent, or a background group's */
     OTAP_OUTSIDE_PLAN = 20,    /* dialled number outside the plan */
     OTAP_OUTSIDE_KIND = 21,    /* address outside its kind's plan */
     OTAP_NO_CHANNEL = 22       /* channel outside 1 to 640, or no channel's transmit value */
 };
 
-/* The tables of the screen, and how their rows are counted. */
+/* The tables of the screen, and how their rows are counted. A background group has no row, in OTAP_GROUPS and OTAP_GROUP_CONTACTS: see otap_row_number. */
 enum {
-    OTAP_LINES = 1,            /* line contacts by position, from 0; the first absent row ends the list */
-    OTAP_QUICK_TEXTS = 2,      /* quick texts by index */
-    OTAP_STATUS_TEXTS = 3,     /* status texts by code */
-    OTAP_GROUPS = 4,           /* group slots by index */
-    OTAP_INDIVIDUALS = 5,      /* individual slots by index */
-    OTAP_TABLES = 5            /* as many: 1 to OTAP_TABLES */
+    OTAP_LINES = 1,               /* line contacts by position, from 0; the first absent row ends the list */
+    OTAP_QUICK_TEXTS = 2,         /* quick texts by index */
+    OTAP_STATUS_TEXTS = 3,        /* status texts by code */
+    OTAP_GROUPS = 4,              /* group slots by index */
+    OTAP_INDIVIDUALS = 5,         /* individual slots by index */
+    OTAP_GROUP_CONTACTS = 6,      /* group contacts by position, from 0; an absent row may be a background group's, and does not end the list */
+    OTAP_INDIVIDUAL_CONTACTS = 7, /* individual contacts by position, from 0; the first absent row ends the list */
+    OTAP_LINE_SLOTS = 8,          /* line slots by index */
+    OTAP_TABLES = 8               /* as many: 1 to OTAP_TABLES */
 };
 
 enum {
@@ -96,10 +99,11 @@ enum {
     OTAP_QUICK_ROWS = 64,      /* indexes 0 to 63 */
     OTAP_STATUS_FIRST = 32,    /* codes 32 to 127 */
     OTAP_STATUS_LAST = 127,
-    OTAP_SLOT_ROWS = 16        /* group and individual slots 0 to 15 */
+    OTAP_SLOT_ROWS = 16,       /* group, individual and line slots 0 to 15 */
+    OTAP_CONTACT_ROWS = 64     /* positions 0 to 63 of group contacts, and of individual contacts */
 };
 
-/* Room for as many scan channels, which no row shows; for as many line contacts as there are rows of them, OTAP_LINE_ROWS. */
+/* Room for as many scan channels, which no row shows; in each list of contacts, for as many as it has rows: OTAP_LINE_ROWS, OTAP_CONTACT_ROWS. */
 enum { OTAP_CHANNEL_PLACES = 64 };
 
 /* The parts of an export. */
@@ -111,7 +115,10 @@ enum {
     OTAP_EXPORT_STATUS_TEXTS = 5,
     OTAP_EXPORT_GROUPS = 6,
     OTAP_EXPORT_INDIVIDUALS = 7,
-    OTAP_EXPORT_PARTS = 7      /* as many: 1 to OTAP_EXPORT_PARTS */
+    OTAP_EXPORT_GROUP_CONTACTS = 8,
+    OTAP_EXPORT_INDIVIDUAL_CONTACTS = 9,
+    OTAP_EXPORT_LINE_SLOTS = 10,
+    OTAP_EXPORT_PARTS = 10     /* as many: 1 to OTAP_EXPORT_PARTS */
 };
 
 /*
@@ -134,6 +141,10 @@ uint32_t otap_start(uint8_t *store, uint64_t store_length);
  * A line contact is known by its IDtype, PSTN or PABX, together with its digits as they are written: PSTN 2345 and PABX 2345 are two lines, and so are
  * PABX 1 and PABX 01. An add overwrites, and a delete takes away, the line that has both, and no other. A replace empties the list of lines of both
  * IDtypes, whichever it has itself; the OTAP_LINE_ROWS places are for both.
+ * A group contact, and an individual contact, is known by its address. An add puts a new address at the list's end and overwrites a known one in its
+ * place, flags and text; a delete closes the gap; a replace empties the list first. There are OTAP_CONTACT_ROWS places for each of the two lists: one
+ * more address is 2. Slots go by their index and are never full. The same address may stand among the contacts and in slots, of groups and of
+ * individuals; the same number among the line contacts and in line slots. A setting changes its own table and no other.
  * A reply has 10, 14 or 20 bytes; bytes of the reply buffer past them stay. It is written for 0 to 5 also where send is no.
  * Unpack with otap_answer_number, otap_take_failed, otap_take_send, otap_take_reboot, otap_take_reply_length.
  */
@@ -142,12 +153,12 @@ uint64_t otap_take(const uint8_t *message, uint64_t message_length,
                    uint8_t *reply, uint64_t reply_length);
 
 /*
- * Writes a part of the store as a request at the buffer's start. The seven parts, taken by any other started set, give it the same tables.
- * Its coding type is 0111, whatever the texts came in.
+ * Writes a part of the store as a request at the buffer's start. The ten parts, taken by any other started set, give it the same tables,
+ * background groups too. Its coding type is 0111, whatever the texts came in.
  *   0   the request is written; bytes of the buffer past its length stay
  *   15  buffer_length is under OTAP_EXPORT_BYTES; no byte is touched, length 0
  *   11  not a store; no byte is touched, length 0
- *   16  part is not 1 to 7; no byte is touched, length 0
+ *   16  part is not 1 to 10; no byte is touched, length 0
  * The first that applies, in this order: 15, 11, 16. The store is only read.
  * Unpack with otap_answer_number, otap_export_length.
  */
@@ -160,7 +171,8 @@ uint64_t otap_export(uint32_t part,
  *   0   both counts
  *   11  not a store; both counts are 0
  * Ask the number first: a refusal's 0 and 0 look like an empty set. It is 0 exactly where the bytes are a store: that is how power-on knows whether to
- * keep them or to start. The store keeps both counts, so no entry is counted here; but the whole store is judged, as in every call.
+ * keep them or to start. The store keeps both counts, so no entry is counted here; but the whole store is judged, as in every call. Group and individual
+ * contacts have counts in the store too, which are judged and not answered.
  * In the answer, bits 0 to 7 are the number, 16 to 31 the lines, 32 to 47 the channels; all others are 0.
  * Unpack with otap_answer_number, otap_counts_lines, otap_counts_channels; what is free, with otap_counts_free_lines, otap_counts_free_channels.
  */
@@ -171,8 +183,10 @@ uint64_t otap_counts(const uint8_t *store, uint64_t store_length);
  *   0   yes: otap_row_part with the same lengths gives its part
  *   15  scratch_length is under OTAP_SCRATCH_BYTES
  *   11  not a store
- *   17  no such table, no such row, or nothing in it
+ *   17  no such table, no such row, nothing in it, or a background group in it
  * The first that applies, in this order: 15, 11, 17.
+ * A background group (attribute 01) is held and exported, but has no row; a response or member group (10, 11) has one. It keeps its position, and the
+ * rows behind it do not move up: so ask for all OTAP_CONTACT_ROWS positions of the group contacts, and pass over those that are 17.
  */
 uint32_t otap_row_number(uint32_t table, uint32_t row,
                          const uint8_t *store, uint64_t store_length,
@@ -180,9 +194,9 @@ uint32_t otap_row_number(uint32_t table, uint32_t row,
 
 /*
  * The part of the store or of the scratch that shows a row: 16-bit units, high byte first, without an end unit, also of texts that came in eight bits.
- * A row with a text shows it, where it stands in the store; no byte is touched. A line, group or individual without one shows its number: it is
- * written at the scratch's start (line digits, eight dialled digits, or six upper-case hex digits), and the scratch's other bytes stay.
- * An empty status text is an empty part of the store. A row does not say a line's IDtype: two lines with one number and no text look alike.
+ * A row with a text shows it, where it stands in the store; no byte is touched. A line, group or individual without one, a contact or in a slot, shows
+ * its number: it is written at the scratch's start (line digits, eight dialled digits, or six upper-case hex digits), and the scratch's other bytes
+ * stay. An empty status text is an empty part of the store. A row does not say a line's IDtype: two lines with one number and no text look alike.
  * The answer is 0, and no byte is touched, exactly where otap_row_number would not answer 0. So one call is enough for a row: an answer that is not 0 is
  * a row that is shown, also where its part is empty, and a program that gets 0 may ask otap_row_number why. The store is only read.
  * The part is good until the store or the scratch is next written: see "Screens" above.

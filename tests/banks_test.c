@@ -145,7 +145,7 @@ static void change_tables(void)
         must(take(&message) == OTAP_OK, "a filling message was refused");
     }
     while (same(before, tables)) {
-        write_message(&message, turn % 9, turn / 9);
+        write_message(&message, turn % 13 < 9 ? turn % 13 : turn % 13 + 2, turn / 13);
         must(take(&message) <= OTAP_NO_ROOM, "a message was refused, and not for room");
         turn++;
     }

@@ -29,7 +29,7 @@ enum { TIMES = 20 };
 enum { TIMES = 1 }; /* an emulator is slow */
 #endif
 
-enum { LONGEST = 16384 };
+enum { LONGEST = 32768 };
 
 static Lent message, store, buffer;
 static unsigned long calls, seen[256];

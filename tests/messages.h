@@ -11,7 +11,7 @@ typedef struct {
     size_t length;
 } Message;
 
-enum { MESSAGE_KINDS = 14, FILLING_MESSAGES = 8 };
+enum { MESSAGE_KINDS = 20, FILLING_MESSAGES = 11 };
 
 static uint64_t random_state = 0x9E3779B97F4A7C15u;
 
@@ -145,6 +145,36 @@ static inline void put_slot(Message *m, unsigned type, unsigned operation, unsig
     close_setting(m, at);
 }
 
+/* Group contacts (C8), of attribute 10 with `vary` 0, or individual contacts (C9): no two have one address, and every second is outside both plans. */
+static inline void put_contacts(Message *m, unsigned type, unsigned operation, unsigned count, unsigned vary)
+{
+    size_t at = open_setting(m, type);
+    unsigned each;
+    put(m, operation * 64 + (type == 0xC8 ? (1 + (vary + 1) % 3) * 16 + vary % 16 : vary % 16 * 4));
+    if (type == 0xC8) {
+        put(m, vary % 4 * 64);
+    }
+    put(m, count);
+    for (each = 0; each < count; each++) {
+        put(m, each % 2 == 0 ? 0x10 : 0xFF);
+        put(m, each % 2 == 0 ? 0x00 : 0x7F);
+        put(m, 1 + each);
+        put_text(m, 16 - (each + vary) % 17);
+    }
+    close_setting(m, at);
+}
+
+/* A line slot: the first one's number has 18 digits with `vary` 0, and slots 13 to 15 have no text. */
+static inline void put_line_slot(Message *m, unsigned operation, unsigned index, unsigned vary)
+{
+    size_t at = open_setting(m, 0xD3);
+    put(m, operation * 64 + vary % 32 * 2);
+    put(m, vary % 16 * 16 + index);
+    put_number(m, index, 18 - (index + vary) % 18);
+    put_text(m, index >= 13 ? 0 : 16 - (index + vary) % 17);
+    close_setting(m, at);
+}
+
 static inline void put_bytes(Message *m, unsigned type, const uint8_t *fields, size_t length)
 {
     size_t at = open_setting(m, type);
@@ -196,9 +226,15 @@ static inline void write_message(Message *m, unsigned kind, unsigned turn)
     case 8: put_slot(m, 0xD2, 2, turn % 16, turn / 16); break;
     case 9: put_lines(m, 3, 33, turn); break;
     case 10: put_channels(m, 1, 65); break;
-    default: write_query(m, kind - 11); break;
+    case 11: put_contacts(m, 0xC8, operation, 3, turn); break;
+    case 12: put_contacts(m, 0xC9, operation, 3, turn); break;
+    case 13: put_line_slot(m, 1, turn % 16, turn / 16); break;
+    case 14: put_line_slot(m, 2, turn % 16, turn / 16); break;
+    case 15: put_contacts(m, 0xC8, 3, 65, turn); break;
+    case 16: put_contacts(m, 0xC9, 3, 65, turn); break;
+    default: write_query(m, kind - 17); break;
     }
-    if (kind <= 10) {
+    if (kind <= 16) {
         put_last(m);
     }
     i = (unsigned)(m->length - 4) * (turn % 2);
@@ -209,19 +245,24 @@ static inline void write_message(Message *m, unsigned kind, unsigned turn)
 /* One of the messages that together leave no place of a fresh store empty, with `vary` 0; with another, some of the lists are shorter. */
 static inline void write_filling(Message *m, unsigned each, unsigned vary)
 {
-    unsigned slot, type = each == 5 ? 0xD1 : 0xD2;
-    open_request(m, each == 5 || each == 6 ? 16 : each == 7 ? 4 : 1);
+    unsigned slot;
+    open_request(m, each == 5 || each == 6 || each == 9 ? 16 : each == 10 ? 4 : 1);
     switch (each) {
     case 0: put_lines(m, 3, 32 - vary, vary); break;
     case 1: put_quick(m, 3, 0, 63, vary); break;
     case 2: put_quick(m, 1, 63, 1, vary); break;
     case 3: put_status(m, 3, 96, vary); break;
     case 4: put_channels(m, 3, 64 - vary); break;
-    case 7: put_fixed(m); put_last(m); break;
+    case 7: put_contacts(m, 0xC8, 3, 64 - vary, vary); break;
+    case 8: put_contacts(m, 0xC9, 3, 64 - vary, vary); break;
+    case 10: put_fixed(m); put_last(m); break;
     default: break;
     }
     for (slot = 0; slot < 16 && (each == 5 || each == 6); slot++) {
-        put_slot(m, type, 1, slot, vary);
+        put_slot(m, each == 5 ? 0xD1 : 0xD2, 1, slot, vary);
+    }
+    for (slot = 0; slot < 16 && each == 9; slot++) {
+        put_line_slot(m, 1, slot, vary);
     }
 }
 
@@ -249,7 +290,7 @@ static inline void damage(uint8_t *bytes, size_t length, unsigned changes)
 /* Random bytes; two of three have a request's head, so that they are read as settings. */
 static inline void write_random(Message *m)
 {
-    static const uint8_t types[] = {0xCA, 0xCB, 0xCC, 0xCD, 0xCE, 0xCF, 0xD0, 0xD1, 0xD2, 0xFF};
+    static const uint8_t types[] = {0xC8, 0xC9, 0xCA, 0xCB, 0xCC, 0xCD, 0xCE, 0xCF, 0xD0, 0xD1, 0xD2, 0xD3, 0xFF};
     size_t length = random_below(8) == 0 ? random_below(OTAP_MESSAGE_BYTES + 2) : random_below(64), at;
     for (at = 0; at < length; at++) {
         m->bytes[at] = (uint8_t)random_below(256);
@@ -257,7 +298,7 @@ static inline void write_random(Message *m)
     m->length = length;
     if (length > 11 && random_below(3) != 0) {
         open_request(m, 1 + random_below(3));
-        put(m, types[random_below(10)]);
+        put(m, types[random_below(sizeof types)]);
         put(m, 0);
         put(m, (unsigned)(length - 9));
         m->length = length;

@@ -1,22 +1,7 @@
 /* The header's constants and the archive's answers: each number of document 01's table is provoked, and is the constant that is named after it. */
-#include "otap.h"
-#include "messages.h"
+#include "answers.h"
 
-#include <stdio.h>
-#include <stdlib.h>
-
-static uint8_t store[OTAP_STORE_BYTES + 1], reply[OTAP_REPLY_BYTES], buffer[OTAP_EXPORT_BYTES], scratch[OTAP_SCRATCH_BYTES];
-static Message said;
-
-/* The number in the table, the constant, and what the archive answers. */
-static void same(const char *what, uint64_t number, uint64_t constant, uint64_t answer)
-{
-    if (number != constant || number != answer) {
-        fprintf(stderr, "%s: document %lu, header %lu, archive %lu\n", what, (unsigned long)number, (unsigned long)constant,
-                (unsigned long)answer);
-        exit(1);
-    }
-}
+static uint8_t store[OTAP_STORE_BYTES + 1];
 
 static uint64_t take(void)
 {
@@ -61,6 +46,7 @@ static void untouched(void)
     same("reply", 10, OTAP_SHORT_REPLY, otap_take(said.bytes, said.length, store, OTAP_STORE_BYTES, reply, OTAP_REPLY_BYTES - 1));
     same("store", 11, OTAP_NO_STORE, otap_take(said.bytes, said.length, store, OTAP_STORE_BYTES - 1, reply, OTAP_REPLY_BYTES));
     same("store", 11, OTAP_NO_STORE, otap_start(store, OTAP_STORE_BYTES + 1));
+    same("a store's size of layout 3", 11, OTAP_NO_STORE, otap_start(store, 12288));
     said.length = 6;
     same("short message", 12, OTAP_MESSAGE_LENGTH, take());
     said.length = OTAP_MESSAGE_BYTES + 1;
@@ -76,10 +62,12 @@ static void untouched(void)
 
 static void exported(void)
 {
-    static const uint8_t types[OTAP_EXPORT_PARTS + 1] = {0, 0xCA, 0xCB, 0xCC, 0xCE, 0xD0, 0xD1, 0xD2};
+    static const uint8_t types[OTAP_EXPORT_PARTS + 1] = {0, 0xCA, 0xCB, 0xCC, 0xCE, 0xD0, 0xD1, 0xD2, 0xC8, 0xC9, 0xD3};
     static const uint8_t parts[OTAP_EXPORT_PARTS + 1] = {0, OTAP_EXPORT_LINES, OTAP_EXPORT_FIXED, OTAP_EXPORT_QUICK_TEXTS, OTAP_EXPORT_CHANNELS,
-                                                         OTAP_EXPORT_STATUS_TEXTS, OTAP_EXPORT_GROUPS, OTAP_EXPORT_INDIVIDUALS};
+                                                         OTAP_EXPORT_STATUS_TEXTS, OTAP_EXPORT_GROUPS, OTAP_EXPORT_INDIVIDUALS,
+                                                         OTAP_EXPORT_GROUP_CONTACTS, OTAP_EXPORT_INDIVIDUAL_CONTACTS, OTAP_EXPORT_LINE_SLOTS};
     uint32_t part;
+    same("parts", 10, OTAP_EXPORT_PARTS, sizeof types - 1);
     for (part = 1; part <= OTAP_EXPORT_PARTS; part++) {
         uint64_t answer = otap_export(part, store, OTAP_STORE_BYTES, buffer, sizeof buffer);
         same("export", 0, OTAP_OK, otap_answer_number(answer));
@@ -101,11 +89,14 @@ static uint32_t row(uint32_t table, uint32_t at)
 static void rows(void)
 {
     static const struct { uint32_t table, number, first, last; size_t offset; } tables[OTAP_TABLES] = {
-        {OTAP_LINES, 1, 0, OTAP_LINE_ROWS - 1, 7418 + 20},
+        {OTAP_LINES, 1, 0, OTAP_LINE_ROWS - 1, 12862 + 20},
         {OTAP_QUICK_TEXTS, 2, 0, OTAP_QUICK_ROWS - 1, 22},
         {OTAP_STATUS_TEXTS, 3, OTAP_STATUS_FIRST, OTAP_STATUS_LAST, 2966 + 1},
         {OTAP_GROUPS, 4, 0, OTAP_SLOT_ROWS - 1, 6134 + 4},
-        {OTAP_INDIVIDUALS, 5, 0, OTAP_SLOT_ROWS - 1, 6710 + 4}
+        {OTAP_INDIVIDUALS, 5, 0, OTAP_SLOT_ROWS - 1, 6710 + 4},
+        {OTAP_GROUP_CONTACTS, 6, 0, OTAP_CONTACT_ROWS - 1, 8120 + 4},
+        {OTAP_INDIVIDUAL_CONTACTS, 7, 0, OTAP_CONTACT_ROWS - 1, 10426 + 4},
+        {OTAP_LINE_SLOTS, 8, 0, OTAP_SLOT_ROWS - 1, 7286 + 20}
     };
     size_t each;
     for (each = 0; each < OTAP_TABLES; each++) {
@@ -119,6 +110,8 @@ static void rows(void)
         same("in the store", 0, (uint64_t)otap_part_in_scratch(part), part & 1);
         same("units", tables[each].table == OTAP_QUICK_TEXTS ? OTAP_ROW_BYTES : 32, otap_part_length(part), part >> 32);
     }
+    same("no table", 17, OTAP_NO_ROW, row(0, 0));
+    same("no table", 17, OTAP_NO_ROW, row(OTAP_TABLES + 1, 0));
     same("short scratch", 15, OTAP_SHORT_BUFFER, otap_row_number(1, 0, store, OTAP_STORE_BYTES, scratch, OTAP_SCRATCH_BYTES - 1));
 }
 
@@ -131,6 +124,12 @@ static void numbers_shown(void)
     line = otap_row_part(OTAP_GROUPS, 15, store, OTAP_STORE_BYTES, scratch, sizeof scratch);
     same("group's number", 1 | (uint64_t)12 << 32, line, line);
     same("its digits", 0, (uint64_t)memcmp(scratch, "\0F\0F\0F\0F\0" "1\0" "0", 12), 0);
+    line = otap_row_part(OTAP_INDIVIDUAL_CONTACTS, 33, store, OTAP_STORE_BYTES, scratch, sizeof scratch);
+    same("contact's number", 1 | (uint64_t)12 << 32, line, line);
+    same("its digits", 0, (uint64_t)memcmp(scratch, "\0F\0F\0" "7\0F\0" "2\0" "2", 12), 0);
+    line = otap_row_part(OTAP_LINE_SLOTS, 13, store, OTAP_STORE_BYTES, scratch, sizeof scratch);
+    same("line slot's number", 1 | (uint64_t)10 << 32, line, line);
+    same("its digits", 0, (uint64_t)memcmp(scratch, "\0" "1\0" "1\0" "1\0" "1\0" "3", 10), 0);
 }
 
 /* One call is enough for a row: otap_row_part answers 0 exactly where otap_row_number does not. */
@@ -157,38 +156,13 @@ static void asked_of_stores(void)
     asked_once(none, OTAP_SCRATCH_BYTES);
 }
 
-/* What a store holds and has free; the packed answer has no other bits. */
-static void counts_are(const char *what, const uint8_t *bytes, uint64_t lines, uint64_t channels)
-{
-    uint64_t answer = otap_counts(bytes, OTAP_STORE_BYTES);
-    same(what, channels << 32 | lines << 16, answer, answer);
-    same("number of counts", 0, OTAP_OK, otap_answer_number(answer));
-    same("lines held", lines, otap_counts_lines(answer), answer >> 16 & 0xFFFF);
-    same("channels held", channels, otap_counts_channels(answer), answer >> 32);
-    same("lines free", 32 - lines, OTAP_LINE_ROWS - lines, otap_counts_free_lines(answer));
-    same("channels free", 64 - channels, OTAP_CHANNEL_PLACES - channels, otap_counts_free_channels(answer));
-}
-
-/* Every call refuses these bytes, and this one with both counts 0 and nothing free. */
-static void no_store(const char *what, uint8_t *bytes)
-{
-    uint64_t answer = otap_counts(bytes, OTAP_STORE_BYTES);
-    same(what, 11, OTAP_NO_STORE, answer);
-    same("lines and channels of no store", 0, otap_counts_lines(answer), otap_counts_channels(answer));
-    same("free of no store", 0, otap_counts_free_lines(answer), otap_counts_free_channels(answer));
-    same(what, 11, OTAP_NO_STORE, otap_export(1, bytes, OTAP_STORE_BYTES, buffer, sizeof buffer));
-    same(what, 11, OTAP_NO_STORE, otap_row_number(OTAP_GROUPS, 0, bytes, OTAP_STORE_BYTES, scratch, sizeof scratch));
-    write_query(&said, 0);
-    same(what, 11, OTAP_NO_STORE, otap_take(said.bytes, said.length, bytes, OTAP_STORE_BYTES, reply, sizeof reply));
-}
-
-/* Another value of a byte of a count, which stand where docs/STORE.md says, makes a store none. */
+/* Another value of a byte of a count, which stand where docs/STORE.md says, makes a store none: group contacts, individual ones, channels, lines. */
 static void poked_counts(uint8_t *bytes)
 {
-    static const size_t places[] = {7286, 7287, 7416, 7417};
+    static const size_t places[] = {8118, 8119, 10424, 10425, 12730, 12731, 12860, 12861};
     static const uint8_t steps[] = {1, 2, 32, 64, 128, 192, 255};
     size_t each, step;
-    for (each = 0; each < 4; each++) {
+    for (each = 0; each < sizeof places / sizeof places[0]; each++) {
         uint8_t right = bytes[places[each]];
         for (step = 0; step < sizeof steps; step++) {
             bytes[places[each]] = (uint8_t)(right + steps[step]);
@@ -219,17 +193,6 @@ static void counted(void)
     same("long store", 11, OTAP_NO_STORE, otap_counts(store, OTAP_STORE_BYTES + 1));
     memset(other, 0xFF, sizeof other);
     no_store("erased flash", other);
-}
-
-/* What a message to a fresh store comes to; the store afterwards is left in `other`. */
-static void told(const char *what, const uint8_t *message, size_t length, uint64_t number, uint64_t failed, uint8_t *other)
-{
-    uint64_t answer;
-    same("start", 0, OTAP_OK, otap_start(other, OTAP_STORE_BYTES));
-    answer = otap_take(message, length, other, OTAP_STORE_BYTES, reply, sizeof reply);
-    same(what, number, number, otap_answer_number(answer));
-    same(what, failed, failed, otap_take_failed(answer));
-    same("coding type of the reply", 0, 0, reply[5]);
 }
 
 /* A request of coding type 0100 with a group (D1) or a quick text (CC) of as many characters, and any DataLength. */
@@ -297,68 +260,6 @@ static void coding_types(void)
     }
 }
 
-/* A request with one setting of lines without texts; their numbers are two digits, from the first on. Operations are 1 add, 2 delete, 3 replace. */
-static void write_lines(unsigned operation, unsigned pabx, unsigned first, unsigned count)
-{
-    size_t at;
-    unsigned each;
-    open_request(&said, 1);
-    at = open_setting(&said, 0xCA);
-    put(&said, operation * 64 + pabx * 2);
-    put(&said, count);
-    for (each = 0; each < count; each++) {
-        put_number(&said, first + each, 2);
-        put_text(&said, 0);
-    }
-    close_setting(&said, at);
-}
-
-/* IDtype is a part of a line's key: each step's number, and how many lines there are after it. The 32 places are for both IDtypes. */
-static void keys_of_lines(uint8_t *other)
-{
-    static const struct { unsigned operation, pabx, first, count, number, lines; } steps[] = {
-        {1, 1, 23, 1, OTAP_OK, 1}, {2, 0, 23, 1, OTAP_OK, 1}, {1, 0, 23, 1, OTAP_OK, 2}, {1, 1, 23, 1, OTAP_OK, 2},
-        {1, 0, 23, 1, OTAP_OK, 2}, {2, 1, 23, 1, OTAP_OK, 1}, {1, 1, 0, 31, OTAP_OK, 32}, {1, 0, 5, 1, OTAP_NO_ROOM, 32},
-        {1, 1, 5, 1, OTAP_OK, 32}, {2, 0, 5, 1, OTAP_OK, 32}, {2, 1, 5, 1, OTAP_OK, 31}, {1, 0, 5, 1, OTAP_OK, 32},
-        {3, 0, 50, 2, OTAP_OK, 2}, {1, 1, 50, 2, OTAP_OK, 4}, {3, 1, 50, 1, OTAP_OK, 1}, {3, 0, 50, 0, OTAP_OK, 0}
-    };
-    size_t each;
-    same("start", 0, OTAP_OK, otap_start(other, OTAP_STORE_BYTES));
-    for (each = 0; each < sizeof steps / sizeof steps[0]; each++) {
-        uint64_t answer;
-        write_lines(steps[each].operation, steps[each].pabx, steps[each].first, steps[each].count);
-        answer = otap_take(said.bytes, said.length, other, OTAP_STORE_BYTES, reply, sizeof reply);
-        same("a line by its key", steps[each].number, steps[each].number, otap_answer_number(answer));
-        counts_are("lines by their keys", other, steps[each].lines, 0);
-    }
-}
-
-/* Example 11 adds extension 2345; telephone 2345 stands beside it, and one of the two is deleted. */
-static void both_lines(void)
-{
-    static uint8_t one[OTAP_STORE_BYTES], both[OTAP_STORE_BYTES];
-    uint8_t line[] = {2, 2, 0, 0x0E, 8, 7, 8, 1, 0xCA, 0, 9, 0x42, 1, 0x23, 0x45, 0xFF, 0, 0};
-    uint32_t at;
-    keys_of_lines(one);
-    told("example 11", line, sizeof line, OTAP_OK, 0, one);
-    memcpy(both, one, sizeof both);
-    line[11] = 0x40;
-    same("the telephone", 0, OTAP_OK, otap_answer_number(otap_take(line, sizeof line, both, sizeof both, reply, sizeof reply)));
-    counts_are("both lines", both, 2, 0);
-    for (at = 0; at < 2; at++) {
-        same("its number", 1 | (uint64_t)8 << 32, 1 | (uint64_t)8 << 32, otap_row_part(OTAP_LINES, at, both, sizeof both, scratch, sizeof scratch));
-        same("2345", 0, 0, (uint64_t)(memcmp(scratch, "\0" "2\0" "3\0" "4\0" "5", 8) != 0));
-    }
-    both[7471] = 1;
-    no_store("one IDtype and number twice", both);
-    both[7470] = 15;
-    no_store("the same with other flags", both);
-    both[7470] = both[7471] = 0;
-    line[11] = 0x80;
-    same("deleted", 0, OTAP_OK, otap_answer_number(otap_take(line, sizeof line, both, sizeof both, reply, sizeof reply)));
-    same("the extension stays", 0, 0, (uint64_t)(memcmp(one, both, sizeof one) != 0));
-}
-
 /* The bytes of the full store, summed (FNV-1a). If the layout has changed, OTAP_LAYOUT must be another number, and this sum too. */
 static void layout(void)
 {
@@ -367,8 +268,8 @@ static void layout(void)
     for (at = 0; at < OTAP_STORE_BYTES; at++) {
         sum = (sum ^ store[at]) * 16777619u;
     }
-    same("layout", 3, OTAP_LAYOUT, 3);
-    same("sum of a full store of layout 3", 0x7CBF4503u, sum, sum);
+    same("layout", 4, OTAP_LAYOUT, 4);
+    same("sum of a full store of layout 4", 0x90E2A897u, sum, sum);
 }
 
 static void conversions(void)
@@ -400,7 +301,6 @@ int main(void)
     asked_of_stores();
     counted();
     coding_types();
-    both_lines();
     layout();
     conversions();
     printf("every number and constant is as the table says\n");

@@ -7,8 +7,8 @@
 
 static uint8_t flash[OTAP_STORE_BYTES];
 static char called[64];
-static int held;
-static uint32_t free_channels = OTAP_CHANNEL_PLACES;
+static int held, contacts; /* the lock; whether it is the contacts that are drawn */
+static uint32_t free_channels = OTAP_CHANNEL_PLACES, last_row;
 static Message message;
 
 static void note(char letter)
@@ -62,9 +62,11 @@ void restart_set(void)
 void draw_row(uint32_t row, const uint8_t *units, size_t length)
 {
     note('d');
+    last_row = row;
     must(held, "drawn without the lock");
-    must(row != 13 || (length == 16 && memcmp(units, "\0003\0002\0008\0002\0000\0009\0001\0003", 16) == 0), "group 13 is shown by its number");
-    must(row != 0 || (length == 32 && units == store + 6134 + 4), "group 0 is shown by its name, where it stands");
+    must(!contacts || (length == 16 && units == scratch), "a contact without a name is shown by its number");
+    must(contacts || row != 13 || (length == 16 && memcmp(units, "\0003\0002\0008\0002\0000\0009\0001\0003", 16) == 0), "group 13 is shown by its number");
+    must(contacts || row != 0 || (length == 32 && units == store + 6134 + 4), "group 0 is shown by its name, where it stands");
 }
 
 void draw_room(uint32_t lines, uint32_t channels)
@@ -125,6 +127,28 @@ static void takes(void)
     must_call("()()s", "a request without a last item");
 }
 
+/* Attributes 10, 01 and 11: the second is a background group and is not drawn, and the third is drawn in its own row. */
+static void draws_contacts(void)
+{
+    unsigned each;
+    contacts = 1;
+    draw_group_contacts();
+    must_call("()", "no contact is drawn where there is none");
+    open_request(&message, 3);
+    for (each = 0; each < 3; each++) {
+        uint8_t fields[] = {0x60, 0, 1, 0x10, 0, 1, 0, 0};
+        fields[0] = (uint8_t)(each == 1 ? 0x50 : 0x60 + each * 8);
+        fields[5] = (uint8_t)(1 + each);
+        put_bytes(&message, 0xC8, fields, sizeof fields);
+    }
+    on_message(message.bytes, message.length);
+    must_call("()()s", "three group contacts");
+    last_row = OTAP_CONTACT_ROWS;
+    draw_group_contacts();
+    must_call("(dd)", "two of three contacts are drawn");
+    must(last_row == 2, "the third in its own row");
+}
+
 /* Two channels, then bytes that are no store. */
 static void draws_the_menu(void)
 {
@@ -150,6 +174,7 @@ int main(void)
     takes();
     draw_groups();
     must_call("(ddddddddddddddd)", "fifteen of sixteen rows are drawn, slot 3 was deleted");
+    draws_contacts();
     draws_the_menu();
     printf("the snippet keeps, saves, answers, starts again and draws\n");
     return 0;

@@ -85,7 +85,7 @@ static unsigned long depth(void)
 static unsigned long deepest(void)
 {
     unsigned long deep = 0, now;
-    for (turn = 0; turn < 700; turn++) {
+    for (turn = 0; turn < OTAP_TABLES * (OTAP_STATUS_LAST + 1); turn++) {
         write_message(&message, turn % MESSAGE_KINDS, turn / MESSAGE_KINDS);
         now = depth();
         deep = now > deep ? now : deep;

@@ -8,7 +8,7 @@ if (WebAssembly.Module.imports(module).length > 0) throw new Error("the module i
 const { exports } = new WebAssembly.Instance(module);
 
 // The buffers, one behind the other from __heap_base on: pointers are numbers, lengths and packed answers BigInts.
-const sizes = { store: 12288, message: 65536, reply: 20, buffer: 4096 };
+const sizes = { store: 24576, message: 65536, reply: 20, buffer: 4096 };
 let end = exports.__heap_base.value;
 const at = {};
 for (const [name, size] of Object.entries(sizes)) {
@@ -46,7 +46,7 @@ function takePrints(input) {
 
 function putWrites() {
     const parts = [];
-    for (let part = 1; part <= 7; part++) {
+    for (let part = 1; part <= 10; part++) {
         const answer = exports.otap_export(part, ...lent("store"), ...lent("buffer"));
         const length = Number((answer >> 16n) & 0xffffn);
         parts.push(Buffer.from([length & 255, length >> 8, part, 0]), Buffer.from(memory.subarray(at.buffer, at.buffer + length)));

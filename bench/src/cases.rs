@@ -11,7 +11,7 @@ pub struct Case {
     pub number: u8,
 }
 
-const PARTS: [&str; 7] = [
+const PARTS: [&str; 10] = [
     "lines",
     "key-home-system",
     "quick-texts",
@@ -19,10 +19,13 @@ const PARTS: [&str; 7] = [
     "status-texts",
     "groups",
     "individuals",
+    "group-contacts",
+    "individual-contacts",
+    "line-slots",
 ];
 
 /// Last rows have a text; the rows before them have none, where a number is written.
-const ROWS: [(&str, Table, u32); 8] = [
+const ROWS: [(&str, Table, u32); 14] = [
     ("line-text", Table::Lines, 31),
     ("line-number", Table::Lines, 30),
     ("quick-text", Table::QuickTexts, 63),
@@ -31,6 +34,12 @@ const ROWS: [(&str, Table, u32); 8] = [
     ("group-number", Table::Groups, 14),
     ("individual-text", Table::Individuals, 15),
     ("individual-number", Table::Individuals, 14),
+    ("group-contact-text", Table::GroupContacts, 63),
+    ("group-contact-number", Table::GroupContacts, 62),
+    ("individual-contact-text", Table::IndividualContacts, 63),
+    ("individual-contact-number", Table::IndividualContacts, 62),
+    ("line-slot-text", Table::LineSlots, 15),
+    ("line-slot-number", Table::LineSlots, 14),
 ];
 
 pub fn all() -> Vec<Case> {

@@ -11,8 +11,11 @@ use std::time::Instant;
 const BATCHES: usize = 301;
 const CALLS: u32 = 20;
 /// The first line of the store, and the bytes of one (docs/STORE.md).
-const LINES: usize = 7_418;
+const LINES: usize = 12_862;
 const LINE: usize = 52;
+/// The first group contact and the first individual contact, and the bytes of one.
+const CONTACTS: [usize; 2] = [8_120, 10_426];
+const CONTACT: usize = 36;
 
 pub fn table() {
     println!(
@@ -36,9 +39,14 @@ fn stores() -> Vec<(&'static str, Vec<u8>)> {
         change(&mut bytes);
         bytes
     };
+    let mut fewer = full.clone();
+    assert_eq!(fewer.call(&Call::Take(messages::without_contacts())), 0);
     vec![
-        ("full", full.bytes.clone()),
+        ("full: 64 group contacts, 64 individual contacts and 32 lines", full.bytes.clone()),
+        ("full, but for both lists of contacts", fewer.bytes),
+        ("full, addresses of contacts with other first bytes", changed(other_first_bytes)),
         ("full, line numbers with other first digits", changed(other_first_digits)),
+        ("last two group contacts equal: ends behind their list", changed(equal_contacts)),
         ("last two lines equal: ends before the spare bytes", changed(equal_lines)),
         (
             "last line wrong: ends before lines are compared",
@@ -52,6 +60,19 @@ fn other_first_digits(bytes: &mut [u8]) {
     for (place, line) in bytes[LINES..].chunks_exact_mut(LINE).take(32).enumerate() {
         line[2] = 1 + (place % 10) as u8;
     }
+}
+
+fn other_first_bytes(bytes: &mut [u8]) {
+    for first in CONTACTS {
+        for (place, slot) in bytes[first..].chunks_exact_mut(CONTACT).take(64).enumerate() {
+            slot[1] = 0x10 + place as u8;
+        }
+    }
+}
+
+fn equal_contacts(bytes: &mut [u8]) {
+    let (from, to) = (CONTACTS[0] + 62 * CONTACT, CONTACTS[0] + 63 * CONTACT);
+    bytes.copy_within(from..to, to);
 }
 
 fn equal_lines(bytes: &mut [u8]) {

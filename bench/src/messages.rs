@@ -5,15 +5,16 @@
 use otap_reference::reference::message::{query, request, request_as, Hash, LONGEST};
 use otap_reference::reference::plan::{GroupAddress, IndividualAddress};
 use otap_reference::reference::settings::{
-    EmergencyKey, GroupSlot, HomeNumbers, IndividualSlot, LastItem, LineEntry, LineFlags,
-    Operation, Setting, SystemCode, TextEntry,
+    ContactEntry, EmergencyKey, GroupFlags, GroupSlot, HomeNumbers, IndividualFlags,
+    IndividualSlot, LastItem, Line, LineEntry, LineFlags, Operation, Setting, SystemCode,
+    TextEntry,
 };
 use otap_reference::reference::texts::{Coding, Text};
 
 const HASH: Hash = Hash::Stamped([1, 2, 3, 4, 5, 6, 7, 8, 9, 10]);
 const HEAD: usize = 8;
 
-/// A name for each kind, and a request full of it, status texts under 0100 too; at the end the two with the most to look for.
+/// A name for each kind, and a request full of it, status texts under 0100 too; at the end those with the most to look for.
 pub fn of_each_kind() -> Vec<(&'static str, Vec<u8>)> {
     vec![
         ("lines", full(|count| lines(count, Operation::Replace))),
@@ -29,9 +30,13 @@ pub fn of_each_kind() -> Vec<(&'static str, Vec<u8>)> {
         ("status-texts-8", full_as(Coding::Eight, narrow_status_texts)),
         ("groups", full(|count| (0..count).map(|place| group(place, 16)).collect())),
         ("individuals", full(|count| (0..count).map(|place| individual(place, 16)).collect())),
+        ("group-contacts", full(|count| vec![group_contacts(Operation::Replace, count)])),
+        ("individual-contacts", full(|count| vec![individual_contacts(Operation::Replace, count)])),
+        ("line-slots", full(|count| (0..count).map(|place| line_slot(place, 16)).collect())),
         ("last-item", request(&[last()])),
         ("lines-deleted", deleted_lines()),
         ("channels-deleted", deleted_channels()),
+        ("contacts-deleted", deleted_contacts()),
     ]
 }
 
@@ -48,7 +53,7 @@ pub fn matching_query() -> Vec<u8> {
     query(&HASH)
 }
 
-/// What fills every table; the last row but one of lines, groups and individuals has no text.
+/// What fills every table; the last row but one of lines, groups and individuals, in slots and among the contacts, has no text.
 pub fn filling() -> Vec<Vec<u8>> {
     let slots = |of: fn(usize, usize) -> Vec<u8>| {
         (0..16).map(|place| of(place, if place == 14 { 0 } else { 16 })).collect::<Vec<_>>()
@@ -59,9 +64,16 @@ pub fn filling() -> Vec<Vec<u8>> {
         request(&nameless),
         request(&quick_texts(64)),
         request(&[status_texts(96, text(16)).write()]),
-        request(&[slots(group), slots(individual)].concat()),
+        request(&[slots(group), slots(individual), slots(line_slot)].concat()),
+        request(&[group_contacts(Operation::Replace, 64), nameless_contacts().0]),
+        request(&[individual_contacts(Operation::Replace, 64), nameless_contacts().1]),
         request(&[channels(1), vec![key().write(), system().write(), last()]].concat()),
     ]
+}
+
+/// What empties both lists of contacts.
+pub fn without_contacts() -> Vec<u8> {
+    request(&[group_contacts(Operation::Replace, 0), individual_contacts(Operation::Replace, 0)])
 }
 
 fn full(settings: impl Fn(usize) -> Vec<Vec<u8>>) -> Vec<u8> {
@@ -187,6 +199,60 @@ fn individual(place: usize, units: usize) -> Vec<u8> {
         text: text(units),
     };
     Setting::Individual { index: place as u8 % 16, slot: Some(slot) }.write()
+}
+
+/// One of 64 addresses, which differ in their last byte alone.
+fn contact<A>(place: usize, units: usize, kind: fn(u32) -> A) -> ContactEntry<A> {
+    ContactEntry { address: kind(0x10_0001 + place as u32 % 64), text: text(units) }
+}
+
+fn group_contact_setting(
+    operation: Operation,
+    entries: Vec<ContactEntry<GroupAddress>>,
+) -> Vec<u8> {
+    let flags = GroupFlags { attribute: 2, encryption: true, priority: 2, ..GroupFlags::default() };
+    Setting::GroupContacts { operation, flags, entries }.write()
+}
+
+fn individual_contact_setting(
+    operation: Operation,
+    entries: Vec<ContactEntry<IndividualAddress>>,
+) -> Vec<u8> {
+    let flags = IndividualFlags { encryption: true, emergency: false, priority: 1 };
+    Setting::IndividualContacts { operation, flags, entries }.write()
+}
+
+fn group_contacts(operation: Operation, count: usize) -> Vec<u8> {
+    let entries = (0..count).map(|place| contact(place, 16, GroupAddress)).collect();
+    group_contact_setting(operation, entries)
+}
+
+fn individual_contacts(operation: Operation, count: usize) -> Vec<u8> {
+    let entries = (0..count).map(|place| contact(place, 16, IndividualAddress)).collect();
+    individual_contact_setting(operation, entries)
+}
+
+/// The last contact but one of either list, overwritten without a text.
+fn nameless_contacts() -> (Vec<u8>, Vec<u8>) {
+    let group = group_contact_setting(Operation::Add, vec![contact(62, 0, GroupAddress)]);
+    let individual =
+        individual_contact_setting(Operation::Add, vec![contact(62, 0, IndividualAddress)]);
+    (group, individual)
+}
+
+/// As many deletes as fit of a group that comes close to all 64 and is none of them.
+fn deleted_contacts() -> Vec<u8> {
+    let absent = ContactEntry { address: GroupAddress(0x10_0080), text: Text::new() };
+    let settings = [255, 255, 255, 47]
+        .map(|count| group_contact_setting(Operation::Delete, vec![absent.clone(); count]));
+    request(&settings)
+}
+
+fn line_slot(place: usize, units: usize) -> Vec<u8> {
+    let LineEntry { digits, text } = line(place, units);
+    let flags = LineFlags { emergency: true, priority: 1, pabx: true, ..LineFlags::default() };
+    let slot = Some(Line { digits, flags, text });
+    Setting::LineSlot { index: place as u8 % 16, slot }.write()
 }
 
 fn last() -> Vec<u8> {

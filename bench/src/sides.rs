@@ -134,6 +134,9 @@ fn named(table: Table, row: usize) -> Row {
         Table::QuickTexts => Row::Quick(row),
         Table::StatusTexts => Row::Status(row),
         Table::Groups => Row::Group(row),
-        _ => Row::Individual(row),
+        Table::Individuals => Row::Individual(row),
+        Table::GroupContacts => Row::GroupContact(row),
+        Table::IndividualContacts => Row::IndividualContact(row),
+        _ => Row::LineSlot(row),
     }
 }

@@ -10,14 +10,15 @@ const BATCH: Duration = Duration::from_micros(300);
 
 pub fn table() {
     println!("Rattle: the verified archive through the face. Plain: the reference in rust/otap-reference, as it is.");
-    println!("Judged: the same behind a plain check of the store's 12,288 bytes, which Rattle makes in every call too.");
+    println!("Judged: the same behind a plain check of the store's 24,576 bytes, which Rattle makes in every call too.");
     println!(
         "All on a full store, warm, {BATCHES} batches of about {} us in turn, median.",
         BATCH.as_micros()
     );
     println!("Every call leaves what it found, so each repetition starts from the same store without a copy.");
     println!("Plain works on tables, not on bytes: it reads bit by bit, allocates each text, clones its tables for a request.");
-    println!("The 32 line numbers differ only in their last two digits, the worst for finding one. Plain finds a channel by search.");
+    println!("The 32 line numbers differ only in their last two digits and the addresses of 64 contacts in their last byte, the worst for finding one.");
+    println!("Plain finds a channel by search.");
     println!();
     println!("| call | message | Rattle ns | plain ns | judged ns | to plain | to judged |");
     println!("|---|---|---|---|---|---|---|");

@@ -80,9 +80,11 @@ static void fill(void)
 int main(void)
 {
     static const char *const takes[] = {"take, 32 lines", "take, 63 quick texts", "take, a quick text", "take, 96 status texts", "take, 64 channels",
-                                        "take, 16 groups", "take, 16 individuals", "take, key, home, system code and last item"};
+                                        "take, 16 groups", "take, 16 individuals", "take, 64 group contacts", "take, 64 individual contacts",
+                                        "take, 16 line slots", "take, key, home, system code and last item"};
     static const char *const parts[] = {"export, lines", "export, key, home and system code", "export, quick texts", "export, channels",
-                                        "export, status texts", "export, groups", "export, individuals"};
+                                        "export, status texts", "export, groups", "export, individuals", "export, group contacts",
+                                        "export, individual contacts", "export, line slots"};
     unsigned each;
     systick[1] = 0xFFFFFFu;
     systick[2] = 0;
@@ -94,6 +96,8 @@ int main(void)
     }
     write_message(&said, 9, 0);
     count("take, refused: a 33rd line", take);
+    write_message(&said, 15, 0);
+    count("take, refused: a 65th group contact", take);
     write_query(&said, 2);
     count("take, a query", take);
     for (each = 0; each < OTAP_EXPORT_PARTS; each++) {
@@ -104,6 +108,9 @@ int main(void)
     count("row, a group's text", show_row);
     row = 13;
     count("row, a group's number", show_row);
+    which = OTAP_GROUP_CONTACTS;
+    row = OTAP_CONTACT_ROWS - 1;
+    count("row, a group contact's text", show_row);
     count("counts", counts);
     count("individual of dialled", individual);
     count("transmit", transmit);

@@ -16,7 +16,7 @@ fn answer_beside(what: &[u8], bytes: &[u8], store: &mut [u8], reply: &mut [u8], 
     line(what, answer, same(before, store), reply);
 }
 
-// A message to this store, of at most 12,288 bytes, with this reply buffer.
+// A message to this store, of at most 24,576 bytes, with this reply buffer.
 pub fn answer_into(what: &[u8], bytes: &[u8], store: &mut [u8], reply: &mut [u8]) {
     let size = store.len();
     if HANDHELD_SIZE < size {
@@ -50,7 +50,7 @@ fn request(what: &[u8], settings: &[u8], store: &mut [u8]) {
 
 // A message that is written in digits, whole or as ParamSum and settings.
 fn written(what: &[u8], digits: &[u8], whole: bool, store: &mut [u8]) {
-    let mut bytes = [0u8; 512];
+    let mut bytes = [0u8; 1024];
     let end = put_message(&mut bytes, digits);
     if whole {
         answer(what, &bytes[0..end], store);

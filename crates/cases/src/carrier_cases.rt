@@ -24,11 +24,11 @@ fn started(what: &[u8], answer: Started) {
 fn stores() {
     let mut store = [0u8; HANDHELD_SIZE];
     answer(b"store that was never started", &GOOD, &mut store);
-    started(b"starting 12288 bytes", start(&mut store));
+    started(b"starting 24576 bytes", start(&mut store));
     answer(b"the same store, started", &GOOD, &mut store);
-    let mut short = [0u8; 12287];
-    started(b"starting 12287 bytes", start(&mut short));
-    answer(b"store of 12287 bytes", &GOOD, &mut short);
+    let mut old = [0u8; 12288];
+    started(b"starting 12288 bytes", start(&mut old));
+    answer(b"store of 12288 bytes", &GOOD, &mut old);
 }
 
 fn buffers(store: &mut [u8]) {

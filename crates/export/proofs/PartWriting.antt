@@ -1,5 +1,5 @@
 -- A part of the store was written as the settings that export it. Assumes nothing.
-use Rattle.lists.proofs.Kit.{ℕ, zero, suc, _+_, _-_, _*_, _≤_, _<_, _≡_, refl, sym, ap, _∙_, subst, subst⁻¹, List, [], _∷_, _++_, map, none, some, arith, midOf, mid-len, eqb, eqb→eq, length, getD, take, drop, List·getD-eq-default, take-add, drop-drop}
+use Rattle.lists.proofs.Kit.{ℕ, zero, suc, _+_, _-_, _*_, _≤_, _<_, _≡_, refl, sym, ap, _∙_, subst, subst⁻¹, List, [], _∷_, _++_, map, none, some, arith, midOf, mid-len, length, getD, take, drop, List·getD-eq-default, take-add, drop-drop}
 use Rattle.lists.proofs.Seqs.{getD-map}
 use Rattle.slots.specs.Slots.{u16, Listed}
 use Rattle.writing.specs.Canonical.{canonical-all}
@@ -7,36 +7,43 @@ use Rattle.writing.specs.Ranges.{InChannel}
 use Rattle.writing.specs.Settings.{Setting, unicode16}
 use Rattle.tables.specs.declared.limits.Limits.{Limits}
 use Rattle.tables.specs.Allowed.{LineOk}
-use Rattle.tables.specs.Layout.{count-size, lines-size, layout, line-bytes, groups-at, individuals-at, line-width, lines-at, lists-at, member-size, quick-at, quick-size, status-at, status-size}
+use Rattle.tables.specs.Layout.{count-size, lines-size, layout, line-bytes, groups-at, individuals-at, line-slots-at, line-slots-size, line-width, lines-at, channels-at, member-size, member-width, quick-at, quick-size, status-at, status-size}
+use Rattle.tables.specs.Limits.{contact-places}
+use Rattle.tables.specs.Members.{member-ok, member-bytes, contacts-in, contacts-at}
 use Rattle.tables.specs.Store.{Holds}
 use Rattle.tables.specs.Tables.{Tables}
-use Rattle.tables.proofs.Frames.{key-get, home-get, system-get, quick-placed, status-placed, groups-placed, individuals-placed, channels-listed, lines-listed}
+use Rattle.tables.proofs.Frames.{key-get, home-get, system-get, quick-placed, status-placed, groups-placed, individuals-placed, line-slots-placed, contacts-listed, channels-listed, lines-listed}
+use Rattle.tables.specs.declared.members.Members.{Members}
 use Rattle.tables.specs.declared.members.Members.the-variants.{OfGroups, OfIndividuals}
 use Rattle.export_write.specs.declared.writers.Settings.{Settings}
 use Rattle.export_write.specs.ChannelWriters.{ChannelsIn}
+use Rattle.export_write.specs.ContactWriters.{ContactsIn}
 use Rattle.export_write.specs.EntryWriters.{QuicksIn, StatusesIn}
 use Rattle.export_write.specs.FixedWriters.{FixedIn}
-use Rattle.export_write.specs.LineWriters.{LinesIn}
+use Rattle.export_write.specs.LineWriters.{LinesIn, LineSlotsIn}
 use Rattle.export_write.specs.MemberWriters.{MembersIn}
 use Rattle.export_write.specs.Writers.{Wrote, WritesTable}
 use Rattle.export.specs.declared.parts.Part.{Part}
-use Rattle.export.specs.declared.parts.Part.the-variants.{Lines, Fixed, QuickTexts, Channels, StatusTexts, Groups, Individuals}
+use Rattle.export.specs.declared.parts.Part.the-variants.{Lines, Fixed, QuickTexts, Channels, StatusTexts, Groups, Individuals, GroupContacts, IndividualContacts, LineSlots}
 use Rattle.export.specs.Exportable.{Exportable}
-use Rattle.export.specs.Exported.{seven, part-number, exported}
+use Rattle.export.specs.Exported.{ten, part-number, exported}
 use Rattle.export.specs.PartWriters.{part-at, part-from, part-to, WritesPart, PartWritten}
 
 -- ---- parts by their number
 
 -- the part at each place has the number after it
-pub seven-at : (k : ℕ) → k < length seven → part-number (getD seven k Lines) ≡ k + 1
-seven-at zero h = refl
-seven-at (suc zero) h = refl
-seven-at (suc (suc zero)) h = refl
-seven-at (suc (suc (suc zero))) h = refl
-seven-at (suc (suc (suc (suc zero)))) h = refl
-seven-at (suc (suc (suc (suc (suc zero))))) h = refl
-seven-at (suc (suc (suc (suc (suc (suc zero)))))) h = refl
-seven-at (suc (suc (suc (suc (suc (suc (suc k))))))) h = let l : length seven ≡ 7 = refl in absurd (omega arith)
+pub ten-at : (k : ℕ) → k < length ten → part-number (getD ten k Lines) ≡ k + 1
+ten-at zero h = refl
+ten-at (suc zero) h = refl
+ten-at (suc (suc zero)) h = refl
+ten-at (suc (suc (suc zero))) h = refl
+ten-at (suc (suc (suc (suc zero)))) h = refl
+ten-at (suc (suc (suc (suc (suc zero))))) h = refl
+ten-at (suc (suc (suc (suc (suc (suc zero)))))) h = refl
+ten-at (suc (suc (suc (suc (suc (suc (suc zero))))))) h = refl
+ten-at (suc (suc (suc (suc (suc (suc (suc (suc zero)))))))) h = refl
+ten-at (suc (suc (suc (suc (suc (suc (suc (suc (suc zero))))))))) h = refl
+ten-at (suc (suc (suc (suc (suc (suc (suc (suc (suc (suc k)))))))))) h = let l : length ten ≡ 10 = refl in absurd (omega arith)
 
 -- a part is found by its number
 pub at-number : (p : Part) → part-at (part-number p) ≡ some p
@@ -47,6 +54,9 @@ at-number Channels = refl
 at-number StatusTexts = refl
 at-number Groups = refl
 at-number Individuals = refl
+at-number GroupContacts = refl
+at-number IndividualContacts = refl
+at-number LineSlots = refl
 
 -- an entry that is found in a list
 found : {A : Type 0} (xs : List A) (k : ℕ) (x d : A) → getD (map some xs) k none ≡ some x → (k < length xs) × (getD xs k d ≡ x)
@@ -57,18 +67,18 @@ found (y ∷ xs) (suc k) x d e = let (h, q) = found xs k x d e in (omega arith, 
 -- what is found has the number
 pub numbered : (n : ℕ) (p : Part) → part-at n ≡ some p → part-number p ≡ n
 numbered zero p e = let z : _≡_ {A = ℕ} 0 1 = cc in absurd (omega arith)
-numbered (suc k) p e = let (h, q) = found seven k p Lines e in ap part-number (sym q) ∙ seven-at k h ∙ omega arith
+numbered (suc k) p e = let (h, q) = found ten k p Lines e in ap part-number (sym q) ∙ ten-at k h ∙ omega arith
 
 -- where nothing is found, no part has the number
 pub not-numbered : (n : ℕ) → part-at n ≡ none → (p : Part) → part-number p ≡ n → ⊥
 not-numbered n e p h = let q : part-at n ≡ some p = ap part-at (sym h) ∙ at-number p in let z : _≡_ {A = ℕ} 0 1 = cc in omega arith
 
 -- the numbers of no part, and those of the parts
-pub past-parts : (n : ℕ) → length seven < n → part-at n ≡ none
-past-parts n h = List·getD-eq-default (none ∷ map some seven) none {n = n} (omega arith)
+pub past-parts : (n : ℕ) → length ten < n → part-at n ≡ none
+past-parts n h = List·getD-eq-default (none ∷ map some ten) none {n = n} (omega arith)
 
-pub part-within : (n k : ℕ) → n ≡ suc k → k < length seven → part-at n ≡ some (getD seven k Lines)
-part-within n k e h = ap part-at e ∙ getD-map some seven k Lines none h
+pub part-within : (n k : ℕ) → n ≡ suc k → k < length ten → part-at n ≡ some (getD ten k Lines)
+part-within n k e h = ap part-at e ∙ getD-map some ten k Lines none h
 
 -- ---- what stands in a part of the store
 
@@ -80,8 +90,8 @@ module _ (lim : Limits) (t : Tables) (s : List ℕ) (h : Holds lim t s) where
   pub lines-in : (k : ℕ) → k ≡ lim .lines * line-width → LinesIn (midOf (lines-at lim + count-size) k s) (t .lines)
   lines-in k e = (lim .lines, at-part (λ x. Listed LineOk line-width line-bytes (lim .lines) (t .lines) x) (lines-at lim + count-size) (lim .lines * line-width) k e (lines-listed lim t (h .0)))
 
-  pub channels-in : (k : ℕ) → k ≡ lim .channels * 2 → ChannelsIn (midOf (lists-at + count-size) k s) (t .channels)
-  channels-in k e = (lim .channels, at-part (λ x. Listed InChannel 2 u16 (lim .channels) (t .channels) x) (lists-at + count-size) (lim .channels * 2) k e (channels-listed lim t (h .0)))
+  pub channels-in : (k : ℕ) → k ≡ lim .channels * 2 → ChannelsIn (midOf (channels-at + count-size) k s) (t .channels)
+  channels-in k e = (lim .channels, at-part (λ x. Listed InChannel 2 u16 (lim .channels) (t .channels) x) (channels-at + count-size) (lim .channels * 2) k e (channels-listed lim t (h .0)))
 
   pub quick-in : QuicksIn (midOf quick-at quick-size s) (t .quick)
   quick-in = at-part (λ x. QuicksIn x (t .quick)) 22 quick-size quick-size refl (quick-placed lim t (h .0))
@@ -94,6 +104,13 @@ module _ (lim : Limits) (t : Tables) (s : List ℕ) (h : Holds lim t s) where
 
   pub individuals-in : MembersIn OfIndividuals (midOf individuals-at member-size s) (t .individuals)
   individuals-in = at-part (λ x. MembersIn OfIndividuals x (t .individuals)) individuals-at member-size member-size refl (individuals-placed lim t (h .0))
+
+  pub line-slots-in : LineSlotsIn (midOf line-slots-at line-slots-size s) (t .line-slots)
+  line-slots-in = at-part (λ x. LineSlotsIn x (t .line-slots)) line-slots-at line-slots-size line-slots-size refl (line-slots-placed lim t (h .0))
+
+  pub contacts-held : (w : Members) → ContactsIn w (midOf (contacts-at w + count-size) (contact-places * member-width) s) (contacts-in w t)
+  contacts-held w =
+      (contact-places, at-part (λ x. Listed (member-ok w) member-width (member-bytes w) contact-places (contacts-in w t) x) (contacts-at w + count-size) (contact-places * member-width) (contact-places * member-width) refl (contacts-listed lim t (h .0) w))
 
   pub fixed-in : FixedIn (midOf 11 11 s) (t .key, (t .home, t .system))
   fixed-in =
@@ -144,6 +161,11 @@ module _ (lim : Limits) (store s u : List ℕ) (r : Settings) (x : Exportable li
   part-held StatusTexts l = part-of StatusTexts (λ t. t .status) (λ t h. status-in lim t store h) (λ t. refl) l (omega (arith, x .status)) (omega arith)
   part-held Groups l = part-of Groups (λ t. t .groups) (λ t h. groups-in lim t store h) (λ t. refl) l (omega (arith, x .status)) (omega arith)
   part-held Individuals l = part-of Individuals (λ t. t .individuals) (λ t h. individuals-in lim t store h) (λ t. refl) l (omega (arith, x .status)) (omega arith)
+  part-held GroupContacts l =
+      part-of GroupContacts (λ t. t .group-contacts) (λ t h. contacts-held lim t store h OfGroups) (λ t. refl) (omega arith) (omega (arith, x .status)) (omega arith)
+  part-held IndividualContacts l =
+      part-of IndividualContacts (λ t. t .individual-contacts) (λ t h. contacts-held lim t store h OfIndividuals) (λ t. refl) (omega arith) (omega (arith, x .status)) (omega arith)
+  part-held LineSlots l = part-of LineSlots (λ t. t .line-slots) (λ t h. line-slots-in lim t store h) (λ t. refl) l (omega (arith, x .status)) (omega arith)
 
   -- the settings of the bytes from the part's start to its end were written
   pub part-written : (p : Part) (a b : ℕ) → a ≡ starts lim p → b ≡ ends lim p → b ≤ length store → WritesPart p (midOf a (b - a) store) s u r → PartWritten lim p store s u r

@@ -7,25 +7,26 @@ use lib.ListN.{length, getD}
 use Rattle.writing.specs.Canonical.{canonical-all}
 use Rattle.writing.specs.Settings.{Setting, unicode16}
 use Rattle.tables.specs.declared.limits.Limits.{Limits}
-use Rattle.tables.specs.Layout.{count-size, key-at, quick-at, status-at, groups-at, individuals-at, lists-at}
+use Rattle.tables.specs.Layout.{count-size, key-at, quick-at, status-at, groups-at, individuals-at, line-slots-at, group-contacts-at, individual-contacts-at, channels-at}
 use Rattle.tables.specs.Store.{Holds}
 use Rattle.export.specs.declared.exporting.FoundPart.{FoundPart}
 use Rattle.export.specs.declared.exporting.FoundPart.the-variants.{Is, NoneSuch}
 use Rattle.export.specs.declared.parts.Part.{Part}
-use Rattle.export.specs.declared.parts.Part.the-variants.{Lines, Fixed, QuickTexts, Channels, StatusTexts, Groups, Individuals}
+use Rattle.export.specs.declared.parts.Part.the-variants.{Lines, Fixed, QuickTexts, Channels, StatusTexts, Groups, Individuals, GroupContacts, IndividualContacts, LineSlots}
 use Rattle.tables.specs.declared.members.Members.the-variants.{OfGroups, OfIndividuals}
 use Rattle.export_write.specs.declared.writers.Settings.{Settings}
 use Rattle.export_write.specs.ChannelWriters.{WritesChannels}
+use Rattle.export_write.specs.ContactWriters.{WritesContacts}
 use Rattle.export_write.specs.EntryWriters.{WritesQuicks, WritesStatuses}
 use Rattle.export_write.specs.FixedWriters.{WritesFixed}
-use Rattle.export_write.specs.LineWriters.{WritesLines}
+use Rattle.export_write.specs.LineWriters.{WritesLines, WritesLineSlots}
 use Rattle.export_write.specs.MemberWriters.{WritesMembers}
 use Rattle.export_write.specs.Writers.{Wrote, WritesAll}
-use Rattle.export.specs.Exported.{seven, exported, request-bytes}
+use Rattle.export.specs.Exported.{ten, exported, request-bytes}
 
 -- the part with this number, if there is one
 abbrev pub part-at : ℕ → Option Part
-part-at n = getD (none ∷ map some seven) n none
+part-at n = getD (none ∷ map some ten) n none
 
 -- it, or that there is none
 abbrev pub FoundAs : ℕ → FoundPart → Type 0
@@ -37,10 +38,13 @@ abbrev pub part-from : (lines spare : ℕ) → Part → ℕ
 part-from lines spare Lines = lines + count-size
 part-from lines spare Fixed = key-at
 part-from lines spare QuickTexts = quick-at
-part-from lines spare Channels = lists-at + count-size
+part-from lines spare Channels = channels-at + count-size
 part-from lines spare StatusTexts = status-at
 part-from lines spare Groups = groups-at
 part-from lines spare Individuals = individuals-at
+part-from lines spare GroupContacts = group-contacts-at + count-size
+part-from lines spare IndividualContacts = individual-contacts-at + count-size
+part-from lines spare LineSlots = line-slots-at
 
 -- up to this one
 abbrev pub part-to : (lines spare : ℕ) → Part → ℕ
@@ -50,7 +54,10 @@ part-to lines spare QuickTexts = status-at
 part-to lines spare Channels = lines
 part-to lines spare StatusTexts = groups-at
 part-to lines spare Groups = individuals-at
-part-to lines spare Individuals = lists-at
+part-to lines spare Individuals = line-slots-at
+part-to lines spare GroupContacts = individual-contacts-at
+part-to lines spare IndividualContacts = channels-at
+part-to lines spare LineSlots = group-contacts-at
 
 -- the settings of what a part's bytes hold were written behind a request's head
 abbrev pub WritesPart : Part → (held before after : List ℕ) → Settings → Type 0
@@ -61,6 +68,9 @@ WritesPart Channels = WritesChannels
 WritesPart StatusTexts = WritesStatuses
 WritesPart Groups = WritesMembers OfGroups
 WritesPart Individuals = WritesMembers OfIndividuals
+WritesPart GroupContacts = WritesContacts OfGroups
+WritesPart IndividualContacts = WritesContacts OfIndividuals
+WritesPart LineSlots = WritesLineSlots
 
 -- the settings of a part of a store were written behind a request's head, and the request fits its length field and the buffer
 pub record PartWritten (lim : Limits) (part : Part) (store before after : List ℕ) (r : Settings) : Type 0 where

@@ -4,7 +4,9 @@ use super::parts::NoExport;
 use super::parts::PARTS;
 use super::parts::Part;
 use export_write::channels::export_channels;
+use export_write::contacts::export_contacts;
 use export_write::fixed::export_fixed;
+use export_write::line_slots::export_line_slots;
 use export_write::lines::export_lines;
 use export_write::members::export_members;
 use export_write::text_lists::export_quick;
@@ -20,19 +22,22 @@ use tables::limits::HANDHELD;
 use tables::limits::Limits;
 use tables::members::Members;
 use tables::places::CHANNEL_SLOT;
+use tables::places::CHANNELS;
 use tables::places::COUNT;
+use tables::places::GROUP_CONTACTS;
 use tables::places::GROUPS;
+use tables::places::INDIVIDUAL_CONTACTS;
 use tables::places::INDIVIDUALS;
 use tables::places::KEY;
 use tables::places::LINE_SLOT;
-use tables::places::LISTS;
+use tables::places::LINE_SLOTS;
 use tables::places::QUICK;
 use tables::places::STATUS;
 ghost use mathlib.Core.Path.{_≡_};
 ghost use Prim.Native.Nat.{_+_, _≤_, _<_};
 ghost use lib.ListN.{length};
 ghost use Rattle.lists.specs.Ladder.{Answers};
-ghost use Rattle.tables.specs.Layout.{Roomy, count-size, lists-at};
+ghost use Rattle.tables.specs.Layout.{Roomy, count-size, channels-at};
 ghost use Rattle.tables.specs.Limits.{handheld};
 ghost use Rattle.export.specs.Exportable.{Exportable};
 ghost use Rattle.export.specs.Exporting.{exporting, told};
@@ -42,7 +47,7 @@ ghost use Rattle.export.specs.PartWriters.{FoundAs, part-from, part-to, 
 const REQUEST: u8 = 0b0000_1000;
 
 // The parts in the order of their numbers.
-const IN_ORDER: [Part; 7] = [
+const IN_ORDER: [Part; 10] = [
     Part::Lines,
     Part::Fixed,
     Part::QuickTexts,
@@ -50,6 +55,9 @@ const IN_ORDER: [Part; 7] = [
     Part::StatusTexts,
     Part::Groups,
     Part::Individuals,
+    Part::GroupContacts,
+    Part::IndividualContacts,
+    Part::LineSlots,
 ];
 
 // A part by its number.
@@ -68,48 +76,28 @@ fn part_of(number: u32) -> FoundPart
         return FoundPart::NoneSuch;
     }
     let place = (number - 1) as usize;
-    FoundPart::Is(IN_ORDER[place])
+    let which = IN_ORDER[place];
+    FoundPart::Is(which)
 }
 
-// Where a part's slots stand in a store whose lines' region starts and ends here, behind a list's count: docs/STORE.md.
-pub(crate) struct Span {
-    start: usize,
-    end: usize,
-}
+// Where a part's slots stand in a store whose lines' region starts and ends here, behind a list's count: from this byte up to that one. docs/STORE.md.
+pub(crate) struct Span(usize, usize);
 
 fn span_of(part: Part, lines: usize, spare: usize) -> Span
-    requires { ⌜ (lists-at + count-size ≤ lines) × (lines + count-size ≤ spare) ⌝ }
-    ensures { λ r. ⌜ (r .start ≡ part-from lines spare part) × (r .end ≡ part-to lines spare part) × (r .start ≤ r .end) × (r .end ≤ spare) ⌝ }
+    requires { ⌜ (channels-at + count-size ≤ lines) × (lines + count-size ≤ spare) ⌝ }
+    ensures { λ r. ⌜ (r .0 ≡ part-from lines spare part) × (r .1 ≡ part-to lines spare part) × (r .0 ≤ r .1) × (r .1 ≤ spare) ⌝ }
 {
     match part {
-        Part::Lines => Span {
-            start: lines + COUNT,
-            end: spare,
-        },
-        Part::Fixed => Span {
-            start: KEY,
-            end: QUICK,
-        },
-        Part::QuickTexts => Span {
-            start: QUICK,
-            end: STATUS,
-        },
-        Part::Channels => Span {
-            start: LISTS + COUNT,
-            end: lines,
-        },
-        Part::StatusTexts => Span {
-            start: STATUS,
-            end: GROUPS,
-        },
-        Part::Groups => Span {
-            start: GROUPS,
-            end: INDIVIDUALS,
-        },
-        Part::Individuals => Span {
-            start: INDIVIDUALS,
-            end: LISTS,
-        },
+        Part::Lines => Span(lines + COUNT, spare),
+        Part::Fixed => Span(KEY, QUICK),
+        Part::QuickTexts => Span(QUICK, STATUS),
+        Part::Channels => Span(CHANNELS + COUNT, lines),
+        Part::StatusTexts => Span(STATUS, GROUPS),
+        Part::Groups => Span(GROUPS, INDIVIDUALS),
+        Part::Individuals => Span(INDIVIDUALS, LINE_SLOTS),
+        Part::GroupContacts => Span(GROUP_CONTACTS + COUNT, INDIVIDUAL_CONTACTS),
+        Part::IndividualContacts => Span(INDIVIDUAL_CONTACTS + COUNT, CHANNELS),
+        Part::LineSlots => Span(LINE_SLOTS, GROUP_CONTACTS),
     }
 }
 
@@ -125,6 +113,9 @@ fn write_held(buffer: &mut [u8], part: Part, held: &[u8]) -> Settings
         Part::StatusTexts => export_status(buffer, held),
         Part::Groups => export_members(buffer, Members::OfGroups, held),
         Part::Individuals => export_members(buffer, Members::OfIndividuals, held),
+        Part::GroupContacts => export_contacts(buffer, Members::OfGroups, held),
+        Part::IndividualContacts => export_contacts(buffer, Members::OfIndividuals, held),
+        Part::LineSlots => export_line_slots(buffer, held),
     }
 }
 
@@ -133,11 +124,11 @@ fn write_part(buffer: &mut [u8], part: Part, store: &[u8], limits: Limits) -> Se
     requires { ⌜ Roomy limits × (length (now store) ≡ limits .size) × (limits .message ≤ length (now buffer)) ⌝ }
     ensures { λ r. ⌜ (Exportable limits → PartWritten limits part (now (store .entry)) (now (buffer .entry)) (now (buffer .exit)) r) ⌝ }
 {
-    let lines = LISTS + (COUNT + limits.channels * CHANNEL_SLOT);
+    let lines = CHANNELS + (COUNT + limits.channels * CHANNEL_SLOT);
     let spare = lines + (COUNT + limits.lines * LINE_SLOT);
     let span = span_of(part, lines, spare);
-    let start = span.start;
-    let end = span.end;
+    let start = span.0;
+    let end = span.1;
     write_held(buffer, part, &store[start..end])
 }
 

@@ -7,10 +7,13 @@ pub enum Part {
     StatusTexts,
     Groups,
     Individuals,
+    GroupContacts,
+    IndividualContacts,
+    LineSlots,
 }
 
 // How many parts there are: their numbers are 1 to this.
-pub const PARTS: u32 = 7;
+pub const PARTS: u32 = 10;
 
 // Why nothing was exported.
 pub enum NoExport {

@@ -3,7 +3,6 @@ use Rattle.lists.proofs.Kit.{ℕ, suc, _+_, _-_, _*_, _/_, _%_, _≤_, _<_, _�
 use Rattle.lists.specs.Every.{All}
 use Rattle.lists.proofs.Every.{all-append, all-get, all-map}
 use Rattle.slots.specs.Slots.{u16, u24, zeros?, Listed, Found}
-use Rattle.slots.proofs.Keys.{used-at}
 use Rattle.writing.specs.declared.Operation.the-variants.{Replace}
 use Rattle.writing.specs.Canonical.{plain, FitsField}
 use Rattle.writing.specs.Fields.{val, res}
@@ -15,10 +14,11 @@ use Rattle.writing.proofs.Whole.{Whole, fill-whole}
 use Rattle.tables.proofs.EntryCodes.{channel-shown}
 use Rattle.export_write.specs.ChannelWriters.{ChannelsIn, Counted, packed, two-bits, last-bits, WritesPacked}
 use Rattle.export_write.specs.Writers.{Wrote}
-use Rattle.export_write.proofs.LineWriting.{entry-read}
+use Rattle.export_write.proofs.ListWriting.{entry-read, entries-used}
 use Rattle.export_write.proofs.NumberWriting.{fill-fits}
 use Rattle.export_write.proofs.PairLaws.{all-drop, drop-two}
 use Rattle.export_write.proofs.PlainLaws.{plain-two, plain-three}
+use Rattle.export_write.proofs.SlotWriting.{Slotted}
 use Rattle.export_write.proofs.WroteLaws.{Writing, writing-more, writing-end, wrote-both, wrote-as}
 
 -- ---- the bytes of channels
@@ -34,11 +34,15 @@ packed-fits cs h =
 
 -- ---- channels as they are kept
 
+-- they stand in slots of two bytes
+channel-slotted : Slotted InChannel 2 u16
+channel-slotted = record { wide = omega arith; long = λ u. refl; shown = channel-shown }
+
 module _ (s cs : List ℕ) (n : ℕ) (t : Listed InChannel 2 u16 n cs s) where
   -- the two bytes of channel k
   kept-number : (i j k : ℕ) → i ≡ 2 * k → j ≡ 2 * k + 1 → k < length cs → getD s i 0 * 256 + getD s j 0 ≡ getD cs k 0
   kept-number i j k e f h =
-      let z = entry-read InChannel 2 u16 (λ u. refl) n cs s 0 t k h .1 in
+      let z = entry-read channel-slotted n cs s 0 t k h .1 in
       let x : getD s i 0 ≡ getD cs k 0 / 256 = byte-at i 0 k (omega arith) (omega arith) ∙ ap (λ (l : List ℕ). getD l 0 0) z in
       let y : getD s j 0 ≡ getD cs k 0 % 256 = byte-at j 1 k (omega arith) (omega arith) ∙ ap (λ (l : List ℕ). getD l 1 0) z in
       omega arith
@@ -46,10 +50,6 @@ module _ (s cs : List ℕ) (n : ℕ) (t : Listed InChannel 2 u16 n cs s) where
       byte-at : (i b k : ℕ) → i ≡ k * 2 + b → b < 2 → getD s i 0 ≡ getD (midOf (k * 2) (k * 2 + 2 - k * 2) s) b 0
       byte-at i b k e l =
           ap (λ (q : ℕ). getD s q 0) e ∙ sym (getD-drop (k * 2) s b 0) ∙ sym (getD-take (k * 2 + 2 - k * 2) (drop (k * 2) s) b 0 (omega arith))
-
--- as many as stand before the first empty slot
-pub channels-used : (s cs : List ℕ) (r : ℕ) → ChannelsIn s cs → Found (0 < 2) zeros? 2 s r → length cs ≡ r / 2
-channels-used s cs r (n, t) f = let e : r ≡ length cs * 2 = used-at InChannel 2 u16 (λ u. refl) channel-shown (omega arith) n cs s t r f in omega arith
 
 -- ---- the walk
 
@@ -114,7 +114,7 @@ pub channels-wrote : (region : List ℕ) (at used m end : ℕ) (s t u : List ℕ
     → (cs : List ℕ) → ChannelsIn region cs
     → (type-byte (kind (channels Replace cs)) ≡ 0xCE) × All FitsField (body unicode16 (channels Replace cs)) × Wrote (plain (body unicode16 (channels Replace cs))) (at + 3) s u end
 channels-wrote region at used m end s t u few f v w cs k =
-    let n : length cs ≡ used / 2 = channels-used region cs used k f in
+    let n : length cs ≡ used / 2 = entries-used channel-slotted region cs used k f in
     let h : All InChannel cs = k .1 .each in
     let head : List ℕ = (192 + used / 2 / 256) ∷ (used / 2 % 256) ∷ [] in
     let e : head ++ plain (packed cs) ≡ plain (body unicode16 (channels Replace cs))

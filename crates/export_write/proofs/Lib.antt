@@ -1,11 +1,15 @@
-pub mod LineWriting
+pub mod AddressedWriting
 pub mod ChannelWriting
+pub mod ContactWriting
 pub mod EntryWriting
 pub mod FixedWriting
+pub mod LineWriting
+pub mod ListWriting
 pub mod MemberWriting
 pub mod NumberWriting
 pub mod PairLaws
 pub mod PlainLaws
+pub mod SlotWriting
 pub mod StartLaws
 pub mod TextLists
 pub mod TextSettings

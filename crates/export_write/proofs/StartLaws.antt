@@ -3,7 +3,7 @@ use Rattle.lists.proofs.Kit.{ℕ, _+_, _-_, _≤_, _<_, _≡_, refl, sym, ap, a
 use Rattle.lists.specs.Every.{All}
 use Rattle.slots.specs.Slots.{u16}
 use Rattle.writing.specs.declared.Kind.{Kind}
-use Rattle.writing.specs.declared.Kind.the-variants.{Lines, Key, QuickTexts, Home, Channels, System, StatusTexts, Group, Individual, Last}
+use Rattle.writing.specs.declared.Kind.the-variants.{GroupContacts, IndividualContacts, Lines, Key, QuickTexts, Home, Channels, System, StatusTexts, Group, Individual, LineSlot, Last}
 use Rattle.writing.specs.Canonical.{plain, canonical, FitsField}
 use Rattle.writing.specs.Fields.{val}
 use Rattle.writing.specs.Settings.{Setting, kind, unicode16}
@@ -16,6 +16,8 @@ use Rattle.export_write.proofs.WroteLaws.{wrote-before, wrote-as}
 
 -- type bytes are bytes
 pub type-small : (k : Kind) → type-byte k < 256
+type-small GroupContacts = omega arith
+type-small IndividualContacts = omega arith
 type-small Lines = omega arith
 type-small Key = omega arith
 type-small QuickTexts = omega arith
@@ -25,6 +27,7 @@ type-small System = omega arith
 type-small StatusTexts = omega arith
 type-small Group = omega arith
 type-small Individual = omega arith
+type-small LineSlot = omega arith
 type-small Last = omega arith
 
 -- the bytes of a setting: its type byte, DataLength, and those of the other fields

@@ -1,4 +1,4 @@
--- The settings that export quick texts, status texts, and group and individual slots: document 01, "Export parts".
+-- The settings that export quick texts, status texts, and slots: document 01, "Export parts".
 use Prim.Native.Nat.{ℕ, suc}
 use mathlib.Core.Bool.{false}
 use mathlib.Core.List.{List, [], _∷_}
@@ -30,10 +30,13 @@ no-group-flags = record { attribute = 0; broadcast = false; encryption = false; 
 abbrev pub no-individual-flags : IndividualFlags
 no-individual-flags = record { encryption = false; emergency = false; priority = 0 }
 
--- "sixteen settings by index, add or delete; a delete's other fields 0", from this index on
-abbrev pub slots : {Flags Address : Type 0} → (Operation → Flags → Slot Address → Setting) → Flags → Address
-    → ℕ → List (Option (Member Flags Address)) → List Setting
-slots setting f a i [] = []
-slots setting f a i (none ∷ l) = setting Delete f (record { index = i; address = a; text = [] }) ∷ slots setting f a (suc i) l
-slots setting f a i (some x ∷ l) =
-    setting Add (x .flags) (record { index = i; address = x .address; text = x .text }) ∷ slots setting f a (suc i) l
+-- a group or individual slot by its index: "add or delete; a delete's other fields 0"
+abbrev pub slot-setting : {Flags Address : Type 0} → (Operation → Flags → Slot Address → Setting) → Flags → Address
+    → ℕ → Option (Member Flags Address) → Setting
+slot-setting setting f a i none = setting Delete f (record { index = i; address = a; text = [] })
+slot-setting setting f a i (some x) = setting Add (x .flags) (record { index = i; address = x .address; text = x .text })
+
+-- "sixteen settings by index", from this index on
+abbrev pub slots : {A : Type 0} → (ℕ → Option A → Setting) → ℕ → List (Option A) → List Setting
+slots setting i [] = []
+slots setting i (o ∷ l) = setting i o ∷ slots setting (suc i) l

@@ -5,7 +5,7 @@ use mathlib.Core.Bool.{false}
 use mathlib.Core.List.{List, [], _∷_, _++_, map}
 use mathlib.Core.Option.{Option}
 use lib.ListN.{length, take, drop}
-use Rattle.slots.specs.Slots.{flat, slot, zeros?, Present, Placed}
+use Rattle.slots.specs.Slots.{flat, zeros?, Placed}
 use Rattle.writing.specs.declared.Operation.the-variants.{Replace}
 use Rattle.writing.specs.Canonical.{plain}
 use Rattle.writing.specs.Settings.{Text, Entry, Setting, quick-texts, status-texts, unicode16}
@@ -17,7 +17,7 @@ use Rattle.export_write.specs.declared.entries.TextTable.{TextTable}
 use Rattle.export_write.specs.declared.entries.Entries.{Entries}
 use Rattle.export_write.specs.declared.writers.Settings.{Settings}
 use Rattle.export_write.specs.EntrySettings.{entries, quick-add}
-use Rattle.export_write.specs.Writers.{Wrote, Writes, WritesTable, TextIn}
+use Rattle.export_write.specs.Writers.{Wrote, Writes, SlotIn, WritesTable, TextIn}
 
 -- an entry's bytes: its index or code, then its text
 abbrev pub entry-bytes : Entry → List ℕ
@@ -67,7 +67,7 @@ pub record EntersAll (t : TextTable) (region : List ℕ) (at : ℕ) (before afte
 
 -- the lent bytes are the slot of a quick text, or an empty one; and its setting where it is the last place's
 abbrev pub QuickIn : List ℕ → Option Text → Type 0
-QuickIn s o = Present QuickOk o × (s ≡ slot quick-width quick-bytes o)
+QuickIn = SlotIn QuickOk quick-width quick-bytes
 
 abbrev pub last-quick : Option Text → List Setting
 last-quick o = map quick-add (entries 63 (o ∷ []))

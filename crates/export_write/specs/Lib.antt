@@ -1,4 +1,6 @@
 pub mod ChannelWriters
+pub mod ContactSettings
+pub mod ContactWriters
 pub mod EntrySettings
 pub mod EntryWriters
 pub mod FixedWriters

@@ -2,24 +2,24 @@
 use Prim.Native.Nat.{ℕ, _+_, _*_}
 use mathlib.Core.Path.{_≡_}
 use mathlib.Core.Bool.{cond}
-use mathlib.Core.List.{List, []}
-use mathlib.Core.Option.{Option, none, some}
+use mathlib.Core.List.{List}
+use mathlib.Core.Option.{Option}
 use lib.ListN.{length, getD}
-use Rattle.slots.specs.Slots.{slot, zeros?, Present, Placed}
-use Rattle.writing.specs.declared.Operation.the-variants.{Add, Delete}
+use Rattle.slots.specs.Slots.{zeros?, Placed}
 use Rattle.writing.specs.Settings.{Setting, group, individual}
 use Rattle.tables.specs.declared.members.Members.{Members}
 use Rattle.tables.specs.declared.members.Members.the-variants.{OfGroups, OfIndividuals}
 use Rattle.tables.specs.Layout.{member-width, member-size}
 use Rattle.tables.specs.Limits.{slot-places}
-use Rattle.tables.specs.Members.{MemberIn, member-ok, member-bytes}
+use Rattle.tables.specs.MemberKinds.{MemberIn}
+use Rattle.tables.specs.Members.{member-ok, member-bytes}
 use Rattle.export_write.specs.declared.writers.Settings.{Settings}
-use Rattle.export_write.specs.EntrySettings.{slots, no-group-flags, no-individual-flags}
-use Rattle.export_write.specs.Writers.{WritesTable}
+use Rattle.export_write.specs.EntrySettings.{slots, slot-setting, no-group-flags, no-individual-flags}
+use Rattle.export_write.specs.Writers.{SlotIn, WritesTable}
 
 -- the lent bytes are the slot of an entry, or an empty one
-abbrev pub SlotIn : (w : Members) → List ℕ → Option (MemberIn w) → Type 0
-SlotIn w s o = Present (member-ok w) o × (s ≡ slot member-width (member-bytes w) o)
+abbrev pub MemberSlotIn : (w : Members) → List ℕ → Option (MemberIn w) → Type 0
+MemberSlotIn w = SlotIn (member-ok w) member-width (member-bytes w)
 
 -- the type byte
 abbrev pub member-type : Members → ℕ
@@ -37,14 +37,11 @@ member-head w i p = cond (zeros? p) 2 1 * 16384 + flags-at w (getD p 0 0) + i
 
 -- the setting of a slot, and those of a table from an index on
 abbrev pub member-setting : (w : Members) → ℕ → Option (MemberIn w) → Setting
-member-setting OfGroups i none = group Delete no-group-flags (record { index = i; address = record { 0 = 0 }; text = [] })
-member-setting OfGroups i (some x) = group Add (x .flags) (record { index = i; address = x .address; text = x .text })
-member-setting OfIndividuals i none = individual Delete no-individual-flags (record { index = i; address = record { 0 = 0 }; text = [] })
-member-setting OfIndividuals i (some x) = individual Add (x .flags) (record { index = i; address = x .address; text = x .text })
+member-setting OfGroups = slot-setting group no-group-flags (record { 0 = 0 })
+member-setting OfIndividuals = slot-setting individual no-individual-flags (record { 0 = 0 })
 
 abbrev pub member-settings : (w : Members) → ℕ → List (Option (MemberIn w)) → List Setting
-member-settings OfGroups = slots group no-group-flags (record { 0 = 0 })
-member-settings OfIndividuals = slots individual no-individual-flags (record { 0 = 0 })
+member-settings w = slots (member-setting w)
 
 -- the lent bytes are a table of sixteen slots
 abbrev pub MembersIn : (w : Members) → List ℕ → List (Option (MemberIn w)) → Type 0

@@ -2,9 +2,10 @@
 use Prim.Native.Nat.{ℕ, _+_, _≤_, _<_}
 use mathlib.Core.Path.{_≡_}
 use mathlib.Core.List.{List, _++_}
+use mathlib.Core.Option.{Option}
 use lib.ListN.{length, getD, take, drop}
 use Rattle.lists.specs.Every.{All}
-use Rattle.slots.specs.Slots.{Listed}
+use Rattle.slots.specs.Slots.{slot, Present, Listed}
 use Rattle.writing.specs.Canonical.{plain, canonical, canonical-all, FitsField}
 use Rattle.writing.specs.Ranges.{InNumber}
 use Rattle.writing.specs.Settings.{Text, Number, Setting, kind, unicode16}
@@ -28,6 +29,10 @@ pub record Writes {A : Type 0} (Held : A → Type 0) (written : A → List ℕ) 
 -- the lent bytes are those of a, which has P
 abbrev pub Kept : {A : Type 0} → (A → Type 0) → (A → List ℕ) → List ℕ → A → Type 0
 Kept P f s a = P a × (s ≡ f a)
+
+-- the lent bytes are the slot of an entry that has P, or an empty one
+abbrev pub SlotIn : {A : Type 0} → (A → Type 0) → ℕ → (A → List ℕ) → List ℕ → Option A → Type 0
+SlotIn P w f s o = Present P o × (s ≡ slot w f o)
 
 -- the lent bytes are a text's, of whatever limit
 abbrev pub TextIn : List ℕ → Text → Type 0

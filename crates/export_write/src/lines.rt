@@ -17,7 +17,7 @@ ghost use lib.ListN.{length};
 ghost use Rattle.tables.specs.Allowed.{LineOk};
 ghost use Rattle.tables.specs.Layout.{line-bytes, line-width};
 ghost use Rattle.export_write.specs.LineSettings.{line-add};
-ghost use Rattle.export_write.specs.LineWriters.{line-byte, WritesLines};
+ghost use Rattle.export_write.specs.LineWriters.{line-byte, WritesFields, WritesLines};
 ghost use Rattle.export_write.specs.Writers.{Kept, WritesSetting};
 
 // The bytes of 254 lines, for which a request has settings.
@@ -31,15 +31,23 @@ fn line_byte(slot: &[u8]) -> u8
     64 + slot[0] % 16 * 4 + slot[LINE_IDTYPE] % 2 * 2
 }
 
+// What stands behind DataLength in an add of the line in a slot, whose second byte is the Count or an index.
+pub(crate) fn write_fields(buffer: &mut [u8], at: usize, second: u8, slot: &[u8]) -> usize
+    requires { ⌜ (length (now slot) ≡ line-width) × (at + 46 ≤ length (now buffer)) ⌝ }
+    ensures { λ r. ⌜ WritesFields second (now (slot .entry)) at (now (buffer .entry)) (now (buffer .exit)) r ⌝ }
+{
+    let head = [line_byte(slot), second];
+    let number = write_bytes(buffer, at, &head);
+    let text = write_number(buffer, number, &slot[LINE_DIGITS..LINE_TEXT]);
+    write_text(buffer, text, &slot[LINE_TEXT..LINE_SLOT])
+}
+
 // An add of the contact in a slot.
 fn write_line(buffer: &mut [u8], at: usize, slot: &[u8]) -> usize
     requires { ⌜ (length (now slot) ≡ line-width) × (at + 49 ≤ length (now buffer)) ⌝ }
     ensures { λ r. ⌜ WritesSetting (Kept LineOk line-bytes (now (slot .entry))) line-add at 49 (now (buffer .entry)) (now (buffer .exit)) r ⌝ }
 {
-    let head = [line_byte(slot), 1];
-    let number = write_bytes(buffer, at + 3, &head);
-    let text = write_number(buffer, number, &slot[LINE_DIGITS..LINE_TEXT]);
-    let end = write_text(buffer, text, &slot[LINE_TEXT..LINE_SLOT]);
+    let end = write_fields(buffer, at + 3, 1, slot);
     start_setting(buffer, at, 0xCA, end)
 }
 

@@ -18,7 +18,7 @@ ghost use lib.ListN.{length};
 ghost use Rattle.slots.specs.Slots.{zeros?};
 ghost use Rattle.tables.specs.Layout.{member-width};
 ghost use Rattle.tables.specs.Limits.{slot-places};
-ghost use Rattle.export_write.specs.MemberWriters.{SlotIn, member-type, flags-at, member-head, member-setting, WritesMembers};
+ghost use Rattle.export_write.specs.MemberWriters.{MemberSlotIn, member-type, flags-at, member-head, member-setting, WritesMembers};
 ghost use Rattle.export_write.specs.Writers.{WritesSetting};
 
 fn type_of(which: Members) -> u8
@@ -58,7 +58,7 @@ fn member_bits(which: Members, index: u8, slot: &[u8]) -> u32
 // An add of what the slot holds; of an empty slot, whose address and text are 0 and empty, a delete.
 fn write_member(buffer: &mut [u8], at: usize, which: Members, index: u8, slot: &[u8]) -> usize
     requires { ⌜ (length (now slot) ≡ member-width) × (at + 42 ≤ length (now buffer)) × (index < slot-places) ⌝ }
-    ensures { λ r. ⌜ WritesSetting (SlotIn which (now (slot .entry))) (member-setting which index) at 42 (now (buffer .entry)) (now (buffer .exit)) r ⌝ }
+    ensures { λ r. ⌜ WritesSetting (MemberSlotIn which (now (slot .entry))) (member-setting which index) at 42 (now (buffer .entry)) (now (buffer .exit)) r ⌝ }
 {
     let head = member_bits(which, index, slot);
     let bytes = [

@@ -1,25 +1,27 @@
 -- Taking and the screen together: after any messages from a start, a row shows the tables after the settings taken, in order. Assumes nothing.
-use Rattle.lists.proofs.Kit.{ℕ, _≤_, _<_, _≡_, refl, sym, ap, _∙_, subst, _≢_, inl, inr, _↔_, List, [], _∷_, Option, none, some, arith, length, getD, getD-replicate}
+use Rattle.lists.proofs.Kit.{ℕ, zero, suc, _≤_, _<_, _≡_, refl, sym, ap, _∙_, subst, _≢_, inl, inr, _↔_, Bool, true, false, cond, List, [], _∷_, Option, none, some, Option·some-injective, Option·none-ne-some, eqb, arith, length, getD, getD-replicate}
 use denote.Ref.{RefT}
 use Rattle.lists.specs.Ladder.{Answers}
 use Rattle.writing.specs.Settings.{Setting, Text}
 use Rattle.tables.specs.declared.limits.Limits.{Limits}
 use Rattle.tables.specs.Limits.{slot-places}
 use Rattle.tables.specs.Store.{StoreOf, Holds}
-use Rattle.tables.specs.Tables.{Tables, GroupMember, IndividualMember, fresh}
+use Rattle.tables.specs.Apply.{and-then}
+use Rattle.tables.specs.Tables.{Tables, Line, GroupMember, IndividualMember, fresh}
 use Rattle.tables.proofs.LayoutLaws.{holds-store}
 use Rattle.menu.specs.Menu.{Told, counting, counts-of}
 use Rattle.menu.proofs.Theorems.{counts-are}
 use Rattle.screen.specs.declared.rows.Row.{Row}
-use Rattle.screen.specs.declared.rows.Row.the-variants.{Group, Individual}
-use Rattle.screen.specs.Rows.{Caption, group, individual, caption, of, Display, units, text-or, unit-bytes}
-use Rattle.screen.proofs.EntryLaws.{within}
+use Rattle.screen.specs.declared.rows.Row.the-variants.{Group, Individual, LineSlot}
+use Rattle.screen.specs.Rows.{Caption, text, line, group, individual, line-row, individual-row, group-row, caption, of, text-of, Display, Displays, units, text-or, unit-bytes}
 use Rattle.screen.specs.Screen.{AfterRow, bytes-of, RowBytes, showing, numbering, PartGiven}
 use Rattle.screen.proofs.AnswerLaws.{one-tables}
+use Rattle.screen.proofs.Background.{in-slot, group-shown}
 use Rattle.screen.proofs.Theorems.{from-entry, whole-text}
-use Rattle.laws_screen.specs.Reached.{Reached, InOrder, all-of, to-group, to-individual, LastSent}
+use Rattle.laws_screen.specs.Reached.{Reached, InOrder, all-of, to-group, to-individual, to-line-slot, LastSent}
 use Rattle.laws_screen.proofs.Reaching.{in-order-one, reached-holds}
-use Rattle.laws_screen.proofs.Sent.{left-by, Places, group-places, individual-places, left-sent, sent-left, order-left}
+use Rattle.laws_screen.proofs.Sent.{sent-exactly}
+use Rattle.laws_screen.proofs.SlotSent.{group-places, individual-places, line-slot-places}
 
 -- the number of a row that is there, and of one that is not
 abbrev pub RowNumber : Option Caption → ℕ → Type 0
@@ -59,57 +61,96 @@ pub joined-part : (lim : Limits) (log : List (List Setting)) (store scratch : Re
 joined-part lim log store scratch row r t x o big g =
     subst (RowBytes (caption t row)) (sym (g .bytes)) (joined lim log (store .now) x t o (scratch .now) row (g .after) big (g .allowed))
 
--- ---- names and addresses
-
--- what stands in a slot was sent last, and what was sent last stands there
-slot-sent : {A : Type 0} (of : Tables → List (Option A)) (to : ℕ → Setting → Option (Option A)) → Places of to → (lim : Limits) (log : List (List Setting)) (t : Tables) → InOrder lim fresh log t
-    → (i : ℕ) → i < length (of fresh) → getD (of fresh) i none ≡ none → (a : A) → (getD (of t) i none ≡ some a) ↔ LastSent (to i) (all-of log) a
-slot-sent of to p lim log t o i h z a =
-    let e = order-left of to p lim i fresh t log o h ∙ ap (λ x. left-by (to i) x (all-of log)) z in
-    (λ s. left-sent (to i) (all-of log) a (sym e ∙ s), λ s. e ∙ sent-left (to i) (all-of log) a none s)
-
-module _ (lim : Limits) (log : List (List Setting)) (t : Tables) (o : InOrder lim fresh log t) (i : ℕ) (h : i < slot-places) where
-  -- GROUP SENT: a group slot holds a member exactly if the last setting for it sent that member, name and address together
-  pub group-sent : (g : GroupMember) → (getD (t .groups) i none ≡ some g) ↔ LastSent (to-group i) (all-of log) g
-  group-sent = slot-sent (λ x. x .groups) to-group group-places lim log t o i h (getD-replicate slot-places i none none h)
-
-  -- INDIVIDUAL SENT: and so does an individual slot
-  pub individual-sent : (g : IndividualMember) → (getD (t .individuals) i none ≡ some g) ↔ LastSent (to-individual i) (all-of log) g
-  individual-sent = slot-sent (λ x. x .individuals) to-individual individual-places lim log t o i h (getD-replicate slot-places i none none h)
+-- ---- a row's name
 
 -- a name that is not empty is shown
 name-bytes : (Number : Text → Type 0) (us : Text) (d : Display) → us ≢ [] → text-or us Number d → units d ≡ us
 name-bytes Number [] d n s = absurd (n refl)
 name-bytes Number (u ∷ us) d n s = ap units s
 
+shown-name : (c : Caption) (d : Display) → text-of c ≢ [] → Displays c d → units d ≡ text-of c
+shown-name (text us) d n s = ap units s
+shown-name (line us ds) d n s = name-bytes _ us d n s
+shown-name (group us a) d n s = name-bytes _ us d n s
+shown-name (individual us a) d n s = name-bytes _ us d n s
+
+-- ROW NAME: the part of a row whose text is not empty is that text
+pub row-name : (lim : Limits) (log : List (List Setting)) (store scratch : RefT (List ℕ)) (row : Row) (r : RefT (List ℕ)) (t : Tables) → Reached lim log (store .now) → InOrder lim fresh log t → 36 ≤ length (scratch .now)
+    → PartGiven lim store scratch row r → (c : Caption) → caption t row ≡ some c → text-of c ≢ [] → r .now ≡ unit-bytes (text-of c)
+row-name lim log store scratch row r t x o big p c e n =
+    let (d, shown, bytes) = subst (λ (k : Option Caption). RowBytes k (r .now)) e (joined-part lim log store scratch row r t x o big p) in
+    bytes ∙ ap unit-bytes (shown-name c d n shown)
+
+-- what is shown of a group is its text and its address
+pub group-shows : (g : GroupMember) (c : Caption) → group-row g ≡ some c → c ≡ group (g .text) (g .address)
+group-shows g c e = go (eqb (g .flags .attribute) 1) e
+  where
+    go : (b : Bool) → cond b none (some (group (g .text) (g .address))) ≡ some c → c ≡ group (g .text) (g .address)
+    go true k = absurd (Option·none-ne-some c k)
+    go false k = sym (Option·some-injective (group (g .text) (g .address)) c k)
+
+-- what comes of an entry comes of one that is there
+pub came-of : {A B : Type 0} (o : Option A) (f : A → Option B) (b : B) → and-then o f ≡ some b → (a : A) × (o ≡ some a) × (f a ≡ some b)
+came-of none f b e = absurd (Option·none-ne-some b e)
+came-of (some a) f b e = (a, refl, e)
+
+-- a place that holds something is one of the table's
+pub in-table : {A : Type 0} (os : List (Option A)) (i : ℕ) (a : A) → getD os i none ≡ some a → i < length os
+in-table [] i a e = absurd (Option·none-ne-some a e)
+in-table (o ∷ os) zero a e = omega arith
+in-table (o ∷ os) (suc i) a e = let h : i < length os = in-table os i a e in omega (arith, h)
+
+-- ---- names and addresses
+
+module _ (lim : Limits) (log : List (List Setting)) (t : Tables) (o : InOrder lim fresh log t) (i : ℕ) (h : i < slot-places) where
+  -- GROUP SENT: a group slot holds a member exactly if the last setting for it sent that member, name and address together
+  pub group-sent : (g : GroupMember) → (getD (t .groups) i none ≡ some g) ↔ LastSent (to-group i) (all-of log) g
+  group-sent = sent-exactly (λ x. getD (x .groups) i none) (λ x. i < length (x .groups)) (to-group i) (group-places i) lim log t o h (getD-replicate slot-places i none none h)
+
+  -- INDIVIDUAL SENT: and so does an individual slot
+  pub individual-sent : (g : IndividualMember) → (getD (t .individuals) i none ≡ some g) ↔ LastSent (to-individual i) (all-of log) g
+  individual-sent = sent-exactly (λ x. getD (x .individuals) i none) (λ x. i < length (x .individuals)) (to-individual i) (individual-places i) lim log t o h (getD-replicate slot-places i none none h)
+
+  -- LINE SLOT SENT: and a line slot, name and number together
+  pub line-slot-sent : (l : Line) → (getD (t .line-slots) i none ≡ some l) ↔ LastSent (to-line-slot i) (all-of log) l
+  line-slot-sent = sent-exactly (λ x. getD (x .line-slots) i none) (λ x. i < length (x .line-slots)) (to-line-slot i) (line-slot-places i) lim log t o h (getD-replicate slot-places i none none h)
+
 module _ (lim : Limits) (log : List (List Setting)) (store scratch : RefT (List ℕ)) (r : RefT (List ℕ)) (t : Tables) (x : Reached lim log (store .now)) (o : InOrder lim fresh log t) (big : 36 ≤ length (scratch .now)) (i : ℕ) (h : i < slot-places) where
-  -- GROUP NAME: the name shown beside a group's address is the one that was last sent with it
-  pub group-name : (g : GroupMember) → LastSent (to-group i) (all-of log) g → g .text ≢ [] → PartGiven lim store scratch (Group i) r → r .now ≡ unit-bytes (g .text)
-  group-name g s n p =
-      let e : caption t (Group i) ≡ some (group (g .text) (g .address)) = ap (of (λ y. group (y .text) (y .address))) (group-sent lim log t o i h g .1 s) in
-      let (d, shown, bytes) = subst (λ (c : Option Caption). RowBytes c (r .now)) e (joined-part lim log store scratch (Group i) r t x o big p) in
-      bytes ∙ ap unit-bytes (name-bytes _ (g .text) d n shown)
+  -- GROUP NAME: the name shown beside a group's address is the one that was last sent with it; a background group has no row
+  pub group-name : (g : GroupMember) → LastSent (to-group i) (all-of log) g → g .flags .attribute ≢ 1 → g .text ≢ [] → PartGiven lim store scratch (Group i) r → r .now ≡ unit-bytes (g .text)
+  group-name g s k n p =
+      row-name lim log store scratch (Group i) r t x o big p (group (g .text) (g .address)) (group-shown {t = t} (in-slot {n = i} (group-sent lim log t o i h g .1 s)) k) n
 
   -- INDIVIDUAL NAME: the same of an individual's
   pub individual-name : (g : IndividualMember) → LastSent (to-individual i) (all-of log) g → g .text ≢ [] → PartGiven lim store scratch (Individual i) r → r .now ≡ unit-bytes (g .text)
   individual-name g s n p =
-      let e : caption t (Individual i) ≡ some (individual (g .text) (g .address)) = ap (of (λ y. individual (y .text) (y .address))) (individual-sent lim log t o i h g .1 s) in
-      let (d, shown, bytes) = subst (λ (c : Option Caption). RowBytes c (r .now)) e (joined-part lim log store scratch (Individual i) r t x o big p) in
-      bytes ∙ ap unit-bytes (name-bytes _ (g .text) d n shown)
+      row-name lim log store scratch (Individual i) r t x o big p (individual-row g) (ap (of individual-row) (individual-sent lim log t o i h g .1 s)) n
+
+  -- LINE SLOT NAME: and of a line slot's number
+  pub line-slot-name : (l : Line) → LastSent (to-line-slot i) (all-of log) l → l .text ≢ [] → PartGiven lim store scratch (LineSlot i) r → r .now ≡ unit-bytes (l .text)
+  line-slot-name l s n p = row-name lim log store scratch (LineSlot i) r t x o big p (line-row l) (ap (of line-row) (line-slot-sent lim log t o i h l .1 s)) n
 
 module _ (lim : Limits) (log : List (List Setting)) (store : List ℕ) (x : Reached lim log store) (t : Tables) (o : InOrder lim fresh log t) (i : ℕ) (c : Caption) where
   -- GROUP ROW SENT: what stands in a group row, name and address, was sent in one setting, the last for that slot
   pub group-row-sent : caption t (Group i) ≡ some c → (g : GroupMember) × LastSent (to-group i) (all-of log) g × (c ≡ group (g .text) (g .address))
   group-row-sent e =
       let ok = reached-tables lim log store x t o .1 .0 in
-      let h : i < slot-places = within (t .groups) i slot-places (λ y. group (y .text) (y .address)) (omega (arith, ok .groups .0)) e in
-      let (g, is, d) = from-entry (λ y. group (y .text) (y .address)) (getD (t .groups) i none) e in
-      (g, group-sent lim log t o i h g .0 is, d)
+      let (g, is, d) = came-of (getD (t .groups) i none) group-row c e in
+      let h : i < slot-places = subst (λ (n : ℕ). i < n) (ok .groups .0) (in-table (t .groups) i g is) in
+      (g, group-sent lim log t o i h g .0 is, group-shows g c d)
 
   -- INDIVIDUAL ROW SENT: and in an individual row
   pub individual-row-sent : caption t (Individual i) ≡ some c → (g : IndividualMember) × LastSent (to-individual i) (all-of log) g × (c ≡ individual (g .text) (g .address))
   individual-row-sent e =
       let ok = reached-tables lim log store x t o .1 .0 in
-      let h : i < slot-places = within (t .individuals) i slot-places (λ y. individual (y .text) (y .address)) (omega (arith, ok .individuals .0)) e in
-      let (g, is, d) = from-entry (λ y. individual (y .text) (y .address)) (getD (t .individuals) i none) e in
+      let (g, is, d) = from-entry individual-row (getD (t .individuals) i none) e in
+      let h : i < slot-places = subst (λ (n : ℕ). i < n) (ok .individuals .0) (in-table (t .individuals) i g is) in
       (g, individual-sent lim log t o i h g .0 is, d)
+
+  -- LINE SLOT ROW SENT: and in the row of a line slot
+  pub line-slot-row-sent : caption t (LineSlot i) ≡ some c → (l : Line) × LastSent (to-line-slot i) (all-of log) l × (c ≡ line (l .text) (l .number))
+  line-slot-row-sent e =
+      let ok = reached-tables lim log store x t o .1 .0 in
+      let (l, is, d) = from-entry line-row (getD (t .line-slots) i none) e in
+      let h : i < slot-places = subst (λ (n : ℕ). i < n) (ok .line-slots .0) (in-table (t .line-slots) i l is) in
+      (l, line-slot-sent lim log t o i h l .0 is, d)

@@ -1,3 +1,7 @@
+pub mod ContactSent
+pub mod Contacts
 pub mod Joins
+pub mod KeyLaws
 pub mod Reaching
 pub mod Sent
+pub mod SlotSent

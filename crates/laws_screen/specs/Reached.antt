@@ -1,4 +1,4 @@
--- The stores that a start and any messages leave, with the settings taken on the way, and what was last sent for a slot.
+-- The stores that a start and any messages leave, with the settings taken on the way, and what was last sent for a place.
 use Prim.Native.Nat.{ℕ}
 use mathlib.Core.Path.{_≡_}
 use mathlib.Core.Bool.{cond}
@@ -10,13 +10,13 @@ use Rattle.lists.specs.Bytes.{Bytes}
 use Rattle.lists.specs.Every.{All}
 use Rattle.lists.specs.Ladder.{Answers}
 use Rattle.writing.specs.declared.Coding.{Coding}
-use Rattle.writing.specs.Settings.{Setting, lines, key, quick-texts, home, channels, system, status-texts, group, individual, last}
+use Rattle.writing.specs.Settings.{Setting, group-contacts, individual-contacts, lines, key, quick-texts, home, channels, system, status-texts, group, individual, line-slot, last}
 use Rattle.writing.specs.Writing.{WrittenAs}
 use Rattle.tables.specs.declared.limits.Limits.{Limits}
 use Rattle.tables.specs.declared.start.Started.the-variants.{Fresh}
 use Rattle.tables.specs.Apply.{slot-after}
 use Rattle.tables.specs.Store.{starting, begins}
-use Rattle.tables.specs.Tables.{Tables, GroupMember, IndividualMember}
+use Rattle.tables.specs.Tables.{Tables, Line, GroupMember, IndividualMember}
 use Rattle.laws_taking.specs.Demands.{InTurn, Passes}
 use Rattle.requests.specs.Requests.{forget}
 use Rattle.station.specs.Taking.{AfterTaking, taken}
@@ -58,6 +58,8 @@ all-of (l ∷ log) = l ++ all-of log
 
 -- what a setting leaves in group slot i, if it is one for that slot
 abbrev pub to-group : ℕ → Setting → Option (Option GroupMember)
+to-group i (group-contacts o f es) = none
+to-group i (individual-contacts o f es) = none
 to-group i (lines o f es) = none
 to-group i (key t f) = none
 to-group i (quick-texts o es) = none
@@ -67,10 +69,13 @@ to-group i (system s) = none
 to-group i (status-texts o es) = none
 to-group i (group o f s) = cond (eqb (s .index) i) (some (slot-after o (record { flags = f; address = s .address; text = s .text }))) none
 to-group i (individual o f s) = none
+to-group i (line-slot o f s) = none
 to-group i (last f h) = none
 
 -- and in individual slot i
 abbrev pub to-individual : ℕ → Setting → Option (Option IndividualMember)
+to-individual i (group-contacts o f es) = none
+to-individual i (individual-contacts o f es) = none
 to-individual i (lines o f es) = none
 to-individual i (key t f) = none
 to-individual i (quick-texts o es) = none
@@ -80,9 +85,26 @@ to-individual i (system s) = none
 to-individual i (status-texts o es) = none
 to-individual i (group o f s) = none
 to-individual i (individual o f s) = cond (eqb (s .index) i) (some (slot-after o (record { flags = f; address = s .address; text = s .text }))) none
+to-individual i (line-slot o f s) = none
 to-individual i (last f h) = none
 
--- the last of the settings that is for a slot put this member there: its name and its address were sent together
+-- and in line slot i
+abbrev pub to-line-slot : ℕ → Setting → Option (Option Line)
+to-line-slot i (group-contacts o f es) = none
+to-line-slot i (individual-contacts o f es) = none
+to-line-slot i (lines o f es) = none
+to-line-slot i (key t f) = none
+to-line-slot i (quick-texts o es) = none
+to-line-slot i (home h) = none
+to-line-slot i (channels o ns) = none
+to-line-slot i (system s) = none
+to-line-slot i (status-texts o es) = none
+to-line-slot i (group o f s) = none
+to-line-slot i (individual o f s) = none
+to-line-slot i (line-slot o f s) = cond (eqb (s .index) i) (some (slot-after o (record { flags = f; number = s .address; text = s .text }))) none
+to-line-slot i (last f h) = none
+
+-- the last of the settings that is for a place put this entry there: its name and its address, or number, were sent together
 pub record LastSent {A : Type 0} (to : Setting → Option (Option A)) (l : List Setting) (a : A) : Type 0 where
   pub before : List Setting
   pub setting : Setting

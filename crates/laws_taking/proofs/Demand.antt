@@ -4,7 +4,7 @@ use Rattle.lists.specs.Bytes.{Bytes}
 use Rattle.read_fields.proofs.Parts.{bytes-left}
 use Rattle.read_carrier.proofs.KindLaws.{bytes-right}
 use Rattle.writing.specs.declared.Coding.{Coding}
-use Rattle.writing.specs.Settings.{Setting, Hash, lines, key, quick-texts, home, channels, system, status-texts, group, individual, last}
+use Rattle.writing.specs.Settings.{Setting, Hash, group-contacts, individual-contacts, lines, key, quick-texts, home, channels, system, status-texts, group, individual, line-slot, last}
 use Rattle.writing.specs.Writing.{WrittenAll}
 use Rattle.tables.specs.declared.limits.Limits.{Limits}
 use Rattle.tables.specs.Allowed.{Allowed}
@@ -57,6 +57,8 @@ module _ (lim : Limits) where
 
   -- a setting that is no FF leaves the hash as it was, and FF brings its own
   kept-by : (s : Setting) (t u : Tables) → apply lim s t ≡ some u → u .hash ≡ hash-or (item-of s) (t .hash)
+  kept-by (group-contacts o f es) t u e = ap (λ (x : Tables). x .hash) (own-table lim (group-contacts o f es) t u e)
+  kept-by (individual-contacts o f es) t u e = ap (λ (x : Tables). x .hash) (own-table lim (individual-contacts o f es) t u e)
   kept-by (lines o f es) t u e = ap (λ (x : Tables). x .hash) (own-table lim (lines o f es) t u e)
   kept-by (key x f) t u e = ap (λ (x : Tables). x .hash) (own-table lim (key x f) t u e)
   kept-by (quick-texts o es) t u e = ap (λ (x : Tables). x .hash) (own-table lim (quick-texts o es) t u e)
@@ -66,6 +68,7 @@ module _ (lim : Limits) where
   kept-by (status-texts o es) t u e = ap (λ (x : Tables). x .hash) (own-table lim (status-texts o es) t u e)
   kept-by (group o f x) t u e = ap (λ (x : Tables). x .hash) (own-table lim (group o f x) t u e)
   kept-by (individual o f x) t u e = ap (λ (x : Tables). x .hash) (own-table lim (individual o f x) t u e)
+  kept-by (line-slot o f x) t u e = ap (λ (x : Tables). x .hash) (own-table lim (line-slot o f x) t u e)
   kept-by (last f h) t u e = sym (ap (λ (x : Tables). x .hash) (Option·some-injective (put-own Last t h) u e))
 
   hash-or-none : (o : Option LastItem) → hash-or o no-hash ≡ or-else o (last-item []) .hash

@@ -14,7 +14,7 @@ use Rattle.read_carrier.proofs.KindLaws.{request-bytes, opens-no-query}
 use Rattle.tables.specs.declared.limits.Limits.{Limits}
 use Rattle.tables.specs.Apply.{apply}
 use Rattle.tables.specs.Allowed.{Allowed}
-use Rattle.tables.specs.Layout.{layout, count-size, lines-at, lists-at}
+use Rattle.tables.specs.Layout.{layout, count-size, channels-at, lines-at}
 use Rattle.tables.specs.Store.{StoreOf, Holds}
 use Rattle.slots.specs.Slots.{u16}
 use Rattle.tables.proofs.Frames.{counts-stand}
@@ -99,11 +99,11 @@ module _ (lim : Limits) (message store reply : List ℕ) where
 
   -- COUNTS KEPT: and its counts are the lengths of the lists that it then holds
   pub counts-kept : StoreOf lim store → (x : AfterTaking) → Answers (taken lim message store reply) x
-      → (t : Tables) × Holds lim t (x .store) × (midOf lists-at count-size (x .store) ≡ u16 (length (t .channels))) × (midOf (lines-at lim) count-size (x .store) ≡ u16 (length (t .lines)))
+      → (t : Tables) × Holds lim t (x .store) × (midOf channels-at count-size (x .store) ≡ u16 (length (t .channels))) × (midOf (lines-at lim) count-size (x .store) ≡ u16 (length (t .lines)))
   counts-kept s x a =
       let k = store-kept s x a .store in
       let c = counts-stand lim (k .tables) (k .allowed) in
-      (k .tables, (k .allowed, k .bytes-are), ap (midOf lists-at count-size) (k .bytes-are) ∙ c .0, ap (midOf (lines-at lim) count-size) (k .bytes-are) ∙ c .1)
+      (k .tables, (k .allowed, k .bytes-are), ap (midOf channels-at count-size) (k .bytes-are) ∙ c .0, ap (midOf (lines-at lim) count-size) (k .bytes-are) ∙ c .1)
 
 -- ---- a request that passes the checks
 

@@ -3,9 +3,9 @@ use counted_lists::counts::count;
 use store_check::checks::is_store;
 use tables::limits::Limits;
 use tables::places::CHANNEL_SLOT;
+use tables::places::CHANNELS;
 use tables::places::COUNT;
 use tables::places::LINE_SLOT;
-use tables::places::LISTS;
 ghost use mathlib.Core.Path.{_≡_};
 ghost use lib.ListN.{length};
 ghost use Rattle.lists.specs.Ladder.{Answers};
@@ -22,10 +22,10 @@ fn read_counts(store: &[u8], limits: Limits) -> Counts
     requires { ⌜ Roomy limits × (length (now store) ≡ limits .size) ⌝ }
     ensures { λ r. ⌜ Reads limits (now (store .entry)) (told r) ⌝ }
 {
-    let lines = LISTS + (COUNT + limits.channels * CHANNEL_SLOT);
+    let lines = CHANNELS + (COUNT + limits.channels * CHANNEL_SLOT);
     let spare = lines + (COUNT + limits.lines * LINE_SLOT);
     let held = count(&store[lines..spare]);
-    let channels = count(&store[LISTS..lines]);
+    let channels = count(&store[CHANNELS..lines]);
     Counts::Held(held as u16, channels as u16)
 }
 

@@ -79,14 +79,28 @@ fn emptied(store: &mut [u8]) {
     after(b"no channels: 01 CE 0004 C000\n", store);
 }
 
+// Counts of the two kinds of contacts.
+fn wrong_contacts(store: &mut [u8]) {
+    wrong(8118, store);
+    wrong(8119, store);
+    wrong(10424, store);
+    wrong(10425, store);
+}
+
+// Counts of channels and lines.
+fn wrong_lists(store: &mut [u8]) {
+    wrong(12730, store);
+    wrong(12731, store);
+    wrong(12860, store);
+    wrong(12861, store);
+}
+
 pub(crate) fn run(store: &mut [u8]) {
     text(b"a fresh store\n");
     after(b"a fresh store\n", store);
     lines(store);
     channels(store);
     emptied(store);
-    wrong(7286, store);
-    wrong(7287, store);
-    wrong(7416, store);
-    wrong(7417, store);
+    wrong_contacts(store);
+    wrong_lists(store);
 }

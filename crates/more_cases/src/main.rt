@@ -2,9 +2,11 @@
 use tables::limits::HANDHELD_SIZE;
 
 mod channel_cases;
+mod contact_cases;
 mod count_cases;
 mod eight_bit_cases;
 mod line_cases;
+mod line_slot_cases;
 mod screen_cases;
 mod slot_cases;
 mod text_cases;
@@ -18,6 +20,8 @@ fn main() {
     count_cases::run(&mut store);
     text_cases::run(&mut store);
     slot_cases::run(&mut store);
+    contact_cases::run(&mut store);
+    line_slot_cases::run(&mut store);
     eight_bit_cases::run(&mut store);
     screen_cases::run(&mut store);
 }

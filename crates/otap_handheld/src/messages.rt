@@ -6,7 +6,7 @@ use station::handheld::take;
 ghost use Rattle.tables.specs.Limits.{handheld};
 ghost use Rattle.packing.specs.Packing.{Starts, Takes};
 
-// 0: the bytes are a fresh store. 11: they are not 12,288, and stay.
+// 0: the bytes are a fresh store. 11: they are not 24,576, and stay.
 #[no_mangle]
 pub extern "C" fn otap_start(store: &mut [u8]) -> u32
     ensures { λ r. ⌜ Starts handheld (now (store .entry)) (now (store .exit)) r ⌝ }

@@ -1,4 +1,4 @@
-// The screen's rows. Tables: 1 lines, 2 quick texts, 3 status texts, 4 groups, 5 individuals.
+// The screen's rows. Tables: 1 lines, 2 quick texts, 3 status texts, 4 groups, 5 individuals, 6 group contacts, 7 individual contacts, 8 line slots.
 use packing::rows::pack_place;
 use screen::answers::number_of;
 use screen::handheld::row_number;

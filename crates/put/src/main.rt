@@ -1,4 +1,4 @@
-// Takes the messages of the records on standard input, from a fresh store, and writes the seven records that the store is exported as.
+// Takes the messages of the records on standard input, from a fresh store, and writes the ten records that the store is exported as.
 use export::exporting::export;
 use export::parts::Export;
 use export::parts::PARTS;

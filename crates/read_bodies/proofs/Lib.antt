@@ -1,3 +1,4 @@
+mod FlagLaws
 mod ListLaws
 mod SlotLaws
 pub mod FixedLaws

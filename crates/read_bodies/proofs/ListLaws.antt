@@ -4,19 +4,40 @@ use Rattle.lists.specs.Bytes.{Bytes}
 use Rattle.lists.specs.Every.{All}
 use Rattle.lists.proofs.Every.{all-turn}
 use Rattle.writing.specs.declared.Coding.{Coding}
-use Rattle.writing.specs.declared.Kind.the-variants.{Lines, QuickTexts, Channels, StatusTexts}
+use Rattle.writing.specs.declared.Kind.the-variants.{GroupContacts, IndividualContacts, Lines, QuickTexts, Channels, StatusTexts}
 use Rattle.writing.specs.declared.Operation.{Operation}
 use Rattle.writing.specs.declared.Operation.the-variants.{Add, Delete, Replace}
 use Rattle.writing.specs.Fields.{val, res, each}
 use Rattle.writing.specs.Ranges.{text-limits, InQuick}
 use Rattle.writing.specs.Settings.{Entry}
-use Rattle.writing.specs.Writing.{flag, op, op-code, contact, quick-text, status-text}
+use Rattle.writing.specs.Writing.{flag, op, op-code, addressed, contact, quick-text, status-text}
 use Rattle.read_fields.specs.Places.{be}
 use Rattle.read_fields.proofs.Heads.{be-turn}
 use Rattle.read_fields.specs.Entries.{channel-list, QuickFrom}
 use Rattle.writing.proofs.Unique.{one-op}
 use Rattle.settings.proofs.BodyLaws.{Headed}
 use Rattle.read_bodies.specs.Units.{LeastIs}
+
+abbrev pub group-contacts-head : (c : Coding) → Headed c GroupContacts
+group-contacts-head c = record {
+  head = λ x. op (x .0) ∷ val 2 (x .1 .attribute) ∷ flag (x .1 .broadcast) ∷ flag (x .1 .encryption) ∷ flag (x .1 .ovcm) ∷ flag (x .1 .emergency)
+      ∷ val 2 (x .1 .priority) ∷ res 6 ∷ val 8 (length (x .2)) ∷ [];
+  tail = λ x. each (addressed (λ a. a .0) c) (x .2);
+  size = 3;
+  split = λ x. refl;
+  wide = λ x. refl;
+  some-byte = omega arith;
+}
+
+abbrev pub individual-contacts-head : (c : Coding) → Headed c IndividualContacts
+individual-contacts-head c = record {
+  head = λ x. op (x .0) ∷ flag (x .1 .encryption) ∷ flag (x .1 .emergency) ∷ val 2 (x .1 .priority) ∷ res 2 ∷ val 8 (length (x .2)) ∷ [];
+  tail = λ x. each (addressed (λ a. a .0) c) (x .2);
+  size = 2;
+  split = λ x. refl;
+  wide = λ x. refl;
+  some-byte = omega arith;
+}
 
 abbrev pub lines-head : (c : Coding) → Headed c Lines
 lines-head c = record {

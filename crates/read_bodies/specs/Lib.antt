@@ -1,3 +1,4 @@
+pub mod Flags
 pub mod Heads
 pub mod Refused
 pub mod Targets

@@ -1,5 +1,5 @@
 // Settings that hold a list: line contacts, quick texts, scan channels and status texts.
-use read_fields::bytes::flag;
+use super::flags::line_flags;
 use read_fields::bytes::number;
 use read_fields::bytes::remaining;
 use read_fields::channels::walk_channels;
@@ -12,7 +12,6 @@ use settings::settings::Setting;
 use settings::type_table::OperationRead;
 use settings::type_table::operation_of;
 use writing::Coding;
-use writing::LineFlags;
 use writing::Operation;
 ghost use mathlib.Core.Path.{_≡_};
 ghost use Prim.Native.Nat.{ℕ, _≤_};
@@ -55,31 +54,20 @@ pub fn read_lines(m: &[u8], p: usize, operations: u8, coding: Coding) -> BodyRea
     let OperationRead::Is(operation) = o else {
         return BodyRead::NoBody;
     };
-    let flags = LineFlags {
-        encryption: flag(n / 8192),
-        emergency: flag(n / 4096),
-        priority: (n / 1024 % 4) as u8,
-        pabx: flag(n / 512),
-    };
+    let flags = line_flags(n);
     let start = p + 2;
     let count = (n % 256) as usize;
     let walked = walk_entries(m, start, count, Listed::Contacts, coding);
     let Walk::To(next) = walked else {
         return BodyRead::NoBody;
     };
-    BodyRead::Body(
-        Setting::Lines(
-            operation,
-            flags,
-            Entries {
-                start,
-                count,
-                next,
-                coding,
-            },
-        ),
+    let entries = Entries {
+        start,
+        count,
         next,
-    )
+        coding,
+    };
+    BodyRead::Body(Setting::Lines(operation, flags, entries), next)
 }
 
 pub fn read_quick_texts(m: &[u8], p: usize, operations: u8, coding: Coding) -> BodyRead

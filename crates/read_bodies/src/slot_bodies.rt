@@ -1,21 +1,24 @@
-// Settings of a slot: one group or one individual.
+// Settings of a slot: one group, one individual or one line.
+use super::flags::group_flags;
+use super::flags::individual_flags;
+use super::flags::line_flags;
 use plan::numbers::GroupAddress;
 use plan::numbers::IndividualAddress;
 use read_fields::addresses::address_refused;
-use read_fields::bytes::flag;
 use read_fields::bytes::number;
 use read_fields::bytes::remaining;
+use read_fields::entries::ContactRead;
+use read_fields::entries::read_contact;
 use read_fields::texts::TextRead;
 use read_fields::texts::read_text;
 use settings::settings::BodyRead;
 use settings::settings::GroupPlace;
 use settings::settings::IndividualPlace;
+use settings::settings::LinePlace;
 use settings::settings::Setting;
 use settings::type_table::OperationRead;
 use settings::type_table::operation_of;
 use writing::Coding;
-use writing::GroupFlags;
-use writing::IndividualFlags;
 use writing::Operation;
 ghost use mathlib.Core.Path.{_≡_};
 ghost use Prim.Native.Nat.{ℕ};
@@ -50,22 +53,14 @@ pub fn read_group(m: &[u8], p: usize, operations: u8, coding: Coding) -> BodyRea
     let OperationRead::Is(operation) = o else {
         return BodyRead::NoBody;
     };
-    let attribute = (n / 0x10_0000_0000 % 4) as u8;
+    let flags = group_flags(n / 0x100_0000);
     let address = (n % 0x100_0000) as u32;
-    if slot_refused(operation, attribute, address) {
+    if slot_refused(operation, flags.attribute, address) {
         return BodyRead::NoBody;
     }
     let units = read_text(m, p + 5, 16, coding);
     let TextRead::Text(text, next) = units else {
         return BodyRead::NoBody;
-    };
-    let flags = GroupFlags {
-        attribute,
-        broadcast: flag(n / 0x8_0000_0000),
-        encryption: flag(n / 0x4_0000_0000),
-        ovcm: flag(n / 0x2_0000_0000),
-        emergency: flag(n / 0x1_0000_0000),
-        priority: (n / 0x4000_0000 % 4) as u8,
     };
     let index = (n / 0x100_0000 % 16) as u8;
     let place = GroupPlace {
@@ -95,11 +90,7 @@ pub fn read_individual(m: &[u8], p: usize, operations: u8, coding: Coding) -> Bo
     let TextRead::Text(text, next) = units else {
         return BodyRead::NoBody;
     };
-    let flags = IndividualFlags {
-        encryption: flag(n / 0x20_0000_0000),
-        emergency: flag(n / 0x10_0000_0000),
-        priority: (n / 0x4_0000_0000 % 4) as u8,
-    };
+    let flags = individual_flags(n / 0x100_0000);
     let index = (n / 0x100_0000 % 16) as u8;
     let place = IndividualPlace {
         index,
@@ -107,4 +98,26 @@ pub fn read_individual(m: &[u8], p: usize, operations: u8, coding: Coding) -> Bo
         text,
     };
     BodyRead::Body(Setting::Individual(operation, flags, place), next)
+}
+
+// A line slot, whose number and text are held to their ranges in a delete too.
+pub fn read_line_slot(m: &[u8], p: usize, operations: u8, coding: Coding) -> BodyRead
+    ensures { λ r. ⌜ (operations ≡ 2 → (left : ℕ) → BodyAt coding Kind.LineSlot left (now (m .entry)) p r) ⌝ }
+{
+    if remaining(m, p) < 2 {
+        return BodyRead::NoBody;
+    }
+    let n = number(m, p, 2);
+    let o = operation_of(n / 16384 % 4, operations);
+    let OperationRead::Is(operation) = o else {
+        return BodyRead::NoBody;
+    };
+    let line = read_contact(m, p + 2, coding);
+    let ContactRead::Contact(contact, next) = line else {
+        return BodyRead::NoBody;
+    };
+    let flags = line_flags(n);
+    let index = (n % 16) as u8;
+    let place = LinePlace { index, contact };
+    BodyRead::Body(Setting::LineSlot(operation, flags, place), next)
 }

@@ -1,3 +1,4 @@
+pub mod AddressLaws
 pub mod ChannelPlace
 pub mod ChannelWalk
 pub mod EntryLaws

@@ -7,19 +7,22 @@ use lib.ListN.{length}
 use Rattle.lists.specs.Every.{All}
 use Rattle.writing.specs.Fields.{Field, val, each}
 use Rattle.writing.specs.declared.Coding.{Coding}
-use Rattle.writing.specs.Settings.{Contact, Entry}
-use Rattle.writing.specs.Writing.{contact, quick-text, status-text, fill}
-use Rattle.writing.specs.Ranges.{TextLimits, InContact, InStatus, InChannel}
+use Rattle.writing.specs.Settings.{Contact, Addressed, Entry}
+use Rattle.writing.specs.Writing.{addressed, contact, quick-text, status-text, fill}
+use Rattle.writing.specs.Ranges.{TextLimits, InContact, InAddressed, InStatus, InChannel}
 use Rattle.read_fields.specs.Places.{FieldsAt}
 use Rattle.read_fields.specs.TextsAndNumbers.{TextIs, NumberIs}
 use Rattle.read_fields.specs.declared.entries.ContactPlace.{ContactPlace}
 use Rattle.read_fields.specs.declared.entries.ContactRead.{ContactRead}
 use Rattle.read_fields.specs.declared.entries.ContactRead.the-variants.{Contact as AContact, NoContact}
+use Rattle.read_fields.specs.declared.entries.AddressedPlace.{AddressedPlace}
+use Rattle.read_fields.specs.declared.entries.AddressedRead.{AddressedRead}
+use Rattle.read_fields.specs.declared.entries.AddressedRead.the-variants.{Contact as AnAddressed, NoContact as NoAddressed}
 use Rattle.read_fields.specs.declared.entries.EntryPlace.{EntryPlace}
 use Rattle.read_fields.specs.declared.entries.EntryRead.{EntryRead}
 use Rattle.read_fields.specs.declared.entries.EntryRead.the-variants.{Entry as AnEntry, NoEntry}
 use Rattle.read_fields.specs.declared.entries.Listed.{Listed}
-use Rattle.read_fields.specs.declared.entries.Listed.the-variants.{Contacts, QuickTexts, StatusTexts}
+use Rattle.read_fields.specs.declared.entries.Listed.the-variants.{Contacts, Addressed as WithAddress, QuickTexts, StatusTexts}
 use Rattle.read_fields.specs.declared.entries.Walk.{Walk}
 use Rattle.read_fields.specs.declared.entries.Walk.the-variants.{To, Stopped}
 
@@ -32,6 +35,12 @@ pub record ContactIs (m : List ℕ) (p : ContactPlace) (e : Contact) : Type 0 wh
   pub number : NumberIs m (p .number) (e .number) middle
   pub text : TextIs m (p .text) (e .text) end
 
+-- the contact has this address, and its text stands at this place; addresses of both kinds are read by their number
+pub record AddressedIs (m : List ℕ) (p : AddressedPlace) (e : Addressed ℕ) : Type 0 where
+  pub address : e .address ≡ p .address
+  pub end : ℕ
+  pub text : TextIs m (p .text) (e .text) end
+
 -- the entry has this index, and its text stands at this place
 pub record EntryIs (m : List ℕ) (p : EntryPlace) (e : Entry) : Type 0 where
   pub index : e .index ≡ p .index
@@ -42,6 +51,11 @@ pub record EntryIs (m : List ℕ) (p : EntryPlace) (e : Entry) : Type 0 where
 abbrev pub ContactAt : Coding → TextLimits → List ℕ → ℕ → ContactRead → Type 0
 ContactAt c k m at (AContact p next) = (e : Contact) × InContact k e × ContactIs m p e × FieldsAt (contact c e) m at next
 ContactAt c k m at NoContact = (e : Contact) (next : ℕ) → InContact k e → FieldsAt (contact c e) m at next → ⊥
+
+-- a contact whose address is in range stands at `at`, or none does
+abbrev pub AddressedAt : Coding → TextLimits → List ℕ → ℕ → AddressedRead → Type 0
+AddressedAt c k m at (AnAddressed p next) = (e : Addressed ℕ) × InAddressed (λ a. a) k e × AddressedIs m p e × FieldsAt (addressed (λ a. a) c e) m at next
+AddressedAt c k m at NoAddressed = (e : Addressed ℕ) (next : ℕ) → InAddressed (λ a. a) k e → FieldsAt (addressed (λ a. a) c e) m at next → ⊥
 
 -- an entry of this form and range stands at `at`, or none does
 abbrev pub EntryAt : (Entry → List Field) → (Entry → Type 0) → List ℕ → ℕ → EntryRead → Type 0
@@ -74,16 +88,19 @@ WalkAt {A} form In m at count Stopped = (es : List A) (next : ℕ) → Stand for
 -- the entries of a list, how they are written, and their range
 abbrev pub EntryOf : Listed → Type 0
 EntryOf Contacts = Contact
+EntryOf WithAddress = Addressed ℕ
 EntryOf (QuickTexts least) = Entry
 EntryOf StatusTexts = Entry
 
 abbrev pub form-of : (l : Listed) → Coding → EntryOf l → List Field
 form-of Contacts c = contact c
+form-of WithAddress c = addressed (λ a. a) c
 form-of (QuickTexts least) c = quick-text c
 form-of StatusTexts c = status-text c
 
 abbrev pub range-of : (l : Listed) → TextLimits → EntryOf l → Type 0
 range-of Contacts k = InContact k
+range-of WithAddress k = InAddressed (λ a. a) k
 range-of (QuickTexts least) k = QuickFrom k least
 range-of StatusTexts k = InStatus k
 

@@ -1,4 +1,5 @@
-// Entries at a place of a message: line contacts, quick texts and status texts, one at a time and as many as were counted.
+// Entries at a place of a message: line contacts, contacts with an address, quick texts and status texts, one at a time and as many as were counted.
+use super::addresses::address_refused;
 use super::bytes::number;
 use super::bytes::remaining;
 use super::numbers::NumberPlace;
@@ -8,11 +9,17 @@ use super::texts::TextPlace;
 use super::texts::TextRead;
 use super::texts::read_text;
 use writing::Coding;
-ghost use Rattle.read_fields.specs.Entries.{ContactAt, QuickAt, StatusAt, form-of, range-of, PassAt, EntriesAt};
+ghost use Rattle.read_fields.specs.Entries.{ContactAt, AddressedAt, QuickAt, StatusAt, form-of, range-of, PassAt, EntriesAt};
 ghost use Rattle.writing.specs.Ranges.{text-limits};
 
 pub struct ContactPlace {
     pub number: NumberPlace,
+    pub text: TextPlace,
+}
+
+// A group or individual contact: its address by number.
+pub struct AddressedPlace {
+    pub address: u32,
     pub text: TextPlace,
 }
 
@@ -27,14 +34,20 @@ pub enum ContactRead {
     NoContact,
 }
 
+pub enum AddressedRead {
+    Contact(AddressedPlace, usize),
+    NoContact,
+}
+
 pub enum EntryRead {
     Entry(EntryPlace, usize),
     NoEntry,
 }
 
-// Which entries a list has: line contacts, quick texts of at least so many units, or status texts.
+// Which entries a list has: line contacts, contacts with an address, quick texts of at least so many units, or status texts.
 pub enum Listed {
     Contacts,
+    Addressed,
     QuickTexts(usize),
     StatusTexts,
 }
@@ -62,6 +75,24 @@ pub fn read_contact(m: &[u8], at: usize, coding: Coding) -> ContactRead
         return ContactRead::NoContact;
     };
     ContactRead::Contact(ContactPlace { number, text }, next)
+}
+
+// A group or individual contact, whose address is in range.
+pub fn read_addressed(m: &[u8], at: usize, coding: Coding) -> AddressedRead
+    ensures { λ r. ⌜ AddressedAt coding text-limits (now (m .entry)) at r ⌝ }
+{
+    if remaining(m, at) < 3 {
+        return AddressedRead::NoContact;
+    }
+    let address = (number(m, at, 3) % 0x100_0000) as u32;
+    if address_refused(address) {
+        return AddressedRead::NoContact;
+    }
+    let units = read_text(m, at + 3, SHORT, coding);
+    let TextRead::Text(text, next) = units else {
+        return AddressedRead::NoContact;
+    };
+    AddressedRead::Contact(AddressedPlace { address, text }, next)
 }
 
 // A quick text of at least so many units: 1, or 0 in a delete.
@@ -110,6 +141,13 @@ fn pass_entry(m: &[u8], at: usize, list: Listed, coding: Coding) -> Walk
         Listed::Contacts => {
             let here = read_contact(m, at, coding);
             let ContactRead::Contact(_, next) = here else {
+                return Walk::Stopped;
+            };
+            Walk::To(next)
+        }
+        Listed::Addressed => {
+            let here = read_addressed(m, at, coding);
+            let AddressedRead::Contact(_, next) = here else {
                 return Walk::Stopped;
             };
             Walk::To(next)

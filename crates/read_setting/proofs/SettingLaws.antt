@@ -3,7 +3,7 @@ use Rattle.lists.proofs.Kit.{ℕ, _+_, _-_, _/_, _%_, _≤_, _<_, _≡_, refl, 
 use Rattle.lists.specs.Bytes.{Bytes}
 use Rattle.writing.specs.declared.Coding.{Coding}
 use Rattle.writing.specs.declared.Kind.{Kind}
-use Rattle.writing.specs.declared.Kind.the-variants.{Lines, Key, QuickTexts, Home, Channels, System, StatusTexts, Group, Individual, Last}
+use Rattle.writing.specs.declared.Kind.the-variants.{GroupContacts, IndividualContacts, Lines, Key, QuickTexts, Home, Channels, System, StatusTexts, Group, Individual, LineSlot, Last}
 use Rattle.writing.specs.Fields.{val}
 use Rattle.writing.specs.Ranges.{text-limits, HashSize, InRange}
 use Rattle.writing.specs.Bounds.{bounds, AtMost}
@@ -46,6 +46,8 @@ module _ (c : Coding) (left : ℕ) (m : List ℕ) (p next after : ℕ) (h : Byte
   -- hash values in range at one place are of one length, since the same code stands before them
   sized-in : (k : Kind) (x y : Contents k) → InRange text-limits left (make k x) → InRange text-limits left (make k y)
       → FieldsAt (body c (make k x)) m p next → FieldsAt (body c (make k y)) m p after → Sized k x y
+  sized-in GroupContacts x y i j a b = tt
+  sized-in IndividualContacts x y i j a b = tt
   sized-in Lines x y i j a b = tt
   sized-in Key x y i j a b = tt
   sized-in QuickTexts x y i j a b = tt
@@ -55,6 +57,7 @@ module _ (c : Coding) (left : ℕ) (m : List ℕ) (p next after : ℕ) (h : Byte
   sized-in StatusTexts x y i j a b = tt
   sized-in Group x y i j a b = tt
   sized-in Individual x y i j a b = tt
+  sized-in LineSlot x y i j a b = tt
   sized-in Last x y i j a b =
       let (r, u, a′) = head-out (last-head c .head x) (last-head c .tail x) m p 1 refl (omega arith) h next a in
       let (q, v, b′) = head-out (last-head c .head y) (last-head c .tail y) m p 1 refl (omega arith) h after b in
@@ -116,7 +119,7 @@ at-most (some k) n a l = a
 
 -- ---- the answers of read_setting
 
--- the type byte is none of the ten
+-- the type byte is none of the thirteen
 pub no-type : (c : Coding) (left : ℕ) (m : List ℕ) (at : ℕ) {f : BoundsRead} → at < length m → BoundsAt c (getD m at 0) f → f ≡ NoRow → SettingAt c left m at Unknown
 no-type c left m at l found e = (l, subst (BoundsAt c (getD m at 0)) e found)
 

@@ -4,18 +4,19 @@ use Rattle.lists.specs.Bytes.{Bytes}
 use Rattle.writing.specs.declared.Coding.{Coding}
 use Rattle.writing.specs.Fields.{Field, val, each}
 use Rattle.writing.specs.Ranges.{text-limits, InRange}
-use Rattle.writing.specs.Settings.{Setting, lines, quick-texts, channels, status-texts, group, individual, last, kind}
-use Rattle.writing.specs.Writing.{text, contact, quick-text, status-text, fill, fields}
+use Rattle.writing.specs.Settings.{Setting, Contact, Addressed, group-contacts, individual-contacts, lines, quick-texts, channels, status-texts, group, individual, line-slot, last, kind}
+use Rattle.writing.specs.Writing.{text, number, addressed, contact, quick-text, status-text, fill, fields}
 use Rattle.writing.proofs.Ends.{Ends, each-ends, vals-end, regroup}
-use Rattle.writing.proofs.Unique.{text-ends, contact-ends, quick-ends, status-ends, setting-ends}
-use Rattle.read_fields.specs.Entries.{channel-list}
+use Rattle.writing.proofs.Unique.{text-ends, number-ends, address-ends, addressed-ends, contact-ends, quick-ends, status-ends, setting-ends}
+use Rattle.read_fields.specs.Entries.{channel-list, ContactIs}
 use Rattle.read_fields.specs.Places.{StandsAt}
 use Rattle.settings.specs.Meant.{EntriesAre, TextOf, Meant}
 use Rattle.read_setting.specs.SettingAt.{SettingAt}
+use Rattle.read_fields.specs.declared.entries.ContactPlace.{ContactPlace}
 use Rattle.read_fields.specs.declared.texts.TextPlace.{TextPlace}
 use Rattle.settings.specs.declared.settings.Entries.{Entries}
 use Rattle.settings.specs.declared.settings.Setting.{Setting as Read}
-use Rattle.settings.specs.declared.settings.Setting.the-variants.{Lines, Key, QuickTexts, Home, Channels, System, StatusTexts, Group, Individual, Last}
+use Rattle.settings.specs.declared.settings.Setting.the-variants.{GroupContacts, IndividualContacts, Lines, Key, QuickTexts, Home, Channels, System, StatusTexts, Group, Individual, LineSlot, Last}
 use Rattle.read_setting.specs.declared.reader.SettingRead.{SettingRead}
 use Rattle.read_setting.specs.declared.reader.SettingRead.the-variants.{Taken, Missing, Unknown, Field as BadField}
 use Rattle.read_fields.proofs.HashLaws.{one-size}
@@ -42,8 +43,24 @@ one-channels m p es xs x y =
 one-text : (m : List ℕ) (p : TextPlace) (us vs : List ℕ) → TextOf m p us → TextOf m p vs → us ≡ vs
 one-text m p us vs (n, x) (k, y) = one-part (text (p .coding)) (text-ends (p .coding)) us vs m (p .start) n k (x .stands) (y .stands) .0
 
+-- so does a line contact
+one-contact : (m : List ℕ) (p : ContactPlace) (e x : Contact) → ContactIs m p e → ContactIs m p x → e ≡ x
+one-contact m p e x a b =
+    let number-is = one-part number number-ends (e .number) (x .number) m (p .number .start) (a .middle) (b .middle) (a .number .stands) (b .number .stands) .0 in
+    let text-is = one-text m (p .text) (e .text) (x .text) (a .end, a .text) (b .end, b .text) in
+    λ i. record { number = number-is i; text = text-is i }
+
+-- and contacts with an address, where no two addresses of their kind share a number
+one-contacts : {A : Type 0} (number-of : A → ℕ) → ((a b : A) → number-of a ≡ number-of b → a ≡ b) → (m : List ℕ) (p : Entries) (es xs : List (Addressed A))
+    → EntriesAre (λ c. each (addressed number-of c)) m p es → EntriesAre (λ c. each (addressed number-of c)) m p xs → es ≡ xs
+one-contacts number-of one = one-entries (addressed number-of) (addressed-ends number-of (address-ends number-of one))
+
 -- MEANT ONE: what a setting that was read means, in one message, is one setting
 pub meant-one : (m : List ℕ) (r : Read) (s t : Setting) → Meant m r s → Meant m r t → s ≡ t
+meant-one m (GroupContacts o f p) s t (es, d, x) (xs, e, y) =
+    d ∙ ap (group-contacts o f) (one-contacts (λ a. a .0) (λ a b q. λ i. record { 0 = q i }) m p es xs x y) ∙ sym e
+meant-one m (IndividualContacts o f p) s t (es, d, x) (xs, e, y) =
+    d ∙ ap (individual-contacts o f) (one-contacts (λ a. a .0) (λ a b q. λ i. record { 0 = q i }) m p es xs x y) ∙ sym e
 meant-one m (Lines o f p) s t (es, d, x) (xs, e, y) = d ∙ ap (lines o f) (one-entries contact contact-ends m p es xs x y) ∙ sym e
 meant-one m (Key a f) s t d e = d ∙ sym e
 meant-one m (QuickTexts o p) s t (es, d, x) (xs, e, y) = d ∙ ap (quick-texts o) (one-entries quick-text quick-ends m p es xs x y) ∙ sym e
@@ -55,6 +72,8 @@ meant-one m (Group o f p) s t (us, d, x) (vs, e, y) =
     d ∙ ap (λ (u : List ℕ). group o f (record { index = p .index; address = p .address; text = u })) (one-text m (p .text) us vs x y) ∙ sym e
 meant-one m (Individual o f p) s t (us, d, x) (vs, e, y) =
     d ∙ ap (λ (u : List ℕ). individual o f (record { index = p .index; address = p .address; text = u })) (one-text m (p .text) us vs x y) ∙ sym e
+meant-one m (LineSlot o f p) s t (es, d, x) (xs, e, y) =
+    d ∙ ap (λ (z : Contact). line-slot o f (record { index = p .index; address = z .number; text = z .text })) (one-contact m (p .contact) es xs x y) ∙ sym e
 meant-one m (Last f p) s t (v, d, x, n) (w, e, y, k) =
     d ∙ ap (λ (z : List ℕ). last f (record { code = p .code; value = z }))
     (vals-end 8 v w (one-size n k) (agree-at (map (val 8) v) (map (val 8) w) m (p .start) _ _ x y) .0) ∙ sym e

@@ -19,9 +19,9 @@ abbrev pub SettingAt : Coding → ℕ → List ℕ → ℕ → SettingRead → T
 SettingAt c left m at (Taken r next) = (s : Setting) × Meant m r s × InRange text-limits left s × StandsAt c m at next s
 -- "a missing type byte is 4"
 SettingAt c left m at Missing = length m ≤ at
--- 3: "type not among the ten"
+-- 3: "type not among the thirteen"
 SettingAt c left m at Unknown = (at < length m) × ((k : Kind) → type-byte k ≡ getD m at 0 → ⊥)
--- 4: the type is among the ten, and no setting in range stands there: "bad field, length or count"
+-- 4: the type is among the thirteen, and no setting in range stands there: "bad field, length or count"
 SettingAt c left m at BadField =
     (at < length m) × (k : Kind) × (type-byte k ≡ getD m at 0)
     × ((s : Setting) (next : ℕ) → InRange text-limits left s → StandsAt c m at next s → ⊥)

@@ -1,4 +1,6 @@
 // The setting at a place of a message: type byte, DataLength, fields.
+use read_bodies::contact_bodies::read_group_contacts;
+use read_bodies::contact_bodies::read_individual_contacts;
 use read_bodies::fixed_bodies::read_home;
 use read_bodies::fixed_bodies::read_key;
 use read_bodies::fixed_bodies::read_last;
@@ -9,6 +11,7 @@ use read_bodies::list_bodies::read_quick_texts;
 use read_bodies::list_bodies::read_status_texts;
 use read_bodies::slot_bodies::read_group;
 use read_bodies::slot_bodies::read_individual;
+use read_bodies::slot_bodies::read_line_slot;
 use read_fields::bytes::number;
 use read_fields::bytes::remaining;
 use settings::settings::BodyRead;
@@ -22,7 +25,7 @@ ghost use Rattle.settings.specs.Meant.{BodyAt};
 ghost use Rattle.read_setting.specs.SettingAt.{SettingAt};
 ghost use Rattle.writing.specs.declared.Kind.{Kind};
 
-// The setting with the place after it; no type byte (4); a type not among the ten (3); a bad field or length (4).
+// The setting with the place after it; no type byte (4); a type not among the thirteen (3); a bad field or length (4).
 pub enum SettingRead {
     Taken(Setting, usize),
     Missing,
@@ -37,6 +40,8 @@ fn read_body(m: &[u8], p: usize, left: usize, row: Bounds, coding: Coding) -> Bo
     let type_byte = row.type_byte;
     let operations = row.operations;
     match type_byte {
+        0xC8 => read_group_contacts(m, p, operations, coding),
+        0xC9 => read_individual_contacts(m, p, operations, coding),
         0xCA => read_lines(m, p, operations, coding),
         0xCB => read_key(m, p),
         0xCC => read_quick_texts(m, p, operations, coding),
@@ -46,6 +51,7 @@ fn read_body(m: &[u8], p: usize, left: usize, row: Bounds, coding: Coding) -> Bo
         0xD0 => read_status_texts(m, p, operations, coding),
         0xD1 => read_group(m, p, operations, coding),
         0xD2 => read_individual(m, p, operations, coding),
+        0xD3 => read_line_slot(m, p, operations, coding),
         0xFF => read_last(m, p, left),
         _ => BodyRead::NoBody,
     }

@@ -4,7 +4,7 @@ use Rattle.lists.specs.Bytes.{Bytes}
 use Rattle.lists.proofs.Bytes.{bytes-drop}
 use Rattle.writing.specs.declared.Coding.{Coding}
 use Rattle.writing.specs.Ranges.{text-limits, InRange}
-use Rattle.writing.specs.Settings.{Setting, lines, key, quick-texts, home, channels, system, status-texts, group, individual, last}
+use Rattle.writing.specs.Settings.{Setting, group-contacts, individual-contacts, lines, key, quick-texts, home, channels, system, status-texts, group, individual, line-slot, last}
 use Rattle.read_fields.specs.Places.{StandsAt}
 use Rattle.read_setting.specs.SettingAt.{SettingAt}
 use Rattle.read_setting.specs.declared.reader.SettingRead.the-variants.{Missing, Unknown, Field as BadField}
@@ -18,6 +18,8 @@ use Rattle.requests.proofs.Joining.{then-run}
 
 -- a setting that is not the last one counted is no FF
 pub not-ff : (s : Setting) (n : ℕ) → InRange text-limits n s → 0 < n → item-of s ≡ none
+not-ff (group-contacts o f es) n i l = refl
+not-ff (individual-contacts o f es) n i l = refl
 not-ff (lines o f es) n i l = refl
 not-ff (key t f) n i l = refl
 not-ff (quick-texts o es) n i l = refl
@@ -27,6 +29,7 @@ not-ff (system x) n i l = refl
 not-ff (status-texts o es) n i l = refl
 not-ff (group o f x) n i l = refl
 not-ff (individual o f x) n i l = refl
+not-ff (line-slot o f x) n i l = refl
 not-ff (last f h) n i l = absurd (omega (arith, i .1))
 
 module _ (c : Coding) (lim : Limits) where
@@ -65,7 +68,7 @@ module _ (c : Coding) (lim : Limits) where
     pub at-end : SettingAt c left m p Missing → Fault c lim left u (drop p m) 4
     at-end h = subst (λ (l : List ℕ). Fault c lim left u l 4) (sym (drop-of-length-le m h)) missing
 
-    -- the type is none of the ten: 3
+    -- the type is none of the thirteen: 3
     pub at-unknown : SettingAt c left m p Unknown → Fault c lim left u (drop p m) 3
     at-unknown (h, never) =
         subst (λ (l : List ℕ). Fault c lim left u l 3) (sym (drop-cons m p 0 h)) (unknown (λ k. never (k .0) (k .1)))

@@ -14,7 +14,7 @@ use Rattle.read_fields.specs.declared.hashes.HashPlace.{HashPlace}
 use Rattle.read_setting.specs.declared.reader.SettingRead.the-variants.{Taken}
 use Rattle.settings.specs.declared.settings.Setting.{Setting as Read}
 use Rattle.settings.proofs.settings.Setting.{the-type}
-use Rattle.settings.specs.declared.settings.Setting.the-variants.{Lines, Key, QuickTexts, Home, Channels, System, StatusTexts, Group, Individual, Last}
+use Rattle.settings.specs.declared.settings.Setting.the-variants.{GroupContacts, IndividualContacts, Lines, Key, QuickTexts, Home, Channels, System, StatusTexts, Group, Individual, LineSlot, Last}
 use Rattle.read_fields.specs.Places.{StandsAt}
 use Rattle.read_setting.specs.SettingAt.{SettingAt}
 use Rattle.tables.specs.declared.limits.Limits.{Limits}
@@ -35,7 +35,9 @@ said-none e n = sym (ap (λ x. or-else (item-of x) (last-item []) .flags) e ∙ 
 pub flags-last : (f : LastFlags) (p : HashPlace) → FlagsAre (Last f p) f
 flags-last f p m s (v, e, _, _) = sym (ap (λ x. or-else (item-of x) (last-item []) .flags) e)
 
-pub flags-none : (r : Read) → OneOf (0 ∷ 1 ∷ 2 ∷ 3 ∷ 4 ∷ 5 ∷ 6 ∷ 7 ∷ 8 ∷ []) (tagOf the-type r) → FlagsAre r (last-item [] .flags)
+pub flags-none : (r : Read) → OneOf (0 ∷ 1 ∷ 2 ∷ 3 ∷ 4 ∷ 5 ∷ 6 ∷ 7 ∷ 8 ∷ 9 ∷ 10 ∷ 11 ∷ []) (tagOf the-type r) → FlagsAre r (last-item [] .flags)
+flags-none (GroupContacts o f p) k m s (es, e, _) = said-none e refl
+flags-none (IndividualContacts o f p) k m s (es, e, _) = said-none e refl
 flags-none (Lines o f p) k m s (es, e, _) = said-none e refl
 flags-none (Key t f) k m s e = said-none e refl
 flags-none (QuickTexts o p) k m s (es, e, _) = said-none e refl
@@ -45,7 +47,8 @@ flags-none (System x) k m s e = said-none e refl
 flags-none (StatusTexts o p) k m s (es, e, _) = said-none e refl
 flags-none (Group o f p) k m s (es, e, _) = said-none e refl
 flags-none (Individual o f p) k m s (es, e, _) = said-none e refl
-flags-none (Last f p) k m s x = absurd (miss (0 ∷ 1 ∷ 2 ∷ 3 ∷ 4 ∷ 5 ∷ 6 ∷ 7 ∷ 8 ∷ []) 9 tt k)
+flags-none (LineSlot o f p) k m s (x, e, _) = said-none e refl
+flags-none (Last f p) k m s x = absurd (miss (0 ∷ 1 ∷ 2 ∷ 3 ∷ 4 ∷ 5 ∷ 6 ∷ 7 ∷ 8 ∷ 9 ∷ 10 ∷ 11 ∷ []) 12 tt k)
 
 module _ (c : Coding) (lim : Limits) (m : List ℕ) where
   -- ---- one setting

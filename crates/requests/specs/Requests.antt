@@ -9,7 +9,7 @@ use Rattle.writing.specs.declared.Coding.{Coding}
 use Rattle.writing.specs.declared.Kind.{Kind}
 use Rattle.writing.specs.declared.LastFlags.{LastFlags}
 use Rattle.writing.specs.Ranges.{text-limits, InRange}
-use Rattle.writing.specs.Settings.{Setting, Hash, lines, key, quick-texts, home, channels, system, status-texts, group, individual, last}
+use Rattle.writing.specs.Settings.{Setting, Hash, group-contacts, individual-contacts, lines, key, quick-texts, home, channels, system, status-texts, group, individual, line-slot, last}
 use Rattle.writing.specs.Writing.{Written, type-byte}
 use Rattle.tables.specs.declared.limits.Limits.{Limits}
 use Rattle.tables.specs.Apply.{apply}
@@ -25,7 +25,7 @@ use Rattle.requests.specs.Judge.{Outcome}
 abbrev pub WrittenIn : Coding → Setting → List ℕ → Type 0
 WrittenIn c s bs = Written c s bs × Bytes bs
 
--- a type byte is one of the ten
+-- a type byte is one of the thirteen
 abbrev pub Known : ℕ → Type 0
 Known b = (k : Kind) × (type-byte k ≡ b)
 
@@ -53,6 +53,8 @@ pub record LastItem : Type 0 where
   pub hash : Hash
 
 abbrev pub item-of : Setting → Option LastItem
+item-of (group-contacts o f es) = none
+item-of (individual-contacts o f es) = none
 item-of (lines o f es) = none
 item-of (key t f) = none
 item-of (quick-texts o es) = none
@@ -62,6 +64,7 @@ item-of (system s) = none
 item-of (status-texts o es) = none
 item-of (group o f s) = none
 item-of (individual o f s) = none
+item-of (line-slot o f s) = none
 item-of (last f h) = some (record { flags = f; hash = h })
 
 abbrev pub or-else : {A : Type 0} → Option A → A → A

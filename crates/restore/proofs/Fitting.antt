@@ -1,27 +1,29 @@
 -- FITTING: every exported setting has a writing and is in range; how many there are, and how many bytes they take. Assumes nothing.
-use Rattle.lists.proofs.Kit.{ℕ, zero, suc, _+_, _*_, _≤_, _<_, _≡_, refl, ap, subst⁻¹, List, [], _∷_, map, Option, none, some, arith, length, take, drop, length-append, length-take, length-drop, length-map, take-append-drop}
+use Rattle.lists.proofs.Kit.{ℕ, zero, suc, _+_, _*_, _≤_, _<_, _≡_, ap, subst⁻¹, _∙_, List, [], _∷_, map, Option, none, some, arith, length, take, drop, length-append, length-take, length-drop, length-map, take-append-drop}
 use Rattle.lists.specs.Every.{All}
 use Rattle.lists.proofs.Every.{all-map, all-right, all-take}
 use Rattle.slots.specs.Slots.{Present}
-use Rattle.writing.specs.declared.Operation.{Operation}
-use Rattle.writing.specs.declared.Operation.the-variants.{Add, Delete}
 use Rattle.writing.specs.Canonical.{Fits, canonical, canonical-all}
 use Rattle.writing.specs.Ranges.{text-limits, InRange}
-use Rattle.writing.specs.Settings.{Text, Entry, Slot, Setting, group, individual, unicode16}
+use Rattle.writing.specs.Settings.{Text, Entry, Setting, unicode16}
 use Rattle.tables.specs.declared.limits.Limits.{Limits}
-use Rattle.tables.specs.Allowed.{Allowed, QuickOk, StatusOk, LineOk, GroupOk, IndividualOk}
-use Rattle.tables.specs.Tables.{Member, Tables}
+use Rattle.tables.specs.Allowed.{Allowed, QuickOk, StatusOk, LineOk, GroupOk, IndividualOk, PlacesOk}
+use Rattle.tables.specs.Limits.{slot-places}
+use Rattle.tables.specs.Tables.{Tables}
 use Rattle.requests.specs.Requests.{item-of}
 use Rattle.export.specs.declared.parts.Part.{Part}
-use Rattle.export.specs.declared.parts.Part.the-variants.{Lines, Fixed, QuickTexts, Channels, StatusTexts, Groups, Individuals}
-use Rattle.export_write.specs.LineSettings.{line-add}
-use Rattle.export_write.specs.EntrySettings.{entries, quick-add, no-group-flags, no-individual-flags, slots}
+use Rattle.export.specs.declared.parts.Part.the-variants.{Lines, Fixed, QuickTexts, Channels, StatusTexts, Groups, Individuals, GroupContacts, IndividualContacts, LineSlots}
+use Rattle.export_write.specs.ContactSettings.{contact-add}
+use Rattle.export_write.specs.LineSettings.{line-add, line-slot-setting}
+use Rattle.export_write.specs.EntrySettings.{entries, quick-add, slots}
+use Rattle.export_write.specs.MemberWriters.{member-setting}
 use Rattle.tables.specs.declared.members.Members.the-variants.{OfGroups, OfIndividuals}
+use Rattle.export_write.proofs.SlotWriting.{slots-length}
 use Rattle.export_write.proofs.TextLists.{entries-few}
 use Rattle.export.specs.Exported.{exported}
 use Rattle.export.specs.Exportable.{Exportable}
 use Rattle.restore.specs.Restored.{longest-settings}
-use Rattle.restore.proofs.Readable.{Readable, EntryIn, QuickEntry, StatusEntry, lines-readable, line-readable, key-readable, home-readable, system-readable, quick-replace-readable, quick-add-readable, status-readable, channels-readable, member-readable}
+use Rattle.restore.proofs.Readable.{Readable, EntryIn, QuickEntry, StatusEntry, lines-readable, line-readable, key-readable, home-readable, system-readable, quick-replace-readable, quick-add-readable, status-readable, channels-readable, clearing-readable, contact-readable, member-readable, line-slot-readable}
 
 -- ---- settings one after the other
 
@@ -61,23 +63,27 @@ entries-each P from below i [] a b p = tt
 entries-each P from below i (none ∷ l) a b p = entries-each P from below (suc i) l (omega arith) (omega arith) (p .1)
 entries-each P from below i (some us ∷ l) a b p = (record { low = a; high = omega arith; text = p .0 }, entries-each P from below (suc i) l (omega arith) (omega arith) (p .1))
 
+-- ---- a list that is cleared, then added to
+
+-- settings of one entry each
+module _ {A : Type 0} (P : A → Type 0) (setting : A → Setting) (w : ℕ) (each : (a : A) → P a → Readable w (setting a)) where
+  cleared-readable : {v most : ℕ} (clear : Setting) → Readable v clear → (ls : List A) → All P ls → v + length ls * w ≤ most → AllReadable most (clear ∷ map setting ls)
+  cleared-readable clear c ls p h =
+      before clear (map setting ls) c (of-each w (map setting ls) (all-map P (Readable w) setting each ls p)) (rw (length-map ls setting) h)
+
 -- ---- the settings of a table of slots
 
-module _ {F A : Type 0} (setting : Operation → F → Slot A → Setting) (f : F) (a : A) where
-  -- as many as places
-  pub slots-count : (i : ℕ) (l : List (Option (Member F A))) → length (slots setting f a i l) ≡ length l
-  slots-count i [] = refl
-  slots-count i (none ∷ l) = ap suc (slots-count (suc i) l)
-  slots-count i (some x ∷ l) = ap suc (slots-count (suc i) l)
+module _ {A : Type 0} (setting : ℕ → Option A → Setting) (P : A → Type 0) (w : ℕ) (each : (i : ℕ) → i < slot-places → (o : Option A) → Present P o → Readable w (setting i o)) where
+  -- each by itself
+  slots-each : (i : ℕ) (l : List (Option A)) → i + length l ≤ slot-places → All (Present P) l → All (Readable w) (slots setting i l)
+  slots-each i [] h p = tt
+  slots-each i (o ∷ l) h p = (each i (omega arith) o (p .0), slots-each (suc i) l (omega arith) (p .1))
 
-  -- each is of a kind
-  module _ (P : Member F A → Type 0) (Q : Setting → Type 0)
-      (there : (i : ℕ) → i < 16 → (x : Member F A) → P x → Q (setting Add (x .flags) (record { index = i; address = x .address; text = x .text })))
-      (gone : (i : ℕ) → i < 16 → Q (setting Delete f (record { index = i; address = a; text = [] }))) where
-    slots-each : (i : ℕ) (l : List (Option (Member F A))) → i + length l ≤ 16 → All (Present P) l → All Q (slots setting f a i l)
-    slots-each i [] h p = tt
-    slots-each i (none ∷ l) h p = (gone i (omega arith), slots-each (suc i) l (omega arith) (p .1))
-    slots-each i (some x ∷ l) h p = (there i (omega arith) x (p .0), slots-each (suc i) l (omega arith) (p .1))
+  -- all sixteen
+  slots-readable : {most : ℕ} (l : List (Option A)) → PlacesOk P slot-places l → slot-places * w ≤ most → AllReadable most (slots setting 0 l)
+  slots-readable l (n, p) h =
+      let many : length (slots setting 0 l) ≡ slot-places = slots-length setting 0 l ∙ n in
+      at-most (rw many h) (of-each w (slots setting 0 l) (slots-each 0 l (omega arith) p))
 
 -- ---- the parts
 
@@ -91,8 +97,7 @@ module _ (lim : Limits) (x : Exportable lim) (t : Tables) (ok : Allowed lim t) w
   -- READABLE: every exported setting has a writing and is in range, none is an FF, and their bytes have a limit
   pub exported-readable : (p : Part) → AllReadable (longest-settings lim p) (exported p t)
   exported-readable Lines =
-      before _ _ lines-readable (of-each 49 (map line-add (t .lines)) (all-map LineOk (Readable 49) line-add line-readable (t .lines) (ok .lines .1)))
-      (omega (arith, ok .lines .0, length-map (t .lines) line-add))
+      cleared-readable LineOk line-add 49 line-readable _ lines-readable (t .lines) (ok .lines .1) (omega (arith, ok .lines .0))
   exported-readable Fixed =
       before _ _ (key-readable (t .key .target) (t .key .flags) (ok .key))
       (before {most = 12} _ _ (home-readable (t .home) (ok .home)) (before {most = 6} _ _ (system-readable (t .system) (ok .system)) (none-left 0) (omega arith)) (omega arith)) (omega arith)
@@ -110,11 +115,16 @@ module _ (lim : Limits) (x : Exportable lim) (t : Tables) (ok : Allowed lim t) w
       let n : length (entries 32 (t .status)) ≤ 96 = omega (arith, entries-few 32 (t .status), ok .status .0) in
       before _ _ (status-readable (entries 32 (t .status)) (omega arith) status-entries) (none-left 0) (omega arith)
   exported-readable Groups =
-      at-most (omega (arith, slots-count group no-group-flags (record { 0 = 0 }) 0 (t .groups), ok .groups .0))
-      (of-each 42 (exported Groups t) (slots-each group no-group-flags (record { 0 = 0 }) GroupOk (Readable 42) (λ i h g p. member-readable OfGroups i h (some g) p) (λ i h. member-readable OfGroups i h none tt) 0 (t .groups) (omega (arith, ok .groups .0)) (ok .groups .1)))
+      slots-readable (member-setting OfGroups) GroupOk 42 (member-readable OfGroups) (t .groups) (ok .groups) (omega arith)
   exported-readable Individuals =
-      at-most (omega (arith, slots-count individual no-individual-flags (record { 0 = 0 }) 0 (t .individuals), ok .individuals .0))
-      (of-each 42 (exported Individuals t) (slots-each individual no-individual-flags (record { 0 = 0 }) IndividualOk (Readable 42) (λ i h g p. member-readable OfIndividuals i h (some g) p) (λ i h. member-readable OfIndividuals i h none tt) 0 (t .individuals) (omega (arith, ok .individuals .0)) (ok .individuals .1)))
+      slots-readable (member-setting OfIndividuals) IndividualOk 42 (member-readable OfIndividuals) (t .individuals) (ok .individuals) (omega arith)
+  exported-readable GroupContacts =
+      cleared-readable GroupOk (contact-add OfGroups) 43 (contact-readable OfGroups) _ (clearing-readable OfGroups) (t .group-contacts) (ok .group-contacts .1)
+      (omega (arith, ok .group-contacts .0))
+  exported-readable IndividualContacts =
+      cleared-readable IndividualOk (contact-add OfIndividuals) 42 (contact-readable OfIndividuals) _ (clearing-readable OfIndividuals) (t .individual-contacts) (ok .individual-contacts .1)
+      (omega (arith, ok .individual-contacts .0))
+  exported-readable LineSlots = slots-readable line-slot-setting LineOk 49 line-slot-readable (t .line-slots) (ok .line-slots) (omega arith)
 
   -- COUNTED: "1 to 255" settings
   pub exported-count : (p : Part) → (1 ≤ length (exported p t)) × (length (exported p t) ≤ 255)
@@ -124,5 +134,8 @@ module _ (lim : Limits) (x : Exportable lim) (t : Tables) (ok : Allowed lim t) w
       omega (arith, length-map (drop 63 (entries 0 (t .quick))) quick-add, length-drop 63 (entries 0 (t .quick)), entries-few 0 (t .quick), ok .quick .0)
   exported-count Channels = omega arith
   exported-count StatusTexts = omega arith
-  exported-count Groups = omega (arith, slots-count group no-group-flags (record { 0 = 0 }) 0 (t .groups), ok .groups .0)
-  exported-count Individuals = omega (arith, slots-count individual no-individual-flags (record { 0 = 0 }) 0 (t .individuals), ok .individuals .0)
+  exported-count Groups = omega (arith, slots-length (member-setting OfGroups) 0 (t .groups), ok .groups .0)
+  exported-count Individuals = omega (arith, slots-length (member-setting OfIndividuals) 0 (t .individuals), ok .individuals .0)
+  exported-count GroupContacts = omega (arith, ok .group-contacts .0, length-map (t .group-contacts) (contact-add OfGroups))
+  exported-count IndividualContacts = omega (arith, ok .individual-contacts .0, length-map (t .individual-contacts) (contact-add OfIndividuals))
+  exported-count LineSlots = omega (arith, slots-length line-slot-setting 0 (t .line-slots), ok .line-slots .0)

@@ -1,29 +1,35 @@
 -- PART RUNS: an exported part's settings, taken in turn, leave the part's tables as they were exported, whatever was there. Assumes nothing.
-use Rattle.lists.proofs.Kit.{ℕ, suc, _+_, _-_, _≤_, _≡_, refl, sym, ap, _∙_, subst, List, [], _∷_, _++_, map, append-nil, Option, none, some, arith, length, set, take, drop, replicate, length-append, take-append-drop, append-snoc, set-at, getD-at}
+use Rattle.lists.proofs.Kit.{ℕ, suc, _+_, _-_, _≤_, _≡_, refl, sym, ap, _∙_, subst, _↔_, Bool, true, List, [], _∷_, _++_, map, append-nil, Option, none, some, arith, length, set, take, drop, replicate, length-append, take-append-drop, append-snoc, set-at, getD-at}
 use Rattle.lists.proofs.Bytes.{all-bytes}
 use Rattle.lists.specs.Every.{All}
-use Rattle.counted_lists.specs.Counted.{Distinct}
-use Rattle.counted_lists.proofs.KeyedLists.{others-without}
-use Rattle.writing.specs.declared.Operation.{Operation}
-use Rattle.writing.specs.declared.Operation.the-variants.{Add, Delete}
+use Rattle.counted_lists.specs.Counted.{put-keyed, Distinct}
+use Rattle.counted_lists.proofs.KeyedLists.{keyed-new, others-without}
+use Rattle.writing.specs.declared.Operation.the-variants.{Add}
 use Rattle.writing.specs.Canonical.{Fits, canonical, canonical-all}
 use Rattle.writing.specs.Ranges.{text-limits, InRange}
-use Rattle.writing.specs.Settings.{Text, Entry, Slot, Setting, group, individual, unicode16}
+use Rattle.writing.specs.Settings.{Text, Entry, Setting, unicode16}
 use Rattle.writing.specs.Writing.{fields}
 use Rattle.writing.proofs.CanonicalLaws.{canonical-written, plain-bytes}
 use Rattle.tables.specs.declared.limits.Limits.{Limits}
+use Rattle.tables.specs.declared.members.Members.{Members}
+use Rattle.tables.specs.declared.members.Members.the-variants.{OfGroups, OfIndividuals}
 use Rattle.tables.specs.Allowed.{Allowed}
-use Rattle.tables.specs.Apply.{and-then, in-turn, with-room, quick-step, status-step, channel-step, slot-after, apply}
-use Rattle.tables.specs.Tables.{Line, line-key, Member, Tables}
+use Rattle.tables.specs.Apply.{and-then, in-turn, has-key, put-contact, with-room, quick-step, status-step, channel-step, apply}
+use Rattle.tables.specs.Limits.{contact-places}
+use Rattle.tables.specs.MemberKinds.{MemberIn, contact-key}
+use Rattle.tables.specs.Tables.{line-key, Tables}
 use Rattle.writing.specs.declared.Kind.the-variants as K
 use Rattle.tables.specs.Owns.{put-own}
-use Rattle.tables.proofs.Sentences.{line-add-new, channel-add, quick-add-free}
+use Rattle.tables.proofs.ContactSentences.{has-number, key-is-number}
+use Rattle.tables.proofs.Sentences.{key-is-both, channel-add, quick-add-free}
 use Rattle.requests.specs.Judge.{done, step}
 use Rattle.requests.specs.Requests.{Runs}
 use Rattle.export.specs.declared.parts.Part.{Part}
-use Rattle.export.specs.declared.parts.Part.the-variants.{Lines, Fixed, QuickTexts, Channels, StatusTexts, Groups, Individuals}
-use Rattle.export_write.specs.LineSettings.{line-add}
-use Rattle.export_write.specs.EntrySettings.{entries, quick-add, no-group-flags, no-individual-flags, slots}
+use Rattle.export.specs.declared.parts.Part.the-variants.{Lines, Fixed, QuickTexts, Channels, StatusTexts, Groups, Individuals, GroupContacts, IndividualContacts, LineSlots}
+use Rattle.export_write.specs.ContactSettings.{contact-add}
+use Rattle.export_write.specs.LineSettings.{line-add, line-slot-setting}
+use Rattle.export_write.specs.EntrySettings.{entries, quick-add, slots}
+use Rattle.export_write.specs.MemberWriters.{member-setting}
 use Rattle.export.specs.Exported.{exported}
 use Rattle.export.specs.Exportable.{Exportable}
 use Rattle.restore.specs.Restored.{with-part}
@@ -58,18 +64,29 @@ turn-runs lim (s ∷ ss) u v f r e = go (apply lim s u) refl e (λ w. turn-runs 
     go (some w) d h more =
         step {w = canonical unicode16 s} {s = s} refl (canonical-written unicode16 s (f .0), all-bytes (canonical unicode16 s) (plain-bytes (fields unicode16 s))) (r .0 (length ss)) d (more w h)
 
--- ---- line contacts
+-- ---- lists by a key
 
--- each line is new, so it goes to the end
-lines-turn : (lim : Limits) (u : Tables) (before after : List Line) → Distinct line-key (before ++ after) → length before + length after ≤ lim .lines
-    → in-turn (apply lim) (map line-add after) (put-own K.Lines u before) ≡ some (put-own K.Lines u (before ++ after))
-lines-turn lim u before [] d h = ap (λ ls. some (put-own K.Lines u ls)) (sym (append-nil before))
-lines-turn lim u before (l ∷ after) d h =
-    let e : apply lim (line-add l) (put-own K.Lines u before) ≡ some (put-own K.Lines u (before ++ (l ∷ [])))
-    = ap (λ o. with-room (put-own K.Lines u) (and-then o some)) (line-add-new (lim .lines) (l .flags) (record { number = l .number; text = l .text }) before (others-without line-key before l after d .0) (omega arith)) in
-    then-turn (apply lim) (line-add l) (map line-add after) (put-own K.Lines u before) (put-own K.Lines u (before ++ (l ∷ []))) e
-    ∙ lines-turn lim u (before ++ (l ∷ [])) after (subst (Distinct line-key) (sym (append-snoc before l after)) d) (omega (arith, length-append before (l ∷ [])))
-    ∙ ap (λ ls. some (put-own K.Lines u ls)) (append-snoc before l after)
+-- settings that add one entry each, of which each has a new key, put their entries to the end in turn
+module _ {A K : Type 0} (key : A → K) (has : K → A → Bool) (decides : (k : K) (a : A) → (has k a ≡ true) ↔ (key a ≡ k)) (lim : Limits) (room : ℕ)
+    (setting : A → Setting) (with-it : List A → Tables)
+    (puts : (a : A) (ls : List A) → apply lim (setting a) (with-it ls) ≡ with-room with-it (and-then (put-keyed (has (key a)) room a ls) some))
+  where
+    keyed-turn : (before after : List A) → Distinct key (before ++ after) → length before + length after ≤ room
+        → in-turn (apply lim) (map setting after) (with-it before) ≡ some (with-it (before ++ after))
+    keyed-turn before [] d h = ap (λ ls. some (with-it ls)) (sym (append-nil before))
+    keyed-turn before (a ∷ after) d h =
+        let e : apply lim (setting a) (with-it before) ≡ some (with-it (before ++ (a ∷ [])))
+        = puts a before ∙ ap (λ o. with-room with-it (and-then o some)) (keyed-new key has decides room a before (others-without key before a after d .0) (omega arith)) in
+        then-turn (apply lim) (setting a) (map setting after) (with-it before) (with-it (before ++ (a ∷ []))) e
+        ∙ keyed-turn (before ++ (a ∷ [])) after (subst (Distinct key) (sym (append-snoc before a after)) d) (omega (arith, length-append before (a ∷ [])))
+        ∙ ap (λ ls. some (with-it ls)) (append-snoc before a after)
+
+-- group and individual contacts, whose key is the address
+contacts-turn : (w : Members) (lim : Limits) (with-it : List (MemberIn w) → Tables)
+    → ((x : MemberIn w) (xs : List (MemberIn w)) → apply lim (contact-add w x) (with-it xs) ≡ with-room with-it (and-then (put-contact w contact-places x xs) some))
+    → (xs : List (MemberIn w)) → length xs ≤ contact-places → Distinct (contact-key w) xs → in-turn (apply lim) (map (contact-add w) xs) (with-it []) ≡ some (with-it xs)
+contacts-turn w lim with-it puts xs h d =
+    keyed-turn (contact-key w) (has-number w) (key-is-number w) lim contact-places (contact-add w) with-it puts [] xs d (omega arith)
 
 -- ---- texts
 
@@ -129,38 +146,33 @@ channels-turn room before (n ∷ after) h =
 -- ---- slots
 
 -- settings of slots, which put what they say into the place of their index, fill a table of as many places
-module _ {F A : Type 0} (lim : Limits) (setting : Operation → F → Slot A → Setting) (f : F) (a : A) (with-it : List (Option (Member F A)) → Tables)
-    (puts : (o : Operation) (g : F) (s : Slot A) (q : List (Option (Member F A)))
-    → apply lim (setting o g s) (with-it q) ≡ some (with-it (set q (s .index) (slot-after o (record { flags = g; address = s .address; text = s .text })))))
+module _ {A : Type 0} (lim : Limits) (setting : ℕ → Option A → Setting) (with-it : List (Option A) → Tables)
+    (empties : (i : ℕ) (q : List (Option A)) → apply lim (setting i none) (with-it q) ≡ some (with-it (set q i none)))
+    (fills : (i : ℕ) (x : A) (q : List (Option A)) → apply lim (setting i (some x)) (with-it q) ≡ some (with-it (set q i (some x))))
   where
-    -- one setting puts x into its place, the others fill the rest
-    slot-then : (o : Operation) (g : F) (s : Slot A) (x : Option (Member F A)) → slot-after o (record { flags = g; address = s .address; text = s .text }) ≡ x
-        → (before : List (Option (Member F A))) (y : Option (Member F A)) (rest l : List (Option (Member F A))) (ss : List Setting) → length before ≡ s .index
-        → in-turn (apply lim) ss (with-it ((before ++ (x ∷ [])) ++ rest)) ≡ some (with-it ((before ++ (x ∷ [])) ++ l))
-        → in-turn (apply lim) (setting o g s ∷ ss) (with-it (before ++ y ∷ rest)) ≡ some (with-it (before ++ x ∷ l))
-    slot-then o g s x d before y rest l ss e more =
-        then-turn (apply lim) (setting o g s) ss (with-it (before ++ y ∷ rest)) (with-it (before ++ x ∷ rest))
-        (puts o g s (before ++ y ∷ rest) ∙ ap (λ z. some (with-it (set (before ++ y ∷ rest) (s .index) z))) d ∙ ap (λ q. some (with-it q)) (set-at before y rest x (s .index) e))
-        ∙ ap (λ q. in-turn (apply lim) ss (with-it q)) (sym (append-snoc before x rest)) ∙ more ∙ ap (λ q. some (with-it q)) (append-snoc before x l)
+    puts : (i : ℕ) (o : Option A) (q : List (Option A)) → apply lim (setting i o) (with-it q) ≡ some (with-it (set q i o))
+    puts i none q = empties i q
+    puts i (some x) q = fills i x q
 
-    slots-turn : (before rest l : List (Option (Member F A))) (i : ℕ) → length before ≡ i → length rest ≡ length l
-        → in-turn (apply lim) (slots setting f a i l) (with-it (before ++ rest)) ≡ some (with-it (before ++ l))
+    slots-turn : (before rest l : List (Option A)) (i : ℕ) → length before ≡ i → length rest ≡ length l
+        → in-turn (apply lim) (slots setting i l) (with-it (before ++ rest)) ≡ some (with-it (before ++ l))
     slots-turn before [] [] i e h = refl
     slots-turn before [] (x ∷ l) i e h = absurd (omega arith)
     slots-turn before (y ∷ rest) [] i e h = absurd (omega arith)
-    slots-turn before (y ∷ rest) (none ∷ l) i e h =
-        slot-then Delete f (record { index = i; address = a; text = [] }) none refl before y rest l (slots setting f a (suc i) l) e
-        (slots-turn (before ++ (none ∷ [])) rest l (suc i) (omega (arith, length-append before (none ∷ []))) (omega arith))
-    slots-turn before (y ∷ rest) (some x ∷ l) i e h =
-        slot-then Add (x .flags) (record { index = i; address = x .address; text = x .text }) (some x) refl before y rest l (slots setting f a (suc i) l) e
-        (slots-turn (before ++ (some x ∷ [])) rest l (suc i) (omega (arith, length-append before (some x ∷ []))) (omega arith))
+    slots-turn before (y ∷ rest) (x ∷ l) i e h =
+        then-turn (apply lim) (setting i x) (slots setting (suc i) l) (with-it (before ++ y ∷ rest)) (with-it (before ++ x ∷ rest))
+        (puts i x (before ++ y ∷ rest) ∙ ap (λ q. some (with-it q)) (set-at before y rest x i e))
+        ∙ ap (λ q. in-turn (apply lim) (slots setting (suc i) l) (with-it q)) (sym (append-snoc before x rest))
+        ∙ slots-turn (before ++ (x ∷ [])) rest l (suc i) (omega (arith, length-append before (x ∷ []))) (omega arith)
+        ∙ ap (λ q. some (with-it q)) (append-snoc before x l)
 
 -- ---- the parts
 
 module _ (lim : Limits) (t u : Tables) (ok : Allowed lim t) (old : Allowed lim u) where
   -- the settings of a part, in turn, have room and leave the part's tables as t has them
   pub part-turn : (p : Part) → in-turn (apply lim) (exported p t) u ≡ some (with-part p t u)
-  part-turn Lines = lines-turn lim u [] (t .lines) (ok .distinct) (omega (arith, ok .lines .0))
+  part-turn Lines =
+      keyed-turn line-key has-key key-is-both lim (lim .lines) line-add (put-own K.Lines u) (λ l ls. refl) [] (t .lines) (ok .distinct) (omega (arith, ok .lines .0))
   part-turn Fixed = refl
   part-turn QuickTexts =
       let es : List Entry = entries 0 (t .quick) in
@@ -171,10 +183,18 @@ module _ (lim : Limits) (t u : Tables) (ok : Allowed lim t) (old : Allowed lim u
   part-turn Channels = ap (λ o. and-then (with-room (put-own K.Channels u) o) some) (channels-turn (lim .channels) [] (t .channels) (omega (arith, ok .channels .0)))
   part-turn StatusTexts = ap (λ o. and-then (with-room (put-own K.StatusTexts u) o) some) (texts-full (status-step Add) 32 status-puts (t .status) 96 (ok .status .0))
   part-turn Groups =
-      slots-turn lim group no-group-flags (record { 0 = 0 }) (put-own K.Group u) (λ o g s q. refl) [] (u .groups) (t .groups) 0 refl (old .groups .0 ∙ sym (ok .groups .0))
+      slots-turn lim (member-setting OfGroups) (put-own K.Group u) (λ i q. refl) (λ i x q. refl) [] (u .groups) (t .groups) 0 refl
+      (old .groups .0 ∙ sym (ok .groups .0))
   part-turn Individuals =
-      slots-turn lim individual no-individual-flags (record { 0 = 0 }) (put-own K.Individual u) (λ o g s q. refl) [] (u .individuals) (t .individuals) 0 refl
+      slots-turn lim (member-setting OfIndividuals) (put-own K.Individual u) (λ i q. refl) (λ i x q. refl) [] (u .individuals) (t .individuals) 0 refl
       (old .individuals .0 ∙ sym (ok .individuals .0))
+  part-turn GroupContacts =
+      contacts-turn OfGroups lim (put-own K.GroupContacts u) (λ x xs. refl) (t .group-contacts) (ok .group-contacts .0) (ok .distinct-groups)
+  part-turn IndividualContacts =
+      contacts-turn OfIndividuals lim (put-own K.IndividualContacts u) (λ x xs. refl) (t .individual-contacts) (ok .individual-contacts .0) (ok .distinct-individuals)
+  part-turn LineSlots =
+      slots-turn lim line-slot-setting (put-own K.LineSlot u) (λ i q. refl) (λ i x q. refl) [] (u .line-slots) (t .line-slots) 0 refl
+      (old .line-slots .0 ∙ sym (ok .line-slots .0))
 
   -- PART RUNS: so they run to their end over their canonical writing
   pub part-runs : Exportable lim → (p : Part) → Runs unicode16 lim (length (exported p t)) u (canonical-all unicode16 (exported p t)) (exported p t) (with-part p t u) []

@@ -13,23 +13,26 @@ use Rattle.writing.specs.declared.SystemCode.{SystemCode}
 use Rattle.writing.specs.Canonical.{FitsField, Fits, canonical}
 use Rattle.writing.specs.Fields.{Field, val, item, widths, each}
 use Rattle.writing.specs.Ranges.{text-limits, InRange, InChannel, InContact, InQuick, InStatus}
-use Rattle.writing.specs.Settings.{Text, Contact, Entry, Setting, lines, key, quick-texts, home, channels, system, status-texts, kind, unicode16}
-use Rattle.writing.specs.Writing.{op-code, text, fill, number, contact, quick-text, status-text, key-address, body}
+use Rattle.writing.specs.Settings.{Text, Contact, Addressed, Entry, Setting, lines, key, quick-texts, home, channels, system, status-texts, kind, unicode16}
+use Rattle.writing.specs.Writing.{op-code, text, fill, number, addressed, contact, quick-text, status-text, key-address, body}
 use Rattle.writing.proofs.Bits.{widths-append, widths-map}
 use Rattle.writing.proofs.CanonicalLaws.{canonical-length}
 use Rattle.writing.proofs.Whole.{text-widths}
 use Rattle.tables.specs.Allowed.{QuickOk, StatusOk, LineOk, TargetOk, HomeOk, SystemOk}
 use Rattle.tables.specs.Tables.{Line}
 use Rattle.requests.specs.Requests.{item-of}
-use Rattle.export_write.specs.LineSettings.{no-line-flags, line-add}
+use Rattle.export_write.specs.ContactSettings.{clearing-flags, contacts-setting, contact-add}
+use Rattle.export_write.specs.LineSettings.{no-line-flags, line-add, line-slot-setting}
 use Rattle.export_write.specs.EntrySettings.{quick-add}
 use Rattle.tables.specs.declared.members.Members.{Members}
 use Rattle.tables.specs.declared.members.Members.the-variants.{OfGroups, OfIndividuals}
 use Rattle.export_write.specs.MemberWriters.{member-setting}
-use Rattle.tables.specs.Members.{MemberIn, member-ok}
+use Rattle.tables.specs.MemberKinds.{MemberIn}
+use Rattle.tables.specs.Members.{member-ok}
 use Rattle.export_write.proofs.ChannelWriting.{packed-fits}
 use Rattle.export_write.proofs.FixedWriting.{key-fits, home-fits, system-fits}
-use Rattle.export_write.proofs.LineWriting.{line-fits}
+use Rattle.export_write.proofs.ContactWriting.{contact-written}
+use Rattle.export_write.proofs.LineWriting.{line-fits, line-slot-fits}
 use Rattle.export_write.proofs.MemberWriting.{slot-written}
 use Rattle.export_write.proofs.StartLaws.{type-small}
 use Rattle.export_write.proofs.TextLists.{EntryOk, quick-fits, status-fits}
@@ -172,6 +175,36 @@ channels-readable ns few ok =
     (omega arith, (tt, (few, packed-fits ns ok)))
     (λ left. ok) refl (omega arith) (omega arith)
 
+-- ---- group and individual contacts
+
+-- so many bytes stand before a setting's contacts
+abbrev pub contacts-head : Members → ℕ
+contacts-head OfGroups = 6
+contacts-head OfIndividuals = 5
+
+-- a replace with Count 0, whose attribute is in range
+pub clearing-readable : (w : Members) → Readable (contacts-head w) (contacts-setting w Replace (clearing-flags w) [])
+clearing-readable OfGroups =
+    readable _ 6 (omega arith, (omega arith, (omega arith, (omega arith, (omega arith, (omega arith, (omega arith, (tt, (omega arith, tt))))))))) (λ left. (omega arith, tt)) refl
+    (omega arith) (omega arith)
+clearing-readable OfIndividuals =
+    readable _ 5 (omega arith, (omega arith, (omega arith, (omega arith, (tt, (omega arith, tt)))))) (λ left. tt) refl (omega arith) (omega arith)
+
+addressed-widths : {A : Type 0} (number-of : A → ℕ) (e : Addressed A) → length (e .text) ≤ 16 → widths (each (addressed number-of unicode16) (e ∷ [])) ≤ 296
+addressed-widths number-of e h =
+    omega (arith, each-widths (addressed number-of unicode16) 296 (e ∷ []) (omega (arith, text-widths unicode16 (e .text)), tt))
+
+-- one add per contact
+pub contact-readable : (w : Members) (x : MemberIn w) → member-ok w x → Readable (contacts-head w + 37) (contact-add w x)
+contact-readable OfGroups x ok =
+    let e : Addressed _ = record { address = x .address; text = x .text } in
+    readable (contact-add OfGroups x) 43 (contact-written OfGroups x ok .fits) (λ left. (ok .attribute .0, ((ok .address .0, ok .text .short), tt))) refl
+    (omega (arith, addressed-widths (λ a. a .0) e (ok .text .short))) (omega arith)
+contact-readable OfIndividuals x ok =
+    let e : Addressed _ = record { address = x .address; text = x .text } in
+    readable (contact-add OfIndividuals x) 42 (contact-written OfIndividuals x ok .fits) (λ left. ((ok .address .0, ok .text .short), tt)) refl
+    (omega (arith, addressed-widths (λ a. a .0) e (ok .text .short))) (omega arith)
+
 -- ---- slots
 
 slot-widths : (us : Text) → length us ≤ 16 → widths (text unicode16 us) ≤ 272
@@ -185,3 +218,11 @@ member-readable OfGroups i h (some x) ok =
 member-readable OfIndividuals i h none ok = readable _ 42 (slot-written i h OfIndividuals none ok .fits) (λ left. (tt, omega arith)) refl (omega arith) (omega arith)
 member-readable OfIndividuals i h (some x) ok =
     readable _ 42 (slot-written i h OfIndividuals (some x) ok .fits) (λ left. (ok .address .0, ok .text .short)) refl (omega (arith, slot-widths (x .text) (ok .text .short))) (omega arith)
+
+-- a line slot
+pub line-slot-readable : (i : ℕ) → i < 16 → (o : Option Line) → Present LineOk o → Readable 49 (line-slot-setting i o)
+line-slot-readable i h none ok =
+    readable _ 49 (line-slot-fits i h none ok) (λ left. (tt, (omega arith, omega arith, (omega arith, tt)), omega arith)) refl (omega arith) (omega arith)
+line-slot-readable i h (some l) ok =
+    let e : Contact = record { number = l .number; text = l .text } in
+    readable _ 49 (line-slot-fits i h (some l) ok) (λ left. (tt, ok .number, ok .text .short)) refl (omega (arith, contact-widths e (ok .number, ok .text .short))) (omega arith)

@@ -10,7 +10,7 @@ use Rattle.tables.specs.declared.limits.Limits.{Limits}
 use Rattle.tables.specs.Allowed.{Allowed}
 use Rattle.tables.specs.Tables.{Tables}
 use Rattle.export.specs.declared.parts.Part.{Part}
-use Rattle.export.specs.declared.parts.Part.the-variants.{Lines, Fixed, QuickTexts, Channels, StatusTexts, Groups, Individuals}
+use Rattle.export.specs.declared.parts.Part.the-variants.{Lines, Fixed, QuickTexts, Channels, StatusTexts, Groups, Individuals, GroupContacts, IndividualContacts, LineSlots}
 use Rattle.export.specs.Exported.{exported, data-bytes, request-bytes}
 use Rattle.export.specs.Exportable.{Exportable}
 use Rattle.restore.specs.Restored.{longest}
@@ -52,6 +52,9 @@ longest-fits lim x Channels = (omega (arith, x .status, x .channels), omega (ari
 longest-fits lim x StatusTexts = (omega (arith, x .status), omega arith)
 longest-fits lim x Groups = (omega (arith, x .status), omega arith)
 longest-fits lim x Individuals = (omega (arith, x .status), omega arith)
+longest-fits lim x GroupContacts = (omega (arith, x .status), omega arith)
+longest-fits lim x IndividualContacts = (omega (arith, x .status), omega arith)
+longest-fits lim x LineSlots = (omega (arith, x .status), omega arith)
 
 module _ (lim : Limits) (x : Exportable lim) (t : Tables) (ok : Allowed lim t) (p : Part) where
   -- BOUND: no part of allowed tables is longer

@@ -16,9 +16,9 @@ use Rattle.export.specs.declared.parts.Export.the-variants.{Written, Untouched}
 use Rattle.export.specs.declared.parts.NoExport.{NoExport}
 use Rattle.export.specs.declared.parts.NoExport.the-variants.{Buffer, NotAStore, NoPart}
 use Rattle.export.specs.Exportable.{Exportable}
-use Rattle.export.specs.Exported.{seven, exported, request-bytes}
+use Rattle.export.specs.Exported.{ten, exported, request-bytes}
 use Rattle.export.specs.Exporting.{AfterExport, told, no-export, exporting}
-use Rattle.export.proofs.PartWriting.{seven-at}
+use Rattle.export.proofs.PartWriting.{ten-at}
 use Rattle.restore.specs.Restored.{with-part, requests}
 use Rattle.restore.specs.Restoring.{written-in-turn, restores, Lent, PartMoved, Moved}
 use Rattle.restore.proofs.ExportedBytes.{written-one}
@@ -76,8 +76,8 @@ module _ (lim : Limits) (from to buffer reply : List ℕ) (t u : Tables) where
 
   -- so many parts were moved
   pub record SoFar (k : ℕ) (to-now buffer-now reply-now : List ℕ) : Type 0 where
-    pub holds : Holds lim (with-parts t (take k seven) u) to-now
-    pub buffer-is : buffer-now ≡ written-in-turn (requests t (take k seven)) buffer
+    pub holds : Holds lim (with-parts t (take k ten) u) to-now
+    pub buffer-is : buffer-now ≡ written-in-turn (requests t (take k ten)) buffer
     pub reply-first : k ≡ 0 → reply-now ≡ reply
     pub reply-is : 0 < k → reply-now ≡ written-over answer reply
 
@@ -85,21 +85,21 @@ module _ (lim : Limits) (from to buffer reply : List ℕ) (t u : Tables) where
   so-far-start h = record { holds = h; buffer-is = refl; reply-first = λ e. refl; reply-is = λ e. absurd (omega arith) }
 
   -- one part more
-  pub so-far-on : (k : ℕ) (to-now buffer-now reply-now work to-then buffer-then reply-then : List ℕ) → k < length seven → Exportable lim → Roomy lim → Holds lim t from
+  pub so-far-on : (k : ℕ) (to-now buffer-now reply-now work to-then buffer-then reply-then : List ℕ) → k < length ten → Exportable lim → Roomy lim → Holds lim t from
       → Lent lim buffer-now reply-now work → SoFar k to-now buffer-now reply-now → Moved lim (k + 1) from to-now to-then buffer-now buffer-then reply-now reply-then work
       → SoFar (k + 1) to-then buffer-then reply-then
   so-far-on k to-now buffer-now reply-now work to-then buffer-then reply-then l able roomy h lent z v =
-      let p : Part = getD seven k Lines in
-      let x : PartMoved lim p t (with-parts t (take k seven) u) to-then buffer-now buffer-then reply-now reply-then
-      = v p t (with-parts t (take k seven) u) (seven-at k l) able roomy h (z .holds) lent in
-      let e : take k seven ++ (p ∷ []) ≡ take (k + 1) seven = sym (take-suc seven k Lines l) ∙ ap (λ (i : ℕ). take i seven) (let i : suc k ≡ k + 1 = omega arith in i) in
-      let a : Holds lim (with-part p t (forget (with-parts t (take k seven) u))) to-then
-      = after-holds lim able roomy t (h .0) (with-parts t (take k seven) u) to-now to-then (z .holds) p (x .to-is) in
-      let same : with-part p t (forget (with-parts t (take k seven) u)) ≡ with-parts t (take (k + 1) seven) u
-      = sym (parts-more t (take k seven) p u) ∙ ap (λ (ps : List Part). with-parts t ps u) e in
+      let p : Part = getD ten k Lines in
+      let x : PartMoved lim p t (with-parts t (take k ten) u) to-then buffer-now buffer-then reply-now reply-then
+      = v p t (with-parts t (take k ten) u) (ten-at k l) able roomy h (z .holds) lent in
+      let e : take k ten ++ (p ∷ []) ≡ take (k + 1) ten = sym (take-suc ten k Lines l) ∙ ap (λ (i : ℕ). take i ten) (let i : suc k ≡ k + 1 = omega arith in i) in
+      let a : Holds lim (with-part p t (forget (with-parts t (take k ten) u))) to-then
+      = after-holds lim able roomy t (h .0) (with-parts t (take k ten) u) to-now to-then (z .holds) p (x .to-is) in
+      let same : with-part p t (forget (with-parts t (take k ten) u)) ≡ with-parts t (take (k + 1) ten) u
+      = sym (parts-more t (take k ten) p u) ∙ ap (λ (ps : List Part). with-parts t ps u) e in
       record {
         holds = subst (λ (w : Tables). Holds lim w to-then) same a;
-        buffer-is = x .buffer-is ∙ ap (written-over (request-bytes (exported p t))) (z .buffer-is) ∙ sym (requests-more t (take k seven) p buffer)
+        buffer-is = x .buffer-is ∙ ap (written-over (request-bytes (exported p t))) (z .buffer-is) ∙ sym (requests-more t (take k ten) p buffer)
             ∙ ap (λ (ps : List Part). written-in-turn (requests t ps) buffer) e;
         reply-first = λ w. absurd (omega arith);
         reply-is = λ w. x .reply-is ∙ over-again k (z .reply-first) (z .reply-is);
@@ -110,9 +110,9 @@ module _ (lim : Limits) (from to buffer reply : List ℕ) (t u : Tables) where
       over-again (suc k) f g = ap (written-over answer) (g (omega arith)) ∙ again answer reply
 
   -- all of them
-  pub so-far-end : (k : ℕ) (to-now buffer-now reply-now : List ℕ) → k ≡ length seven → SoFar k to-now buffer-now reply-now
+  pub so-far-end : (k : ℕ) (to-now buffer-now reply-now : List ℕ) → k ≡ length ten → SoFar k to-now buffer-now reply-now
       → record { answer = 0; to = to-now; buffer = buffer-now; reply = reply-now } ≡ restores lim from to buffer reply t
   so-far-end k to-now buffer-now reply-now e g =
-      let z : SoFar (length seven) to-now buffer-now reply-now = subst (λ (i : ℕ). SoFar i to-now buffer-now reply-now) e g in
+      let z : SoFar (length ten) to-now buffer-now reply-now = subst (λ (i : ℕ). SoFar i to-now buffer-now reply-now) e g in
       let r : reply-now ≡ written-over answer reply = z .reply-is (omega arith) in
       λ i. record { answer = 0; to = z .holds .1 i; buffer = z .buffer-is i; reply = r i }

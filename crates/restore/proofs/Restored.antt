@@ -1,4 +1,4 @@
--- RESTORED: the seven exported requests, taken by any other set, give it the same tables. Assumes nothing.
+-- RESTORED: the ten exported requests, taken by any other set, give it the same tables. Assumes nothing.
 use Rattle.lists.proofs.Kit.{ℕ, _≤_, _≡_, refl, sym, ap, _∙_, false, List, [], _∷_, Option, none, length}
 use Rattle.lists.specs.Every.{All}
 use Rattle.lists.specs.Ladder.{Answers}
@@ -9,9 +9,10 @@ use Rattle.tables.specs.Allowed.{Allowed}
 use Rattle.tables.specs.Layout.{layout, Roomy}
 use Rattle.tables.specs.Store.{Holds}
 use Rattle.tables.specs.Tables.{Tables, no-hash}
-use Rattle.writing.specs.declared.Kind.the-variants.{Key, Home}
-use Rattle.tables.specs.Owns.{put-own}
-use Rattle.tables.proofs.AllowedLaws.{key-allowed, home-allowed, system-allowed, quick-allowed, status-allowed, groups-allowed, individuals-allowed, channels-allowed, lines-allowed, forget-allowed}
+use Rattle.writing.specs.declared.Kind.{Kind}
+use Rattle.writing.specs.declared.Kind.the-variants as Kind
+use Rattle.tables.specs.Owns.{own, put-own}
+use Rattle.tables.proofs.AllowedLaws.{own-ok, put-allowed, forget-allowed}
 use Rattle.tables.proofs.LayoutLaws.{holds-store, layout-one}
 use Rattle.requests.specs.Judge.{kept, taken as all-taken}
 use Rattle.requests.specs.Requests.{forget, item-of, or-else, LastItem, last-item}
@@ -19,8 +20,8 @@ use Rattle.station.specs.Taking.{AfterTaking, replies, settled, AsRequest, take
 use Rattle.laws_taking.proofs.Determined.{outcome-determined}
 use Rattle.station.proofs.TakeLaws.{request-answers}
 use Rattle.export.specs.declared.parts.Part.{Part}
-use Rattle.export.specs.declared.parts.Part.the-variants.{Lines, Fixed, QuickTexts, Channels, StatusTexts, Groups, Individuals}
-use Rattle.export.specs.Exported.{seven, exported, request-bytes}
+use Rattle.export.specs.declared.parts.Part.the-variants.{Lines, Fixed, QuickTexts, Channels, StatusTexts, Groups, Individuals, GroupContacts, IndividualContacts, LineSlots}
+use Rattle.export.specs.Exported.{ten, exported, request-bytes}
 use Rattle.export.specs.Exportable.{Exportable}
 use Rattle.restore.specs.Restored.{with-part, SameTables, requests, TakenInTurn}
 use Rattle.restore.proofs.Fitting.{exported-readable}
@@ -43,19 +44,29 @@ part-hash Channels t u = refl
 part-hash StatusTexts t u = refl
 part-hash Groups t u = refl
 part-hash Individuals t u = refl
+part-hash GroupContacts t u = refl
+part-hash IndividualContacts t u = refl
+part-hash LineSlots t u = refl
 
 -- a part of allowed tables makes allowed tables
 part-allowed : (lim : Limits) (p : Part) (t u : Tables) → Allowed lim t → Allowed lim u → Allowed lim (with-part p t u)
-part-allowed lim Lines t u ok old = lines-allowed lim u old (t .lines) (ok .lines, ok .distinct)
-part-allowed lim Fixed t u ok old =
-    let a : Allowed lim (put-own Key u (t .key)) = key-allowed lim u old (t .key) (ok .key) in
-    let b : Allowed lim (put-own Home (put-own Key u (t .key)) (t .home)) = home-allowed lim _ a (t .home) (ok .home) in
-    system-allowed lim _ b (t .system) (ok .system)
-part-allowed lim QuickTexts t u ok old = quick-allowed lim u old (t .quick) (ok .quick)
-part-allowed lim Channels t u ok old = channels-allowed lim u old (t .channels) (ok .channels)
-part-allowed lim StatusTexts t u ok old = status-allowed lim u old (t .status) (ok .status)
-part-allowed lim Groups t u ok old = groups-allowed lim u old (t .groups) (ok .groups)
-part-allowed lim Individuals t u ok old = individuals-allowed lim u old (t .individuals) (ok .individuals)
+part-allowed lim p t u ok old = by p
+  where
+    -- a table more as t has it
+    one : (k : Kind) (v : Tables) → Allowed lim v → Allowed lim (put-own k v (own k t))
+    one k v now = put-allowed lim v now k (own k t) (own-ok lim t ok k)
+
+    by : (p : Part) → Allowed lim (with-part p t u)
+    by Lines = one Kind.Lines u old
+    by Fixed = one Kind.System _ (one Kind.Home _ (one Kind.Key u old))
+    by QuickTexts = one Kind.QuickTexts u old
+    by Channels = one Kind.Channels u old
+    by StatusTexts = one Kind.StatusTexts u old
+    by Groups = one Kind.Group u old
+    by Individuals = one Kind.Individual u old
+    by GroupContacts = one Kind.GroupContacts u old
+    by IndividualContacts = one Kind.IndividualContacts u old
+    by LineSlots = one Kind.LineSlot u old
 
 -- what taking these parts of t in turn makes of the tables u: each request forgets the hash kept before
 abbrev pub with-parts : Tables → List Part → Tables → Tables
@@ -114,12 +125,12 @@ module _ (lim : Limits) (x : Exportable lim) (room : Roomy lim) (t : Tables) (ok
   parts-taken (p ∷ ps) u store after holds (reply, a, long, h, more) =
       parts-taken ps (with-part p t (forget u)) (a .store) after (after-holds u store (a .store) holds p (exported-taken u store holds reply long p a h .2)) more
 
-  -- RESTORED: the seven requests in turn leave the store of the same tables, the kept hash aside, whatever the set held
-  pub restored : (u : Tables) (store after : List ℕ) → Holds lim u store → TakenInTurn lim (requests t seven) store after → after ≡ layout lim (forget t)
-  restored u store after holds h = parts-taken seven u store after holds h
+  -- RESTORED: the ten requests in turn leave the store of the same tables, the kept hash aside, whatever the set held
+  pub restored : (u : Tables) (store after : List ℕ) → Holds lim u store → TakenInTurn lim (requests t ten) store after → after ≡ layout lim (forget t)
+  restored u store after holds h = parts-taken ten u store after holds h
 
   -- SAME TABLES: so any tables that the last store holds are the same
-  pub same-tables : (u v : Tables) (store after : List ℕ) → Holds lim u store → TakenInTurn lim (requests t seven) store after → Holds lim v after → SameTables v t
+  pub same-tables : (u v : Tables) (store after : List ℕ) → Holds lim u store → TakenInTurn lim (requests t ten) store after → Holds lim v after → SameTables v t
   same-tables u v store after holds h now =
       ap forget (layout-one lim v (forget t) (now .0) (forget-allowed lim t ok) (sym (now .1) ∙ restored u store after holds h))
 
@@ -135,5 +146,5 @@ module _ (lim : Limits) (x : Exportable lim) (room : Roomy lim) (t : Tables) (ok
   )
 
   -- RESTORABLE: what RESTORED speaks of comes to pass
-  pub restorable : (reply : List ℕ) → 20 ≤ length reply → (u : Tables) (store : List ℕ) → Holds lim u store → TakenInTurn lim (requests t seven) store (layout lim (forget t))
-  restorable reply long u store holds = parts-takable reply long seven u store holds
+  pub restorable : (reply : List ℕ) → 20 ≤ length reply → (u : Tables) (store : List ℕ) → Holds lim u store → TakenInTurn lim (requests t ten) store (layout lim (forget t))
+  restorable reply long u store holds = parts-takable reply long ten u store holds

@@ -13,7 +13,7 @@ use Rattle.tables.specs.Tables.{Tables}
 use Rattle.requests.specs.Requests.{forget}
 use Rattle.station.specs.Taking.{AfterTaking, taken}
 use Rattle.export.specs.declared.parts.Part.{Part}
-use Rattle.export.specs.declared.parts.Part.the-variants.{Lines, Fixed, QuickTexts, Channels, StatusTexts, Groups, Individuals}
+use Rattle.export.specs.declared.parts.Part.the-variants.{Lines, Fixed, QuickTexts, Channels, StatusTexts, Groups, Individuals, GroupContacts, IndividualContacts, LineSlots}
 use Rattle.export.specs.Exported.{exported, request-bytes}
 
 -- the kinds of setting whose tables a part writes out
@@ -25,6 +25,9 @@ part-kinds Channels k = only Kind.Channels k
 part-kinds StatusTexts k = only Kind.StatusTexts k
 part-kinds Groups k = only Kind.Group k
 part-kinds Individuals k = only Kind.Individual k
+part-kinds GroupContacts k = only Kind.GroupContacts k
+part-kinds IndividualContacts k = only Kind.IndividualContacts k
+part-kinds LineSlots k = only Kind.LineSlot k
 
 -- the tables u, with those of one part as t has them
 abbrev pub with-part : Part → Tables → Tables → Tables
@@ -34,7 +37,7 @@ with-part p t u = mix (part-kinds p) u t
 abbrev pub SameTables : Tables → Tables → Type 0
 SameTables t u = forget t ≡ forget u
 
--- ---- the seven requests, taken in turn
+-- ---- the ten requests, taken in turn
 
 -- the requests of these parts, as exporting the tables writes them
 abbrev pub requests : Tables → List Part → List (List ℕ)
@@ -57,6 +60,9 @@ longest-settings lim Channels = 5 + (3 * lim .channels + 1) / 2
 longest-settings lim StatusTexts = 5 + 96 * 35
 longest-settings lim Groups = 16 * 42
 longest-settings lim Individuals = 16 * 42
+longest-settings lim GroupContacts = 6 + 64 * 43
+longest-settings lim IndividualContacts = 5 + 64 * 42
+longest-settings lim LineSlots = 16 * 49
 
 -- the most bytes of a part's request: start bytes, carrier and ParamSum are 8
 abbrev pub longest : Limits → Part → ℕ

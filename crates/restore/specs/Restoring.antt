@@ -1,4 +1,4 @@
--- What restoring one set's tables in another answers and leaves: demand 2, "the seven exported requests, taken by any other started set, give it the same tables".
+-- What restoring one set's tables in another answers and leaves: demand 2, "the seven exported requests, taken by any other started set, give it the same tables"; they are ten since A4.
 use Prim.Native.Nat.{ℕ, _≤_, _<_}
 use mathlib.Core.Path.{_≡_}
 use mathlib.Core.List.{List, [], _∷_}
@@ -13,7 +13,7 @@ use Rattle.station.specs.Replies.{reply-bytes}
 use Rattle.requests.specs.Requests.{forget}
 use Rattle.export.specs.declared.parts.Part.{Part}
 use Rattle.export.specs.Exportable.{Exportable}
-use Rattle.export.specs.Exported.{seven, part-number, exported, request-bytes}
+use Rattle.export.specs.Exported.{ten, part-number, exported, request-bytes}
 use Rattle.restore.specs.declared.restore.Restored.{Restored}
 use Rattle.restore.specs.declared.restore.Restored.the-variants.{Same, ReplyBuffer, NotAStore, Buffer}
 use Rattle.restore.specs.Restored.{with-part, requests}
@@ -47,7 +47,7 @@ module _ (lim : Limits) (from to buffer reply : List ℕ) where
   restores t = record {
     answer = 0;
     to = layout lim (forget t);
-    buffer = written-in-turn (requests t seven) buffer;
+    buffer = written-in-turn (requests t ten) buffer;
     reply = written-over (reply-bytes 0 0 no-hash) reply;
   }
 

@@ -1,4 +1,5 @@
 pub mod AnswerLaws
+pub mod Background
 pub mod Determined
 pub mod EntryLaws
 pub mod NameLaws

@@ -1,11 +1,13 @@
 -- What is found in a row of a store is what stands there. Assumes nothing.
-use Rattle.lists.proofs.Kit.{ℕ, _+_, _*_, _-_, _≤_, _<_, _≡_, refl, sym, ap, ap₂, _∙_, subst, _≢_, _⊎_, inl, inr, Bool, true, false, List, [], _∷_, map, Option, none, some, Option·none-ne-some, arith, ltb-false, midOf, mid-len, ltb, length, getD, length-map, List·getD-eq-default}
+use Rattle.lists.proofs.Kit.{ℕ, _+_, _*_, _-_, _/_, _≤_, _<_, _≡_, refl, sym, ap, ap₂, _∙_, subst, _≢_, inl, inr, Bool, true, false, cond, List, [], _∷_, map, none, some, Option·none-ne-some, arith, ltb-false, midOf, mid-len, eqb, ltb, length, getD, length-map}
 use denote.Enum.Declared.{tagOf}
-use types.Run.{OneOf, miss}
+use types.Run.{OneOf}
+use Rattle.lists.specs.Every.{All}
 use Rattle.slots.specs.Slots.{u24, zeros?, Found}
 use Rattle.writing.specs.Settings.{Text}
 use Rattle.tables.specs.declared.limits.Limits.{Limits}
 use Rattle.tables.specs.Allowed.{Allowed}
+use Rattle.tables.specs.Apply.{and-then}
 use Rattle.tables.specs.Layout.{digits-at}
 use Rattle.tables.specs.Store.{StoreOf, Holds}
 use Rattle.tables.specs.Tables.{Tables}
@@ -16,32 +18,31 @@ use Rattle.screen.specs.declared.names.Slot.{Slot}
 use Rattle.screen.specs.declared.names.SlotPlace.{SlotPlace}
 use Rattle.screen.specs.declared.names.SlotPlace.the-variants.{At, Beyond}
 use Rattle.screen.specs.declared.rows.Row.{Row}
-use Rattle.screen.specs.declared.rows.Row.the-variants.{Line, QuickText, StatusText, Group, Individual, NoTable}
+use Rattle.screen.specs.declared.rows.Row.the-variants.{Line, QuickText, StatusText, Group, Individual, GroupContact, IndividualContact, LineSlot, NoTable}
 use Rattle.screen.proofs.rows.Row.{the-type}
-use Rattle.screen.specs.Naming.{SlotIs, NameIs, Named}
-use Rattle.screen.specs.Rows.{Caption, text, line, group, individual, caption, text-of, of, Displays, stored, text-start}
-use Rattle.screen.proofs.EntryLaws.{OfKind, a-line, a-quick-text, a-status-text, a-group, an-individual, HeadIn, Captioned, row-seen}
-use Rattle.screen.proofs.SlotLaws.{SlotFits, slot-fits}
+use Rattle.screen.specs.Naming.{SlotIs, hidden, NameIs, Named}
+use Rattle.screen.specs.Rows.{Caption, text, line, group, individual, line-row, individual-row, group-row, caption, text-of, of, Displays, stored, text-start}
+use Rattle.screen.proofs.EntryLaws.{kind-at, kind-of, HeadIn, Captioned, row-seen, none-past}
+use Rattle.screen.proofs.SlotLaws.{SlotFits, slot-fits, head-at, text-behind}
 
 -- ---- rows beyond the tables
 
--- what stands past the end is none
-none-past : {A : Type 0} (os : List (Option A)) (n : ℕ) → length os ≤ n → getD os n none ≡ none
-none-past os n h = List·getD-eq-default os none {n = n} h
-
 -- a row that has no slot is absent
 row-beyond : (lim : Limits) (t : Tables) → Allowed lim t → (row : Row) → SlotIs lim row Beyond → caption t row ≡ none
-row-beyond lim t ok (Line n) x =
-    let e : length (map some (t .lines)) ≡ length (t .lines) = length-map (t .lines) some in
-    ap (of (λ l. line (l .text) (l .number))) (none-past (map some (t .lines)) n (omega (arith, e, ok .lines .0)))
-row-beyond lim t ok (QuickText n) x = ap (of text) (none-past (t .quick) n (omega (arith, ok .quick .0)))
+row-beyond lim t ok (Line n) x = none-past (of line-row) (map some (t .lines)) n refl (omega (arith, length-map (t .lines) some, ok .lines .0))
+row-beyond lim t ok (QuickText n) x = none-past (of text) (t .quick) n refl (omega (arith, ok .quick .0))
 row-beyond lim t ok (StatusText n) x = go (ltb n 32) refl
   where
     go : (b : Bool) → ltb n 32 ≡ b → caption t (StatusText n) ≡ none
     go true e = rw e
-    go false e = rw e (ap (of text) (none-past (t .status) (n - 32) (omega (arith, ok .status .0, x (ltb-false n 32 e)))))
-row-beyond lim t ok (Group n) x = ap (of (λ g. group (g .text) (g .address))) (none-past (t .groups) n (omega (arith, ok .groups .0)))
-row-beyond lim t ok (Individual n) x = ap (of (λ g. individual (g .text) (g .address))) (none-past (t .individuals) n (omega (arith, ok .individuals .0)))
+    go false e = rw e (none-past (of text) (t .status) (n - 32) refl (omega (arith, ok .status .0, x (ltb-false n 32 e))))
+row-beyond lim t ok (Group n) x = none-past (λ o. and-then o group-row) (t .groups) n refl (omega (arith, ok .groups .0))
+row-beyond lim t ok (Individual n) x = none-past (of individual-row) (t .individuals) n refl (omega (arith, ok .individuals .0))
+row-beyond lim t ok (GroupContact n) x =
+    none-past (λ o. and-then o group-row) (map some (t .group-contacts)) n refl (omega (arith, length-map (t .group-contacts) some, ok .group-contacts .0))
+row-beyond lim t ok (IndividualContact n) x =
+    none-past (of individual-row) (map some (t .individual-contacts)) n refl (omega (arith, length-map (t .individual-contacts) some, ok .individual-contacts .0))
+row-beyond lim t ok (LineSlot n) x = none-past (of line-row) (t .line-slots) n refl (omega (arith, ok .line-slots .0))
 row-beyond lim t ok NoTable x = refl
 
 pub named-beyond : (lim : Limits) (s : List ℕ) (row : Row) (r : SlotPlace) → SlotIs lim row r → r ≡ Beyond → NameIs lim s row (Refused Absent)
@@ -56,6 +57,9 @@ text-starts lim (QuickText n) slot x = omega (arith, x .2)
 text-starts lim (StatusText n) slot (h, x) = x .2
 text-starts lim (Group n) slot x = x .2
 text-starts lim (Individual n) slot x = x .2
+text-starts lim (GroupContact n) slot x = x .2
+text-starts lim (IndividualContact n) slot x = x .2
+text-starts lim (LineSlot n) slot x = x .2
 text-starts lim NoTable slot x = absurd x
 
 -- no row's text stands at the store's first byte
@@ -65,6 +69,9 @@ text-starts-late lim t (QuickText n) c e = omega arith
 text-starts-late lim t (StatusText n) c e = omega arith
 text-starts-late lim t (Group n) c e = omega arith
 text-starts-late lim t (Individual n) c e = omega arith
+text-starts-late lim t (GroupContact n) c e = omega arith
+text-starts-late lim t (IndividualContact n) c e = omega arith
+text-starts-late lim t (LineSlot n) c e = omega arith
 text-starts-late lim t NoTable c e = absurd (Option·none-ne-some c e)
 
 -- a text that is not empty is shown
@@ -82,6 +89,55 @@ no-units : (us : Text) → 0 ≡ 2 * length us → us ≡ []
 no-units [] e = refl
 no-units (u ∷ us) e = absurd (omega arith)
 
+-- ---- rows by their case
+
+-- the rows of each kind, and those that are no groups, by their case in the code
+abbrev text-rows : List ℕ
+text-rows = 1 ∷ 2 ∷ 8 ∷ []
+
+abbrev line-rows : List ℕ
+line-rows = 0 ∷ 7 ∷ []
+
+abbrev group-rows : List ℕ
+group-rows = 3 ∷ 5 ∷ []
+
+abbrev individual-rows : List ℕ
+individual-rows = 4 ∷ 6 ∷ []
+
+abbrev other-rows : List ℕ
+other-rows = 0 ∷ 1 ∷ 2 ∷ 4 ∷ 6 ∷ 7 ∷ 8 ∷ []
+
+-- what is the same for each of some cases is that for a row of one of them
+at-case : {A : Type 0} (f : ℕ → A) (a : A) (ks : List ℕ) (n : ℕ) → All (λ k. f k ≡ a) ks → OneOf ks n → f n ≡ a
+at-case f a [] n h e = absurd e
+at-case f a (k ∷ []) n h e = ap f e ∙ h .0
+at-case f a (k ∷ j ∷ ks) n h (inl e) = ap f e ∙ h .0
+at-case f a (k ∷ j ∷ ks) n h (inr e) = at-case f a (j ∷ ks) n (h .1) e
+
+-- only a group's flags can hide a row
+hidden-by : (row : Row) (b : ℕ) → cond (eqb (kind-at (tagOf the-type row)) 2) (eqb (b / 64) 1) false ≡ hidden row b
+hidden-by (Line n) b = refl
+hidden-by (QuickText n) b = refl
+hidden-by (StatusText n) b = refl
+hidden-by (Group n) b = refl
+hidden-by (Individual n) b = refl
+hidden-by (GroupContact n) b = refl
+hidden-by (IndividualContact n) b = refl
+hidden-by (LineSlot n) b = refl
+hidden-by NoTable b = refl
+
+pub hidden-group : (row : Row) (b : ℕ) → OneOf group-rows (tagOf the-type row) → eqb (b / 64) 1 ≡ hidden row b
+hidden-group row b k =
+    let e : eqb (kind-at (tagOf the-type row)) 2 ≡ true = at-case (λ n. eqb (kind-at n) 2) true group-rows (tagOf the-type row) (refl, (refl, tt)) k in
+    ap (λ g. cond g (eqb (b / 64) 1) false) (sym e) ∙ hidden-by row b
+
+pub hidden-other : (row : Row) (b : ℕ) → OneOf other-rows (tagOf the-type row) → false ≡ hidden row b
+hidden-other row b k =
+    let e : eqb (kind-at (tagOf the-type row)) 2 ≡ false = at-case (λ n. eqb (kind-at n) 2) false other-rows (tagOf the-type row) (refl, (refl, (refl, (refl, (refl, (refl, (refl, tt))))))) k in
+    ap (λ g. cond g (eqb (b / 64) 1) false) (sym e) ∙ hidden-by row b
+
+-- ---- a slot in the store
+
 -- a slot in the store, found for the row
 pub record Here (lim : Limits) (s : List ℕ) (row : Row) (slot : Slot) : Type 0 where
   pub store : StoreOf lim s
@@ -94,14 +150,17 @@ module _ {lim : Limits} {s : List ℕ} {row : Row} {slot : Slot} (h : Here lim s
   pub found-fits : SlotFits slot (length s)
   found-fits = subst (SlotFits slot) (sym (h .store .size)) (slot-fits lim row slot (h .store .roomy) (h .is))
 
-  -- it is the slot of the row's case
-  as-case : {case : Row} → row ≡ case → SlotIs lim case (At slot)
-  as-case k = subst (λ (w : Row). SlotIs lim w (At slot)) k (h .is)
+  -- the text of each of some cases stands so many bytes behind its slot's start
+  text-at : (a : ℕ) (ks : List ℕ) → All (λ k. head-at k ≡ a) ks → OneOf ks (tagOf the-type row) → slot .text ≡ slot .start + a
+  text-at a ks e k = text-behind lim row slot (h .is) ∙ ap (λ i. slot .start + i) (at-case head-at a ks (tagOf the-type row) e k)
 
-  -- a member's text stands four bytes behind its slot's start
-  pub member-text : {n : ℕ} → (row ≡ Group n) ⊎ (row ≡ Individual n) → slot .text ≡ slot .start + 4
-  member-text (inl k) = let y = as-case k in omega (arith, y .1, y .2)
-  member-text (inr k) = let y = as-case k in omega (arith, y .1, y .2)
+  -- a group's four
+  pub group-text : OneOf group-rows (tagOf the-type row) → slot .text ≡ slot .start + 4
+  group-text = text-at 4 group-rows (refl, (refl, tt))
+
+  -- and an individual's
+  pub individual-text : OneOf individual-rows (tagOf the-type row) → slot .text ≡ slot .start + 4
+  individual-text = text-at 4 individual-rows (refl, (refl, tt))
 
   -- so its address has three bytes
   pub three-bytes : slot .text ≡ slot .start + 4 → length (midOf (slot .start + 1) (slot .text - (slot .start + 1)) s) ≡ 3
@@ -111,72 +170,91 @@ module _ {lim : Limits} {s : List ℕ} {row : Row} {slot : Slot} (h : Here lim s
   pub named-zeros : zeros? (midOf (slot .start) (slot .end - slot .start) s) ≡ true → NameIs lim s row (Refused Absent)
   named-zeros z t o = row-seen lim t s row slot o (h .is) .gone z
 
-  module _ {bytes : ℕ} (z : zeros? (midOf (slot .start) (slot .end - slot .start) s) ≡ false) (f : Found (0 < 2) zeros? 2 (midOf (slot .text) (slot .end - slot .text) s) bytes) where
-    -- what the row's slot holds
-    seen : (t : Tables) → Holds lim t s → Captioned s slot row (caption t row)
-    seen t o = row-seen lim t s row slot o (h .is) .held z
+  -- and so are the flags of a background group
+  pub named-hidden : zeros? (midOf (slot .start) (slot .end - slot .start) s) ≡ false → hidden row (getD s (slot .start) 0) ≡ true → NameIs lim s row (Refused Absent)
+  named-hidden z y t o = row-seen lim t s row slot o (h .is) .hides z y
 
-    -- the text lies in the store
-    inside : slot .text + bytes ≤ length s
-    inside = omega (arith, found-fits .ends, found-fits .inside, f .within, mid-len (slot .text) (slot .end) s (found-fits .inside))
+-- a row that is there: its slot is not all zeros, and its flags do not hide it
+pub record Shown (lim : Limits) (s : List ℕ) (row : Row) (slot : Slot) : Type 0 where
+  pub found : Here lim s row slot
+  pub filled : zeros? (midOf (slot .start) (slot .end - slot .start) s) ≡ false
+  pub not-hidden : hidden row (getD s (slot .start) 0) ≡ false
 
-    -- a text
-    pub named-text : bytes ≢ 0 → NameIs lim s row (TextAt (slot .text) bytes)
-    named-text n t o =
+module _ {lim : Limits} {s : List ℕ} {row : Row} {slot : Slot} (h : Shown lim s row slot) {bytes : ℕ} (f : Found (0 < 2) zeros? 2 (midOf (slot .text) (slot .end - slot .text) s) bytes) where
+  fits : SlotFits slot (length s)
+  fits = found-fits (h .found)
+
+  -- what the row's slot holds
+  seen : (t : Tables) → Holds lim t s → Captioned s slot row (caption t row)
+  seen t o = row-seen lim t s row slot o (h .found .is) .held (h .filled) (h .not-hidden)
+
+  -- the text lies in the store
+  inside : slot .text + bytes ≤ length s
+  inside = omega (arith, fits .ends, fits .inside, f .within, mid-len (slot .text) (slot .end) s (fits .inside))
+
+  -- a text
+  pub named-text : bytes ≢ 0 → NameIs lim s row (TextAt (slot .text) bytes)
+  named-text n t o =
+      let c = seen t o in
+      let l : bytes ≡ 2 * length (text-of (c .row-is)) = c .ends bytes f in
+      (c .row-is, c .there, shows-text (c .row-is) (λ q. n (l ∙ ap (λ i. 2 * i) q)), text-starts lim row slot (h .found .is), l, inside)
+
+  module _ (zero-bytes : bytes ≡ 0) where
+    -- the text is empty
+    empty : (t : Tables) (o : Holds lim t s) → text-of (seen t o .row-is) ≡ []
+    empty t o = let c = seen t o in no-units (text-of (c .row-is)) (sym zero-bytes ∙ c .ends bytes f)
+
+    -- what the row names, by its kind
+    named-kind : (r : Name) (k : ℕ) (ks : List ℕ) → All (λ i. kind-at i ≡ k) ks → OneOf ks (tagOf the-type row)
+        → ((t : Tables) (d : Caption) → k ≡ kind-of d → caption t row ≡ some d → HeadIn s (slot .start) d → text-of d ≡ [] → Named lim s row (caption t row) r) → NameIs lim s row r
+    named-kind r k ks same one by t o =
         let c = seen t o in
-        let l : bytes ≡ 2 * length (text-of (c .row-is)) = c .ends bytes f in
-        (c .row-is, c .there, shows-text (c .row-is) (λ q. n (l ∙ ap (λ i. 2 * i) q)), text-starts lim row slot (h .is), l, inside)
+        by t (c .row-is) (sym (at-case kind-at k ks (tagOf the-type row) same one) ∙ c .kind) (c .there) (c .head) (empty t o)
 
-    module _ (zero-bytes : bytes ≡ 0) where
-      -- the text is empty
-      empty : (t : Tables) (o : Holds lim t s) → text-of (seen t o .row-is) ≡ []
-      empty t o = let c = seen t o in no-units (text-of (c .row-is)) (sym zero-bytes ∙ c .ends bytes f)
+    -- nothing: an empty text
+    pub named-empty : OneOf text-rows (tagOf the-type row) → NameIs lim s row (TextAt (slot .text) bytes)
+    named-empty k = named-kind (TextAt (slot .text) bytes) 0 text-rows (refl, (refl, (refl, tt))) k by
+      where
+        by : (t : Tables) (d : Caption) → 0 ≡ kind-of d → caption t row ≡ some d → HeadIn s (slot .start) d → text-of d ≡ [] → Named lim s row (caption t row) (TextAt (slot .text) bytes)
+        by t (text us) e q w l = (text us, q, refl, text-starts lim row slot (h .found .is), zero-bytes ∙ ap (λ v. 2 * length v) (sym l), inside)
+        by t (line us ds) e q w l = absurd (omega arith)
+        by t (group us a) e q w l = absurd (omega arith)
+        by t (individual us a) e q w l = absurd (omega arith)
 
-      -- an empty text of a row that names nothing
-      pub named-empty : OneOf (1 ∷ 2 ∷ 5 ∷ []) (tagOf the-type row) → NameIs lim s row (TextAt (slot .text) bytes)
-      named-empty k t o = go (seen t o)
+    -- a line's digits
+    pub named-digits : OneOf line-rows (tagOf the-type row) → NameIs lim s row (Digits (slot .start + digits-at))
+    named-digits k = named-kind (Digits (slot .start + digits-at)) 1 line-rows (refl, (refl, tt)) k by
+      where
+        by : (t : Tables) (d : Caption) → 1 ≡ kind-of d → caption t row ≡ some d → HeadIn s (slot .start) d → text-of d ≡ [] → Named lim s row (caption t row) (Digits (slot .start + digits-at))
+        by t (line us ds) e q w l =
+            (ds, q ∙ ap (λ v. some (line v ds)) l, w .0, w .1, omega (arith, text-at (h .found) 20 line-rows (refl, (refl, tt)) k, fits .ends, fits .inside))
+        by t (text us) e q w l = absurd (omega arith)
+        by t (group us a) e q w l = absurd (omega arith)
+        by t (individual us a) e q w l = absurd (omega arith)
+
+    module _ (a : ℕ) (read : (b : ℕ) → midOf (slot .start + 1) (slot .text - (slot .start + 1)) s ≡ u24 b → a ≡ b) where
+      -- the address that was read is the one that the slot keeps
+      same-address : (b : ℕ) → slot .text ≡ slot .start + 4 → midOf (slot .start + 1) 3 s ≡ u24 b → b ≡ a
+      same-address b k w =
+          let three : slot .text - (slot .start + 1) ≡ 3 = omega arith in
+          sym (read b (ap (λ i. midOf (slot .start + 1) i s) three ∙ w))
+
+      -- a group's address
+      pub named-group : OneOf group-rows (tagOf the-type row) → NameIs lim s row (GroupNumber (record { 0 = a }))
+      named-group k = named-kind (GroupNumber (record { 0 = a })) 2 group-rows (refl, (refl, tt)) k by
         where
-          go : Captioned s slot row (caption t row) → Named lim s row (caption t row) (TextAt (slot .text) bytes)
-          go c = by row (c .row-is) (c .kind) (c .there) k (c .ends bytes f)
-            where
-              by : (w : Row) (d : Caption) → OfKind w d → caption t row ≡ some d → OneOf (1 ∷ 2 ∷ 5 ∷ []) (tagOf the-type w) → bytes ≡ 2 * length (text-of d) → Named lim s row (caption t row) (TextAt (slot .text) bytes)
-              by w d (a-quick-text {us}) q o l = (text us, q, refl, text-starts lim row slot (h .is), l, inside)
-              by w d (a-status-text {us}) q o l = (text us, q, refl, text-starts lim row slot (h .is), l, inside)
-              by w d a-line q o l = absurd (miss (1 ∷ 2 ∷ 5 ∷ []) 0 tt o)
-              by w d a-group q o l = absurd (miss (1 ∷ 2 ∷ 5 ∷ []) 3 tt o)
-              by w d an-individual q o l = absurd (miss (1 ∷ 2 ∷ 5 ∷ []) 4 tt o)
+          by : (t : Tables) (d : Caption) → 2 ≡ kind-of d → caption t row ≡ some d → HeadIn s (slot .start) d → text-of d ≡ [] → caption t row ≡ some (group [] (record { 0 = a }))
+          by t (group us b) e q w l = q ∙ ap₂ (λ v i. some (group v (record { 0 = i }))) l (same-address (b .0) (group-text (h .found) k) w)
+          by t (text us) e q w l = absurd (omega arith)
+          by t (line us ds) e q w l = absurd (omega arith)
+          by t (individual us b) e q w l = absurd (omega arith)
 
-      -- what the row names, by its case
-      named-case : (x : Name) {case : Row} → row ≡ case
-          → ((t : Tables) (d : Caption) → OfKind case d → caption t row ≡ some d → HeadIn s (slot .start) d → text-of d ≡ [] → Named lim s row (caption t row) x) → NameIs lim s row x
-      named-case x k by t o = let c = seen t o in by t (c .row-is) (subst (λ (w : Row). OfKind w (c .row-is)) k (c .kind)) (c .there) (c .head) (empty t o)
-
-      -- a line's digits
-      pub named-digits : {n : ℕ} → row ≡ Line n → NameIs lim s row (Digits (slot .start + digits-at))
-      named-digits {n} k = named-case (Digits (slot .start + digits-at)) k by
+      -- an individual's
+      pub named-individual : OneOf individual-rows (tagOf the-type row) → NameIs lim s row (IndividualNumber (record { 0 = a }))
+      named-individual k = named-kind (IndividualNumber (record { 0 = a })) 3 individual-rows (refl, (refl, tt)) k by
         where
-          by : (t : Tables) (d : Caption) → OfKind (Line n) d → caption t row ≡ some d → HeadIn s (slot .start) d → text-of d ≡ [] → Named lim s row (caption t row) (Digits (slot .start + digits-at))
-          by t d (a-line {us} {ds}) q w l =
-              let y = as-case k in
-              (ds, q ∙ ap (λ v. some (line v ds)) l, w .0, w .1, omega (arith, y .1, y .2, found-fits .ends, found-fits .inside))
-
-      module _ (a : ℕ) (read : (b : ℕ) → midOf (slot .start + 1) (slot .text - (slot .start + 1)) s ≡ u24 b → a ≡ b) where
-        -- the address that was read is the one that the slot keeps
-        same-address : (b : ℕ) → slot .text ≡ slot .start + 4 → midOf (slot .start + 1) 3 s ≡ u24 b → b ≡ a
-        same-address b k w =
-            let three : slot .text - (slot .start + 1) ≡ 3 = omega arith in
-            sym (read b (ap (λ i. midOf (slot .start + 1) i s) three ∙ w))
-
-        -- a group's address
-        pub named-group : {n : ℕ} → row ≡ Group n → NameIs lim s row (GroupNumber (record { 0 = a }))
-        named-group {n} k = named-case (GroupNumber (record { 0 = a })) k by
-          where
-            by : (t : Tables) (d : Caption) → OfKind (Group n) d → caption t row ≡ some d → HeadIn s (slot .start) d → text-of d ≡ [] → caption t row ≡ some (group [] (record { 0 = a }))
-            by t d (a-group {us} {a = b}) q w l = q ∙ ap₂ (λ v i. some (group v (record { 0 = i }))) l (same-address (b .0) (member-text (inl k)) w)
-
-        -- an individual's
-        pub named-individual : {n : ℕ} → row ≡ Individual n → NameIs lim s row (IndividualNumber (record { 0 = a }))
-        named-individual {n} k = named-case (IndividualNumber (record { 0 = a })) k by
-          where
-            by : (t : Tables) (d : Caption) → OfKind (Individual n) d → caption t row ≡ some d → HeadIn s (slot .start) d → text-of d ≡ [] → caption t row ≡ some (individual [] (record { 0 = a }))
-            by t d (an-individual {us} {a = b}) q w l = q ∙ ap₂ (λ v i. some (individual v (record { 0 = i }))) l (same-address (b .0) (member-text (inr k)) w)
+          by : (t : Tables) (d : Caption) → 3 ≡ kind-of d → caption t row ≡ some d → HeadIn s (slot .start) d → text-of d ≡ [] → caption t row ≡ some (individual [] (record { 0 = a }))
+          by t (individual us b) e q w l = q ∙ ap₂ (λ v i. some (individual v (record { 0 = i }))) l (same-address (b .0) (individual-text (h .found) k) w)
+          by t (text us) e q w l = absurd (omega arith)
+          by t (line us ds) e q w l = absurd (omega arith)
+          by t (group us b) e q w l = absurd (omega arith)

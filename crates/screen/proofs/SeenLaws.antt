@@ -1,5 +1,5 @@
 -- Parts of the store, and where a text in one ends. Assumes nothing.
-use Rattle.lists.proofs.Kit.{ℕ, zero, suc, _+_, _*_, _≤_, _<_, _≡_, refl, sym, ap, _∙_, List, [], _∷_, _++_, map, none, some, not-suc-le-zero, le-of-suc-le-suc, arith, midOf, length, take, drop, getD, take-take, take-nil, drop-drop}
+use Rattle.lists.proofs.Kit.{ℕ, zero, suc, _+_, _*_, _≤_, _<_, _≡_, refl, sym, ap, _∙_, List, [], _∷_, _++_, map, none, some, not-suc-le-zero, le-of-suc-le-suc, arith, midOf, length, take, drop, getD, getD-take, getD-drop, take-take, take-nil, drop-drop}
 use Rattle.lists.proofs.Every.{all-made}
 use Rattle.slots.specs.Slots.{pad, front, u16, zeros?, bytesBefore, Found}
 use Rattle.slots.proofs.Numbers.{u16-shown}
@@ -24,6 +24,12 @@ part-part s b n i j h = take-part (drop b s) n i j h ∙ ap (take j) (drop-drop 
 -- and a part of what is known
 pub part-known : (s x : List ℕ) (b n i j : ℕ) → midOf b n s ≡ x → i + j ≤ n → midOf (b + i) j s ≡ midOf i j x
 part-known s x b n i j e h = sym (part-part s b n i j h) ∙ ap (midOf i j) e
+
+-- a part begins with its first byte
+pub part-first : (s x : List ℕ) (b n : ℕ) → 0 < n → midOf b n s ≡ x → getD s b 0 ≡ getD x 0 0
+part-first s x b n h e =
+    let z : b + 0 ≡ b = omega arith in
+    ap (λ i. getD s i 0) (sym z) ∙ sym (getD-drop b s 0 0) ∙ sym (getD-take n (drop b s) 0 0 h) ∙ ap (λ l. getD l 0 0) e
 
 -- ---- a text's end
 

@@ -1,18 +1,19 @@
 -- What the screen's calls promise: the whole text of the row or its number, nothing else, and nothing touched on a refusal. Assumes nothing.
-use Rattle.lists.proofs.Kit.{ℕ, _*_, _-_, _≤_, _≡_, refl, sym, ap, _∙_, subst, _≢_, inl, inr, Bool, true, false, List, [], _∷_, map, Option, none, some, Option·some-injective, Option·none-ne-some, arith, midOf, length, take, drop, getD, take-at}
+use Rattle.lists.proofs.Kit.{ℕ, _*_, _-_, _≤_, _≡_, refl, sym, ap, _∙_, subst, _≢_, inl, inr, Bool, true, false, cond, List, [], _∷_, map, Option, none, some, Option·some-injective, Option·none-ne-some, arith, eqb, eqb-false, midOf, length, take, drop, getD, take-at}
 use denote.Ref.{RefT}
 use Rattle.lists.specs.Ladder.{Answers}
 use Rattle.slots.specs.Slots.{zeros?}
 use Rattle.writing.specs.Settings.{Text}
 use Rattle.tables.specs.declared.limits.Limits.{Limits}
+use Rattle.tables.specs.Apply.{and-then}
 use Rattle.tables.specs.Store.{StoreOf, Holds}
 use Rattle.tables.specs.Tables.{Tables, GroupMember, IndividualMember}
 use Rattle.screen.specs.declared.names.Slot.{Slot}
 use Rattle.screen.specs.declared.names.SlotPlace.the-variants.{At}
 use Rattle.screen.specs.declared.rows.Row.{Row}
-use Rattle.screen.specs.declared.rows.Row.the-variants.{Group, Individual}
-use Rattle.screen.specs.Naming.{SlotIs}
-use Rattle.screen.specs.Rows.{Caption, text, line, group, individual, caption, of, text-of, ascii, digits, GroupText, IndividualText, Display, stored, written, units, text-or, Displays, text-start, unit-bytes}
+use Rattle.screen.specs.declared.rows.Row.the-variants.{Group, Individual, GroupContact, IndividualContact}
+use Rattle.screen.specs.Naming.{SlotIs, hidden}
+use Rattle.screen.specs.Rows.{Caption, text, line, group, individual, individual-row, group-row, caption, of, text-of, ascii, digits, GroupText, IndividualText, Display, stored, written, units, text-or, Displays, text-start, unit-bytes}
 use Rattle.screen.proofs.EntryLaws.{Captioned, row-seen, row-there}
 use Rattle.screen.proofs.NameLaws.{text-starts}
 use Rattle.screen.specs.Screen.{AfterRow, of-store, refused, shows, RowShown, showing, numbering, bytes-of, RowBytes, PartGiven}
@@ -43,13 +44,14 @@ module _ (lim : Limits) (store : List ℕ) (row : Row) where
   row-held t c h e = by (row-there lim t (h .0) row c e)
     where
       by : (slot : Slot) × SlotIs lim row (At slot) → (slot : Slot) × (k : Captioned store slot row (caption t row)) × (k .row-is ≡ c) × (slot .text ≡ text-start lim row)
-      by (slot, x) = go (zeros? (midOf (slot .start) (slot .end - slot .start) store)) refl
+      by (slot, x) = go (zeros? (midOf (slot .start) (slot .end - slot .start) store)) (hidden row (getD store (slot .start) 0)) refl refl
         where
-          go : (b : Bool) → zeros? (midOf (slot .start) (slot .end - slot .start) store) ≡ b
+          go : (b d : Bool) → zeros? (midOf (slot .start) (slot .end - slot .start) store) ≡ b → hidden row (getD store (slot .start) 0) ≡ d
               → (slot : Slot) × (k : Captioned store slot row (caption t row)) × (k .row-is ≡ c) × (slot .text ≡ text-start lim row)
-          go true z = absurd (Option·none-ne-some c (sym (row-seen lim t store row slot h x .gone z) ∙ e))
-          go false z =
-              let k = row-seen lim t store row slot h x .held z in
+          go true d z y = absurd (Option·none-ne-some c (sym (row-seen lim t store row slot h x .gone z) ∙ e))
+          go false true z y = absurd (Option·none-ne-some c (sym (row-seen lim t store row slot h x .hides z y) ∙ e))
+          go false false z y =
+              let k = row-seen lim t store row slot h x .held z y in
               (slot, k, Option·some-injective (k .row-is) c (sym (k .there) ∙ e), text-starts lim row slot x)
 
   -- TEXT STANDS: the row's text stands at its start, unit for unit
@@ -148,26 +150,54 @@ pub from-entry : {A : Type 0} (g : A → Caption) (o : Option A) {c : Caption} �
 from-entry g none {c} e = absurd (Option·none-ne-some c e)
 from-entry g (some a) {c} e = (a, refl, sym (Option·some-injective (g a) c e))
 
+-- and in a row of groups it is one that is not in the background
+pub from-group : (o : Option GroupMember) {c : Caption} → and-then o group-row ≡ some c → (g : GroupMember) × (o ≡ some g) × (g .flags .attribute ≢ 1) × (c ≡ group (g .text) (g .address))
+from-group none {c} e = absurd (Option·none-ne-some c e)
+from-group (some g) {c} e = go (eqb (g .flags .attribute) 1) refl e
+  where
+    go : (b : Bool) → eqb (g .flags .attribute) 1 ≡ b → cond b none (some (group (g .text) (g .address))) ≡ some c
+        → (x : GroupMember) × (some g ≡ some x) × (x .flags .attribute ≢ 1) × (c ≡ group (x .text) (x .address))
+    go true h k = absurd (Option·none-ne-some c k)
+    go false h k = (g, refl, eqb-false (g .flags .attribute) 1 h, sym (Option·some-injective (group (g .text) (g .address)) c k))
+
 -- a number is shown only where the text is empty
 pub number-of-empty : (Number : Text → Type 0) (us ns : Text) → text-or us Number (written ns) → (us ≡ []) × Number ns
 number-of-empty Number [] ns (vs, p, e) = (refl, subst Number (sym (ap units e)) p)
 number-of-empty Number (u ∷ us) ns e = absurd (not-written (sym e))
 
+-- a row of groups shows the number of its group's address, by the group plan
+group-written : (o : Option GroupMember) (c : Caption) (us : Text) → and-then o group-row ≡ some c → Displays c (written us) → (g : GroupMember) × (o ≡ some g) × (g .text ≡ []) × GroupText (g .address) us
+group-written o c us e s =
+    let (g, is, shown, d) = from-group o e in
+    let (empty, p) = number-of-empty (GroupText (g .address)) (g .text) us (subst (λ (x : Caption). Displays x (written us)) d s) in
+    (g, is, empty, p)
+
+-- and a row of individuals that of its individual's, by the individual plan
+individual-written : (o : Option IndividualMember) (c : Caption) (us : Text) → of individual-row o ≡ some c → Displays c (written us)
+    → (g : IndividualMember) × (o ≡ some g) × (g .text ≡ []) × IndividualText (g .address) us
+individual-written o c us e s =
+    let (g, is, d) = from-entry individual-row o e in
+    let (empty, p) = number-of-empty (IndividualText (g .address)) (g .text) us (subst (λ (x : Caption). Displays x (written us)) d s) in
+    (g, is, empty, p)
+
 -- GROUP ROW: a group row shows the number of that slot's group address, by the group plan
 pub group-number : (t : Tables) (n : ℕ) (c : Caption) (us : Text) → caption t (Group n) ≡ some c → Displays c (written us)
     → (g : GroupMember) × (getD (t .groups) n none ≡ some g) × (g .text ≡ []) × GroupText (g .address) us
-group-number t n c us e s =
-    let (g, is, d) = from-entry (λ x. group (x .text) (x .address)) (getD (t .groups) n none) e in
-    let (empty, p) = number-of-empty (GroupText (g .address)) (g .text) us (subst (λ (x : Caption). Displays x (written us)) d s) in
-    (g, is, empty, p)
+group-number t n = group-written (getD (t .groups) n none)
 
 -- INDIVIDUAL ROW: an individual row shows that slot's individual address, by the individual plan
 pub individual-number : (t : Tables) (n : ℕ) (c : Caption) (us : Text) → caption t (Individual n) ≡ some c → Displays c (written us)
     → (g : IndividualMember) × (getD (t .individuals) n none ≡ some g) × (g .text ≡ []) × IndividualText (g .address) us
-individual-number t n c us e s =
-    let (g, is, d) = from-entry (λ x. individual (x .text) (x .address)) (getD (t .individuals) n none) e in
-    let (empty, p) = number-of-empty (IndividualText (g .address)) (g .text) us (subst (λ (x : Caption). Displays x (written us)) d s) in
-    (g, is, empty, p)
+individual-number t n = individual-written (getD (t .individuals) n none)
+
+-- CONTACT ROWS: so do the rows of contacts
+pub group-contact-number : (t : Tables) (n : ℕ) (c : Caption) (us : Text) → caption t (GroupContact n) ≡ some c → Displays c (written us)
+    → (g : GroupMember) × (getD (map some (t .group-contacts)) n none ≡ some g) × (g .text ≡ []) × GroupText (g .address) us
+group-contact-number t n = group-written (getD (map some (t .group-contacts)) n none)
+
+pub individual-contact-number : (t : Tables) (n : ℕ) (c : Caption) (us : Text) → caption t (IndividualContact n) ≡ some c → Displays c (written us)
+    → (g : IndividualMember) × (getD (map some (t .individual-contacts)) n none ≡ some g) × (g .text ≡ []) × IndividualText (g .address) us
+individual-contact-number t n = individual-written (getD (map some (t .individual-contacts)) n none)
 
 -- ---- numbers as they are read
 

@@ -15,22 +15,26 @@ use Rattle.writing.specs.Settings.{Text, Number}
 use Rattle.tables.specs.declared.limits.Limits.{Limits}
 use Rattle.tables.specs.Layout.{count-size, region-start, quick-width, status-width, member-width, line-width}
 use Rattle.tables.specs.Store.{StoreOf, Holds}
-use Rattle.tables.specs.Tables.{Tables}
+use Rattle.tables.specs.Apply.{and-then}
+use Rattle.tables.specs.Tables.{Line as LineEntry, GroupMember, IndividualMember, Tables}
 use Rattle.screen.specs.declared.rows.Refusal.{Refusal}
 use Rattle.screen.specs.declared.rows.Refusal.the-variants.{ScratchSize, NotAStore, Absent}
 use Rattle.screen.specs.declared.rows.Row.{Row}
-use Rattle.screen.specs.declared.rows.Row.the-variants.{Line, QuickText, StatusText, Group, Individual, NoTable}
+use Rattle.screen.specs.declared.rows.Row.the-variants.{Line, QuickText, StatusText, Group, Individual, GroupContact, IndividualContact, LineSlot, NoTable}
 
 -- ---- which row
 
--- plain numbers for C: 1 lines, 2 quick texts, 3 status texts, 4 groups, 5 individuals
+-- plain numbers for C: 1 lines, 2 quick texts, 3 status texts, 4 groups, 5 individuals, 6 group contacts, 7 individual contacts, 8 line slots
 abbrev pub row-named : ℕ → ℕ → Row
 row-named table place =
     cond (eqb table 1) (Line place)
     (cond (eqb table 2) (QuickText place)
     (cond (eqb table 3) (StatusText place)
     (cond (eqb table 4) (Group place)
-    (cond (eqb table 5) (Individual place) NoTable))))
+    (cond (eqb table 5) (Individual place)
+    (cond (eqb table 6) (GroupContact place)
+    (cond (eqb table 7) (IndividualContact place)
+    (cond (eqb table 8) (LineSlot place) NoTable)))))))
 
 -- what stands in a row: a text, and what it names, by kind
 pub data Caption : Type 0 where
@@ -44,13 +48,27 @@ abbrev pub of : {A B : Type 0} → (A → B) → Option A → Option B
 of f none = none
 of f (some a) = some (f a)
 
--- "A screen row is named by table (line position from 0, quick index, status code, group or individual index)"; none: "screen row absent"
+-- a line, and an individual
+abbrev pub line-row : LineEntry → Caption
+line-row l = line (l .text) (l .number)
+
+abbrev pub individual-row : IndividualMember → Caption
+individual-row i = individual (i .text) (i .address)
+
+-- "A background group, in C8 or D1, gets no row on the screen (17); a response or member group does"
+abbrev pub group-row : GroupMember → Option Caption
+group-row g = cond (eqb (g .flags .attribute) 1) none (some (group (g .text) (g .address)))
+
+-- "A screen row is named by table (line position from 0, quick index, status code, group or individual index)"; none: "screen row absent"; of contacts "Rows go by position, in D3 by index"
 abbrev pub caption : Tables → Row → Option Caption
-caption t (Line n) = of (λ l. line (l .text) (l .number)) (getD (map some (t .lines)) n none)
+caption t (Line n) = of line-row (getD (map some (t .lines)) n none)
 caption t (QuickText n) = of text (getD (t .quick) n none)
 caption t (StatusText n) = cond (ltb n 32) none (of text (getD (t .status) (n - 32) none))
-caption t (Group n) = of (λ g. group (g .text) (g .address)) (getD (t .groups) n none)
-caption t (Individual n) = of (λ i. individual (i .text) (i .address)) (getD (t .individuals) n none)
+caption t (Group n) = and-then (getD (t .groups) n none) group-row
+caption t (Individual n) = of individual-row (getD (t .individuals) n none)
+caption t (GroupContact n) = and-then (getD (map some (t .group-contacts)) n none) group-row
+caption t (IndividualContact n) = of individual-row (getD (map some (t .individual-contacts)) n none)
+caption t (LineSlot n) = of line-row (getD (t .line-slots) n none)
 caption t NoTable = none
 
 -- the row's text
@@ -120,11 +138,14 @@ units (written us) = us
 
 -- the first byte of a row's text: the part's, the slots before it, and what its slot has before the text
 abbrev pub text-start : Limits → Row → ℕ
-text-start lim (Line n) = region-start lim 9 + count-size + n * line-width + 20
+text-start lim (Line n) = region-start lim 12 + count-size + n * line-width + 20
 text-start lim (QuickText n) = region-start lim 4 + n * quick-width
 text-start lim (StatusText n) = region-start lim 5 + (n - 32) * status-width + 1
 text-start lim (Group n) = region-start lim 6 + n * member-width + 4
 text-start lim (Individual n) = region-start lim 7 + n * member-width + 4
+text-start lim (GroupContact n) = region-start lim 9 + count-size + n * member-width + 4
+text-start lim (IndividualContact n) = region-start lim 10 + count-size + n * member-width + 4
+text-start lim (LineSlot n) = region-start lim 8 + n * line-width + 20
 text-start lim NoTable = 0
 
 -- "Text units and digits (as ASCII codes) are 16 bits, high byte first, without the end unit"

@@ -31,7 +31,7 @@ pub record AfterRow : Type 0 where
   pub part : RowPart
   pub scratch : List ℕ
 
--- "15 scratch under 36 bytes"; "11 store not 12,288 bytes, or not a store"; "17 screen row absent"
+-- "15 scratch under 36 bytes"; "11 store not 12,288 bytes, or not a store", 24,576 since A4; "17 screen row absent"
 abbrev pub refusal : Refusal → ℕ
 refusal ScratchSize = 15
 refusal NotAStore = 11

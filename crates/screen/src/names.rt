@@ -8,13 +8,18 @@ use slots::slots::used;
 use store_check::checks::is_store;
 use tables::limits::Limits;
 use tables::places::CHANNEL_SLOT;
+use tables::places::CHANNELS;
+use tables::places::CONTACT_PLACES;
 use tables::places::COUNT;
+use tables::places::GROUP_CONTACTS;
 use tables::places::GROUPS;
+use tables::places::INDIVIDUAL_CONTACTS;
 use tables::places::INDIVIDUALS;
 use tables::places::LINE_DIGITS;
 use tables::places::LINE_SLOT;
+use tables::places::LINE_SLOTS;
 use tables::places::LINE_TEXT;
-use tables::places::LISTS;
+use tables::places::MEMBER_ADDRESS;
 use tables::places::MEMBER_SLOT;
 use tables::places::MEMBER_TEXT;
 use tables::places::QUICK;
@@ -30,9 +35,9 @@ ghost use mathlib.Core.Path.{_≡_};
 ghost use lib.ListN.{length};
 ghost use Rattle.lists.specs.Ladder.{Answers};
 ghost use Rattle.slots.specs.Slots.{u24};
-ghost use Rattle.tables.specs.Layout.{Roomy};
+ghost use Rattle.tables.specs.Layout.{Roomy, member-width};
 ghost use Rattle.tables.specs.Store.{StoreOf};
-ghost use Rattle.screen.specs.Naming.{Slotted, SlotIs, NameIs, naming};
+ghost use Rattle.screen.specs.Naming.{Slotted, SlotIs, hidden, NameIs, naming};
 
 // A row's slot in the store, and where its text starts.
 pub struct Slot {
@@ -72,6 +77,14 @@ fn slot_in(n: usize, places: usize, base: usize, width: usize, head: usize) -> S
     }
 }
 
+// Place n of a table of groups or individuals.
+fn member_slot(n: usize, places: usize, base: usize) -> SlotPlace
+    requires { ⌜ base + places * member-width < 2 ^ 64 ⌝ }
+    ensures { λ r. ⌜ Slotted base places n member-width 4 r ⌝ }
+{
+    slot_in(n, places, base, MEMBER_SLOT, MEMBER_TEXT)
+}
+
 // Where the row's slot stands: docs/STORE.md.
 fn slot_of(row: Row, limits: Limits) -> SlotPlace
     requires { ⌜ Roomy limits ⌝ }
@@ -81,7 +94,7 @@ fn slot_of(row: Row, limits: Limits) -> SlotPlace
         Row::Line(n) => slot_in(
             n,
             limits.lines,
-            LISTS + (COUNT + limits.channels * CHANNEL_SLOT) + COUNT,
+            CHANNELS + (COUNT + limits.channels * CHANNEL_SLOT) + COUNT,
             LINE_SLOT,
             LINE_TEXT,
         ),
@@ -93,8 +106,11 @@ fn slot_of(row: Row, limits: Limits) -> SlotPlace
                 slot_in(n - 32, STATUS_PLACES, STATUS, STATUS_SLOT, STATUS_TEXT)
             }
         }
-        Row::Group(n) => slot_in(n, SLOT_PLACES, GROUPS, MEMBER_SLOT, MEMBER_TEXT),
-        Row::Individual(n) => slot_in(n, SLOT_PLACES, INDIVIDUALS, MEMBER_SLOT, MEMBER_TEXT),
+        Row::Group(n) => member_slot(n, SLOT_PLACES, GROUPS),
+        Row::Individual(n) => member_slot(n, SLOT_PLACES, INDIVIDUALS),
+        Row::GroupContact(n) => member_slot(n, CONTACT_PLACES, GROUP_CONTACTS + COUNT),
+        Row::IndividualContact(n) => member_slot(n, CONTACT_PLACES, INDIVIDUAL_CONTACTS + COUNT),
+        Row::LineSlot(n) => slot_in(n, SLOT_PLACES, LINE_SLOTS, LINE_SLOT, LINE_TEXT),
         Row::NoTable => SlotPlace::Beyond,
     }
 }
@@ -114,6 +130,16 @@ fn address_of(s: &[u8]) -> u32
     wide(s[0]) * 65536 + wide(s[1]) * 256 + wide(s[2])
 }
 
+// Whether the flags of the row's slot are those of a background group, which has no row.
+fn is_hidden(row: Row, flags: u8) -> bool
+    ensures { λ r. ⌜ r ≡ hidden row flags ⌝ }
+{
+    match row {
+        Row::Group(_) | Row::GroupContact(_) => flags / 64 == 1,
+        _ => false,
+    }
+}
+
 // What stands in a row of a store.
 fn name_in(store: &[u8], row: Row, limits: Limits) -> Name
     requires { ⌜ StoreOf limits (now store) ⌝ }
@@ -128,16 +154,23 @@ fn name_in(store: &[u8], row: Row, limits: Limits) -> Name
     if is_zeros(&store[start..end]) {
         return Name::Refused(Refusal::Absent);
     }
+    if is_hidden(row, store[start]) {
+        return Name::Refused(Refusal::Absent);
+    }
     let bytes = used(&store[text..end], 2);
     if bytes != 0 {
         return Name::Text(text, bytes);
     }
-    let head = start + 1;
+    let head = start + MEMBER_ADDRESS;
     let digits = start + LINE_DIGITS;
     match row {
-        Row::Line(_) => Name::Digits(digits),
-        Row::Group(_) => Name::Group(GroupAddress(address_of(&store[head..text]))),
-        Row::Individual(_) => Name::Individual(IndividualAddress(address_of(&store[head..text]))),
+        Row::Line(_) | Row::LineSlot(_) => Name::Digits(digits),
+        Row::Group(_) | Row::GroupContact(_) => {
+            Name::Group(GroupAddress(address_of(&store[head..text])))
+        }
+        Row::Individual(_) | Row::IndividualContact(_) => {
+            Name::Individual(IndividualAddress(address_of(&store[head..text])))
+        }
         _ => Name::Text(text, bytes),
     }
 }

@@ -1,4 +1,4 @@
--- What asking the table of the ten types answers: document 01's row of a type byte, and the operations that it allows.
+-- What asking the table of the thirteen types answers: the rules' row of a type byte, and the operations that it allows.
 use Prim.Native.Nat.{ℕ, _≤_, _<_}
 use mathlib.Core.Path.{_≡_}
 use mathlib.Core.List.{List, [], _∷_}
@@ -6,7 +6,7 @@ use mathlib.Core.Option.{Option, none, some}
 use lib.ListN.{getD}
 use Rattle.writing.specs.declared.Coding.{Coding}
 use Rattle.writing.specs.declared.Kind.{Kind}
-use Rattle.writing.specs.declared.Kind.the-variants.{Lines, Key, QuickTexts, Home, Channels, System, StatusTexts, Group, Individual, Last}
+use Rattle.writing.specs.declared.Kind.the-variants.{GroupContacts, IndividualContacts, Lines, Key, QuickTexts, Home, Channels, System, StatusTexts, Group, Individual, LineSlot, Last}
 use Rattle.writing.specs.declared.Operation.{Operation}
 use Rattle.writing.specs.declared.Operations.{Operations}
 use Rattle.writing.specs.declared.Operations.the-variants.{NoOperation, AnyOperation, AddOrDelete}
@@ -32,7 +32,7 @@ largest NoOperation = 0
 largest AnyOperation = 3
 largest AddOrDelete = 2
 
--- the code's row is document 01's row of this kind under this coding
+-- the code's row is the rules' row of this kind under this coding
 pub record BoundsAre (c : Coding) (k : Kind) (r : Bounds) : Type 0 where
   pub type : r .«type_byte» ≡ type-byte k
   pub least : r .least ≡ bounds c text-limits k .least
@@ -50,16 +50,18 @@ row-of k = record {
   5 = largest (bounds unicode16 text-limits k .operations);
 }
 
--- the ten, in the order of the table
+-- the thirteen, in the order of the table
 abbrev pub kinds : List Kind
-kinds = Lines ∷ Key ∷ QuickTexts ∷ Home ∷ Channels ∷ System ∷ StatusTexts ∷ Group ∷ Individual ∷ Last ∷ []
+kinds =
+    GroupContacts ∷ IndividualContacts ∷ Lines ∷ Key ∷ QuickTexts ∷ Home ∷ Channels ∷ System ∷ StatusTexts ∷ Group ∷ Individual ∷ LineSlot
+    ∷ Last ∷ []
 
--- the place of a type byte among the ten, or 10 where it is none of them
+-- the place of a type byte among the thirteen, or 13 where it is none of them
 pub record PlaceIs (b place : ℕ) : Type 0 where
-  pub found : place < 10 → type-byte (getD kinds place Last) ≡ b
-  pub none : 10 ≤ place → (k : Kind) → type-byte k ≡ b → ⊥
+  pub found : place < 13 → type-byte (getD kinds place Last) ≡ b
+  pub none : 13 ≤ place → (k : Kind) → type-byte k ≡ b → ⊥
 
--- the row of a type byte under a coding, or that it is none of the ten
+-- the row of a type byte under a coding, or that it is none of the thirteen
 abbrev pub BoundsAt : Coding → ℕ → BoundsRead → Type 0
 BoundsAt c b (Found r) = (k : Kind) × (type-byte k ≡ b) × BoundsAre c k r
 BoundsAt c b Unknown = (k : Kind) → type-byte k ≡ b → ⊥

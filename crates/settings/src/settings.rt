@@ -1,6 +1,7 @@
 // A setting once read: a kind with its operation inside it; texts, numbers and entries stay as places in the message.
 use plan::numbers::GroupAddress;
 use plan::numbers::IndividualAddress;
+use read_fields::entries::ContactPlace;
 use read_fields::hashes::HashPlace;
 use read_fields::texts::TextPlace;
 use writing::Coding;
@@ -34,7 +35,14 @@ pub struct IndividualPlace {
     pub text: TextPlace,
 }
 
+pub struct LinePlace {
+    pub index: u8,
+    pub contact: ContactPlace,
+}
+
 pub enum Setting {
+    GroupContacts(Operation, GroupFlags, Entries),
+    IndividualContacts(Operation, IndividualFlags, Entries),
     Lines(Operation, LineFlags, Entries),
     Key(KeyTarget, KeyFlags),
     QuickTexts(Operation, Entries),
@@ -44,6 +52,7 @@ pub enum Setting {
     StatusTexts(Operation, Entries),
     Group(Operation, GroupFlags, GroupPlace),
     Individual(Operation, IndividualFlags, IndividualPlace),
+    LineSlot(Operation, LineFlags, LinePlace),
     Last(LastFlags, HashPlace),
 }
 

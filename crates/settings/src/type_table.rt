@@ -1,4 +1,4 @@
-// Document 01's table of the ten types of setting, for both codings of texts, which the reader asks before any field.
+// The rules' table of the thirteen types of setting, for both codings of texts, which the reader asks before any field.
 use writing::Coding;
 use writing::Operation;
 ghost use mathlib.Core.Path.{_≡_};
@@ -26,7 +26,9 @@ pub enum OperationRead {
 // Columns: the type; least and most under 0111; least and most under 0100; operations.
 struct TypeRow(u8, u16, u16, u16, u16, u8);
 
-const ROWS: [TypeRow; 10] = [
+const ROWS: [TypeRow; 13] = [
+    TypeRow(0xC8, 5, 65535, 5, 65535, 3),
+    TypeRow(0xC9, 4, 65535, 4, 65535, 3),
     TypeRow(0xCA, 4, 65535, 4, 65535, 3),
     TypeRow(0xCB, 3, 6, 3, 6, 0),
     TypeRow(0xCC, 3, 65535, 3, 65535, 3),
@@ -36,17 +38,18 @@ const ROWS: [TypeRow; 10] = [
     TypeRow(0xD0, 4, 65535, 4, 65535, 3),
     TypeRow(0xD1, 9, 41, 8, 24, 2),
     TypeRow(0xD2, 9, 41, 8, 24, 2),
+    TypeRow(0xD3, 7, 48, 6, 31, 2),
     TypeRow(0xFF, 3, 13, 3, 13, 0),
 ];
 
-// The place of a type byte among the rows, or 10.
+// The place of a type byte among the rows, or 13.
 fn place_of(b: u8) -> usize
     ensures { λ r. ⌜ PlaceIs b r ⌝ }
 {
     match b {
-        0xCA..=0xD2 => (b - 0xCA) as usize,
-        0xFF => 9,
-        _ => 10,
+        0xC8..=0xD3 => (b - 0xC8) as usize,
+        0xFF => 12,
+        _ => 13,
     }
 }
 
@@ -75,7 +78,7 @@ pub fn bounds_of(b: u8, coding: Coding) -> BoundsRead
     ensures { λ r. ⌜ BoundsAt coding b r ⌝ }
 {
     let i = place_of(b);
-    if 10 <= i {
+    if 13 <= i {
         return BoundsRead::Unknown;
     }
     BoundsRead::Found(under(ROWS[i], coding))

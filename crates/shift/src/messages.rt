@@ -61,7 +61,7 @@ fn replied(said: Reply, reply: &[u8]) {
     } else {
         text(b"; no restart\n");
     }
-    text(b"  reply        ");
+    text(b"  reply               ");
     hex(reply, said.length as usize);
     text(b"\n");
 }

@@ -18,7 +18,7 @@ pub(crate) fn room(store: &[u8]) {
     let limits = HANDHELD;
     match answer {
         Counts::Held(lines, channels) => {
-            taken(b"  room          lines ", lines, limits.lines);
+            taken(b"  room                 lines ", lines, limits.lines);
             taken(b", channels ", channels, limits.channels);
             text(b"\n");
         }

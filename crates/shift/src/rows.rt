@@ -8,15 +8,27 @@ use screen::handheld::row_part;
 use screen::rows::row_of;
 
 // The first place of each table, and the one behind its last.
-const PLACES: [[u32; 2]; 5] = [[0, 32], [0, 64], [32, 128], [0, 16], [0, 16]];
+const PLACES: [[u32; 2]; 8] = [
+    [0, 32],
+    [0, 64],
+    [32, 128],
+    [0, 16],
+    [0, 16],
+    [0, 64],
+    [0, 64],
+    [0, 16],
+];
 
 fn name(table: u32) {
     match table {
-        1 => text(b"  lines         "),
-        2 => text(b"  quick texts   "),
-        3 => text(b"  status texts  "),
-        4 => text(b"  groups        "),
-        _ => text(b"  individuals   "),
+        1 => text(b"  lines                "),
+        2 => text(b"  quick texts          "),
+        3 => text(b"  status texts         "),
+        4 => text(b"  groups               "),
+        5 => text(b"  individuals          "),
+        6 => text(b"  group contacts       "),
+        7 => text(b"  individual contacts  "),
+        _ => text(b"  line slots           "),
     }
 }
 
@@ -65,7 +77,7 @@ fn table_rows(store: &[u8], table: u32, start: u32, end: u32) -> bool {
 pub(crate) fn rows(store: &[u8]) {
     let mut none = true;
     let mut table: u32 = 1;
-    for places in 0..5 {
+    for places in 0..8 {
         let ends = PLACES[places];
         if table_rows(store, table, ends[0], ends[1]) {
             none = false;

@@ -10,7 +10,7 @@ ghost use Rattle.tables.specs.Store.{starting, begins};
 ghost use Rattle.tables.specs.Limits.{handheld};
 ghost use Rattle.station.specs.Taking.{leaves, taken};
 
-// Makes any 12,288 bytes a fresh store.
+// Makes any 24,576 bytes a fresh store.
 pub fn start(store: &mut [u8]) -> Started
     ensures { λ r. ⌜ Answers (starting handheld (now (store .entry))) (begins r (now (store .exit))) ⌝ }
 {

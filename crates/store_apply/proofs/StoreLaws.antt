@@ -1,12 +1,14 @@
 -- A setting applied to its region of the store is applied to the store. Assumes nothing.
-use Prim.Native.Nat.{ℕ, _+_, _*_, _-_, _≤_, _<_}
+use Prim.Native.Nat.{ℕ, _+_, _-_, _≤_, _<_}
 use mathlib.Core.Path.{_≡_, refl, ap, ap₂, sym, _∙_, subst, subst⁻¹}
-use mathlib.Core.Bool.{Bool, true, false}
-use mathlib.Core.List.{List}
-use mathlib.Core.Option.{Option, none, some}
+use mathlib.Core.Bool.{Bool, true}
+use mathlib.Core.List.{List, [], _∷_}
+use mathlib.Core.Option.{some}
 use native.Mathlib.Omega.{arith}
+use denote.Enum.Declared.{tagOf}
+use types.Run.{OneOf, miss}
 use borrow.Rule.Slice.PartMut.{putMid, midOf, mid-len}
-use lib.ListN.{length, set}
+use lib.ListN.{length}
 use Rattle.counted_lists.specs.Counted.{Tried}
 use Rattle.counted_lists.proofs.ListLaws.{tried-room}
 use Rattle.writing.specs.declared.Coding.{Coding}
@@ -22,26 +24,31 @@ use Rattle.writing.specs.declared.SystemCode.{SystemCode}
 use Rattle.writing.specs.declared.Operation.{Operation}
 use Rattle.writing.specs.Canonical.{Fits}
 use Rattle.writing.specs.Ranges.{text-limits, InRange}
-use Rattle.writing.specs.Settings.{Setting, Hash, kind, lines, key, quick-texts, home, channels, system, status-texts, group, individual, last}
+use Rattle.writing.specs.Settings.{Setting, Slot, Hash, kind, group-contacts, individual-contacts, lines, key, quick-texts, home, channels, system, status-texts, group, individual, line-slot, last}
 use Rattle.read_fields.specs.declared.hashes.HashPlace.{HashPlace}
 use Rattle.settings.specs.declared.settings.Entries.{Entries}
 use Rattle.settings.specs.declared.settings.GroupPlace.{GroupPlace}
 use Rattle.settings.specs.declared.settings.IndividualPlace.{IndividualPlace}
+use Rattle.settings.specs.declared.settings.LinePlace.{LinePlace}
 use Rattle.settings.specs.declared.settings.Setting.{Setting as Read}
-use Rattle.settings.specs.declared.settings.Setting.the-variants.{Lines, Key, QuickTexts, Home, Channels, System, StatusTexts, Group, Individual, Last}
+use Rattle.settings.specs.declared.settings.Setting.the-variants.{GroupContacts, IndividualContacts, Lines, Key, QuickTexts, Home, Channels, System, StatusTexts, Group, Individual, LineSlot, Last}
+use Rattle.settings.proofs.settings.Setting.{the-type}
 use Rattle.store_places.specs.declared.texts.TextTable.the-variants.{Quick, Status}
 use Rattle.tables.specs.declared.limits.Limits.{Limits}
-use Rattle.tables.specs.Allowed.{Allowed, TargetOk}
-use Rattle.tables.specs.Apply.{apply, own-after, with-room, slot-after}
-use Rattle.store_places.specs.Changes.{TextsAre, TextsApplied, GroupsAre, GroupApplied, group-member, IndividualsAre, IndividualApplied, individual-member, KeyPut, SystemPut, HashPut}
-use Rattle.tables.specs.Layout.{Roomy, channels-size, groups-at, hash-bytes, hash-size, home-at, home-bytes, home-size, individuals-at, key-address, key-at, key-bytes, key-size, layout, lines-at, lines-size, lists-at, member-size, quick-at, quick-size, status-at, status-size, system-at, system-bytes, system-size}
-use Rattle.store_lists.specs.Lists.{ChannelTable, ChannelsApplied, LineTable, LinesApplied}
+use Rattle.tables.specs.Allowed.{TargetOk}
+use Rattle.tables.specs.Apply.{apply, own-after, with-room}
+use Rattle.store_places.specs.Changes.{TextsAre, TextsApplied, GroupsAre, GroupApplied, IndividualsAre, IndividualApplied, LineSlotsAre, LineSlotApplied, KeyPut, SystemPut, HashPut}
+use Rattle.tables.specs.Layout.{Roomy, channels-at, channels-size, contacts-size, group-contacts-at, group-flags, groups-at, hash-bytes, hash-size, home-at, home-bytes, home-size, individual-contacts-at, individual-flags, individuals-at, key-address, key-at, key-bytes, key-size, layout, line-slots-at, line-slots-size, lines-at, lines-size, member-size, quick-at, quick-size, status-at, status-size, system-at, system-bytes, system-size}
+use Rattle.store_lists.specs.Lists.{ChannelTable, ChannelsApplied, ContactTable, ContactsApplied, FlagsOk, LineTable, LinesApplied}
 use Rattle.tables.specs.Store.{Works, Applied}
+use Rattle.tables.specs.declared.members.Members.the-variants.{OfGroups, OfIndividuals}
+use Rattle.tables.specs.Limits.{contact-places}
 use Rattle.tables.specs.Tables.{Tables}
 use Rattle.tables.specs.Owns.{Own, own, put-own}
+use Rattle.store_apply.specs.Places.{Unlisted}
 use Rattle.tables.proofs.AllowedLaws.{apply-allowed}
-use Rattle.tables.proofs.FitsLaws.{fits-key, fits-system, fits-group, fits-individual}
-use Rattle.tables.proofs.Frames.{hash-put as hash-back, key-put as key-back, home-put as home-back, system-put as system-back, quick-placed, quick-back, status-placed, status-back, groups-placed, groups-back, individuals-placed, individuals-back, channels-counted, channels-back, lines-counted, lines-back}
+use Rattle.tables.proofs.FitsLaws.{fits-key, fits-system, fits-group, fits-individual, fits-line-slot}
+use Rattle.tables.proofs.Frames.{hash-put as hash-back, key-put as key-back, home-put as home-back, system-put as system-back, quick-placed, quick-back, status-placed, status-back, groups-placed, groups-back, individuals-placed, individuals-back, line-slots-placed, line-slots-back, contacts-counted, contacts-back, channels-counted, channels-back, lines-counted, lines-back}
 use Rattle.tables.proofs.LayoutLaws.{layout-length}
 
 -- ---- a region put back
@@ -59,18 +66,26 @@ module _ (l : Limits) (was : Tables) (s : List ℕ) (is : Works l was s) (c : Co
     full = λ e. ap (with-room (put-own (kind v) was)) (h .full e);
   })
 
-  -- a table that had room, in n bytes from a on
+  -- a table in n bytes from a on
+  region-tried : (Is : Own (kind v) → List ℕ → Type 0) (a n : ℕ) (y : List ℕ) (k : Bool) → ((u : Own (kind v)) → Is u y → putMid a n (layout l was) y ≡ layout l (put-own (kind v) was u))
+      → Is (own (kind v) was) (midOf a n (layout l was)) → (Is (own (kind v) was) (midOf a n s) → Tried Is (own-after l v (own (kind v) was)) y k) → Tried (Works l) (apply l x was) (putMid a n s y) k
+  region-tried Is a n y k back here tried =
+      joined Is y (putMid a n s y) k (λ u e. ap (λ z. putMid a n z y) (is .1) ∙ back u e) (tried (subst⁻¹ (λ z. Is (own (kind v) was) (midOf a n z)) (is .1) here))
+
+  -- one that has room for all
   changed : (Is : Own (kind v) → List ℕ → Type 0) (a n : ℕ) (y : List ℕ) → ((u : Own (kind v)) → Is u y → putMid a n (layout l was) y ≡ layout l (put-own (kind v) was u))
-      → (u : Own (kind v)) → own-after l v (own (kind v) was) ≡ some u → Is u y → Tried (Works l) (apply l x was) (putMid a n s y) true
-  changed Is a n y back u c i = joined Is y (putMid a n s y) true (λ w e. ap (λ z. putMid a n z y) (is .1) ∙ back w e) (tried-room Is u c i)
+      → Is (own (kind v) was) (midOf a n (layout l was)) → (Is (own (kind v) was) (midOf a n s) → (u : Own (kind v)) × (own-after l v (own (kind v) was) ≡ some u) × Is u y)
+      → Tried (Works l) (apply l x was) (putMid a n s y) true
+  changed Is a n y back here change = region-tried Is a n y true back here (λ t. let (u, d, i) = change t in tried-room Is u d i)
 
   -- one of a fixed size, by its bytes
   fixed : (bytes : Own (kind v) → List ℕ) (a n : ℕ) (y : List ℕ) → ((u : Own (kind v)) → putMid a n (layout l was) (bytes u) ≡ layout l (put-own (kind v) was u))
       → (u : Own (kind v)) → own-after l v (own (kind v) was) ≡ some u → y ≡ bytes u → Tried (Works l) (apply l x was) (putMid a n s y) true
-  fixed bytes a n y back = changed (λ u z. z ≡ bytes u) a n y (λ u e. ap (putMid a n (layout l was)) e ∙ back u)
+  fixed bytes a n y back u d i =
+      joined (λ u z. z ≡ bytes u) y (putMid a n s y) true (λ w e. ap₂ (putMid a n) (is .1) e ∙ back w) (tried-room (λ u z. z ≡ bytes u) u d i)
 
 -- a fixed region has its length
-wide : (l : Limits) (was : Tables) (s : List ℕ) → Roomy l → Works l was s → (a n : ℕ) → a + n ≤ lists-at → length (midOf a n s) ≡ n
+wide : (l : Limits) (was : Tables) (s : List ℕ) → Roomy l → Works l was s → (a n : ℕ) → a + n ≤ channels-at → length (midOf a n s) ≡ n
 wide l was s room is a n h =
     let e : length s ≡ l .size = ap length (is .1) ∙ layout-length l was room (is .0) in
     let k : a + n - a ≡ n = omega arith in
@@ -109,13 +124,13 @@ module _ (l : Limits) (m s y : List ℕ) where
 
   pub store-quick : (o : Operation) (a : Entries) → TextsApplied Quick m o a (midOf quick-at quick-size s) y → Applied l m (QuickTexts o a) s (putMid quick-at quick-size s y) true
   store-quick o a h was x c left room is (es, q, at) r p =
-      let (u, d, i) = h es at (subst (InRange text-limits left) q r) (was .quick) (subst⁻¹ (λ z. TextsAre Quick (was .quick) (midOf quick-at quick-size z)) (is .1) (quick-placed l was (is .0))) in
-      changed l was s is c left x (quick-texts o es) q r p (TextsAre Quick) quick-at quick-size y (λ v e. quick-back l was (is .0) v y e) u d i
+      changed l was s is c left x (quick-texts o es) q r p (TextsAre Quick) quick-at quick-size y (λ v e. quick-back l was (is .0) v y e) (quick-placed l was (is .0))
+      (h es at (subst (InRange text-limits left) q r) (was .quick))
 
   pub store-status : (o : Operation) (a : Entries) → TextsApplied Status m o a (midOf status-at status-size s) y → Applied l m (StatusTexts o a) s (putMid status-at status-size s y) true
   store-status o a h was x c left room is (es, q, at) r p =
-      let (u, d, i) = h es at (subst (InRange text-limits left) q r) (was .status) (subst⁻¹ (λ z. TextsAre Status (was .status) (midOf status-at status-size z)) (is .1) (status-placed l was (is .0))) in
-      changed l was s is c left x (status-texts o es) q r p (TextsAre Status) status-at status-size y (λ v e. status-back l was (is .0) v y e) u d i
+      changed l was s is c left x (status-texts o es) q r p (TextsAre Status) status-at status-size y (λ v e. status-back l was (is .0) v y e) (status-placed l was (is .0))
+      (h es at (subst (InRange text-limits left) q r) (was .status))
 
   -- ---- the slots
 
@@ -123,35 +138,61 @@ module _ (l : Limits) (m s y : List ℕ) where
   store-group o f a h was x c left room is (us, q, (next, at)) r p =
       let fit = subst (Fits c) q p in
       let low : a .index < 16 = fit .1 .1 .1 .1 .1 .1 .1 .1 .1 .1 .0 in
-      changed l was s is c left x (group o f (record { index = a .index; address = a .address; text = us })) q r p GroupsAre groups-at member-size y (λ u e. groups-back l was (is .0) u y e) (set (was .groups) (a .index) (slot-after o (group-member f a us))) refl
-      (h (was .groups) us next at low (fits-group c o f (record { index = a .index; address = a .address; text = us }) left (subst (InRange text-limits left) q r) fit)
-      (subst⁻¹ (λ z. GroupsAre (was .groups) (midOf groups-at member-size z)) (is .1) (groups-placed l was (is .0))))
+      let slot : Slot _ = record { index = a .index; address = a .address; text = us } in
+      changed l was s is c left x (group o f slot) q r p GroupsAre groups-at member-size y (λ u e. groups-back l was (is .0) u y e) (groups-placed l was (is .0))
+      (λ t. (_, refl, h (was .groups) us next at low (fits-group c o f slot left (subst (InRange text-limits left) q r) fit) t))
 
   pub store-individual : (o : Operation) (f : IndividualFlags) (a : IndividualPlace) → IndividualApplied m o f a (midOf individuals-at member-size s) y → Applied l m (Individual o f a) s (putMid individuals-at member-size s y) true
   store-individual o f a h was x c left room is (us, q, (next, at)) r p =
       let fit = subst (Fits c) q p in
       let low : a .index < 16 = fit .1 .1 .1 .1 .1 .1 .1 .0 in
-      changed l was s is c left x (individual o f (record { index = a .index; address = a .address; text = us })) q r p IndividualsAre individuals-at member-size y (λ u e. individuals-back l was (is .0) u y e) (set (was .individuals) (a .index) (slot-after o (individual-member f a us))) refl
-      (h (was .individuals) us next at low (fits-individual c o f (record { index = a .index; address = a .address; text = us }) left (subst (InRange text-limits left) q r) fit)
-      (subst⁻¹ (λ z. IndividualsAre (was .individuals) (midOf individuals-at member-size z)) (is .1) (individuals-placed l was (is .0))))
+      let slot : Slot _ = record { index = a .index; address = a .address; text = us } in
+      changed l was s is c left x (individual o f slot) q r p IndividualsAre individuals-at member-size y (λ u e. individuals-back l was (is .0) u y e) (individuals-placed l was (is .0))
+      (λ t. (_, refl, h (was .individuals) us next at low (fits-individual c o f slot left (subst (InRange text-limits left) q r) fit) t))
+
+  pub store-line-slot : (o : Operation) (f : LineFlags) (a : LinePlace) → LineSlotApplied m o f a (midOf line-slots-at line-slots-size s) y
+      → Applied l m (LineSlot o f a) s (putMid line-slots-at line-slots-size s y) true
+  store-line-slot o f a h was x c left room is (e, q, at) r p =
+      let fit = subst (Fits c) q p in
+      let low : a .index < 16 = fit .1 .1 .1 .1 .1 .1 .1 .1 .0 in
+      let slot : Slot _ = record { index = a .index; address = e .number; text = e .text } in
+      changed l was s is c left x (line-slot o f slot) q r p LineSlotsAre line-slots-at line-slots-size y (λ u d. line-slots-back l was (is .0) u y d) (line-slots-placed l was (is .0))
+      (λ t. (_, refl, h (was .line-slots) e at low (fits-line-slot c o f slot left (subst (InRange text-limits left) q r) fit) t))
 
   -- ---- the lists
 
-  pub store-channels : (o : Operation) (a : Entries) (n : ℕ) (k : Bool) → n ≡ channels-size l → ChannelsApplied o m a (midOf lists-at n s) y k → Applied l m (Channels o a) s (putMid lists-at n s y) k
+  pub store-group-contacts : (o : Operation) (f : GroupFlags) (a : Entries) (b : ℕ) (k : Bool) → (f .attribute < 4 → f .priority < 4 → b ≡ group-flags f)
+      → ContactsApplied o m b a (midOf group-contacts-at contacts-size s) y k → Applied l m (GroupContacts o f a) s (putMid group-contacts-at contacts-size s y) k
+  store-group-contacts o f a b k byte h was x c left room is (es, q, at) r p =
+      let range = subst (InRange text-limits left) q r in
+      let fit = subst (Fits c) q p in
+      let ok : FlagsOk OfGroups f = (range .0, fit .1 .1 .1 .0, fit .1 .1 .1 .1 .1 .1 .1 .1 .0) in
+      region-tried l was s is c left x (group-contacts o f es) q r p (ContactTable OfGroups contact-places) group-contacts-at contacts-size y k
+      (λ u e. contacts-back l was (is .0) OfGroups u y e) (contacts-counted l was (is .0) OfGroups)
+      (λ t. h OfGroups f contact-places (was .group-contacts) es (byte (ok .1) (ok .2)) ok t at (range .1))
+
+  pub store-individual-contacts : (o : Operation) (f : IndividualFlags) (a : Entries) (b : ℕ) (k : Bool) → (f .priority < 4 → b ≡ individual-flags f)
+      → ContactsApplied o m b a (midOf individual-contacts-at contacts-size s) y k → Applied l m (IndividualContacts o f a) s (putMid individual-contacts-at contacts-size s y) k
+  store-individual-contacts o f a b k byte h was x c left room is (es, q, at) r p =
+      let low : f .priority < 4 = (subst (Fits c) q p) .1 .1 .1 .1 .1 .0 in
+      region-tried l was s is c left x (individual-contacts o f es) q r p (ContactTable OfIndividuals contact-places) individual-contacts-at contacts-size y k
+      (λ u e. contacts-back l was (is .0) OfIndividuals u y e) (contacts-counted l was (is .0) OfIndividuals)
+      (λ t. h OfIndividuals f contact-places (was .individual-contacts) es (byte low) low t at (subst (InRange text-limits left) q r))
+
+  pub store-channels : (o : Operation) (a : Entries) (n : ℕ) (k : Bool) → n ≡ channels-size l → ChannelsApplied o m a (midOf channels-at n s) y k → Applied l m (Channels o a) s (putMid channels-at n s y) k
   store-channels o a n k w h was x c left room is (es, q, at) r p =
-      joined l was s is c left x (channels o es) q r p (ChannelTable (l .channels)) y (putMid lists-at n s y) k
-      (λ v e. ap₂ (λ j z. putMid lists-at j z y) w (is .1) ∙ channels-back l was (is .0) v y e)
-      (h (l .channels) (was .channels) es
-      (subst⁻¹ (ChannelTable (l .channels) (was .channels)) (ap₂ (midOf lists-at) w (is .1)) (channels-counted l was (is .0) room)) at (subst (InRange text-limits left) q r))
+      region-tried l was s is c left x (channels o es) q r p (ChannelTable (l .channels)) channels-at n y k
+      (λ v e. ap (λ j. putMid channels-at j (layout l was) y) w ∙ channels-back l was (is .0) v y e)
+      (subst⁻¹ (λ j. ChannelTable (l .channels) (was .channels) (midOf channels-at j (layout l was))) w (channels-counted l was (is .0) room))
+      (λ t. h (l .channels) (was .channels) es t at (subst (InRange text-limits left) q r))
 
   pub store-lines : (o : Operation) (f : LineFlags) (a : Entries) (b n : ℕ) (k : Bool) → b ≡ lines-at l → n ≡ lines-size l → LinesApplied o m f a (midOf b n s) y k → Applied l m (Lines o f a) s (putMid b n s y) k
   store-lines o f a b n k v w h was x c left room is (es, q, at) r p =
       let low : f .priority < 4 = (subst (Fits c) q p) .1 .1 .1 .1 .1 .0 in
-      joined l was s is c left x (lines o f es) q r p (LineTable (l .lines)) y (putMid b n s y) k
-      (λ z e. ap₂ (λ a j. putMid a j s y) v w ∙ ap (λ t. putMid (lines-at l) (lines-size l) t y) (is .1) ∙ lines-back l was (is .0) z y e)
-      (h low (l .lines) (was .lines) es
-      (subst⁻¹ (LineTable (l .lines) (was .lines)) (ap₂ (λ a j. midOf a j s) v w ∙ ap (midOf (lines-at l) (lines-size l)) (is .1)) (lines-counted l was (is .0) room))
-      at (subst (InRange text-limits left) q r))
+      region-tried l was s is c left x (lines o f es) q r p (LineTable (l .lines)) b n y k
+      (λ z e. ap₂ (λ a j. putMid a j (layout l was) y) v w ∙ lines-back l was (is .0) z y e)
+      (subst⁻¹ (LineTable (l .lines) (was .lines)) (ap₂ (λ a j. midOf a j (layout l was)) v w) (lines-counted l was (is .0) room))
+      (λ t. h low (l .lines) (was .lines) es t at (subst (InRange text-limits left) q r))
 
   -- ---- no store of these limits
 
@@ -164,3 +205,37 @@ module _ (l : Limits) (m s y : List ℕ) where
 -- what is said of a case is said of the setting
 pub as-read : (l : Limits) (m s t : List ℕ) (k : Bool) (r q : Read) → r ≡ q → Applied l m q s t k → Applied l m r s t k
 as-read l m s t k r q e h = subst⁻¹ (λ z. Applied l m z s t k) e h
+
+-- ---- settings that are for no list
+
+-- such are those that the code leaves over when it has taken the lists
+pub unlisted : (r : Read) → OneOf (3 ∷ 4 ∷ 5 ∷ 7 ∷ 8 ∷ 9 ∷ 10 ∷ 11 ∷ 12 ∷ []) (tagOf the-type r) → Unlisted r
+unlisted (GroupContacts o f p) k = miss (3 ∷ 4 ∷ 5 ∷ 7 ∷ 8 ∷ 9 ∷ 10 ∷ 11 ∷ 12 ∷ []) 0 tt k
+unlisted (IndividualContacts o f p) k = miss (3 ∷ 4 ∷ 5 ∷ 7 ∷ 8 ∷ 9 ∷ 10 ∷ 11 ∷ 12 ∷ []) 1 tt k
+unlisted (Lines o f p) k = miss (3 ∷ 4 ∷ 5 ∷ 7 ∷ 8 ∷ 9 ∷ 10 ∷ 11 ∷ 12 ∷ []) 2 tt k
+unlisted (Key t f) k = tt
+unlisted (QuickTexts o p) k = tt
+unlisted (Home h) k = tt
+unlisted (Channels o p) k = miss (3 ∷ 4 ∷ 5 ∷ 7 ∷ 8 ∷ 9 ∷ 10 ∷ 11 ∷ 12 ∷ []) 6 tt k
+unlisted (System c) k = tt
+unlisted (StatusTexts o p) k = tt
+unlisted (Group o f p) k = tt
+unlisted (Individual o f p) k = tt
+unlisted (LineSlot o f p) k = tt
+unlisted (Last f p) k = tt
+
+-- and those that it leaves over when it has taken the others are for a list
+pub no-place : (r : Read) → OneOf (0 ∷ 1 ∷ 2 ∷ 6 ∷ []) (tagOf the-type r) → Unlisted r → ⊥
+no-place (GroupContacts o f p) k u = u
+no-place (IndividualContacts o f p) k u = u
+no-place (Lines o f p) k u = u
+no-place (Key t f) k u = miss (0 ∷ 1 ∷ 2 ∷ 6 ∷ []) 3 tt k
+no-place (QuickTexts o p) k u = miss (0 ∷ 1 ∷ 2 ∷ 6 ∷ []) 4 tt k
+no-place (Home h) k u = miss (0 ∷ 1 ∷ 2 ∷ 6 ∷ []) 5 tt k
+no-place (Channels o p) k u = u
+no-place (System c) k u = miss (0 ∷ 1 ∷ 2 ∷ 6 ∷ []) 7 tt k
+no-place (StatusTexts o p) k u = miss (0 ∷ 1 ∷ 2 ∷ 6 ∷ []) 8 tt k
+no-place (Group o f p) k u = miss (0 ∷ 1 ∷ 2 ∷ 6 ∷ []) 9 tt k
+no-place (Individual o f p) k u = miss (0 ∷ 1 ∷ 2 ∷ 6 ∷ []) 10 tt k
+no-place (LineSlot o f p) k u = miss (0 ∷ 1 ∷ 2 ∷ 6 ∷ []) 11 tt k
+no-place (Last f p) k u = miss (0 ∷ 1 ∷ 2 ∷ 6 ∷ []) 12 tt k

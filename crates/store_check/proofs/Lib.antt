@@ -4,6 +4,7 @@ pub mod DistinctLaws
 pub mod EntryChecks
 pub mod FixedChecks
 pub mod FrontLaws
+pub mod KeyedChecks
 pub mod NumberChecks
 pub mod StoreChecks
 pub mod TableChecks

@@ -1,21 +1,24 @@
 -- A store, region by region: which bytes are one. Assumes nothing.
-use Rattle.lists.proofs.Kit.{_≡_, sym, ap, ap₂, _∙_, subst, Bool, true, _↔_, Iff·rfl, Iff·trans, Iff·and, Option, List, [], _++_, append-assoc, append-nil, ℕ, _+_, _*_, _-_, arith, midOf, length, drop, replicate, length-append, length-drop}
-use Rattle.slots.specs.Slots.{places, front, zeros?, u16, EntryOf, PlacesOf, Listed}
+use Rattle.lists.proofs.Kit.{_≡_, sym, ap, ap₂, _∙_, subst, true, _↔_, Iff·rfl, Iff·trans, Iff·and, Option, List, [], _++_, append-assoc, append-nil, ℕ, _+_, _*_, _-_, arith, midOf, length, drop, replicate, length-append, length-drop}
+use Rattle.slots.specs.Slots.{places, front, zeros?, u16, EntryOf, PlacesOf}
 use Rattle.slots.proofs.Runs.{zeros-all, zeros-are}
 use Rattle.slots.proofs.Tables.{front-length, places-length}
-use Rattle.counted_lists.specs.Counted.{Distinct}
 use Rattle.writing.specs.declared.HomeNumbers.{HomeNumbers}
 use Rattle.writing.specs.declared.SystemCode.{SystemCode}
 use Rattle.writing.specs.Ranges.{InChannel}
 use Rattle.writing.specs.Settings.{Hash, Text}
 use Rattle.tables.specs.declared.limits.Limits.{Limits}
 use Rattle.tables.specs.Allowed.{QuickOk, StatusOk, GroupOk, IndividualOk, LineOk, HashOk, HomeOk, SystemOk, Allowed, PlacesOk, ListOk, LinesOk}
-use Rattle.store_check.specs.Checks.{Both, joined, KeyOk, FixedOf, IndexedOf, CountedIn, ChannelsOf, LinesOf}
-use Rattle.store_check.specs.declared.checks_tables.Table.the-variants.{Lines}
-use Rattle.tables.specs.Layout.{quick-bytes, status-bytes, group-bytes, individual-bytes, line-bytes, hash-bytes, key-bytes, home-bytes, system-bytes, used-size, layout, Roomy, IsStore, count-size, counted, channel-width, channels-size, line-width, lines-size, lists-at, lines-at, member-size, quick-at, quick-size, status-size}
-use Rattle.tables.specs.Tables.{Line, line-key, GroupMember, IndividualMember, Key, Tables}
+use Rattle.store_check.specs.Checks.{Both, joined, KeyOk, FixedOf, IndexedOf, ContactsOk, ContactsOf, ContactListsOf, ChannelsOf, LinesOf}
+use Rattle.tables.specs.Layout.{quick-bytes, status-bytes, group-bytes, individual-bytes, line-bytes, hash-bytes, key-bytes, home-bytes, system-bytes, used-size, layout, Roomy, IsStore, count-size, counted, member-width, channel-width, line-width, contacts-size, channels-size, lines-size, group-contacts-at, channels-at, lines-at, member-size, line-slots-size, quick-at, quick-size, status-size}
+use Rattle.tables.specs.Limits.{contact-places}
+use Rattle.tables.specs.declared.members.Members.{Members}
+use Rattle.tables.specs.declared.members.Members.the-variants.{OfGroups, OfIndividuals}
+use Rattle.tables.specs.MemberKinds.{MemberIn}
+use Rattle.tables.specs.Members.{member-ok, member-bytes}
+use Rattle.tables.specs.Tables.{Line, GroupMember, IndividualMember, Key, Tables}
 use Rattle.store_check.proofs.CheckLaws.{Same, entry-same, parts-are, last-is, rest-is}
-use Rattle.tables.proofs.EntryCodes.{quick-code, status-code, group-code, individual-code, channel-code, line-code}
+use Rattle.tables.proofs.EntryCodes.{quick-code, status-code, group-code, individual-code, member-code, channel-code, line-code}
 use Rattle.tables.proofs.FixedCodes.{hash-code, key-code, home-code, system-code}
 
 -- ---- how long the regions are
@@ -43,31 +46,38 @@ places-entry P w f n s = (
   λ x. record { entries = x .entry; placed = record { many = x .holds .0; each = x .holds .1; bytes = x .bytes } },
 )
 
--- ---- lines
-
--- lines are a list table of lines, of which a test decides whether they are distinct
-pub lines-decided : (n : ℕ) (s : List ℕ) → CountedIn Lines n s → (b : Bool) → ((n : ℕ) (ls : List Line) → Listed LineOk line-width line-bytes n ls (drop count-size s) → (b ≡ true) ↔ Distinct line-key ls) → (b ≡ true) ↔ LinesOf n s
-lines-decided n s t b d = (
-  λ e. record { entry = t .entry; holds = (t .holds, d n (t .entry) (record { few = t .holds .0; each = t .holds .1; bytes = ap (drop count-size) (t .bytes) }) .0 e); bytes = t .bytes },
-  λ x. d n (x .entry) (record { few = x .holds .0 .0; each = x .holds .0 .1; bytes = ap (drop count-size) (x .bytes) }) .1 (x .holds .1),
-)
-
--- and lines with their count are such a table
-pub lines-counted : (n : ℕ) (s : List ℕ) → LinesOf n s → CountedIn Lines n s
-lines-counted n s x = record { entry = x .entry; holds = x .holds .0; bytes = x .bytes }
-
 -- ---- the indexed tables
 
--- 7264 bytes are the four where each is
-pub indexed-is : (s : List ℕ) → length s ≡ 7264 → (PlacesOf QuickOk 46 quick-bytes 64 (midOf 0 quick-size s) × (PlacesOf StatusOk 33 status-bytes 96 (midOf quick-size status-size s) × (PlacesOf GroupOk 36 group-bytes 16 (midOf 6112 member-size s) × PlacesOf IndividualOk 36 individual-bytes 16 (midOf 6688 member-size s)))) ↔ IndexedOf s
+-- 8096 bytes are the five where each is
+pub indexed-is : (s : List ℕ) → length s ≡ 8096
+    → (PlacesOf QuickOk 46 quick-bytes 64 (midOf 0 quick-size s) × (PlacesOf StatusOk 33 status-bytes 96 (midOf quick-size status-size s) × (PlacesOf GroupOk 36 group-bytes 16 (midOf 6112 member-size s) × (PlacesOf IndividualOk 36 individual-bytes 16 (midOf 6688 member-size s) × PlacesOf LineOk 52 line-bytes 16 (midOf 7264 line-slots-size s)))))
+    ↔ IndexedOf s
 indexed-is s l =
     Iff·trans (Iff·and (places-entry QuickOk 46 quick-bytes 64 (midOf 0 quick-size s))
     (Iff·trans (Iff·and (places-entry StatusOk 33 status-bytes 96 (midOf quick-size status-size s))
     (Iff·trans (Iff·and (places-entry GroupOk 36 group-bytes 16 (midOf 6112 member-size s))
-    (Iff·trans (places-entry IndividualOk 36 individual-bytes 16 (midOf 6688 member-size s)) (last-is (PlacesOk IndividualOk 16) (places 36 individual-bytes) 6688 member-size s (omega arith))))
-    (parts-are (PlacesOk GroupOk 16) (PlacesOk IndividualOk 16) (places 36 group-bytes) (places 36 individual-bytes) 6112 member-size s (table-long GroupOk 36 group-bytes (group-code .long) 16))))
+    (Iff·trans (Iff·and (places-entry IndividualOk 36 individual-bytes 16 (midOf 6688 member-size s))
+    (Iff·trans (places-entry LineOk 52 line-bytes 16 (midOf 7264 line-slots-size s)) (last-is (PlacesOk LineOk 16) (places 52 line-bytes) 7264 line-slots-size s (omega arith))))
+    (parts-are (PlacesOk IndividualOk 16) (PlacesOk LineOk 16) (places 36 individual-bytes) (places 52 line-bytes) 6688 member-size s (table-long IndividualOk 36 individual-bytes (individual-code .long) 16))))
+    (parts-are (PlacesOk GroupOk 16) _ (places 36 group-bytes) _ 6112 member-size s (table-long GroupOk 36 group-bytes (group-code .long) 16))))
     (parts-are (PlacesOk StatusOk 96) _ (places 33 status-bytes) _ quick-size status-size s (table-long StatusOk 33 status-bytes (status-code .long) 96))))
     (parts-are (PlacesOk QuickOk 64) _ (places 46 quick-bytes) _ 0 quick-size s (table-long QuickOk 46 quick-bytes (quick-code .long) 64))
+
+-- ---- the lists of contacts
+
+-- a list's bytes
+abbrev contacts-bytes : (w : Members) → List (MemberIn w) → List ℕ
+contacts-bytes w = counted member-width (member-bytes w) contact-places
+
+contacts-long : (w : Members) (xs : List (MemberIn w)) → ContactsOk w contact-places xs → length (contacts-bytes w xs) ≡ contacts-size
+contacts-long w xs p = list-long (member-ok w) member-width (member-bytes w) (member-code w .long) contact-places xs
+
+-- 4612 bytes are the two where each is
+pub contact-lists-are : (s : List ℕ) → length s ≡ 4612
+    → (ContactsOf OfGroups contact-places (midOf 0 contacts-size s) × ContactsOf OfIndividuals contact-places (midOf contacts-size (length s - contacts-size) s)) ↔ ContactListsOf s
+contact-lists-are s l =
+    Iff·trans (Iff·and Iff·rfl (last-is (ContactsOk OfIndividuals contact-places) (contacts-bytes OfIndividuals) contacts-size (length s - contacts-size) s (omega arith)))
+    (parts-are (ContactsOk OfGroups contact-places) (ContactsOk OfIndividuals contact-places) (contacts-bytes OfGroups) (contacts-bytes OfIndividuals) 0 contacts-size s (contacts-long OfGroups))
 
 -- ---- the whole
 
@@ -78,9 +88,10 @@ spare-is k s l = (
   λ x. ap zeros? (x .bytes) ∙ zeros-all k,
 )
 
--- eleven regions in five runs
-regroup : (a b c d e f g h i j k : List ℕ) → (a ++ (b ++ (c ++ d))) ++ ((e ++ (f ++ (g ++ h))) ++ (i ++ (j ++ k))) ≡ a ++ (b ++ (c ++ (d ++ (e ++ (f ++ (g ++ (h ++ (i ++ (j ++ (k ++ []))))))))))
-regroup a b c d e f g h i j k = simp (append-assoc, append-nil)
+-- fourteen regions in four runs
+regroup : (a b c d e f g h i j k l m n : List ℕ) → (a ++ (b ++ (c ++ d))) ++ ((e ++ (f ++ (g ++ (h ++ i)))) ++ ((j ++ k) ++ (l ++ (m ++ n))))
+    ≡ a ++ (b ++ (c ++ (d ++ (e ++ (f ++ (g ++ (h ++ (i ++ (j ++ (k ++ (l ++ (m ++ (n ++ [])))))))))))))
+regroup a b c d e f g h i j k l m n = simp (append-assoc, append-nil)
 
 -- the regions that every store begins with
 abbrev Fixed : Type 0
@@ -102,25 +113,42 @@ fixed-long =
 
 -- the indexed tables
 abbrev Indexed : Type 0
-Indexed = List (Option Text) × (List (Option Text) × (List (Option GroupMember) × List (Option IndividualMember)))
+Indexed = List (Option Text) × (List (Option Text) × (List (Option GroupMember) × (List (Option IndividualMember) × List (Option Line))))
 
 -- as the rules allow them
 abbrev IndexedOk : Indexed → Type 0
-IndexedOk = Both (PlacesOk QuickOk 64) (Both (PlacesOk StatusOk 96) (Both (PlacesOk GroupOk 16) (PlacesOk IndividualOk 16)))
+IndexedOk = Both (PlacesOk QuickOk 64) (Both (PlacesOk StatusOk 96) (Both (PlacesOk GroupOk 16) (Both (PlacesOk IndividualOk 16) (PlacesOk LineOk 16))))
 
 -- their bytes
 abbrev indexed-bytes : Indexed → List ℕ
-indexed-bytes = joined (places 46 quick-bytes) (joined (places 33 status-bytes) (joined (places 36 group-bytes) (places 36 individual-bytes)))
+indexed-bytes = joined (places 46 quick-bytes) (joined (places 33 status-bytes) (joined (places 36 group-bytes) (joined (places 36 individual-bytes) (places 52 line-bytes))))
 
--- they are 7264 bytes
-indexed-long : (x : Indexed) → IndexedOk x → length (indexed-bytes x) ≡ 7264
+-- they are 8096 bytes
+indexed-long : (x : Indexed) → IndexedOk x → length (indexed-bytes x) ≡ 8096
 indexed-long =
-    both-long (places 46 quick-bytes) (joined (places 33 status-bytes) (joined (places 36 group-bytes) (places 36 individual-bytes))) (table-long QuickOk 46 quick-bytes (quick-code .long) 64)
-    (both-long (places 33 status-bytes) (joined (places 36 group-bytes) (places 36 individual-bytes)) (table-long StatusOk 33 status-bytes (status-code .long) 96)
-    (both-long (places 36 group-bytes) (places 36 individual-bytes) (table-long GroupOk 36 group-bytes (group-code .long) 16) (table-long IndividualOk 36 individual-bytes (individual-code .long) 16)))
+    both-long (places 46 quick-bytes) _ (table-long QuickOk 46 quick-bytes (quick-code .long) 64)
+    (both-long (places 33 status-bytes) _ (table-long StatusOk 33 status-bytes (status-code .long) 96)
+    (both-long (places 36 group-bytes) _ (table-long GroupOk 36 group-bytes (group-code .long) 16)
+    (both-long (places 36 individual-bytes) (places 52 line-bytes) (table-long IndividualOk 36 individual-bytes (individual-code .long) 16) (table-long LineOk 52 line-bytes (line-code .long) 16))))
+
+-- the lists of contacts
+abbrev Contacts : Type 0
+Contacts = List GroupMember × List IndividualMember
+
+-- as the rules allow them
+abbrev BothOk : Contacts → Type 0
+BothOk = Both (ContactsOk OfGroups contact-places) (ContactsOk OfIndividuals contact-places)
+
+-- their bytes
+abbrev both-bytes : Contacts → List ℕ
+both-bytes = joined (contacts-bytes OfGroups) (contacts-bytes OfIndividuals)
+
+-- they are 4612 bytes
+lists-long : (x : Contacts) → BothOk x → length (both-bytes x) ≡ 4612
+lists-long = both-long (contacts-bytes OfGroups) (contacts-bytes OfIndividuals) (contacts-long OfGroups) (contacts-long OfIndividuals)
 
 module _ (lim : Limits) where
-  -- the list tables, and what is spare
+  -- the other list tables, and what is spare
   abbrev Rest : Type 0
   Rest = List ℕ × (List Line × Unit {0})
 
@@ -145,11 +173,18 @@ module _ (lim : Limits) where
   rest-bytes = joined channels-bytes (joined lines-bytes spare-bytes)
 
   -- the tables, run by run
-  runs-of : Tables → Fixed × (Indexed × Rest)
-  runs-of t = ((t .hash, (t .key, (t .home, t .system))), ((t .quick, (t .status, (t .groups, t .individuals))), (t .channels, (t .lines, tt))))
+  runs-of : Tables → Fixed × (Indexed × (Contacts × Rest))
+  runs-of t = ((t .hash, (t .key, (t .home, t .system))), ((t .quick, (t .status, (t .groups, (t .individuals, t .line-slots)))), ((t .group-contacts, t .individual-contacts), (t .channels, (t .lines, tt)))))
+
+  -- which regions are allowed, and their bytes
+  abbrev AllOk : Fixed × (Indexed × (Contacts × Rest)) → Type 0
+  AllOk = Both FixedOk (Both IndexedOk (Both BothOk RestOk))
+
+  abbrev all-bytes : Fixed × (Indexed × (Contacts × Rest)) → List ℕ
+  all-bytes = joined fixed-bytes (joined indexed-bytes (joined both-bytes rest-bytes))
 
   -- runs as tables
-  tables : Fixed × (Indexed × Rest) → Tables
+  tables : Fixed × (Indexed × (Contacts × Rest)) → Tables
   tables x =
       record {
         hash = x .0 .0;
@@ -159,20 +194,24 @@ module _ (lim : Limits) where
         quick = x .1 .0 .0;
         status = x .1 .0 .1 .0;
         groups = x .1 .0 .1 .1 .0;
-        individuals = x .1 .0 .1 .1 .1;
-        channels = x .1 .1 .0;
-        lines = x .1 .1 .1 .0;
+        individuals = x .1 .0 .1 .1 .1 .0;
+        line-slots = x .1 .0 .1 .1 .1 .1;
+        group-contacts = x .1 .1 .0 .0;
+        individual-contacts = x .1 .1 .0 .1;
+        channels = x .1 .1 .1 .0;
+        lines = x .1 .1 .1 .1 .0;
       }
 
   -- their bytes
-  runs-bytes : (t : Tables) → joined fixed-bytes (joined indexed-bytes rest-bytes) (runs-of t) ≡ layout lim t
+  runs-bytes : (t : Tables) → all-bytes (runs-of t) ≡ layout lim t
   unfolding layout runs-of
   runs-bytes t =
       regroup (hash-bytes (t .hash)) (key-bytes (t .key)) (home-bytes (t .home)) (system-bytes (t .system)) (places 46 quick-bytes (t .quick)) (places 33 status-bytes (t .status))
-      (places 36 group-bytes (t .groups)) (places 36 individual-bytes (t .individuals)) (channels-bytes (t .channels)) (lines-bytes (t .lines)) (spare-bytes tt)
+      (places 36 group-bytes (t .groups)) (places 36 individual-bytes (t .individuals)) (places 52 line-bytes (t .line-slots)) (contacts-bytes OfGroups (t .group-contacts))
+      (contacts-bytes OfIndividuals (t .individual-contacts)) (channels-bytes (t .channels)) (lines-bytes (t .lines)) (spare-bytes tt)
 
   -- the regions of a store are tables
-  tables-of : Same (Both FixedOk (Both IndexedOk RestOk)) (joined fixed-bytes (joined indexed-bytes rest-bytes)) (Allowed lim) (layout lim)
+  tables-of : Same AllOk all-bytes (Allowed lim) (layout lim)
   unfolding runs-of tables
   tables-of =
       record {
@@ -187,12 +226,23 @@ module _ (lim : Limits) where
               quick = p .1 .0 .0;
               status = p .1 .0 .1 .0;
               groups = p .1 .0 .1 .1 .0;
-              individuals = p .1 .0 .1 .1 .1;
-              channels = p .1 .1 .0;
-              lines = p .1 .1 .1 .0 .0;
-              distinct = p .1 .1 .1 .0 .1;
+              individuals = p .1 .0 .1 .1 .1 .0;
+              line-slots = p .1 .0 .1 .1 .1 .1;
+              group-contacts = p .1 .1 .0 .0 .0;
+              distinct-groups = p .1 .1 .0 .0 .1;
+              individual-contacts = p .1 .1 .0 .1 .0;
+              distinct-individuals = p .1 .1 .0 .1 .1;
+              channels = p .1 .1 .1 .0;
+              lines = p .1 .1 .1 .1 .0 .0;
+              distinct = p .1 .1 .1 .1 .0 .1;
             };
-        back-good = λ t p. ((p .hash, (p .key, (p .home, p .system))), ((p .quick, (p .status, (p .groups, p .individuals))), (p .channels, ((p .lines, p .distinct), tt))));
+        back-good = λ t p. (
+          (p .hash, (p .key, (p .home, p .system))),
+          (
+            (p .quick, (p .status, (p .groups, (p .individuals, p .line-slots)))),
+            (((p .group-contacts, p .distinct-groups), (p .individual-contacts, p .distinct-individuals)), (p .channels, ((p .lines, p .distinct), tt))),
+          ),
+        );
         bytes = λ x p. runs-bytes (tables x);
         back-bytes = λ t p. sym (runs-bytes t);
       }
@@ -213,17 +263,20 @@ module _ (lim : Limits) where
         Iff·trans (λ z. ap zeros? (sym e) ∙ z, λ z. ap zeros? e ∙ z) (spare-is (lim .size - used-size lim) (drop a s) k)
 
     -- the bytes of a store's size are a store where each region is what it has to be
-    pub store-is : (FixedOf (midOf 0 22 s) × (IndexedOf (midOf quick-at 7264 s) × (ChannelsOf (lim .channels) (midOf lists-at (lists-at + channels-size lim - lists-at) s) × (LinesOf (lim .lines) (midOf (lines-at lim) (lines-at lim + lines-size lim - lines-at lim) s) × (zeros? (midOf (lines-at lim + lines-size lim) (length s - (lines-at lim + lines-size lim)) s) ≡ true))))) ↔ IsStore lim s
+    pub store-is : (FixedOf (midOf 0 22 s) × (IndexedOf (midOf quick-at 8096 s) × (ContactListsOf (midOf group-contacts-at 4612 s) × (ChannelsOf (lim .channels) (midOf channels-at (channels-at + channels-size lim - channels-at) s) × (LinesOf (lim .lines) (midOf (lines-at lim) (lines-at lim + lines-size lim - lines-at lim) s) × (zeros? (midOf (lines-at lim + lines-size lim) (length s - (lines-at lim + lines-size lim)) s) ≡ true))))))
+        ↔ IsStore lim s
     store-is =
         let w = Iff·trans (Iff·and Iff·rfl
         (Iff·trans (Iff·and Iff·rfl
-        (Iff·trans (Iff·and (part-is (ListOk InChannel (lim .channels)) channels-bytes lists-at (channels-size lim))
+        (Iff·trans (Iff·and Iff·rfl
+        (Iff·trans (Iff·and (part-is (ListOk InChannel (lim .channels)) channels-bytes channels-at (channels-size lim))
         (Iff·trans (Iff·and (part-is (LinesOk (lim .lines)) lines-bytes (lines-at lim) (lines-size lim)) spare-part)
         (parts-are (LinesOk (lim .lines)) (λ u. Unit {0}) lines-bytes spare-bytes (lines-at lim) (lines-size lim) s (λ ls p. list-long LineOk line-width line-bytes (line-code .long) (lim .lines) ls))))
-        (parts-are (ListOk InChannel (lim .channels)) (Both (LinesOk (lim .lines)) (λ u. Unit {0})) channels-bytes (joined lines-bytes spare-bytes) lists-at (channels-size lim) s (λ cs p. list-long InChannel 2 u16 (channel-code .long) (lim .channels) cs))))
-        (parts-are IndexedOk RestOk indexed-bytes rest-bytes 22 7264 s indexed-long)))
-        (Iff·trans (parts-are FixedOk (Both IndexedOk RestOk) fixed-bytes (joined indexed-bytes rest-bytes) 0 22 s fixed-long)
-        (entry-same (Both FixedOk (Both IndexedOk RestOk)) (joined fixed-bytes (joined indexed-bytes rest-bytes)) (Allowed lim) (layout lim) tables-of s)) in (
+        (parts-are (ListOk InChannel (lim .channels)) (Both (LinesOk (lim .lines)) (λ u. Unit {0})) channels-bytes (joined lines-bytes spare-bytes) channels-at (channels-size lim) s (λ cs p. list-long InChannel 2 u16 (channel-code .long) (lim .channels) cs))))
+        (parts-are BothOk RestOk both-bytes rest-bytes group-contacts-at 4612 s lists-long)))
+        (parts-are IndexedOk (Both BothOk RestOk) indexed-bytes (joined both-bytes rest-bytes) 22 8096 s indexed-long)))
+        (Iff·trans (parts-are FixedOk (Both IndexedOk (Both BothOk RestOk)) fixed-bytes (joined indexed-bytes (joined both-bytes rest-bytes)) 0 22 s fixed-long)
+        (entry-same AllOk all-bytes (Allowed lim) (layout lim) tables-of s)) in (
           λ x. let t = w .0 x in record { tables = t .entry; allowed = t .holds; bytes-are = t .bytes },
           λ y. w .1 (record { entry = y .tables; holds = y .allowed; bytes = y .bytes-are }),
         )

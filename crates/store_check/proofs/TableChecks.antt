@@ -5,18 +5,17 @@ use Rattle.slots.proofs.Runs.{zeros-all, zeros-are}
 use Rattle.slots.proofs.Tables.{slot-wide}
 use Rattle.slots.proofs.Walks.{Left, places-more, places-stop, places-end}
 use Rattle.store_check.specs.declared.checks_tables.Table.{Table}
-use Rattle.store_check.specs.declared.checks_tables.Table.the-variants.{QuickTexts, StatusTexts, Groups, Individuals, Channels, Lines}
+use Rattle.store_check.specs.declared.checks_tables.Table.the-variants.{QuickTexts, StatusTexts, Members as Of, Channels, Lines}
 use Rattle.store_check.specs.Checks.{EntryIn, OkIn, bytes-in, width-in}
 use Rattle.store_check.proofs.CheckLaws.{rest-is}
-use Rattle.tables.proofs.EntryCodes.{quick-code, quick-shown, status-code, status-shown, group-code, group-shown, individual-code, individual-shown, channel-code, channel-shown, line-code, line-shown}
+use Rattle.tables.proofs.EntryCodes.{quick-code, quick-shown, status-code, status-shown, member-code, member-shown, channel-code, channel-shown, line-code, line-shown}
 use Rattle.store_check.proofs.FrontLaws.{front-is}
 
 -- a slot has bytes
 pub wide-in : (t : Table) → 0 < width-in t
 wide-in QuickTexts = omega arith
 wide-in StatusTexts = omega arith
-wide-in Groups = omega arith
-wide-in Individuals = omega arith
+wide-in (Of w) = omega arith
 wide-in Channels = omega arith
 wide-in Lines = omega arith
 
@@ -24,8 +23,7 @@ wide-in Lines = omega arith
 pub long-in : (t : Table) (a : EntryIn t) → length (bytes-in t a) ≡ width-in t
 long-in QuickTexts = quick-code .long
 long-in StatusTexts = status-code .long
-long-in Groups = group-code .long
-long-in Individuals = individual-code .long
+long-in (Of w) = member-code w .long
 long-in Channels = channel-code .long
 long-in Lines = line-code .long
 
@@ -33,8 +31,7 @@ long-in Lines = line-code .long
 pub shown-in : (t : Table) (a : EntryIn t) → OkIn t a → zeros? (bytes-in t a) ≡ false
 shown-in QuickTexts = quick-shown
 shown-in StatusTexts = status-shown
-shown-in Groups = group-shown
-shown-in Individuals = individual-shown
+shown-in (Of w) = member-shown w
 shown-in Channels = channel-shown
 shown-in Lines = line-shown
 

@@ -1,16 +1,18 @@
 // Whether lent bytes are a store.
 use super::checks_fixed::fixed_ok;
 use super::checks_lists::channels_ok;
+use super::checks_lists::contact_lists_ok;
 use super::checks_lists::lines_ok;
 use super::checks_tables::indexed_ok;
 use slots::bytes::is_clear;
 use tables::limits::Limits;
 use tables::limits::roomy;
 use tables::places::CHANNEL_SLOT;
+use tables::places::CHANNELS;
 use tables::places::COUNT;
+use tables::places::GROUP_CONTACTS;
 use tables::places::HASH;
 use tables::places::LINE_SLOT;
-use tables::places::LISTS;
 use tables::places::QUICK;
 ghost use mathlib.Core.Path.{_≡_};
 ghost use mathlib.Core.Bool.{true};
@@ -27,11 +29,14 @@ fn regions_ok(store: &[u8], limits: Limits) -> bool
     if !fixed_ok(&store[HASH..QUICK]) {
         return false;
     }
-    if !indexed_ok(&store[QUICK..LISTS]) {
+    if !indexed_ok(&store[QUICK..GROUP_CONTACTS]) {
         return false;
     }
-    let lines = LISTS + (COUNT + limits.channels * CHANNEL_SLOT);
-    if !channels_ok(&store[LISTS..lines]) {
+    if !contact_lists_ok(&store[GROUP_CONTACTS..CHANNELS]) {
+        return false;
+    }
+    let lines = CHANNELS + (COUNT + limits.channels * CHANNEL_SLOT);
+    if !channels_ok(&store[CHANNELS..lines]) {
         return false;
     }
     let spare = lines + (COUNT + limits.lines * LINE_SLOT);

@@ -2,6 +2,7 @@
 use slots::bytes::is_clear;
 use slots::bytes::is_zeros;
 use slots::slots::used;
+use tables::members::Members;
 use tables::places::LINE_DIGITS;
 use tables::places::LINE_IDTYPE;
 use tables::places::LINE_SLOT;
@@ -18,7 +19,8 @@ ghost use Rattle.lists.specs.Every.{All};
 ghost use Rattle.slots.specs.Slots.{EntryOf, u16, u24};
 ghost use Rattle.writing.specs.Ranges.{InNumber, InChannel};
 ghost use Rattle.tables.specs.Allowed.{TextOk, QuickOk, StatusOk, AddressOk, LineOk, GroupOk, IndividualOk};
-ghost use Rattle.tables.specs.Layout.{text-bytes, quick-bytes, status-bytes, digit-bytes, line-bytes, group-bytes, individual-bytes, line-width};
+ghost use Rattle.tables.specs.Layout.{text-bytes, quick-bytes, status-bytes, digit-bytes, line-bytes, group-bytes, individual-bytes, member-width, line-width};
+ghost use Rattle.tables.specs.Members.{member-ok, member-bytes};
 ghost use Rattle.store_check.specs.Checks.{Both, joined};
 
 // The number of two bytes, high byte first.
@@ -98,7 +100,7 @@ pub(crate) fn status_ok(s: &[u8]) -> bool
 }
 
 // Whether an address and a text stand there, as in group and individual slots.
-fn member_ok(s: &[u8]) -> bool
+fn named_ok(s: &[u8]) -> bool
     requires { ⌜ length (now s) ≡ 35 ⌝ }
     ensures { λ r. ⌜ (r ≡ true) ↔ EntryOf (Both AddressOk (TextOk 16)) (joined u24 (text-bytes 16)) (now (s .entry)) ⌝ }
 {
@@ -108,24 +110,34 @@ fn member_ok(s: &[u8]) -> bool
     text_ok(&s[3..35])
 }
 
-pub(crate) fn group_ok(s: &[u8]) -> bool
+fn group_ok(s: &[u8]) -> bool
     requires { ⌜ length (now s) ≡ 36 ⌝ }
     ensures { λ r. ⌜ (r ≡ true) ↔ EntryOf GroupOk group-bytes (now (s .entry)) ⌝ }
 {
     if s[0] < 64 {
         return false;
     }
-    member_ok(&s[1..MEMBER_SLOT])
+    named_ok(&s[1..MEMBER_SLOT])
 }
 
-pub(crate) fn individual_ok(s: &[u8]) -> bool
+fn individual_ok(s: &[u8]) -> bool
     requires { ⌜ length (now s) ≡ 36 ⌝ }
     ensures { λ r. ⌜ (r ≡ true) ↔ EntryOf IndividualOk individual-bytes (now (s .entry)) ⌝ }
 {
     if 15 < s[0] {
         return false;
     }
-    member_ok(&s[1..MEMBER_SLOT])
+    named_ok(&s[1..MEMBER_SLOT])
+}
+
+pub(crate) fn member_ok(who: Members, s: &[u8]) -> bool
+    requires { ⌜ length (now s) ≡ member-width ⌝ }
+    ensures { λ r. ⌜ (r ≡ true) ↔ EntryOf (member-ok who) (member-bytes who) (now (s .entry)) ⌝ }
+{
+    match who {
+        Members::OfGroups => group_ok(s),
+        Members::OfIndividuals => individual_ok(s),
+    }
 }
 
 pub(crate) fn channel_ok(s: &[u8]) -> bool

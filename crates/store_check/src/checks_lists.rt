@@ -1,26 +1,29 @@
-// Whether bytes are a list table with its count: channels, and lines of which no two have one key.
+// Whether bytes are a list table with its count: channels, and contacts and lines of which no two have one key.
 use super::checks_entries::pair;
 use super::checks_tables::Table;
 use super::checks_tables::list_ok;
 use super::checks_tables::width;
 use slots::slots::place_of;
 use slots::slots::used;
+use tables::members::Members;
+use tables::places::CONTACTS_SIZE;
 use tables::places::COUNT;
 use tables::places::KEY_BYTES;
 use tables::places::LINE_KEY;
 use tables::places::LINE_SLOT;
+use tables::places::MEMBER_ADDRESS;
+use tables::places::MEMBER_SLOT;
+use tables::places::MEMBER_TEXT;
 ghost use mathlib.Core.Path.{_≡_};
 ghost use mathlib.Core.Bool.{true};
 ghost use mathlib.Core.Logic.{_↔_};
 ghost use mathlib.Core.List.{List};
-ghost use Prim.Native.Nat.{ℕ, _+_, _*_, _≤_};
+ghost use Prim.Native.Nat.{ℕ, _+_, _*_, _≤_, _<_};
 ghost use lib.ListN.{length, take};
-ghost use Rattle.slots.specs.Slots.{u16, Listed};
+ghost use Rattle.slots.specs.Slots.{u16};
 ghost use Rattle.counted_lists.specs.Counted.{Distinct};
-ghost use Rattle.tables.specs.Tables.{Line, line-key};
-ghost use Rattle.tables.specs.Allowed.{LineOk};
-ghost use Rattle.tables.specs.Layout.{count-size, channel-width, line-width, line-bytes};
-ghost use Rattle.store_check.specs.Checks.{width-in, CountedIn, ChannelsOf, LinesOf};
+ghost use Rattle.tables.specs.Layout.{count-size, member-width, channel-width, line-width};
+ghost use Rattle.store_check.specs.Checks.{width-in, CountedIn, Filled, key-in, ContactsOf, ContactListsOf, ChannelsOf, LinesOf};
 
 // Whether the first two bytes are the count n.
 fn count_is(s: &[u8], n: usize) -> bool
@@ -43,22 +46,47 @@ fn counted_ok(t: Table, s: &[u8]) -> bool
     count_is(s, used(&s[COUNT..], w) / w)
 }
 
-// Whether no two lines of a table have one key: IDtype and number.
-fn lines_distinct(s: &[u8]) -> bool
-    ensures { λ r. ⌜ ((n : ℕ) (ls : List Line) → Listed LineOk line-width line-bytes n ls (now (s .entry)) → (r ≡ true) ↔ Distinct line-key ls) ⌝ }
+// Whether no two slots of w bytes before the first empty one have the same k bytes at o; callers say the numbers so that the compiler knows them.
+fn keys_distinct(s: &[u8], w: usize, o: usize, k: usize) -> bool
+    requires { ⌜ (0 < w) × (o + k ≤ w) ⌝ }
+    ensures { λ r. ⌜ ((n : ℕ) (xs : List (List ℕ)) → Filled w n xs (now (s .entry)) → (r ≡ true) ↔ Distinct (key-in o k) xs) ⌝ }
 {
-    let end = used(s, LINE_SLOT);
+    let end = used(s, w);
     let mut at = 0;
-    while LINE_SLOT <= end - at {
-        let next = at + LINE_SLOT;
-        let a = at + LINE_KEY;
-        let b = a + KEY_BYTES;
-        if place_of(&s[next..end], LINE_SLOT, LINE_KEY, KEY_BYTES, &s[a..b]) != end - next {
+    while w <= end - at {
+        let next = at + w;
+        let a = at + o;
+        let b = a + k;
+        if place_of(&s[next..end], w, o, k, &s[a..b]) != end - next {
             return false;
         }
         at = next;
     }
     true
+}
+
+// How many bytes an address has.
+const ADDRESS_BYTES: usize = MEMBER_TEXT - MEMBER_ADDRESS;
+
+fn contacts_ok(who: Members, s: &[u8]) -> bool
+    requires { ⌜ count-size ≤ length (now s) ⌝ }
+    ensures { λ r. ⌜ ((n : ℕ) → length (now (s .entry)) ≡ count-size + n * member-width → (r ≡ true) ↔ ContactsOf who n (now (s .entry))) ⌝ }
+{
+    if !counted_ok(Table::Members(who), s) {
+        return false;
+    }
+    keys_distinct(&s[COUNT..], MEMBER_SLOT, MEMBER_ADDRESS, ADDRESS_BYTES)
+}
+
+// The two lists of contacts.
+pub(crate) fn contact_lists_ok(s: &[u8]) -> bool
+    requires { ⌜ length (now s) ≡ 4612 ⌝ }
+    ensures { λ r. ⌜ (r ≡ true) ↔ ContactListsOf (now (s .entry)) ⌝ }
+{
+    if !contacts_ok(Members::OfGroups, &s[0..CONTACTS_SIZE]) {
+        return false;
+    }
+    contacts_ok(Members::OfIndividuals, &s[CONTACTS_SIZE..])
 }
 
 pub(crate) fn channels_ok(s: &[u8]) -> bool
@@ -75,5 +103,5 @@ pub(crate) fn lines_ok(s: &[u8]) -> bool
     if !counted_ok(Table::Lines, s) {
         return false;
     }
-    lines_distinct(&s[COUNT..])
+    keys_distinct(&s[COUNT..], LINE_SLOT, LINE_KEY, KEY_BYTES)
 }

@@ -1,18 +1,19 @@
 // Whether bytes are a table, slot by slot.
 use super::checks_entries::channel_ok;
-use super::checks_entries::group_ok;
-use super::checks_entries::individual_ok;
 use super::checks_entries::line_ok;
+use super::checks_entries::member_ok;
 use super::checks_entries::quick_ok;
 use super::checks_entries::status_ok;
 use slots::bytes::is_clear;
 use slots::bytes::is_zeros;
 use slots::slots::used;
+use tables::members::Members;
 use tables::places::CHANNEL_SLOT;
+use tables::places::GROUP_CONTACTS;
 use tables::places::GROUPS;
 use tables::places::INDIVIDUALS;
 use tables::places::LINE_SLOT;
-use tables::places::LISTS;
+use tables::places::LINE_SLOTS;
 use tables::places::MEMBER_SLOT;
 use tables::places::QUICK;
 use tables::places::QUICK_SLOT;
@@ -30,8 +31,7 @@ ghost use Rattle.store_check.specs.Checks.{OkIn, width-in, bytes-in, Ind
 pub(crate) enum Table {
     QuickTexts,
     StatusTexts,
-    Groups,
-    Individuals,
+    Members(Members),
     Channels,
     Lines,
 }
@@ -42,8 +42,7 @@ pub(crate) fn width(t: Table) -> usize
     match t {
         Table::QuickTexts => QUICK_SLOT,
         Table::StatusTexts => STATUS_SLOT,
-        Table::Groups => MEMBER_SLOT,
-        Table::Individuals => MEMBER_SLOT,
+        Table::Members(_) => MEMBER_SLOT,
         Table::Channels => CHANNEL_SLOT,
         Table::Lines => LINE_SLOT,
     }
@@ -56,8 +55,7 @@ fn entry_ok(t: Table, s: &[u8]) -> bool
     match t {
         Table::QuickTexts => quick_ok(s),
         Table::StatusTexts => status_ok(s),
-        Table::Groups => group_ok(s),
-        Table::Individuals => individual_ok(s),
+        Table::Members(who) => member_ok(who, s),
         Table::Channels => channel_ok(s),
         Table::Lines => line_ok(s),
     }
@@ -92,18 +90,20 @@ pub(crate) fn list_ok(t: Table, s: &[u8]) -> bool
     is_clear(&s[end..])
 }
 
-// Where the other three indexed tables and their end stand behind the first.
+// Where the other four indexed tables and their end stand behind the first.
 const STATUS_HERE: usize = STATUS - QUICK;
 
 const GROUPS_HERE: usize = GROUPS - QUICK;
 
 const INDIVIDUALS_HERE: usize = INDIVIDUALS - QUICK;
 
-const END_HERE: usize = LISTS - QUICK;
+const LINE_SLOTS_HERE: usize = LINE_SLOTS - QUICK;
 
-// The four indexed tables.
+const END_HERE: usize = GROUP_CONTACTS - QUICK;
+
+// The five indexed tables.
 pub(crate) fn indexed_ok(s: &[u8]) -> bool
-    requires { ⌜ length (now s) ≡ 7264 ⌝ }
+    requires { ⌜ length (now s) ≡ 8096 ⌝ }
     ensures { λ r. ⌜ (r ≡ true) ↔ IndexedOf (now (s .entry)) ⌝ }
 {
     if !places_ok(Table::QuickTexts, &s[0..STATUS_HERE]) {
@@ -112,8 +112,17 @@ pub(crate) fn indexed_ok(s: &[u8]) -> bool
     if !places_ok(Table::StatusTexts, &s[STATUS_HERE..GROUPS_HERE]) {
         return false;
     }
-    if !places_ok(Table::Groups, &s[GROUPS_HERE..INDIVIDUALS_HERE]) {
+    if !places_ok(
+        Table::Members(Members::OfGroups),
+        &s[GROUPS_HERE..INDIVIDUALS_HERE],
+    ) {
         return false;
     }
-    places_ok(Table::Individuals, &s[INDIVIDUALS_HERE..END_HERE])
+    if !places_ok(
+        Table::Members(Members::OfIndividuals),
+        &s[INDIVIDUALS_HERE..LINE_SLOTS_HERE],
+    ) {
+        return false;
+    }
+    places_ok(Table::Lines, &s[LINE_SLOTS_HERE..END_HERE])
 }

@@ -1,3 +1,4 @@
 mod ChannelLaws
-pub mod DigitLaws
-pub mod LineLaws
+mod ContactLaws
+mod KeyedLaws
+mod LineLaws

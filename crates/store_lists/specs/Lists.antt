@@ -1,28 +1,33 @@
--- What applying settings to the two list tables answers: line contacts and channels. What only inner functions promise stands last.
-use Prim.Native.Nat.{ℕ, suc, _<_}
+-- What applying settings to the list tables answers: group and individual contacts, line contacts, channels. What only inner functions promise stands last.
+use Prim.Native.Nat.{ℕ, _+_, _≤_, _<_}
 use mathlib.Core.Path.{_≡_}
-use mathlib.Core.Bool.{Bool}
-use mathlib.Core.List.{List, map}
-use lib.ListN.{length, getD}
+use mathlib.Core.Logic.{_≢_}
+use mathlib.Core.Bool.{Bool, false}
+use mathlib.Core.List.{List, _∷_, _++_}
+use lib.ListN.{length, take, drop}
 use Rattle.lists.specs.Every.{All}
-use Rattle.slots.specs.Slots.{pad, u16}
-use Rattle.counted_lists.specs.Counted.{CountedOf, Tried}
+use Rattle.slots.specs.Slots.{u16, u24, hit}
+use Rattle.counted_lists.specs.Counted.{Counted, CountedOf, Tried}
 use Rattle.writing.specs.declared.LineFlags.{LineFlags}
 use Rattle.writing.specs.declared.Operation.{Operation}
 use Rattle.writing.specs.Fields.{each}
-use Rattle.writing.specs.Ranges.{text-limits, InChannel, InContact}
-use Rattle.writing.specs.Settings.{Contact, Number}
-use Rattle.writing.specs.Writing.{contact}
+use Rattle.writing.specs.Ranges.{text-limits, InAddressed, InChannel, InContact}
+use Rattle.writing.specs.Settings.{Text, Addressed, Contact}
+use Rattle.writing.specs.Writing.{addressed, contact}
+use Rattle.read_fields.specs.declared.entries.AddressedPlace.{AddressedPlace}
 use Rattle.read_fields.specs.declared.entries.ContactPlace.{ContactPlace}
-use Rattle.read_fields.specs.declared.numbers.NumberPlace.{NumberPlace}
 use Rattle.settings.specs.declared.settings.Entries.{Entries}
 use Rattle.read_fields.specs.Entries.{channel-list, ContactIs}
-use Rattle.read_fields.specs.TextsAndNumbers.{NumberIs}
+use Rattle.read_fields.specs.TextsAndNumbers.{TextIs}
 use Rattle.settings.specs.Meant.{EntriesAre}
 use Rattle.tables.specs.Allowed.{LineOk}
-use Rattle.tables.specs.Apply.{channel-step, channels-after, line-of, line-step, put-line, drop-line, lines-after}
-use Rattle.tables.specs.Layout.{channel-width, line-bytes, line-width}
-use Rattle.tables.specs.Tables.{Line, line-key}
+use Rattle.tables.specs.Apply.{keyed-step, channel-step, channels-after, contacts-after, line-of, lines-after}
+use Rattle.tables.specs.Layout.{text-bytes, channel-width, line-bytes, line-width, member-width}
+use Rattle.tables.specs.declared.members.Members.{Members}
+use Rattle.tables.specs.declared.members.Members.the-variants.{OfGroups, OfIndividuals}
+use Rattle.tables.specs.MemberKinds.{FlagsIn, AddressIn, MemberIn, number-of}
+use Rattle.tables.specs.Members.{member-ok, flags-of, member-bytes}
+use Rattle.tables.specs.Tables.{Line}
 
 -- ---- channels
 
@@ -47,38 +52,42 @@ LinesApplied o m f p s t r =
     f .priority < 4 → (n : ℕ) (ls : List Line) (es : List Contact) → LineTable n ls s → EntriesAre (λ c. each (contact c)) m p es → All (InContact text-limits) es
     → Tried (LineTable n) (lines-after n o f es ls) t r
 
+-- ---- group and individual contacts
+
+-- the bytes are the count and the table of these contacts, with n places
+abbrev pub ContactTable : (w : Members) → ℕ → List (MemberIn w) → List ℕ → Type 0
+ContactTable w n = CountedOf (member-ok w) member-width (member-bytes w) n
+
+-- the flags that a contact may have
+abbrev pub FlagsOk : (w : Members) → FlagsIn w → Type 0
+FlagsOk OfGroups f = (f .attribute ≢ 0) × (f .attribute < 4) × (f .priority < 4)
+FlagsOk OfIndividuals f = f .priority < 4
+
+-- what applying the contacts of either kind that stand at a place answers, with the byte of their flags, on a region that was s and becomes t
+abbrev pub ContactsApplied : Operation → List ℕ → ℕ → Entries → List ℕ → List ℕ → Bool → Type 0
+ContactsApplied o m flags p s t r =
+    (w : Members) (f : FlagsIn w) (n : ℕ) (xs : List (MemberIn w)) (es : List (Addressed (AddressIn w))) → flags ≡ flags-of w f → FlagsOk w f
+    → ContactTable w n xs s → EntriesAre (λ c. each (addressed (number-of w) c)) m p es → All (InAddressed (number-of w) text-limits) es
+    → Tried (ContactTable w n) (contacts-after w n o f es xs) t r
+
 -- ---- inner steps: no promise cites these
 
 -- what applying one channel answers
 abbrev pub ChannelApplied : Operation → ℕ → List ℕ → List ℕ → Bool → Type 0
 ChannelApplied o c s t r = (n : ℕ) (cs : List ℕ) → ChannelTable n cs s → InChannel c → Tried (ChannelTable n) (channel-step n o c cs) t r
 
--- r is digit i of the number at a place, and half a byte
-abbrev pub DigitIs : List ℕ → NumberPlace → ℕ → ℕ → Type 0
-DigitIs m p i r = (r < 16) × ((ds : Number) (next : ℕ) → NumberIs m p ds next → i < length ds → r ≡ getD ds i 0)
-
--- r is digit i as it is kept, one more than itself, or 0 past the last
-abbrev pub DigitKept : List ℕ → NumberPlace → ℕ → ℕ → Type 0
-DigitKept m p i r = (ds : Number) (next : ℕ) → NumberIs m p ds next → r ≡ getD (map suc ds) i 0
-
--- the bytes s become the number's digits as they are kept, and zeros after them
-abbrev pub DigitsPut : List ℕ → NumberPlace → List ℕ → List ℕ → Type 0
-DigitsPut m p s t = (ds : Number) (next : ℕ) → NumberIs m p ds next → t ≡ pad 0 (length s) (map suc ds)
-
 -- r are the bytes of the line that a contact at a place makes
 abbrev pub LineSlot : List ℕ → LineFlags → ContactPlace → List ℕ → Type 0
 LineSlot m f p r = (e : Contact) → ContactIs m p e → InContact text-limits e → f .priority < 4 → r ≡ line-bytes (line-of f e)
 
--- what putting the line of these bytes answers
-abbrev pub LinePut : List ℕ → List ℕ → List ℕ → Bool → Type 0
-LinePut x s t r = (n : ℕ) (ls : List Line) (l : Line) → LineTable n ls s → LineOk l → x ≡ line-bytes l → Tried (LineTable n) (put-line n l ls) t r
+-- r are a byte of flags, and the address and the text of a place
+abbrev pub ContactSlot : List ℕ → ℕ → AddressedPlace → List ℕ → Type 0
+ContactSlot m flags p r =
+    (us : Text) (next : ℕ) → TextIs m (p .text) us next → length us ≤ text-limits .short → p .address < 16777216
+    → r ≡ flags ∷ u24 (p .address) ++ text-bytes (text-limits .short) us
 
--- what taking the line with the key of these bytes out leaves
-abbrev pub LineDropped : List ℕ → List ℕ → List ℕ → Type 0
-LineDropped x s t = (n : ℕ) (ls : List Line) (l : Line) → LineTable n ls s → LineOk l → x ≡ line-bytes l → LineTable n (drop-line (line-key l) ls) t
-
--- what applying an operation to the line of these bytes answers
-abbrev pub LineStepped : Operation → List ℕ → List ℕ → List ℕ → Bool → Type 0
-LineStepped o x s t r =
-    (n : ℕ) (ls : List Line) (l : Line) → LineTable n ls s → LineOk l → x ≡ line-bytes l
-    → Tried (LineTable n) (line-step n o (l .flags) (record { number = l .number; text = l .text }) ls) t r
+-- what an operation with the slot x answers of a list of slots of w bytes, which have their key, k bytes, at o
+pub record KeyedStepped (op : Operation) (w o k : ℕ) (x s t : List ℕ) (r : Bool) : Type 0 where
+  pub kept : r ≡ false → t ≡ s
+  pub tried : length x ≡ w → o + k ≤ w → (n : ℕ) (xs : List (List ℕ)) → Counted w n xs s
+      → Tried (Counted w n) (keyed-step (λ y. hit o (take k (drop o y))) n op x xs) t r

@@ -1,5 +1,6 @@
 mod FixedLaws
 mod IndexedLaws
+mod LineSlotLaws
 mod MemberLaws
 mod OverwriteLaws
 mod TextTables

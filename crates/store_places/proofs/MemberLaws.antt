@@ -8,7 +8,8 @@ use Rattle.read_fields.specs.declared.texts.TextPlace.{TextPlace}
 use Rattle.tables.specs.Allowed.{AddressOk, TextOk}
 use Rattle.tables.specs.declared.members.Members.{Members}
 use Rattle.tables.specs.declared.members.Members.the-variants.{OfGroups, OfIndividuals}
-use Rattle.tables.specs.Members.{MemberIn, member-ok, flags-of, number-of, member-bytes}
+use Rattle.tables.specs.MemberKinds.{MemberIn, number-of}
+use Rattle.tables.specs.Members.{member-ok, flags-of, member-bytes}
 use Rattle.tables.specs.Layout.{text-bytes, member-width}
 use Rattle.tables.specs.Limits.{slot-places}
 use Rattle.tables.proofs.EntryCodes.{member-code}

@@ -1,7 +1,6 @@
 -- Slots of a head and a text, which are overwritten: in themselves, and in the place of a table. Assumes nothing.
-use Rattle.lists.proofs.Kit.{ℕ, _+_, _-_, _*_, _≤_, _<_, _≡_, refl, sym, ap, _∙_, subst, subst⁻¹, Bool, true, false, true≢false, List, [], _++_, append-nil, Option, mul-le-mul-right, arith, putMid, midOf, length, set, take, drop, replicate, length-append, length-drop, take-all}
+use Rattle.lists.proofs.Kit.{ℕ, _+_, _-_, _*_, _≤_, _<_, _≡_, refl, sym, ap, _∙_, subst, subst⁻¹, Bool, true, false, true≢false, List, _++_, Option, mul-le-mul-right, arith, putMid, midOf, length, set, take, drop, replicate}
 use Rattle.slots.specs.Slots.{slot, Present, Placed}
-use Rattle.slots.proofs.Parts.{put-part, get-part}
 use Rattle.slots.proofs.Tables.{slot-long, place-fits}
 use Rattle.writing.specs.declared.Operation.{Operation}
 use Rattle.writing.specs.declared.Operation.the-variants.{Add, Delete, Replace}
@@ -9,37 +8,19 @@ use Rattle.writing.specs.Settings.{Text}
 use Rattle.read_fields.specs.TextsAndNumbers.{TextIs}
 use Rattle.read_fields.specs.declared.texts.TextPlace.{TextPlace}
 use Rattle.tables.specs.Apply.{slot-after}
-use Rattle.tables.specs.Changing.{TextPut}
+use Rattle.tables.specs.Changing.{SlotFilled}
 use Rattle.store_places.specs.Changes.{free?, SlotPut, SlotSet, PlaceSet}
 use Rattle.tables.specs.Layout.{text-bytes}
 use Rattle.store_places.proofs.IndexedLaws.{place-changed}
 
 module _ (keep : Bool) (m : List ℕ) (p : TextPlace) (head s : List ℕ) where
-  -- a slot has room for its head
-  pub slot-narrow : length s < length head → SlotPut keep m p head s s
-  slot-narrow l = record { kept = λ _. refl; filled = λ _ n us next is k w. absurd (omega arith) }
-
   -- one that may not be filled stays
   pub slot-kept : free? keep s ≡ false → SlotPut keep m p head s s
   slot-kept e = record { kept = λ _. refl; filled = λ f. absurd (true≢false (sym f ∙ e)) }
 
-  -- the head was copied, and the text put behind it
-  pub slot-filled : (a y : List ℕ) → free? keep s ≡ true → a ≡ take (length s) head ++ drop (length head) s → TextPut m p (midOf (length head) (length a - length head) a) y
-      → SlotPut keep m p head s (putMid (length head) (length a - length head) a y)
-  slot-filled a y free e put = record {
-    kept = λ f. absurd (true≢false (sym free ∙ f));
-    filled = λ _ n us next is k w.
-        let rest : List ℕ = drop (length head) s in
-        let r : length rest ≡ 2 * n = omega (arith, length-drop (length head) s) in
-        let d : a ≡ head ++ (rest ++ [])
-        = e ∙ ap (λ (l : List ℕ). l ++ rest) (take-all (length s) head (omega arith)) ∙ ap (λ (l : List ℕ). head ++ l) (sym (append-nil rest)) in
-        let q : length a - length head ≡ length rest = omega (arith, ap length d, length-append head (rest ++ []), length-append rest []) in
-        let x : midOf (length head) (length a - length head) a ≡ rest
-        = ap (midOf (length head) (length a - length head)) d ∙ get-part head rest [] (length head) (length a - length head) refl (sym q) in
-        ap (λ (l : List ℕ). putMid (length head) (length a - length head) l y) d
-        ∙ put-part head rest [] y (length head) (length a - length head) refl (sym q)
-        ∙ ap (λ (l : List ℕ). head ++ l) (append-nil y ∙ put n us next is k (ap length x ∙ r));
-  }
+  -- one that may is filled
+  pub slot-put : (t : List ℕ) → free? keep s ≡ true → SlotFilled m p head s t → SlotPut keep m p head s t
+  slot-put t free fill = record { kept = λ f. absurd (true≢false (sym free ∙ f)); filled = λ _. fill }
 
 -- an entry that is allowed, and whose bytes are the head and the text
 abbrev pub Made : {A : Type 0} → (A → Type 0) → (A → List ℕ) → List ℕ → ℕ → Text → A → Type 0

@@ -1,5 +1,5 @@
 -- What the functions that change a region with a place for each entry promise: its bytes at exit, for every table that its bytes at entry are.
-use Prim.Native.Nat.{ℕ, _+_, _-_, _*_, _≤_, _<_}
+use Prim.Native.Nat.{ℕ, _+_, _-_, _*_, _<_}
 use mathlib.Core.Path.{_≡_}
 use mathlib.Core.Bool.{Bool, true, false}
 use mathlib.Core.List.{List, _++_, map}
@@ -12,14 +12,15 @@ use Rattle.writing.specs.declared.GroupFlags.{GroupFlags}
 use Rattle.writing.specs.declared.IndividualFlags.{IndividualFlags}
 use Rattle.writing.specs.declared.KeyFlags.{KeyFlags}
 use Rattle.writing.specs.declared.KeyTarget.{KeyTarget}
+use Rattle.writing.specs.declared.LineFlags.{LineFlags}
 use Rattle.writing.specs.declared.Operation.{Operation}
 use Rattle.writing.specs.declared.Operation.the-variants.{Add, Delete, Replace}
 use Rattle.writing.specs.declared.SystemCode.{SystemCode}
 use Rattle.writing.specs.Fields.{Field, each, val}
 use Rattle.writing.specs.Ranges.{text-limits, InQuick, InStatus, HashSize}
-use Rattle.writing.specs.Settings.{Text, Entry}
+use Rattle.writing.specs.Settings.{Text, Contact, Entry}
 use Rattle.writing.specs.Writing.{quick-text, status-text}
-use Rattle.read_fields.specs.Entries.{EntryIs, QuickFrom}
+use Rattle.read_fields.specs.Entries.{ContactIs, EntryIs, QuickFrom}
 use Rattle.read_fields.specs.TextsAndNumbers.{TextIs}
 use Rattle.read_fields.specs.Places.{FieldsAt}
 use Rattle.settings.specs.Meant.{EntriesAre}
@@ -28,16 +29,18 @@ use Rattle.read_fields.specs.declared.hashes.HashPlace.{HashPlace}
 use Rattle.settings.specs.declared.settings.Entries.{Entries}
 use Rattle.settings.specs.declared.settings.GroupPlace.{GroupPlace}
 use Rattle.settings.specs.declared.settings.IndividualPlace.{IndividualPlace}
+use Rattle.settings.specs.declared.settings.LinePlace.{LinePlace}
 use Rattle.read_fields.specs.declared.texts.TextPlace.{TextPlace}
-use Rattle.tables.specs.Allowed.{QuickOk, StatusOk}
-use Rattle.tables.specs.Apply.{in-turn, start-from, quick-step, status-step, slot-after}
-use Rattle.tables.specs.Layout.{text-bytes, quick-bytes, quick-width, status-bytes, status-width, member-width, key-address, key-bytes, system-bytes, hash-bytes}
+use Rattle.tables.specs.Allowed.{QuickOk, StatusOk, LineOk}
+use Rattle.tables.specs.Apply.{in-turn, start-from, quick-step, status-step, slot-after, line-of}
+use Rattle.tables.specs.Layout.{quick-bytes, quick-width, status-bytes, status-width, member-width, line-bytes, line-width, key-address, key-bytes, system-bytes, hash-bytes}
 use Rattle.tables.specs.declared.members.Members.{Members}
 use Rattle.tables.specs.declared.members.Members.the-variants.{OfGroups, OfIndividuals}
-use Rattle.tables.specs.Members.{FlagsIn, AddressIn, MemberIn, member-ok, flags-of, number-of, member-bytes}
+use Rattle.tables.specs.MemberKinds.{FlagsIn, AddressIn, MemberIn, number-of}
+use Rattle.tables.specs.Members.{member-ok, flags-of, member-bytes}
 use Rattle.tables.specs.Limits.{quick-places, status-places, slot-places}
-use Rattle.tables.specs.Tables.{GroupMember, IndividualMember}
-use Rattle.tables.specs.Changing.{Changed}
+use Rattle.tables.specs.Tables.{Line, GroupMember, IndividualMember}
+use Rattle.tables.specs.Changing.{Changed, SlotFilled}
 use Rattle.store_places.specs.declared.texts.TextTable.{TextTable}
 use Rattle.store_places.specs.declared.texts.TextTable.the-variants.{Quick, Status}
 
@@ -109,10 +112,10 @@ abbrev pub free? : Bool → List ℕ → Bool
 free? true s = zeros? s
 free? false s = true
 
--- a slot that may be filled, of a head and room for n units, becomes the head and the text's bytes, and another stays
+-- a slot that may be filled becomes the head and the text's bytes, and another stays
 pub record SlotPut (keep : Bool) (m : List ℕ) (p : TextPlace) (head s t : List ℕ) : Type 0 where
   pub kept : free? keep s ≡ false → t ≡ s
-  pub filled : free? keep s ≡ true → (n : ℕ) (us : Text) (next : ℕ) → TextIs m p us next → length us ≤ n → length s ≡ length head + 2 * n → t ≡ head ++ text-bytes n us
+  pub filled : free? keep s ≡ true → SlotFilled m p head s t
 
 -- so it is set by an operation that adds, and a delete leaves zeros
 abbrev pub SlotSet : Bool → List ℕ → Operation → TextPlace → List ℕ → List ℕ → List ℕ → Type 0
@@ -167,6 +170,18 @@ individual-member f p = member OfIndividuals f (p .address)
 
 abbrev pub IndividualApplied : List ℕ → Operation → IndividualFlags → IndividualPlace → List ℕ → List ℕ → Type 0
 IndividualApplied m o f p = MemberApplied OfIndividuals m o f (p .address) (p .index) (p .text)
+
+-- ---- line slots
+
+-- the bytes are the slots of the table
+abbrev pub LineSlotsAre : List (Option Line) → List ℕ → Type 0
+LineSlotsAre os s = Placed LineOk line-width line-bytes slot-places os s
+
+-- the slot of an index is set to the line of a contact, or emptied, and the others stand
+abbrev pub LineSlotApplied : List ℕ → Operation → LineFlags → LinePlace → List ℕ → List ℕ → Type 0
+LineSlotApplied m o f p s t =
+    (os : List (Option Line)) (e : Contact) → ContactIs m (p .contact) e → p .index < slot-places
+    → Present LineOk (slot-after o (line-of f e)) → LineSlotsAre os s → LineSlotsAre (set os (p .index) (slot-after o (line-of f e))) t
 
 -- ---- the fixed parts
 

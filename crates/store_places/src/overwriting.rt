@@ -1,9 +1,8 @@
 // A slot of a head and a text. "Status texts and slots: add overwrites"; of a quick text "add to an index that has a text does nothing".
 use read_fields::texts::TextPlace;
-use slots::bytes::copy;
 use slots::bytes::is_zeros;
 use slots::bytes::wipe;
-use tables::texts::put_text;
+use tables::filling::fill_slot;
 use writing::Operation;
 ghost use mathlib.Core.Path.{_≡_};
 ghost use Prim.Native.Nat.{_+_, _*_, _≤_, _<_};
@@ -24,15 +23,10 @@ fn is_free(slot: &[u8], keep: bool) -> bool
 fn put_slot(slot: &mut [u8], head: &[u8], m: &[u8], text: TextPlace, keep: bool)
     ensures { λ _. ⌜ SlotPut keep (now (m .entry)) text (now (head .entry)) (now (slot .entry)) (now (slot .exit)) ⌝ }
 {
-    let n = head.len();
-    if slot.len() < n {
-        return;
-    }
     if !is_free(slot, keep) {
         return;
     }
-    copy(slot, head);
-    put_text(&mut slot[n..], m, text);
+    fill_slot(slot, head, m, text);
 }
 
 // Fills a slot with the head and the text, or wipes it in a delete.

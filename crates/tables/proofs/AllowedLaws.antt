@@ -1,64 +1,131 @@
 -- Every setting leaves allowed tables. Assumes nothing.
-use Rattle.lists.proofs.Kit.{ℕ, _≡_, subst, List, Option, none, some}
+use Rattle.lists.proofs.Kit.{ℕ, _≡_, refl, subst, subst⁻¹, Bool, true, false, List, Option, none, some}
 use Rattle.slots.specs.Slots.{Present}
 use Rattle.writing.specs.declared.Coding.{Coding}
 use Rattle.writing.specs.declared.HomeNumbers.{HomeNumbers}
 use Rattle.writing.specs.declared.SystemCode.{SystemCode}
 use Rattle.writing.specs.Canonical.{Fits}
 use Rattle.writing.specs.Ranges.{text-limits, InRange, InChannel, no-hash as hash-0}
-use Rattle.writing.specs.Settings.{Text, Hash, Setting, lines, key, quick-texts, home, channels, system, status-texts, group, individual, last}
+use Rattle.writing.specs.Settings.{Text, Hash, Setting, kind, group-contacts, individual-contacts, lines, key, quick-texts, home, channels, system, status-texts, group, individual, line-slot, last}
 use Rattle.tables.specs.declared.limits.Limits.{Limits}
-use Rattle.tables.specs.Allowed.{Allowed, HashOk, TargetOk, HomeOk, SystemOk, QuickOk, StatusOk, GroupOk, IndividualOk, PlacesOk, ListOk, LinesOk}
-use Rattle.tables.specs.Apply.{apply, with-room, slot-after, lines-after, quick-after, status-after, channels-after}
-use Rattle.tables.specs.Limits.{quick-places, status-places, slot-places}
+use Rattle.tables.specs.Allowed.{Allowed, HashOk, TargetOk, HomeOk, SystemOk, QuickOk, StatusOk, GroupOk, IndividualOk, LineOk, PlacesOk, ListOk, KeyedOk, LinesOk}
+use Rattle.tables.specs.Apply.{apply, own-after, with-room, slot-after}
+use Rattle.tables.specs.Limits.{quick-places, status-places, slot-places, contact-places}
+use Rattle.tables.specs.declared.members.Members.the-variants.{OfGroups, OfIndividuals}
+use Rattle.tables.specs.MemberKinds.{contact-key}
 use Rattle.tables.specs.Tables.{Line, GroupMember, IndividualMember, Tables, no-hash}
-use Rattle.writing.specs.declared.Kind.the-variants.{Lines, Key, QuickTexts, Home, Channels, System, StatusTexts, Group, Individual, Last}
-use Rattle.tables.specs.Owns.{Own, put-own}
-use Rattle.tables.proofs.FitsLaws.{fits-lines, fits-key, fits-quick, fits-home, fits-system, fits-status, fits-group, fits-individual, fits-hash}
-use Rattle.tables.proofs.StepLaws.{place-keeps, lines-after-keeps, quick-after-keeps, status-after-keeps, channels-after-keeps}
+use Rattle.writing.specs.declared.Kind.{Kind}
+use Rattle.writing.specs.declared.Kind.the-variants.{GroupContacts, IndividualContacts, Lines, Key, QuickTexts, Home, Channels, System, StatusTexts, Group, Individual, LineSlot, Last}
+use Rattle.tables.specs.Owns.{Own, own, only, put-own}
+use Rattle.tables.proofs.FitsLaws.{fits-group-contacts, fits-individual-contacts, fits-lines, fits-key, fits-quick, fits-home, fits-system, fits-status, fits-group, fits-individual, fits-line-slot, fits-hash}
+use Rattle.tables.proofs.Owns.{own-put, own-other, same-kind}
+use Rattle.tables.proofs.StepLaws.{place-keeps, contacts-after-keeps, lines-after-keeps, quick-after-keeps, status-after-keeps, channels-after-keeps}
+
+-- ---- tables by kind of setting
+
+-- which table of a kind is allowed
+abbrev pub OwnOk : Limits → (k : Kind) → Own k → Type 0
+OwnOk lim GroupContacts x = KeyedOk GroupOk (contact-key OfGroups) contact-places x
+OwnOk lim IndividualContacts x = KeyedOk IndividualOk (contact-key OfIndividuals) contact-places x
+OwnOk lim Lines x = LinesOk (lim .lines) x
+OwnOk lim Key x = TargetOk (x .target)
+OwnOk lim QuickTexts x = PlacesOk QuickOk quick-places x
+OwnOk lim Home x = HomeOk x
+OwnOk lim Channels x = ListOk InChannel (lim .channels) x
+OwnOk lim System x = SystemOk x
+OwnOk lim StatusTexts x = PlacesOk StatusOk status-places x
+OwnOk lim Group x = PlacesOk GroupOk slot-places x
+OwnOk lim Individual x = PlacesOk IndividualOk slot-places x
+OwnOk lim LineSlot x = PlacesOk LineOk slot-places x
+OwnOk lim Last x = HashOk x
+
+-- each of allowed tables is
+pub own-ok : (lim : Limits) (t : Tables) → Allowed lim t → (k : Kind) → OwnOk lim k (own k t)
+own-ok lim t ok GroupContacts = (ok .group-contacts, ok .distinct-groups)
+own-ok lim t ok IndividualContacts = (ok .individual-contacts, ok .distinct-individuals)
+own-ok lim t ok Lines = (ok .lines, ok .distinct)
+own-ok lim t ok Key = ok .key
+own-ok lim t ok QuickTexts = ok .quick
+own-ok lim t ok Home = ok .home
+own-ok lim t ok Channels = ok .channels
+own-ok lim t ok System = ok .system
+own-ok lim t ok StatusTexts = ok .status
+own-ok lim t ok Group = ok .groups
+own-ok lim t ok Individual = ok .individuals
+own-ok lim t ok LineSlot = ok .line-slots
+own-ok lim t ok Last = ok .hash
+
+-- and tables of which each is are allowed
+pub all-ok : (lim : Limits) (t : Tables) → ((k : Kind) → OwnOk lim k (own k t)) → Allowed lim t
+all-ok lim t o = record {
+  hash = o Last;
+  key = o Key;
+  home = o Home;
+  system = o System;
+  quick = o QuickTexts;
+  status = o StatusTexts;
+  groups = o Group;
+  individuals = o Individual;
+  line-slots = o LineSlot;
+  group-contacts = o GroupContacts .0;
+  distinct-groups = o GroupContacts .1;
+  individual-contacts = o IndividualContacts .0;
+  distinct-individuals = o IndividualContacts .1;
+  channels = o Channels;
+  lines = o Lines .0;
+  distinct = o Lines .1;
+}
 
 -- ---- allowed tables with one of them changed
 
 module _ (lim : Limits) (t : Tables) (ok : Allowed lim t) where
+  -- PUT-ALLOWED: a table that is allowed is put among them
+  pub put-allowed : (k : Kind) (x : Own k) → OwnOk lim k x → Allowed lim (put-own k t x)
+  put-allowed k x p = all-ok lim (put-own k t x) (λ j. go j (only k j) refl)
+    where
+      go : (j : Kind) (b : Bool) → only k j ≡ b → OwnOk lim j (own j (put-own k t x))
+      go j true e = subst (λ (i : Kind). OwnOk lim i (own i (put-own k t x))) (same-kind k j e) (subst⁻¹ (OwnOk lim k) (own-put k t x) p)
+      go j false e = subst⁻¹ (OwnOk lim j) (own-other k j t x e) (own-ok lim t ok j)
+
   -- the kept hash
   pub hash-allowed : (x : Hash) → HashOk x → Allowed lim (put-own Last t x)
-  hash-allowed x p = record { hash = p; key = ok .key; home = ok .home; system = ok .system; quick = ok .quick; status = ok .status; groups = ok .groups; individuals = ok .individuals; channels = ok .channels; lines = ok .lines; distinct = ok .distinct }
+  hash-allowed = put-allowed Last
 
   -- the emergency key
   pub key-allowed : (x : Own Key) → TargetOk (x .target) → Allowed lim (put-own Key t x)
-  key-allowed x p = record { hash = ok .hash; key = p; home = ok .home; system = ok .system; quick = ok .quick; status = ok .status; groups = ok .groups; individuals = ok .individuals; channels = ok .channels; lines = ok .lines; distinct = ok .distinct }
+  key-allowed = put-allowed Key
 
   -- the home numbers
   pub home-allowed : (x : HomeNumbers) → HomeOk x → Allowed lim (put-own Home t x)
-  home-allowed x p = record { hash = ok .hash; key = ok .key; home = p; system = ok .system; quick = ok .quick; status = ok .status; groups = ok .groups; individuals = ok .individuals; channels = ok .channels; lines = ok .lines; distinct = ok .distinct }
+  home-allowed = put-allowed Home
 
   -- the system code
   pub system-allowed : (x : SystemCode) → SystemOk x → Allowed lim (put-own System t x)
-  system-allowed x p = record { hash = ok .hash; key = ok .key; home = ok .home; system = p; quick = ok .quick; status = ok .status; groups = ok .groups; individuals = ok .individuals; channels = ok .channels; lines = ok .lines; distinct = ok .distinct }
+  system-allowed = put-allowed System
 
   -- the quick texts
   pub quick-allowed : (x : List (Option Text)) → PlacesOk QuickOk quick-places x → Allowed lim (put-own QuickTexts t x)
-  quick-allowed x p = record { hash = ok .hash; key = ok .key; home = ok .home; system = ok .system; quick = p; status = ok .status; groups = ok .groups; individuals = ok .individuals; channels = ok .channels; lines = ok .lines; distinct = ok .distinct }
+  quick-allowed = put-allowed QuickTexts
 
   -- the status texts
   pub status-allowed : (x : List (Option Text)) → PlacesOk StatusOk status-places x → Allowed lim (put-own StatusTexts t x)
-  status-allowed x p = record { hash = ok .hash; key = ok .key; home = ok .home; system = ok .system; quick = ok .quick; status = p; groups = ok .groups; individuals = ok .individuals; channels = ok .channels; lines = ok .lines; distinct = ok .distinct }
+  status-allowed = put-allowed StatusTexts
 
   -- the group slots
   pub groups-allowed : (x : List (Option GroupMember)) → PlacesOk GroupOk slot-places x → Allowed lim (put-own Group t x)
-  groups-allowed x p = record { hash = ok .hash; key = ok .key; home = ok .home; system = ok .system; quick = ok .quick; status = ok .status; groups = p; individuals = ok .individuals; channels = ok .channels; lines = ok .lines; distinct = ok .distinct }
+  groups-allowed = put-allowed Group
 
   -- the individual slots
   pub individuals-allowed : (x : List (Option IndividualMember)) → PlacesOk IndividualOk slot-places x → Allowed lim (put-own Individual t x)
-  individuals-allowed x p = record { hash = ok .hash; key = ok .key; home = ok .home; system = ok .system; quick = ok .quick; status = ok .status; groups = ok .groups; individuals = p; channels = ok .channels; lines = ok .lines; distinct = ok .distinct }
+  individuals-allowed = put-allowed Individual
 
   -- the channels
   pub channels-allowed : (x : List ℕ) → ListOk InChannel (lim .channels) x → Allowed lim (put-own Channels t x)
-  channels-allowed x p = record { hash = ok .hash; key = ok .key; home = ok .home; system = ok .system; quick = ok .quick; status = ok .status; groups = ok .groups; individuals = ok .individuals; channels = p; lines = ok .lines; distinct = ok .distinct }
+  channels-allowed = put-allowed Channels
 
   -- the line contacts
   pub lines-allowed : (x : List Line) → LinesOk (lim .lines) x → Allowed lim (put-own Lines t x)
-  lines-allowed x p = record { hash = ok .hash; key = ok .key; home = ok .home; system = ok .system; quick = ok .quick; status = ok .status; groups = ok .groups; individuals = ok .individuals; channels = ok .channels; lines = p .0; distinct = p .1 }
+  lines-allowed = put-allowed Lines
 
   -- FORGET-ALLOWED: no hash is kept
   pub forget-allowed : Allowed lim (put-own Last t no-hash)
@@ -71,28 +138,28 @@ room-keeps : {A B : Type 0} (I : A → Type 0) (J : B → Type 0) (f : A → B) 
 room-keeps I J f h none p = tt
 room-keeps I J f h (some a) p = h a p
 
+-- what it makes of its own table is allowed
+own-keeps : (lim : Limits) (t : Tables) (c : Coding) (left : ℕ) (s : Setting) → Allowed lim t → InRange text-limits left s → Fits c s → Present (OwnOk lim (kind s)) (own-after lim s (own (kind s) t))
+own-keeps lim t c left (group-contacts o f es) ok r p =
+    contacts-after-keeps OfGroups contact-places o f es (t .group-contacts) (fits-group-contacts c o f es left r p) (ok .group-contacts, ok .distinct-groups)
+own-keeps lim t c left (individual-contacts o f es) ok r p =
+    contacts-after-keeps OfIndividuals contact-places o f es (t .individual-contacts) (fits-individual-contacts c o f es left r p) (ok .individual-contacts, ok .distinct-individuals)
+own-keeps lim t c left (lines o f es) ok r p = lines-after-keeps (lim .lines) o f es (t .lines) (fits-lines c o f es left r p) (ok .lines, ok .distinct)
+own-keeps lim t c left (key target f) ok r p = fits-key c target f left r p
+own-keeps lim t c left (quick-texts o es) ok r p = quick-after-keeps o es (t .quick) (fits-quick c o es left r p) (ok .quick)
+own-keeps lim t c left (home h) ok r p = fits-home c h left r p
+own-keeps lim t c left (channels o ns) ok r p = channels-after-keeps (lim .channels) o ns (t .channels) r (ok .channels)
+own-keeps lim t c left (system s) ok r p = fits-system c s left r p
+own-keeps lim t c left (status-texts o es) ok r p = status-after-keeps o es (t .status) (fits-status c o es left r p) (ok .status)
+own-keeps lim t c left (group o f s) ok r p = place-keeps GroupOk slot-places (s .index) (slot-after o _) (t .groups) (fits-group c o f s left r p) (ok .groups)
+own-keeps lim t c left (individual o f s) ok r p = place-keeps IndividualOk slot-places (s .index) (slot-after o _) (t .individuals) (fits-individual c o f s left r p) (ok .individuals)
+own-keeps lim t c left (line-slot o f s) ok r p = place-keeps LineOk slot-places (s .index) (slot-after o _) (t .line-slots) (fits-line-slot c o f s left r p) (ok .line-slots)
+own-keeps lim t c left (last f h) ok r p = fits-hash c f h left r p
+
 -- APPLY-KEEPS: where there is room, a setting in range whose values fit leaves allowed tables
 pub apply-keeps : (lim : Limits) (t : Tables) (c : Coding) (left : ℕ) (s : Setting) → Allowed lim t → InRange text-limits left s → Fits c s → Present (Allowed lim) (apply lim s t)
-apply-keeps lim t c left (lines o f es) ok r p =
-    room-keeps (LinesOk (lim .lines)) (Allowed lim) (put-own Lines t) (lines-allowed lim t ok) (lines-after (lim .lines) o f es (t .lines))
-    (lines-after-keeps (lim .lines) o f es (t .lines) (fits-lines c o f es left r p) (ok .lines, ok .distinct))
-apply-keeps lim t c left (key target f) ok r p = key-allowed lim t ok (record { target = target; flags = f }) (fits-key c target f left r p)
-apply-keeps lim t c left (quick-texts o es) ok r p =
-    room-keeps (PlacesOk QuickOk quick-places) (Allowed lim) (put-own QuickTexts t) (quick-allowed lim t ok) (quick-after o es (t .quick))
-    (quick-after-keeps o es (t .quick) (fits-quick c o es left r p) (ok .quick))
-apply-keeps lim t c left (home h) ok r p = home-allowed lim t ok h (fits-home c h left r p)
-apply-keeps lim t c left (channels o ns) ok r p =
-    room-keeps (ListOk InChannel (lim .channels)) (Allowed lim) (put-own Channels t) (channels-allowed lim t ok) (channels-after (lim .channels) o ns (t .channels))
-    (channels-after-keeps (lim .channels) o ns (t .channels) r (ok .channels))
-apply-keeps lim t c left (system s) ok r p = system-allowed lim t ok s (fits-system c s left r p)
-apply-keeps lim t c left (status-texts o es) ok r p =
-    room-keeps (PlacesOk StatusOk status-places) (Allowed lim) (put-own StatusTexts t) (status-allowed lim t ok) (status-after o es (t .status))
-    (status-after-keeps o es (t .status) (fits-status c o es left r p) (ok .status))
-apply-keeps lim t c left (group o f s) ok r p =
-    groups-allowed lim t ok _ (place-keeps GroupOk slot-places (s .index) (slot-after o (record { flags = f; address = s .address; text = s .text })) (t .groups) (fits-group c o f s left r p) (ok .groups))
-apply-keeps lim t c left (individual o f s) ok r p =
-    individuals-allowed lim t ok _ (place-keeps IndividualOk slot-places (s .index) (slot-after o (record { flags = f; address = s .address; text = s .text })) (t .individuals) (fits-individual c o f s left r p) (ok .individuals))
-apply-keeps lim t c left (last f h) ok r p = hash-allowed lim t ok h (fits-hash c f h left r p)
+apply-keeps lim t c left s ok r p =
+    room-keeps (OwnOk lim (kind s)) (Allowed lim) (put-own (kind s) t) (put-allowed lim t ok (kind s)) (own-after lim s (own (kind s) t)) (own-keeps lim t c left s ok r p)
 
 -- APPLY-ALLOWED: the tables that it leaves are allowed
 pub apply-allowed : (lim : Limits) (t u : Tables) (c : Coding) (left : ℕ) (s : Setting) → Allowed lim t → InRange text-limits left s → Fits c s → apply lim s t ≡ some u → Allowed lim u

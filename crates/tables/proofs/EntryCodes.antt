@@ -1,12 +1,12 @@
 -- The bytes of an entry of a table: as many as its slot is wide, not all zeros, and they tell the entry. Assumes nothing.
-use Rattle.lists.proofs.Kit.{ℕ, suc, _+_, _*_, _≤_, _<_, _≡_, refl, sym, ap, _∙_, Bool, true, false, _&&_, true≢false, List, _∷_, _++_, head-eq-of-cons-eq, tail-eq-of-cons-eq, arith, eqb, length, length-append, drop, take, take-at}
+use Rattle.lists.proofs.Kit.{ℕ, suc, _+_, _*_, _≤_, _<_, _≡_, refl, sym, ap, _∙_, Bool, true, false, _&&_, true≢false, List, _∷_, _++_, head-eq-of-cons-eq, tail-eq-of-cons-eq, arith, eqb, eqb-true, eqb-false, length, length-append, drop, take, take-at}
 use Rattle.lists.proofs.Bools.{is-false, and-parts}
 use Rattle.lists.proofs.Seqs.{cut}
-use Rattle.slots.specs.Slots.{u16, u24, zeros?, same?}
+use Rattle.slots.specs.Slots.{u16, u24, zeros?, same?, hit}
 use Rattle.slots.proofs.Codes.{Code}
 use Rattle.slots.proofs.Keys.{Keyed, keyed-shown}
 use Rattle.slots.proofs.Numbers.{u16-code, u16-shown, u24-one, u24-shown}
-use Rattle.slots.proofs.Runs.{zeros-append}
+use Rattle.slots.proofs.Runs.{same-are, same-refl}
 use Rattle.writing.specs.declared.LineFlags.{LineFlags}
 use Rattle.writing.specs.declared.GroupFlags.{GroupFlags}
 use Rattle.writing.specs.declared.IndividualFlags.{IndividualFlags}
@@ -14,11 +14,12 @@ use Rattle.writing.specs.Ranges.{InChannel, text-limits}
 use Rattle.writing.specs.Settings.{Text}
 use Rattle.writing.specs.Writing.{bit}
 use Rattle.tables.specs.Allowed.{TextOk, QuickOk, StatusOk, LineOk, GroupOk, IndividualOk}
-use Rattle.tables.specs.Apply.{same-key}
-use Rattle.tables.specs.Layout.{text-bytes, digit-bytes, quick-bytes, status-bytes, line-key-bytes, line-bytes, line-key-at, line-key-size, digits-at, group-bytes, individual-bytes, line-flags, group-flags, individual-flags, quick-width, status-width, member-width, channel-width, line-width}
+use Rattle.tables.specs.Apply.{same-key, has-address}
+use Rattle.tables.specs.Layout.{text-bytes, digit-bytes, quick-bytes, status-bytes, line-key-bytes, line-bytes, line-key-at, line-key-size, digits-at, group-bytes, individual-bytes, line-flags, group-flags, individual-flags, address-at, address-size, quick-width, status-width, member-width, channel-width, line-width}
 use Rattle.tables.specs.declared.members.Members.{Members}
 use Rattle.tables.specs.declared.members.Members.the-variants.{OfGroups, OfIndividuals}
-use Rattle.tables.specs.Members.{MemberIn, member-ok, member-bytes}
+use Rattle.tables.specs.MemberKinds.{MemberIn, number-of}
+use Rattle.tables.specs.Members.{member-ok, member-bytes}
 use Rattle.tables.specs.Tables.{Line, line-key, Member, GroupMember, IndividualMember}
 use Rattle.tables.proofs.TextCodes.{text-length, text-one, text-shown, digits-length, digits-one, digits-same, digits-shown}
 
@@ -153,13 +154,17 @@ module _ {F A : Type 0} (flags-of : F → ℕ) (number-of : A → ℕ) where
           let t = text-one 16 (a .text) (b .text) (text-ok a p) (text-ok b q) (r .1) in
           (λ i. record { flags = f i; address = n i; text = t i })
 
-  -- a slot with an address is not all zeros
-  slot-shown : (g : Member F A) → 1048576 ≤ number-of (g .address) → zeros? (slot-bytes flags-of number-of g) ≡ false
-  slot-shown g h =
-      is-false (zeros? (slot-bytes flags-of number-of g)) (λ z.
-      let a = and-parts (eqb (flags-of (g .flags)) 0) (zeros? (u24 (number-of (g .address)) ++ text-bytes 16 (g .text))) z in
-      let b = and-parts (zeros? (u24 (number-of (g .address)))) (zeros? (text-bytes 16 (g .text))) (sym (zeros-append (u24 (number-of (g .address))) (text-bytes 16 (g .text))) ∙ a .1) in
-      true≢false (sym (b .0) ∙ u24-shown (number-of (g .address)) (λ e. omega arith)))
+  -- the address stands behind the flags, and is not all zeros
+  slot-keyed : (P : Member F A → Type 0) → ((g : Member F A) → P g → 1048576 ≤ number-of (g .address))
+      → Keyed P member-width (slot-bytes flags-of number-of) address-at address-size (λ g. u24 (number-of (g .address)))
+  slot-keyed P high = record {
+    wide = omega arith;
+    inside = omega arith;
+    long = slot-long;
+    key-long = λ g. refl;
+    stands = λ g. refl;
+    shown = λ g p. u24-shown (number-of (g .address)) (λ e. omega (arith, high g p));
+  }
 
 -- ---- group slots
 
@@ -184,10 +189,6 @@ group-code =
     slot-code group-flags (λ x. x .0) GroupOk (λ g p. p .text) (λ a b p q e. group-flags-one (a .flags) (b .flags) (p .priority) (q .priority) e)
     (λ a b e i. record { 0 = e i })
 
--- they are not all zeros
-pub group-shown : (g : GroupMember) → GroupOk g → zeros? (group-bytes g) ≡ false
-group-shown g p = slot-shown group-flags (λ x. x .0) g (p .address .0 .0)
-
 -- ---- individual slots
 
 -- the byte of flags tells them
@@ -202,18 +203,44 @@ individual-code =
     slot-code individual-flags (λ x. x .0) IndividualOk (λ g p. p .text) (λ a b p q e. individual-flags-one (a .flags) (b .flags) (p .priority) (q .priority) e)
     (λ a b e i. record { 0 = e i })
 
--- they are not all zeros
-pub individual-shown : (g : IndividualMember) → IndividualOk g → zeros? (individual-bytes g) ≡ false
-individual-shown g p = slot-shown individual-flags (λ x. x .0) g (p .address .0 .0)
-
--- ---- slots of either table
+-- ---- slots and contacts of either kind
 
 -- a slot's bytes
 pub member-code : (w : Members) → Code (member-ok w) member-width (member-bytes w)
 member-code OfGroups = group-code
 member-code OfIndividuals = individual-code
 
--- they are not all zeros
+-- the bytes of an address
+abbrev pub address-of : (w : Members) → MemberIn w → List ℕ
+address-of w x = u24 (number-of w (x .address))
+
+-- they stand behind the flags, and are not all zeros
+pub member-keyed : (w : Members) → Keyed (member-ok w) member-width (member-bytes w) address-at address-size (address-of w)
+member-keyed OfGroups = slot-keyed group-flags (λ x. x .0) GroupOk (λ g p. p .address .0 .0)
+member-keyed OfIndividuals = slot-keyed individual-flags (λ x. x .0) IndividualOk (λ g p. p .address .0 .0)
+
+-- numbers are compared by their bytes
+numbers-same : (a b : ℕ) → same? (u24 a) (u24 b) ≡ eqb a b
+numbers-same a b = go (eqb a b) refl
+  where
+    go : (t : Bool) → eqb a b ≡ t → same? (u24 a) (u24 b) ≡ t
+    go true e = ap (λ (n : ℕ). same? (u24 n) (u24 b)) (eqb-true a b e) ∙ same-refl (u24 b)
+    go false e = is-false (same? (u24 a) (u24 b)) (λ s. eqb-false a b e (u24-one a b (same-are (u24 a) (u24 b) s)))
+
+-- ADDRESSES-SAME: and so are addresses
+pub addresses-same : (w : Members) (x y : MemberIn w) → same? (address-of w y) (address-of w x) ≡ has-address w (x .address) y
+addresses-same w x y = numbers-same (number-of w (y .address)) (number-of w (x .address))
+
+-- ADDRESS-HIT: a slot has the bytes of an address where its entry has the address
+pub address-hit : (w : Members) (x y : MemberIn w) → hit address-at (address-of w x) (member-bytes w y) ≡ has-address w (x .address) y
+address-hit w x y = ap (λ (k : List ℕ). same? k (address-of w x)) (member-keyed w .stands y) ∙ addresses-same w x y
+
+-- a slot's bytes are not all zeros
 pub member-shown : (w : Members) (x : MemberIn w) → member-ok w x → zeros? (member-bytes w x) ≡ false
-member-shown OfGroups = group-shown
-member-shown OfIndividuals = individual-shown
+member-shown w = keyed-shown (member-ok w) member-width (member-bytes w) address-at address-size (address-of w) (member-keyed w)
+
+pub group-shown : (g : GroupMember) → GroupOk g → zeros? (group-bytes g) ≡ false
+group-shown = member-shown OfGroups
+
+pub individual-shown : (g : IndividualMember) → IndividualOk g → zeros? (individual-bytes g) ≡ false
+individual-shown = member-shown OfIndividuals

@@ -17,15 +17,19 @@ use Rattle.plan.specs.declared.numbers.GroupAddress.{GroupAddress}
 use Rattle.plan.specs.declared.numbers.IndividualAddress.{IndividualAddress}
 use Rattle.writing.specs.declared.Coding.{Coding}
 use Rattle.writing.specs.Canonical.{FitsField, Fits}
-use Rattle.writing.specs.Fields.{val}
-use Rattle.writing.specs.Ranges.{text-limits, InRange, InContact, InQuick, InStatus}
-use Rattle.writing.specs.Settings.{Text, Contact, Entry, Slot, Hash, lines, key, quick-texts, home, system, status-texts, group, individual, last}
-use Rattle.writing.specs.Writing.{text, number, contact, quick-text, status-text}
+use Rattle.writing.specs.Fields.{val, each}
+use Rattle.writing.specs.Ranges.{text-limits, InRange, InContact, InAddressed, InQuick, InStatus}
+use Rattle.writing.specs.Settings.{Text, Number, Contact, Addressed, Entry, Slot, Hash, group-contacts, individual-contacts, lines, key, quick-texts, home, system, status-texts, group, individual, line-slot, last}
+use Rattle.writing.specs.Writing.{text, number, contact, addressed, quick-text, status-text}
 use Rattle.writing.proofs.TextUnits.{fits-each}
 use Rattle.slots.specs.Slots.{Present}
-use Rattle.tables.specs.Allowed.{TextOk, QuickOk, StatusOk, LineOk, GroupOk, IndividualOk, TargetOk, HomeOk, SystemOk, HashOk}
-use Rattle.tables.specs.Apply.{line-of, slot-after}
+use Rattle.tables.specs.Allowed.{TextOk, AddressOk, QuickOk, StatusOk, LineOk, GroupOk, IndividualOk, TargetOk, HomeOk, SystemOk, HashOk}
+use Rattle.tables.specs.Apply.{line-of, contact-of, slot-after}
 use Rattle.tables.specs.Limits.{quick-places}
+use Rattle.tables.specs.declared.members.Members.{Members}
+use Rattle.tables.specs.declared.members.Members.the-variants.{OfGroups, OfIndividuals}
+use Rattle.tables.specs.MemberKinds.{FlagsIn, AddressIn, number-of}
+use Rattle.tables.specs.Members.{member-ok}
 use Rattle.tables.proofs.TextLaws.{units-16}
 
 -- ---- parts
@@ -46,6 +50,25 @@ abbrev pub QuickFit : Operation → Entry → Type 0
 QuickFit Add e = (e .index < quick-places) × QuickOk (e .text)
 QuickFit Delete e = Unit {0}
 QuickFit Replace e = (e .index < quick-places) × QuickOk (e .text)
+
+-- contacts of either kind, where what is allowed of their flags makes them so
+fits-contacts : (w : Members) (c : Coding) (f : FlagsIn w) → ((e : Addressed (AddressIn w)) → AddressOk (number-of w (e .address)) → TextOk 16 (e .text) → member-ok w (contact-of f e))
+    → (es : List (Addressed (AddressIn w))) → All (InAddressed (number-of w) text-limits) es → All FitsField (each (addressed (number-of w) c) es) → All (λ e. member-ok w (contact-of f e)) es
+fits-contacts w c f made es r p =
+    all-both (InAddressed (number-of w) text-limits) (λ e. All FitsField (addressed (number-of w) c e)) (λ e. member-ok w (contact-of f e))
+    (λ e s q. made e (s .0, q .0) (fits-text c 16 (e .text) (s .1) (q .1))) es r (fits-each (addressed (number-of w) c) es p)
+
+-- group contacts
+pub fits-group-contacts : (c : Coding) (o : Operation) (f : GroupFlags) (es : List (Addressed GroupAddress)) (left : ℕ) → InRange text-limits left (group-contacts o f es) → Fits c (group-contacts o f es)
+    → All (λ e. GroupOk (contact-of f e)) es
+fits-group-contacts c o f es left r p =
+    fits-contacts OfGroups c f (λ e a u. record { attribute = (r .0, p .1 .1 .1 .0); priority = p .1 .1 .1 .1 .1 .1 .1 .1 .0; address = a; text = u }) es (r .1) (p .1 .1 .1 .1 .1 .1 .1 .1 .1 .1 .1)
+
+-- individual contacts
+pub fits-individual-contacts : (c : Coding) (o : Operation) (f : IndividualFlags) (es : List (Addressed IndividualAddress)) (left : ℕ) → InRange text-limits left (individual-contacts o f es)
+    → Fits c (individual-contacts o f es) → All (λ e. IndividualOk (contact-of f e)) es
+fits-individual-contacts c o f es left r p =
+    fits-contacts OfIndividuals c f (λ e a u. record { priority = p .1 .1 .1 .1 .1 .0; address = a; text = u }) es r (p .1 .1 .1 .1 .1 .1 .1 .1)
 
 -- one line contact
 fits-line : (c : Coding) (f : LineFlags) → f .priority < 4 → (e : Contact) → InContact text-limits e → All FitsField (contact c e) → LineOk (line-of f e)
@@ -99,6 +122,18 @@ fits-individual c Add f s left r p =
     }
 fits-individual c Delete f s left r p = tt
 fits-individual c Replace f s left r p = absurd (r .0)
+
+-- a line slot
+pub fits-line-slot : (c : Coding) (o : Operation) (f : LineFlags) (s : Slot Number) (left : ℕ) → InRange text-limits left (line-slot o f s) → Fits c (line-slot o f s)
+    → Present LineOk (slot-after o (record { flags = f; number = s .address; text = s .text }))
+fits-line-slot c Add f s left r p =
+    record {
+      priority = p .1 .1 .1 .1 .1 .0;
+      number = r .1;
+      text = fits-text c 16 (s .text) (r .2) (all-right FitsField (number (s .address)) (text c (s .text)) (p .1 .1 .1 .1 .1 .1 .1 .1 .1));
+    }
+fits-line-slot c Delete f s left r p = tt
+fits-line-slot c Replace f s left r p = absurd (r .0)
 
 -- ---- fixed contents
 

@@ -11,12 +11,16 @@ use Rattle.writing.specs.Ranges.{InChannel}
 use Rattle.writing.specs.Settings.{Text, Hash}
 use Rattle.tables.specs.declared.limits.Limits.{Limits}
 use Rattle.tables.specs.Allowed.{Allowed, QuickOk, StatusOk, GroupOk, IndividualOk, LineOk}
-use Rattle.tables.specs.Layout.{count-size, counted, channels-size, lines-size, lines-at, Roomy, regions, region-widths, used-size, layout, hash-bytes, key-bytes, home-bytes, system-bytes, quick-bytes, status-bytes, group-bytes, individual-bytes, line-bytes, quick-width, status-width, member-width, channel-width, line-width, groups-at, hash-size, home-at, home-size, individuals-at, key-at, key-size, lists-at, member-size, quick-at, quick-size, status-at, status-size, system-at, system-size}
-use Rattle.tables.specs.Limits.{quick-places, status-places, slot-places}
+use Rattle.tables.specs.Layout.{count-size, counted, channels-size, lines-size, lines-at, Roomy, regions, region-widths, used-size, layout, hash-bytes, key-bytes, home-bytes, system-bytes, quick-bytes, status-bytes, group-bytes, individual-bytes, line-bytes, quick-width, status-width, member-width, channel-width, line-width, channels-at, contacts-size, group-contacts-at, groups-at, hash-size, home-at, home-size, individual-contacts-at, individuals-at, key-at, key-size, line-slots-at, line-slots-size, member-size, quick-at, quick-size, status-at, status-size, system-at, system-size}
+use Rattle.tables.specs.Limits.{quick-places, status-places, slot-places, contact-places}
+use Rattle.tables.specs.declared.members.Members.{Members}
+use Rattle.tables.specs.declared.members.Members.the-variants.{OfGroups, OfIndividuals}
+use Rattle.tables.specs.MemberKinds.{MemberIn}
+use Rattle.tables.specs.Members.{member-ok, member-bytes, contacts-in, put-contacts, contacts-at}
 use Rattle.tables.specs.Tables.{Line, GroupMember, IndividualMember, Tables}
-use Rattle.writing.specs.declared.Kind.the-variants.{Lines, Key, QuickTexts, Home, Channels, System, StatusTexts, Group, Individual, Last}
+use Rattle.writing.specs.declared.Kind.the-variants.{Lines, Key, QuickTexts, Home, Channels, System, StatusTexts, Group, Individual, LineSlot, Last}
 use Rattle.tables.specs.Owns.{Own, put-own}
-use Rattle.tables.proofs.EntryCodes.{channel-code, line-code}
+use Rattle.tables.proofs.EntryCodes.{channel-code, line-code, member-code}
 use Rattle.tables.proofs.LayoutLaws.{regions-wide}
 
 -- the widths of all regions, the spare bytes at the end
@@ -24,7 +28,7 @@ abbrev pub all-widths : Limits → List ℕ
 all-widths lim = region-widths lim ++ ((lim .size - used-size lim) ∷ [])
 
 -- region k of the store has n bytes from a on
-module _ (lim : Limits) (t : Tables) (ok : Allowed lim t) (k : ℕ) (h : k < 11) (a n : ℕ) (p : a ≡ sum (take k (all-widths lim))) (q : n ≡ getD (all-widths lim) k 0) where
+module _ (lim : Limits) (t : Tables) (ok : Allowed lim t) (k : ℕ) (h : k < 14) (a n : ℕ) (p : a ≡ sum (take k (all-widths lim))) (q : n ≡ getD (all-widths lim) k 0) where
   -- REGION-GET: it is read
   pub region-get : midOf a n (layout lim t) ≡ getD (regions lim t) k []
   unfolding layout
@@ -35,12 +39,49 @@ module _ (lim : Limits) (t : Tables) (ok : Allowed lim t) (k : ℕ) (h : k < 11)
   unfolding layout
   region-put u y e = rw (p, q) (parts-put (regions lim t) (all-widths lim) (regions-wide lim t ok) k h y ∙ ap flat e)
 
--- ---- region by region
+-- ---- list tables
 
--- a list table is a counted list
-list-counted : {A : Type 0} (P : A → Type 0) (w : ℕ) (f : A → List ℕ) (n : ℕ) (xs : List A) → 0 < w → n < 65536 → ((a : A) → length (f a) ≡ w) → (length xs ≤ n) × All P xs
-    → {s : List ℕ} → s ≡ counted w f n xs → CountedOf P w f n xs s
-list-counted P w f n xs wide few long ok {s} e = entries-made P w f n xs s (places w f (front n xs)) wide few long (record { few = ok .0; each = ok .1; bytes = refl }) e
+-- region k, which starts at a, is a list table: at most m entries that have P, with w bytes each
+record ListAt (lim : Limits) (t : Tables) (k a : ℕ) {A : Type 0} (P : A → Type 0) (w : ℕ) (f : A → List ℕ) (m : ℕ) (xs : List A) : Type 0 where
+  low : k < 14
+  starts : a ≡ sum (take k (all-widths lim))
+  size : count-size + m * w ≡ getD (all-widths lim) k 0
+  is : getD (regions lim t) k [] ≡ counted w f m xs
+  wide : 0 < w
+  long : (x : A) → length (f x) ≡ w
+  allowed : (length xs ≤ m) × All P xs
+
+module _ {lim : Limits} {t : Tables} {k a : ℕ} {A : Type 0} {P : A → Type 0} {w : ℕ} {f : A → List ℕ} {m : ℕ} {xs : List A} (ok : Allowed lim t) (l : ListAt lim t k a P w f m xs) where
+  -- it is read
+  list-get : midOf a (count-size + m * w) (layout lim t) ≡ counted w f m xs
+  list-get = region-get lim t ok k (l .low) a (count-size + m * w) (l .starts) (l .size) ∙ l .is
+
+  -- as a counted list
+  list-counted : m < 65536 → CountedOf P w f m xs (midOf a (count-size + m * w) (layout lim t))
+  list-counted few =
+      entries-made P w f m xs (midOf a (count-size + m * w) (layout lim t)) (places w f (front m xs)) (l .wide) few (l .long)
+      (record { few = l .allowed .0; each = l .allowed .1; bytes = refl }) list-get
+
+  -- its count
+  list-count : midOf a count-size (layout lim t) ≡ u16 (length xs)
+  list-count = sym (take-take count-size (count-size + m * w) (drop a (layout lim t)) (omega arith)) ∙ ap (take count-size) list-get
+
+  -- the slots behind its count
+  list-listed : Listed P w f m xs (midOf (a + count-size) (m * w) (layout lim t))
+  list-listed = record { few = l .allowed .0; each = l .allowed .1; bytes = get-behind count-size a (m * w) (layout lim t) ∙ ap (drop count-size) list-get }
+
+  -- and put back
+  list-back : (u : Tables) (ys : List A) (y : List ℕ) → set (regions lim t) k (counted w f m ys) ≡ regions lim u → CountedOf P w f m ys y
+      → putMid a (count-size + m * w) (layout lim t) y ≡ layout lim u
+  list-back u ys y e c =
+      region-put lim t ok k (l .low) a (count-size + m * w) (l .starts) (l .size) u y (ap (set (regions lim t) k) (entries-bytes P w f m ys y c) ∙ e)
+
+-- which region the contacts are
+abbrev contacts-region : Members → ℕ
+contacts-region OfGroups = 9
+contacts-region OfIndividuals = 10
+
+-- ---- region by region
 
 module _ (lim : Limits) (t : Tables) (ok : Allowed lim t) where
   -- the kept hash
@@ -109,47 +150,69 @@ module _ (lim : Limits) (t : Tables) (ok : Allowed lim t) where
   pub individuals-back : (x : List (Option IndividualMember)) (y : List ℕ) → Placed IndividualOk member-width individual-bytes slot-places x y → putMid individuals-at member-size (layout lim t) y ≡ layout lim (put-own Individual t x)
   individuals-back x y p = region-put lim t ok 7 (omega arith) individuals-at member-size refl refl (put-own Individual t x) y (ap (set (regions lim t) 7) (p .bytes))
 
-  -- the channels: their count, and their places
-  pub channels-counted : Roomy lim → CountedOf InChannel channel-width u16 (lim .channels) (t .channels) (midOf lists-at (channels-size lim) (layout lim t))
-  channels-counted r =
-      list-counted InChannel channel-width u16 (lim .channels) (t .channels) (omega arith) (r .few-channels) (channel-code .long) (ok .channels) (region-get lim t ok 8 (omega arith) lists-at (channels-size lim) refl refl)
+  -- the line slots
+  pub line-slots-placed : Placed LineOk line-width line-bytes slot-places (t .line-slots) (midOf line-slots-at line-slots-size (layout lim t))
+  line-slots-placed = record { many = ok .line-slots .0; each = ok .line-slots .1; bytes = region-get lim t ok 8 (omega arith) line-slots-at line-slots-size refl refl }
 
   -- and put back
-  pub channels-back : (x : List ℕ) (y : List ℕ) → CountedOf InChannel channel-width u16 (lim .channels) x y → putMid lists-at (channels-size lim) (layout lim t) y ≡ layout lim (put-own Channels t x)
-  channels-back x y p =
-      region-put lim t ok 8 (omega arith) lists-at (channels-size lim) refl refl (put-own Channels t x) y (ap (set (regions lim t) 8) (entries-bytes InChannel channel-width u16 (lim .channels) x y p))
+  pub line-slots-back : (x : List (Option Line)) (y : List ℕ) → Placed LineOk line-width line-bytes slot-places x y → putMid line-slots-at line-slots-size (layout lim t) y ≡ layout lim (put-own LineSlot t x)
+  line-slots-back x y p = region-put lim t ok 8 (omega arith) line-slots-at line-slots-size refl refl (put-own LineSlot t x) y (ap (set (regions lim t) 8) (p .bytes))
+
+  -- ---- as counted lists
+
+  -- the group and the individual contacts
+  contacts-list : (w : Members) → ListAt lim t (contacts-region w) (contacts-at w) (member-ok w) member-width (member-bytes w) contact-places (contacts-in w t)
+  contacts-list OfGroups = record { low = omega arith; starts = refl; size = refl; is = refl; wide = omega arith; long = member-code OfGroups .long; allowed = ok .group-contacts }
+  contacts-list OfIndividuals = record { low = omega arith; starts = refl; size = refl; is = refl; wide = omega arith; long = member-code OfIndividuals .long; allowed = ok .individual-contacts }
+
+  -- the channels
+  channels-list : ListAt lim t 11 channels-at InChannel channel-width u16 (lim .channels) (t .channels)
+  channels-list = record { low = omega arith; starts = refl; size = refl; is = refl; wide = omega arith; long = channel-code .long; allowed = ok .channels }
+
+  -- the line contacts
+  lines-list : ListAt lim t 12 (lines-at lim) LineOk line-width line-bytes (lim .lines) (t .lines)
+  lines-list = record { low = omega arith; starts = omega arith; size = refl; is = refl; wide = omega arith; long = line-code .long; allowed = ok .lines }
+
+  -- the contacts: their count, and their places
+  pub contacts-counted : (w : Members) → CountedOf (member-ok w) member-width (member-bytes w) contact-places (contacts-in w t) (midOf (contacts-at w) contacts-size (layout lim t))
+  contacts-counted w = list-counted ok (contacts-list w) (omega arith)
+
+  -- and put back
+  pub contacts-back : (w : Members) (x : List (MemberIn w)) (y : List ℕ) → CountedOf (member-ok w) member-width (member-bytes w) contact-places x y
+      → putMid (contacts-at w) contacts-size (layout lim t) y ≡ layout lim (put-contacts w t x)
+  contacts-back OfGroups x y = list-back ok (contacts-list OfGroups) (put-contacts OfGroups t x) x y refl
+  contacts-back OfIndividuals x y = list-back ok (contacts-list OfIndividuals) (put-contacts OfIndividuals t x) x y refl
+
+  -- the channels
+  pub channels-counted : Roomy lim → CountedOf InChannel channel-width u16 (lim .channels) (t .channels) (midOf channels-at (channels-size lim) (layout lim t))
+  channels-counted r = list-counted ok channels-list (r .few-channels)
+
+  -- and put back
+  pub channels-back : (x : List ℕ) (y : List ℕ) → CountedOf InChannel channel-width u16 (lim .channels) x y → putMid channels-at (channels-size lim) (layout lim t) y ≡ layout lim (put-own Channels t x)
+  channels-back x y = list-back ok channels-list (put-own Channels t x) x y refl
 
   -- the line contacts
   pub lines-counted : Roomy lim → CountedOf LineOk line-width line-bytes (lim .lines) (t .lines) (midOf (lines-at lim) (lines-size lim) (layout lim t))
-  lines-counted r =
-      list-counted LineOk line-width line-bytes (lim .lines) (t .lines) (omega arith) (r .few-lines) (line-code .long) (ok .lines) (region-get lim t ok 9 (omega arith) (lines-at lim) (lines-size lim) (omega arith) refl)
+  lines-counted r = list-counted ok lines-list (r .few-lines)
 
   -- and put back
   pub lines-back : (x : List Line) (y : List ℕ) → CountedOf LineOk line-width line-bytes (lim .lines) x y → putMid (lines-at lim) (lines-size lim) (layout lim t) y ≡ layout lim (put-own Lines t x)
-  lines-back x y p =
-      region-put lim t ok 9 (omega arith) (lines-at lim) (lines-size lim) (omega arith) refl (put-own Lines t x) y (ap (set (regions lim t) 9) (entries-bytes LineOk line-width line-bytes (lim .lines) x y p))
+  lines-back x y = list-back ok lines-list (put-own Lines t x) x y refl
 
-  -- COUNTS-STAND: the bytes that the two lists begin with are their lengths
-  pub counts-stand : (midOf lists-at count-size (layout lim t) ≡ u16 (length (t .channels))) × (midOf (lines-at lim) count-size (layout lim t) ≡ u16 (length (t .lines)))
-  counts-stand = (
-    sym (take-take count-size (channels-size lim) (drop lists-at (layout lim t)) (omega arith)) ∙ ap (take count-size) (region-get lim t ok 8 (omega arith) lists-at (channels-size lim) refl refl),
-    sym (take-take count-size (lines-size lim) (drop (lines-at lim) (layout lim t)) (omega arith)) ∙ ap (take count-size) (region-get lim t ok 9 (omega arith) (lines-at lim) (lines-size lim) (omega arith) refl),
-  )
+  -- COUNTS-STAND: the bytes that the lists begin with are their lengths
+  pub counts-stand :
+      (midOf channels-at count-size (layout lim t) ≡ u16 (length (t .channels))) × (midOf (lines-at lim) count-size (layout lim t) ≡ u16 (length (t .lines)))
+      × (midOf group-contacts-at count-size (layout lim t) ≡ u16 (length (t .group-contacts)))
+      × (midOf individual-contacts-at count-size (layout lim t) ≡ u16 (length (t .individual-contacts)))
+  counts-stand = (list-count ok channels-list, list-count ok lines-list, list-count ok (contacts-list OfGroups), list-count ok (contacts-list OfIndividuals))
 
   -- ---- the slots behind a count
 
-  pub channels-listed : Listed InChannel channel-width u16 (lim .channels) (t .channels) (midOf (lists-at + count-size) (lim .channels * channel-width) (layout lim t))
-  channels-listed =
-      record {
-        few = ok .channels .0;
-        each = ok .channels .1;
-        bytes = get-behind count-size lists-at (lim .channels * channel-width) (layout lim t) ∙ ap (drop count-size) (region-get lim t ok 8 (omega arith) lists-at (channels-size lim) refl refl);
-      }
+  pub contacts-listed : (w : Members) → Listed (member-ok w) member-width (member-bytes w) contact-places (contacts-in w t) (midOf (contacts-at w + count-size) (contact-places * member-width) (layout lim t))
+  contacts-listed w = list-listed ok (contacts-list w)
+
+  pub channels-listed : Listed InChannel channel-width u16 (lim .channels) (t .channels) (midOf (channels-at + count-size) (lim .channels * channel-width) (layout lim t))
+  channels-listed = list-listed ok channels-list
 
   pub lines-listed : Listed LineOk line-width line-bytes (lim .lines) (t .lines) (midOf (lines-at lim + count-size) (lim .lines * line-width) (layout lim t))
-  lines-listed =
-      record {
-        few = ok .lines .0;
-        each = ok .lines .1;
-        bytes = get-behind count-size (lines-at lim) (lim .lines * line-width) (layout lim t) ∙ ap (drop count-size) (region-get lim t ok 9 (omega arith) (lines-at lim) (lines-size lim) (omega arith) refl);
-      }
+  lines-listed = list-listed ok lines-list

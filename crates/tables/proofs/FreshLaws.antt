@@ -7,9 +7,9 @@ use Rattle.slots.proofs.Parts.{flat-zeros, parts-put}
 use Rattle.slots.proofs.Tables.{front-nil, places-nil}
 use Rattle.writing.specs.Ranges.{no-hash as hash-0}
 use Rattle.tables.specs.declared.limits.Limits.{Limits}
-use Rattle.tables.specs.Allowed.{Allowed, QuickOk, StatusOk, GroupOk, IndividualOk}
+use Rattle.tables.specs.Allowed.{Allowed, QuickOk, StatusOk, GroupOk, IndividualOk, LineOk}
 use Rattle.tables.specs.Layout.{count-size, counted, regions, layout, used-size, Roomy, quick-bytes, status-bytes, group-bytes, individual-bytes, line-bytes, quick-width, status-width, member-width, channel-width, line-width, key-at, key-size}
-use Rattle.tables.specs.Limits.{quick-places, status-places, slot-places}
+use Rattle.tables.specs.Limits.{quick-places, status-places, slot-places, contact-places}
 use Rattle.tables.specs.Tables.{fresh}
 use Rattle.tables.proofs.Frames.{all-widths}
 
@@ -29,6 +29,11 @@ fresh-allowed lim =
       status = empty-table StatusOk status-places;
       groups = empty-table GroupOk slot-places;
       individuals = empty-table IndividualOk slot-places;
+      line-slots = empty-table LineOk slot-places;
+      group-contacts = (omega arith, tt);
+      distinct-groups = tt;
+      individual-contacts = (omega arith, tt);
+      distinct-individuals = tt;
       channels = (omega arith, tt);
       lines = (omega arith, tt);
       distinct = tt;
@@ -45,10 +50,13 @@ fresh-regions lim =
     let s = places-nil status-width status-bytes status-places in
     let g = places-nil member-width group-bytes slot-places in
     let j = places-nil member-width individual-bytes slot-places in
+    let d = places-nil line-width line-bytes slot-places in
+    let a = list-zeros member-width group-bytes contact-places in
+    let b = list-zeros member-width individual-bytes contact-places in
     let c = list-zeros channel-width u16 (lim .channels) in
     let l = list-zeros line-width line-bytes (lim .lines) in
     (λ i.
-    replicate 11 0 ∷ (16 ∷ 0 ∷ 0 ∷ 0 ∷ []) ∷ replicate 4 0 ∷ replicate 3 0 ∷ q i ∷ s i ∷ g i ∷ j i ∷ c i ∷ l i
+    replicate 11 0 ∷ (16 ∷ 0 ∷ 0 ∷ 0 ∷ []) ∷ replicate 4 0 ∷ replicate 3 0 ∷ q i ∷ s i ∷ g i ∷ j i ∷ d i ∷ a i ∷ b i ∷ c i ∷ l i
     ∷ replicate (lim .size - used-size lim) 0 ∷ [])
 
 -- a byte among zeros
@@ -58,13 +66,18 @@ one-byte n h =
     let z : replicate {A = ℕ} n 0 ≡ replicate 15 0 ++ replicate (n - 15) 0 = ap (λ (k : ℕ). replicate k 0) e ∙ sym (replicate-append-replicate 15 (n - 15) 0) in
     rw z
 
+-- regions of zeros fill the store with zeros
+zeros-fill : (lim : Limits) → Roomy lim → flat (map (λ w. replicate w 0) (all-widths lim)) ≡ replicate (lim .size) 0
+zeros-fill lim r =
+    let e : sum (all-widths lim) ≡ lim .size = omega (arith, r .fits) in
+    flat-zeros (all-widths lim) ∙ ap (λ (k : ℕ). replicate k 0) e
+
 -- FRESH-LAYOUT: it is all zeros, but for the key's flags, which say current
 pub fresh-layout : (lim : Limits) → Roomy lim → layout lim fresh ≡ set (replicate (lim .size) 0) 11 16
 unfolding layout
 fresh-layout lim r =
     let zs : List (List ℕ) = map (λ w. replicate w 0) (all-widths lim) in
-    let e : sum (all-widths lim) ≡ lim .size = omega (arith, r .fits) in
     ap flat (fresh-regions lim)
     ∙ sym (parts-put zs (map length zs) refl 1 (omega arith) (16 ∷ 0 ∷ 0 ∷ 0 ∷ []))
-    ∙ ap (λ (l : List ℕ). putMid key-at key-size l (16 ∷ 0 ∷ 0 ∷ 0 ∷ [])) (flat-zeros (all-widths lim) ∙ ap (λ (k : ℕ). replicate k 0) e)
+    ∙ ap (λ (l : List ℕ). putMid key-at key-size l (16 ∷ 0 ∷ 0 ∷ 0 ∷ [])) (zeros-fill lim r)
     ∙ one-byte (lim .size) (omega (arith, r .fits))

@@ -13,6 +13,7 @@ use Rattle.writing.specs.Ranges.{InChannel}
 use Rattle.tables.specs.declared.limits.Limits.{Limits}
 use Rattle.tables.specs.Allowed.{Allowed, QuickOk, StatusOk, GroupOk, IndividualOk, LineOk}
 use Rattle.tables.specs.Layout.{count-size, counted, regions, region-widths, used-size, layout, Roomy, quick-bytes, status-bytes, group-bytes, individual-bytes, line-bytes, quick-width, status-width, member-width, channel-width, line-width}
+use Rattle.tables.specs.Limits.{contact-places}
 use Rattle.tables.specs.Store.{StoreOf, Holds}
 use Rattle.tables.specs.Tables.{Tables}
 use Rattle.tables.proofs.EntryBytes.{quick-are-bytes, status-are-bytes, group-are-bytes, individual-are-bytes, channel-are-bytes, line-are-bytes, hash-are-bytes, key-are-bytes, home-are-bytes, system-are-bytes}
@@ -37,10 +38,13 @@ regions-wide lim t ok =
     let c = table-wide status-code (t .status) 96 (ok .status .0) in
     let d = table-wide group-code (t .groups) 16 (ok .groups .0) in
     let e = table-wide individual-code (t .individuals) 16 (ok .individuals .0) in
-    let f = list-wide channel-code (lim .channels) (t .channels) in
-    let g = list-wide line-code (lim .lines) (t .lines) in
-    let h = length-replicate {A = ℕ} (lim .size - used-size lim) 0 in
-    (λ i. a i ∷ 4 ∷ 4 ∷ 3 ∷ b i ∷ c i ∷ d i ∷ e i ∷ f i ∷ g i ∷ h i ∷ [])
+    let f = table-wide line-code (t .line-slots) 16 (ok .line-slots .0) in
+    let g = list-wide group-code contact-places (t .group-contacts) in
+    let h = list-wide individual-code contact-places (t .individual-contacts) in
+    let j = list-wide channel-code (lim .channels) (t .channels) in
+    let k = list-wide line-code (lim .lines) (t .lines) in
+    let z = length-replicate {A = ℕ} (lim .size - used-size lim) 0 in
+    (λ i. a i ∷ 4 ∷ 4 ∷ 3 ∷ b i ∷ c i ∷ d i ∷ e i ∷ f i ∷ g i ∷ h i ∷ j i ∷ k i ∷ z i ∷ [])
 
 -- LAYOUT-LENGTH: where the tables fit, their bytes fill the store
 pub layout-length : (lim : Limits) (t : Tables) → Roomy lim → Allowed lim t → length (layout lim t) ≡ lim .size
@@ -80,10 +84,13 @@ layout-bytes lim t r ok =
     let f = places-bytes StatusOk status-width status-bytes status-are-bytes (t .status) (ok .status .1) in
     let g = places-bytes GroupOk member-width group-bytes group-are-bytes (t .groups) (ok .groups .1) in
     let h = places-bytes IndividualOk member-width individual-bytes individual-are-bytes (t .individuals) (ok .individuals .1) in
-    let i = list-bytes InChannel channel-width u16 channel-are-bytes (lim .channels) (t .channels) (r .few-channels) (ok .channels) in
-    let j = list-bytes LineOk line-width line-bytes line-are-bytes (lim .lines) (t .lines) (r .few-lines) (ok .lines) in
-    let k = bytes-zeros (lim .size - used-size lim) in
-    flat-bytes (regions lim t) (a, (b, (c, (d, (e, (f, (g, (h, (i, (j, (k, tt)))))))))))
+    let i = places-bytes LineOk line-width line-bytes line-are-bytes (t .line-slots) (ok .line-slots .1) in
+    let j = list-bytes GroupOk member-width group-bytes group-are-bytes contact-places (t .group-contacts) (omega arith) (ok .group-contacts) in
+    let k = list-bytes IndividualOk member-width individual-bytes individual-are-bytes contact-places (t .individual-contacts) (omega arith) (ok .individual-contacts) in
+    let l = list-bytes InChannel channel-width u16 channel-are-bytes (lim .channels) (t .channels) (r .few-channels) (ok .channels) in
+    let m = list-bytes LineOk line-width line-bytes line-are-bytes (lim .lines) (t .lines) (r .few-lines) (ok .lines) in
+    let z = bytes-zeros (lim .size - used-size lim) in
+    flat-bytes (regions lim t) (a, (b, (c, (d, (e, (f, (g, (h, (i, (j, (k, (l, (m, (z, tt))))))))))))))
 
 -- ---- equal bytes are equal tables
 
@@ -113,6 +120,23 @@ layout-one lim t u p q e =
     let g = table-one status-code status-shown (p .status) (q .status) (at 5) in
     let h = table-one group-code group-shown (p .groups) (q .groups) (at 6) in
     let j = table-one individual-code individual-shown (p .individuals) (q .individuals) (at 7) in
-    let k = list-table-one channel-code channel-shown (p .channels) (q .channels) (at 8) in
-    let l = list-table-one line-code line-shown (p .lines) (q .lines) (at 9) in
-    (λ i. record { hash = a i; key = b i; home = c i; system = d i; quick = f i; status = g i; groups = h i; individuals = j i; channels = k i; lines = l i })
+    let k = table-one line-code line-shown (p .line-slots) (q .line-slots) (at 8) in
+    let l = list-table-one group-code group-shown (p .group-contacts) (q .group-contacts) (at 9) in
+    let m = list-table-one individual-code individual-shown (p .individual-contacts) (q .individual-contacts) (at 10) in
+    let n = list-table-one channel-code channel-shown (p .channels) (q .channels) (at 11) in
+    let o = list-table-one line-code line-shown (p .lines) (q .lines) (at 12) in
+    (λ i. record {
+      hash = a i;
+      key = b i;
+      home = c i;
+      system = d i;
+      quick = f i;
+      status = g i;
+      groups = h i;
+      individuals = j i;
+      line-slots = k i;
+      group-contacts = l i;
+      individual-contacts = m i;
+      channels = n i;
+      lines = o i;
+    })

@@ -1,8 +1,12 @@
 pub mod AllowedLaws
 pub mod AnswerLaws
+pub mod ContactRoom
+pub mod ContactSentences
+pub mod DigitLaws
 pub mod EntryBytes
 pub mod EntryCodes
 pub mod EntryWalk
+pub mod FillLaws
 pub mod FitsLaws
 pub mod FixedCodes
 pub mod Frames

@@ -4,16 +4,18 @@ use Rattle.lists.specs.Every.{All}
 use Rattle.writing.specs.Writing.{type-byte}
 use Rattle.writing.proofs.Unique.{one-kind}
 use Rattle.writing.specs.declared.Kind.{Kind}
-use Rattle.writing.specs.declared.Kind.the-variants.{Lines, Key, QuickTexts, Home, Channels, System, StatusTexts, Group, Individual, Last}
+use Rattle.writing.specs.declared.Kind.the-variants.{GroupContacts, IndividualContacts, Lines, Key, QuickTexts, Home, Channels, System, StatusTexts, Group, Individual, LineSlot, Last}
 use Rattle.writing.specs.Settings.{Setting, kind}
 use Rattle.tables.specs.declared.limits.Limits.{Limits}
 use Rattle.tables.specs.Apply.{apply, own-after, and-then, in-turn}
 use Rattle.tables.specs.Tables.{Tables}
 use Rattle.tables.specs.Owns.{Own, own, mix, only, touches, Agree, put-own}
-use Rattle.tables.proofs.RoomSentences.{came, own-table}
+use Rattle.tables.proofs.RoomSentences.{came, put-mixes, own-table}
 
 -- OWN-MIX: each table is that of one or of the other
 pub own-mix : (p : Kind → Bool) (t u : Tables) (k : Kind) → own k (mix p t u) ≡ cond (p k) (own k u) (own k t)
+own-mix p t u GroupContacts = refl
+own-mix p t u IndividualContacts = refl
 own-mix p t u Lines = refl
 own-mix p t u Key = refl
 own-mix p t u QuickTexts = refl
@@ -23,6 +25,7 @@ own-mix p t u System = refl
 own-mix p t u StatusTexts = refl
 own-mix p t u Group = refl
 own-mix p t u Individual = refl
+own-mix p t u LineSlot = refl
 own-mix p t u Last = refl
 
 -- ALIKE: tables are equal where every one is
@@ -36,6 +39,9 @@ alike t u e = λ i. record {
   status = e StatusTexts i;
   groups = e Group i;
   individuals = e Individual i;
+  line-slots = e LineSlot i;
+  group-contacts = e GroupContacts i;
+  individual-contacts = e IndividualContacts i;
   channels = e Channels i;
   lines = e Lines i;
 }
@@ -45,8 +51,15 @@ pub others-stay : (lim : Limits) (s : Setting) (t u : Tables) (k : Kind) → app
 others-stay lim s t u k e h =
     ap (own k) (own-table lim s t u e) ∙ own-mix (only (kind s)) t u k ∙ ap (λ (b : Bool). cond b (own k u) (own k t)) h
 
+-- OWN-OTHER: a table that was put leaves the others
+pub own-other : (k j : Kind) (t : Tables) (x : Own k) → only k j ≡ false → own j (put-own k t x) ≡ own j t
+own-other k j t x h =
+    ap (own j) (put-mixes k t x) ∙ own-mix (only k) t (put-own k t x) j ∙ ap (λ (b : Bool). cond b (own j (put-own k t x)) (own j t)) h
+
 -- OWN-PUT: a table that was put is there
-own-put : (k : Kind) (t : Tables) (x : Own k) → own k (put-own k t x) ≡ x
+pub own-put : (k : Kind) (t : Tables) (x : Own k) → own k (put-own k t x) ≡ x
+own-put GroupContacts t x = refl
+own-put IndividualContacts t x = refl
 own-put Lines t x = refl
 own-put Key t x = refl
 own-put QuickTexts t x = refl
@@ -56,6 +69,7 @@ own-put System t x = refl
 own-put StatusTexts t x = refl
 own-put Group t x = refl
 own-put Individual t x = refl
+own-put LineSlot t x = refl
 own-put Last t x = refl
 
 -- OWN ALONE: what a setting makes of its table depends on that table alone

@@ -3,10 +3,10 @@ use Rattle.lists.proofs.Kit.{ℕ, _≤_, _<_, _≡_, refl, ap, _∙_, subst, _�
 use Rattle.slots.proofs.Changes.{unless-fewer}
 use Rattle.counted_lists.proofs.KeyedLists.{keyed-no-room, keyed-freed, last-no-room}
 use Rattle.writing.specs.declared.Kind.{Kind}
-use Rattle.writing.specs.declared.Kind.the-variants.{Lines, Key, QuickTexts, Home, Channels, System, StatusTexts, Group, Individual, Last}
+use Rattle.writing.specs.declared.Kind.the-variants.{GroupContacts, IndividualContacts, Lines, Key, QuickTexts, Home, Channels, System, StatusTexts, Group, Individual, LineSlot, Last}
 use Rattle.writing.specs.declared.Operation.{Operation}
 use Rattle.writing.specs.declared.Operation.the-variants.{Add, Delete, Replace}
-use Rattle.writing.specs.Settings.{Text, Entry, Setting, lines, key, quick-texts, home, channels, system, status-texts, group, individual, last, kind}
+use Rattle.writing.specs.Settings.{Text, Entry, Setting, group-contacts, individual-contacts, lines, key, quick-texts, home, channels, system, status-texts, group, individual, line-slot, last, kind}
 use Rattle.tables.specs.declared.limits.Limits.{Limits}
 use Rattle.tables.specs.Apply.{and-then, in-turn, start-from, has-key, put-line, drop-line, quick-step, quick-after, status-step, status-after, put-channel, drop-channel, with-room, own-after, apply}
 use Rattle.tables.specs.Limits.{handheld, quick-places, status-places}
@@ -91,7 +91,7 @@ channel-freed room d before after h n e =
     let p = channel-no-room room n (drop-channel d (before ++ d ∷ after)) (omega arith) .0 e in
     omega (arith, p)
 
--- ---- only lines and channels can have no room
+-- ---- only lists can have no room
 
 -- a quick text has its place
 quick-has-room : (o : Operation) (e : Entry) (qs : List (Option Text)) → quick-step o e qs ≢ none
@@ -106,7 +106,7 @@ status-has-room Delete e ss h = Option·some-ne-none _ h
 status-has-room Replace e ss h = Option·some-ne-none _ h
 
 -- where each entry has room, all have
-all-have-room : {A T : Type 0} (step : A → T → Option T) → ((a : A) (t : T) → step a t ≢ none) → (es : List A) (t : T) → in-turn step es t ≢ none
+pub all-have-room : {A T : Type 0} (step : A → T → Option T) → ((a : A) (t : T) → step a t ≢ none) → (es : List A) (t : T) → in-turn step es t ≢ none
 all-have-room step h es t e = let s = turn-none step es t e in h (s .entry) (s .table) (s .full)
 
 -- a change where there is room
@@ -114,19 +114,23 @@ room-none : {A B : Type 0} (f : A → B) (o : Option A) → with-room f o ≡ no
 room-none f none e = refl
 room-none f (some a) e = absurd (Option·some-ne-none (f a) e)
 
--- a setting that has no room is one of lines or of channels
-pub no-room-kinds : (lim : Limits) (s : Setting) (t : Tables) → apply lim s t ≡ none → (kind s ≡ Lines) ⊎ (kind s ≡ Channels)
+-- a setting that has no room is one of lines, of channels or of contacts; so one of slots always has room
+pub no-room-kinds : (lim : Limits) (s : Setting) (t : Tables) → apply lim s t ≡ none
+    → (kind s ≡ Lines) ⊎ (kind s ≡ Channels) ⊎ (kind s ≡ GroupContacts) ⊎ (kind s ≡ IndividualContacts)
+no-room-kinds lim (group-contacts o f es) t e = inr (inr (inl refl))
+no-room-kinds lim (individual-contacts o f es) t e = inr (inr (inr refl))
 no-room-kinds lim (lines o f es) t e = inl refl
 no-room-kinds lim (key target f) t e = absurd (Option·some-ne-none _ e)
 no-room-kinds lim (quick-texts o es) t e =
     absurd (all-have-room (quick-step o) (quick-has-room o) es (start-from o (replicate quick-places none) (t .quick)) (room-none (put-own QuickTexts t) (quick-after o es (t .quick)) e))
 no-room-kinds lim (home h) t e = absurd (Option·some-ne-none _ e)
-no-room-kinds lim (channels o ns) t e = inr refl
+no-room-kinds lim (channels o ns) t e = inr (inl refl)
 no-room-kinds lim (system s) t e = absurd (Option·some-ne-none _ e)
 no-room-kinds lim (status-texts o es) t e =
     absurd (all-have-room (status-step o) (status-has-room o) es (start-from o (replicate status-places none) (t .status)) (room-none (put-own StatusTexts t) (status-after o es (t .status)) e))
 no-room-kinds lim (group o f s) t e = absurd (Option·some-ne-none _ e)
 no-room-kinds lim (individual o f s) t e = absurd (Option·some-ne-none _ e)
+no-room-kinds lim (line-slot o f s) t e = absurd (Option·some-ne-none _ e)
 no-room-kinds lim (last f h) t e = absurd (Option·some-ne-none _ e)
 
 -- ---- a setting changes its own table and no other
@@ -137,7 +141,9 @@ came f none b e = absurd (Option·none-ne-some b e)
 came f (some a) b e = (a, refl, Option·some-injective (f a) b e)
 
 -- one table changed is that table taken from the tables changed
-put-mixes : (k : Kind) (t : Tables) (x : Own k) → put-own k t x ≡ mix (only k) t (put-own k t x)
+pub put-mixes : (k : Kind) (t : Tables) (x : Own k) → put-own k t x ≡ mix (only k) t (put-own k t x)
+put-mixes GroupContacts t x = refl
+put-mixes IndividualContacts t x = refl
 put-mixes Lines t x = refl
 put-mixes Key t x = refl
 put-mixes QuickTexts t x = refl
@@ -147,6 +153,7 @@ put-mixes System t x = refl
 put-mixes StatusTexts t x = refl
 put-mixes Group t x = refl
 put-mixes Individual t x = refl
+put-mixes LineSlot t x = refl
 put-mixes Last t x = refl
 
 -- t with the table of one kind as u has it

@@ -102,7 +102,7 @@ pub place-changed : {A : Type 0} (os : List (Option A)) (k : ℕ) (o : Option A)
 place-changed os k o h = record { there = getD-set-same os k o none h; others = λ j n. getD-set-other os k j o none n; many = length-set os k o }
 
 -- an empty place that is emptied is as before
-place-empty : {A : Type 0} (os : List (Option A)) (k : ℕ) → getD os k none ≡ none → set os k none ≡ os
+pub place-empty : {A : Type 0} (os : List (Option A)) (k : ℕ) → getD os k none ≡ none → set os k none ≡ os
 place-empty os k h = ap (set os k) (sym h) ∙ set-getD os k none
 
 -- ---- "Quick texts: add to an index that has a text does nothing."

@@ -1,19 +1,24 @@
 -- What each operation leaves of a table is allowed, entry by entry. Assumes nothing.
-use Rattle.lists.proofs.Kit.{ℕ, _-_, _<_, _≡_, refl, _∙_, Bool, true, false, cond, List, [], _∷_, _++_, Option, none, some, arith, ltb-true, ltb, length, getD, set, length-append, length-set, replicate}
+use Rattle.lists.proofs.Kit.{ℕ, _-_, _<_, _≡_, refl, _∙_, _↔_, Bool, true, false, cond, List, [], _∷_, _++_, Option, none, some, arith, ltb-true, ltb, length, getD, set, length-append, length-set, replicate}
 use Rattle.lists.specs.Every.{All}
 use Rattle.lists.proofs.Every.{all-append, all-get, all-set}
 use Rattle.slots.specs.Slots.{unless, indexOf, putAt, Present}
 use Rattle.slots.proofs.Tables.{put-all, put-short, unless-all, unless-short}
+use Rattle.counted_lists.specs.Counted.{put-keyed}
 use Rattle.counted_lists.proofs.KeyedLists.{put-distinct, unless-distinct}
 use Rattle.writing.specs.declared.LineFlags.{LineFlags}
 use Rattle.writing.specs.declared.Operation.{Operation}
 use Rattle.writing.specs.declared.Operation.the-variants.{Add, Delete, Replace}
 use Rattle.writing.specs.Ranges.{InChannel}
-use Rattle.writing.specs.Settings.{Text, Contact, Entry}
-use Rattle.tables.specs.Allowed.{QuickOk, StatusOk, LineOk, PlacesOk, ListOk, LinesOk}
-use Rattle.tables.specs.Apply.{and-then, in-turn, start-from, has-key, put-line, line-of, line-step, lines-after, if-absent, quick-step, quick-after, status-step, status-after, put-channel, channel-step, channels-after}
+use Rattle.writing.specs.Settings.{Text, Contact, Addressed, Entry}
+use Rattle.tables.specs.Allowed.{QuickOk, StatusOk, LineOk, PlacesOk, ListOk, KeyedOk, LinesOk}
+use Rattle.tables.specs.Apply.{and-then, in-turn, start-from, keyed-step, has-key, line-of, line-step, lines-after, contact-of, contacts-after, if-absent, quick-step, quick-after, status-step, status-after, put-channel, channel-step, channels-after}
 use Rattle.tables.specs.Limits.{quick-places, status-places}
+use Rattle.tables.specs.declared.members.Members.{Members}
+use Rattle.tables.specs.MemberKinds.{FlagsIn, AddressIn, MemberIn, contact-key}
+use Rattle.tables.specs.Members.{member-ok}
 use Rattle.tables.specs.Tables.{Line, line-key}
+use Rattle.tables.proofs.ContactSentences.{has-number, key-is-number}
 use Rattle.tables.proofs.FitsLaws.{QuickFit}
 use Rattle.tables.proofs.FreshLaws.{empty-table}
 use Rattle.tables.proofs.Sentences.{key-is-both}
@@ -48,30 +53,44 @@ start-keeps I Add empty t e i = i
 start-keeps I Delete empty t e i = i
 start-keeps I Replace empty t e i = e
 
--- ---- line contacts
+-- ---- lists by a key
 
--- a line is added where there is room
-put-line-keeps : (room : ℕ) (l : Line) (ls : List Line) → LineOk l → LinesOk room ls → Present (LinesOk room) (put-line room l ls)
-put-line-keeps room l ls h i = go (ltb at room) refl
-  where
-    at : ℕ
-    at = indexOf (has-key (line-key l)) ls
+module _ {A K : Type 0} (P : A → Type 0) (key : A → K) (has : K → A → Bool) (decides : (k : K) (a : A) → (has k a ≡ true) ↔ (key a ≡ k)) (room : ℕ) where
+  -- an entry is added where there is room
+  put-keeps : (a : A) (ls : List A) → P a → KeyedOk P key room ls → Present (KeyedOk P key room) (put-keyed (has (key a)) room a ls)
+  put-keeps a ls h i = go (ltb at room) refl
+    where
+      at : ℕ
+      at = indexOf (has (key a)) ls
 
-    go : (b : Bool) → ltb at room ≡ b → Present (LinesOk room) (cond b (some (putAt at l ls)) none)
-    go true e = ((put-short at room l ls (ltb-true _ _ e) (i .0 .0), put-all LineOk at l ls h (i .0 .1)), put-distinct line-key has-key key-is-both l ls (i .1))
-    go false e = tt
+      go : (b : Bool) → ltb at room ≡ b → Present (KeyedOk P key room) (cond b (some (putAt at a ls)) none)
+      go true e = ((put-short at room a ls (ltb-true _ _ e) (i .0 .0), put-all P at a ls h (i .0 .1)), put-distinct key has decides a ls (i .1))
+      go false e = tt
 
--- one entry of a setting
+  -- one entry of a setting
+  pub keyed-step-keeps : (o : Operation) (a : A) (ls : List A) → P a → KeyedOk P key room ls → Present (KeyedOk P key room) (keyed-step (λ b. has (key b)) room o a ls)
+  keyed-step-keeps Add a ls h i = put-keeps a ls h i
+  keyed-step-keeps Delete a ls h i = (unless-keeps P room _ ls (i .0), unless-distinct key _ ls (i .1))
+  keyed-step-keeps Replace a ls h i = put-keeps a ls h i
+
+  -- a whole setting
+  pub keyed-after-keeps : {E : Type 0} (made : E → A) (o : Operation) (es : List E) (ls : List A) → All (λ e. P (made e)) es → KeyedOk P key room ls
+      → Present (KeyedOk P key room) (in-turn (λ e. keyed-step (λ b. has (key b)) room o (made e)) es (start-from o [] ls))
+  keyed-after-keeps made o es ls h i =
+      turn-keeps (KeyedOk P key room) (λ e. P (made e)) (λ e. keyed-step (λ b. has (key b)) room o (made e)) (λ e. keyed-step-keeps o (made e)) es (start-from o [] ls) h
+      (start-keeps (KeyedOk P key room) o [] ls ((omega arith, tt), tt) i)
+
+-- line contacts
 pub line-step-keeps : (room : ℕ) (o : Operation) (f : LineFlags) (e : Contact) (ls : List Line) → LineOk (line-of f e) → LinesOk room ls → Present (LinesOk room) (line-step room o f e ls)
-line-step-keeps room Add f e ls h i = put-line-keeps room (line-of f e) ls h i
-line-step-keeps room Delete f e ls h i = (unless-keeps LineOk room _ ls (i .0), unless-distinct line-key _ ls (i .1))
-line-step-keeps room Replace f e ls h i = put-line-keeps room (line-of f e) ls h i
+line-step-keeps room o f e = keyed-step-keeps LineOk line-key has-key key-is-both room o (line-of f e)
 
--- a whole setting
 pub lines-after-keeps : (room : ℕ) (o : Operation) (f : LineFlags) (es : List Contact) (ls : List Line) → All (λ e. LineOk (line-of f e)) es → LinesOk room ls → Present (LinesOk room) (lines-after room o f es ls)
-lines-after-keeps room o f es ls h i =
-    turn-keeps (LinesOk room) (λ e. LineOk (line-of f e)) (line-step room o f) (line-step-keeps room o f) es (start-from o [] ls) h
-    (start-keeps (LinesOk room) o [] ls ((omega arith, tt), tt) i)
+lines-after-keeps room o f = keyed-after-keeps LineOk line-key has-key key-is-both room (line-of f) o
+
+-- group and individual contacts
+pub contacts-after-keeps : (w : Members) (room : ℕ) (o : Operation) (f : FlagsIn w) (es : List (Addressed (AddressIn w))) (xs : List (MemberIn w)) → All (λ e. member-ok w (contact-of f e)) es
+    → KeyedOk (member-ok w) (contact-key w) room xs → Present (KeyedOk (member-ok w) (contact-key w) room) (contacts-after w room o f es xs)
+contacts-after-keeps w room o f = keyed-after-keeps (member-ok w) (contact-key w) (has-number w) (key-is-number w) room (contact-of f) o
 
 -- ---- quick texts
 

@@ -1,4 +1,4 @@
--- Which tables the rules allow: the ranges of "The ten settings", the room, and one line to a key.
+-- Which tables the rules allow: the ranges of the settings, the room, one line to a key and one contact to an address.
 use Prim.Native.Nat.{ℕ, _≤_, _<_}
 use mathlib.Core.Path.{_≡_}
 use mathlib.Core.Logic.{_≢_}
@@ -15,7 +15,9 @@ use Rattle.writing.specs.declared.SystemCode.{SystemCode}
 use Rattle.writing.specs.Ranges.{text-limits, InNumber, InAddress, InChannel, HashSize}
 use Rattle.writing.specs.Settings.{Text, Hash}
 use Rattle.tables.specs.declared.limits.Limits.{Limits}
-use Rattle.tables.specs.Limits.{quick-places, status-places, slot-places}
+use Rattle.tables.specs.Limits.{quick-places, status-places, slot-places, contact-places}
+use Rattle.tables.specs.declared.members.Members.the-variants.{OfGroups, OfIndividuals}
+use Rattle.tables.specs.MemberKinds.{contact-key}
 use Rattle.tables.specs.Tables.{Line, line-key, GroupMember, IndividualMember, Tables}
 
 -- "At most 16 units before the end, 23 in quick texts", none of them 0
@@ -69,7 +71,7 @@ pub record HashOk (h : Hash) : Type 0 where
   pub size : HashSize (h .code) (length (h .value))
   pub bytes : All (_< 256) (h .value)
 
--- the tables that a set with these limits can hold; no two lines have one key
+-- the tables that a set with these limits can hold; no two lines have one key, and no two contacts of a list one address
 pub record Allowed (lim : Limits) (t : Tables) : Type 0 where
   pub hash : HashOk (t .hash)
   pub key : TargetOk (t .key .target)
@@ -79,6 +81,11 @@ pub record Allowed (lim : Limits) (t : Tables) : Type 0 where
   pub status : (length (t .status) ≡ status-places) × All (Present StatusOk) (t .status)
   pub groups : (length (t .groups) ≡ slot-places) × All (Present GroupOk) (t .groups)
   pub individuals : (length (t .individuals) ≡ slot-places) × All (Present IndividualOk) (t .individuals)
+  pub line-slots : (length (t .line-slots) ≡ slot-places) × All (Present LineOk) (t .line-slots)
+  pub group-contacts : (length (t .group-contacts) ≤ contact-places) × All GroupOk (t .group-contacts)
+  pub distinct-groups : Distinct (contact-key OfGroups) (t .group-contacts)
+  pub individual-contacts : (length (t .individual-contacts) ≤ contact-places) × All IndividualOk (t .individual-contacts)
+  pub distinct-individuals : Distinct (contact-key OfIndividuals) (t .individual-contacts)
   pub channels : (length (t .channels) ≤ lim .channels) × All InChannel (t .channels)
   pub lines : (length (t .lines) ≤ lim .lines) × All LineOk (t .lines)
   pub distinct : Distinct line-key (t .lines)
@@ -93,6 +100,9 @@ PlacesOk P n os = (length os ≡ n) × All (Present P) os
 abbrev pub ListOk : {A : Type 0} → (A → Type 0) → ℕ → List A → Type 0
 ListOk P n xs = (length xs ≤ n) × All P xs
 
--- at most n lines, each with a key of its own
+-- at most n entries, each with a key of its own
+abbrev pub KeyedOk : {A K : Type 0} → (A → Type 0) → (A → K) → ℕ → List A → Type 0
+KeyedOk P key n xs = ListOk P n xs × Distinct key xs
+
 abbrev pub LinesOk : ℕ → List Line → Type 0
-LinesOk n ls = ListOk LineOk n ls × Distinct line-key ls
+LinesOk n ls = KeyedOk LineOk line-key n ls

@@ -10,11 +10,14 @@ use Rattle.counted_lists.specs.Counted.{put-last, put-keyed}
 use Rattle.writing.specs.declared.LineFlags.{LineFlags}
 use Rattle.writing.specs.declared.Operation.{Operation}
 use Rattle.writing.specs.declared.Operation.the-variants.{Add, Delete, Replace}
-use Rattle.writing.specs.Settings.{Text, Contact, Entry, Setting, lines, key, quick-texts, home, channels, system, status-texts, group, individual, last, kind}
+use Rattle.writing.specs.Settings.{Text, Contact, Addressed, Entry, Setting, group-contacts, individual-contacts, lines, key, quick-texts, home, channels, system, status-texts, group, individual, line-slot, last, kind}
 use Rattle.writing.specs.Writing.{bit}
 use Rattle.tables.specs.declared.limits.Limits.{Limits}
-use Rattle.tables.specs.Limits.{quick-places, status-places}
-use Rattle.tables.specs.Tables.{Line, LineKey, line-key, Tables}
+use Rattle.tables.specs.Limits.{quick-places, status-places, contact-places}
+use Rattle.tables.specs.declared.members.Members.{Members}
+use Rattle.tables.specs.declared.members.Members.the-variants.{OfGroups, OfIndividuals}
+use Rattle.tables.specs.MemberKinds.{FlagsIn, AddressIn, MemberIn, number-of}
+use Rattle.tables.specs.Tables.{Line, LineKey, line-key, Member, Tables}
 use Rattle.tables.specs.Owns.{Own, own, put-own}
 
 -- ---- entries in turn
@@ -34,6 +37,14 @@ abbrev pub start-from : {T : Type 0} → Operation → T → T → T
 start-from Add empty t = t
 start-from Delete empty t = t
 start-from Replace empty t = empty
+
+-- ---- lists by a key: line contacts, group contacts, individual contacts
+
+-- what an operation with one entry makes of a list, by the test that says which entries have the entry's key
+abbrev pub keyed-step : {A : Type 0} → (A → A → Bool) → ℕ → Operation → A → List A → Option (List A)
+keyed-step same room Add a ls = put-keyed (same a) room a ls
+keyed-step same room Delete a ls = some (unless (same a) ls)
+keyed-step same room Replace a ls = put-keyed (same a) room a ls
 
 -- ---- line contacts
 
@@ -61,12 +72,33 @@ abbrev pub entry-key : LineFlags → Contact → LineKey
 entry-key f e = line-key (line-of f e)
 
 abbrev pub line-step : ℕ → Operation → LineFlags → Contact → List Line → Option (List Line)
-line-step room Add f e ls = put-line room (line-of f e) ls
-line-step room Delete f e ls = some (drop-line (entry-key f e) ls)
-line-step room Replace f e ls = put-line room (line-of f e) ls
+line-step room o f e ls = keyed-step (λ l. has-key (line-key l)) room o (line-of f e) ls
 
 abbrev pub lines-after : ℕ → Operation → LineFlags → List Contact → List Line → Option (List Line)
 lines-after room o f es ls = in-turn (line-step room o f) es (start-from o [] ls)
+
+-- ---- group and individual contacts: "cleared and then added in order, as lines are"
+
+-- whether a contact has the address a
+abbrev pub has-address : (w : Members) → AddressIn w → MemberIn w → Bool
+has-address w a x = eqb (number-of w (x .address)) (number-of w a)
+
+-- an add puts a new address at the end and overwrites a known one in its place, flags included
+abbrev pub put-contact : (w : Members) → ℕ → MemberIn w → List (MemberIn w) → Option (List (MemberIn w))
+put-contact w room x xs = put-keyed (has-address w (x .address)) room x xs
+
+-- a delete closes the gap, and does nothing where the address isn't there
+abbrev pub drop-contact : (w : Members) → AddressIn w → List (MemberIn w) → List (MemberIn w)
+drop-contact w a xs = unless (has-address w a) xs
+
+abbrev pub contact-of : {Flags Address : Type 0} → Flags → Addressed Address → Member Flags Address
+contact-of f e = record { flags = f; address = e .address; text = e .text }
+
+abbrev pub contact-step : (w : Members) → ℕ → Operation → FlagsIn w → Addressed (AddressIn w) → List (MemberIn w) → Option (List (MemberIn w))
+contact-step w room o f e xs = keyed-step (λ x. has-address w (x .address)) room o (contact-of f e) xs
+
+abbrev pub contacts-after : (w : Members) → ℕ → Operation → FlagsIn w → List (Addressed (AddressIn w)) → List (MemberIn w) → Option (List (MemberIn w))
+contacts-after w room o f es xs = in-turn (contact-step w room o f) es (start-from o [] xs)
 
 -- ---- quick texts and status texts
 
@@ -127,6 +159,8 @@ with-room f (some a) = some (f a)
 
 -- what a setting makes of its own table; "CB, CD and CF overwrite"; FF's hash is kept
 abbrev pub own-after : Limits → (s : Setting) → Own (kind s) → Option (Own (kind s))
+own-after lim (group-contacts o f es) x = contacts-after OfGroups contact-places o f es x
+own-after lim (individual-contacts o f es) x = contacts-after OfIndividuals contact-places o f es x
 own-after lim (lines o f es) x = lines-after (lim .lines) o f es x
 own-after lim (key target f) x = some (record { target = target; flags = f })
 own-after lim (quick-texts o es) x = quick-after o es x
@@ -136,6 +170,7 @@ own-after lim (system s) x = some s
 own-after lim (status-texts o es) x = status-after o es x
 own-after lim (group o f s) x = some (set x (s .index) (slot-after o (record { flags = f; address = s .address; text = s .text })))
 own-after lim (individual o f s) x = some (set x (s .index) (slot-after o (record { flags = f; address = s .address; text = s .text })))
+own-after lim (line-slot o f s) x = some (set x (s .index) (slot-after o (record { flags = f; number = s .address; text = s .text })))
 own-after lim (last f h) x = some h
 
 -- and of the tables: the others stay

@@ -16,7 +16,7 @@ use Rattle.writing.specs.Settings.{Text, Hash}
 use Rattle.writing.specs.Writing.{bit, current, to-group}
 use Rattle.tables.specs.declared.limits.Limits.{Limits}
 use Rattle.tables.specs.Allowed.{Allowed}
-use Rattle.tables.specs.Limits.{quick-places, status-places, slot-places}
+use Rattle.tables.specs.Limits.{quick-places, status-places, slot-places, contact-places}
 use Rattle.tables.specs.Tables.{Line, LineKey, line-key, GroupMember, IndividualMember, Key, Tables}
 
 -- ---- an entry's bytes
@@ -109,6 +109,13 @@ line-key-size = 19
 abbrev pub digits-at : ℕ
 digits-at = 2
 
+-- where a member's address stands in its slot, and how many bytes it has
+abbrev pub address-at : ℕ
+address-at = 1
+
+abbrev pub address-size : ℕ
+address-size = 3
+
 -- ---- the store
 
 -- how many bytes the regions of a fixed size have
@@ -133,9 +140,15 @@ status-size = status-places * status-width
 abbrev pub member-size : ℕ
 member-size = slot-places * member-width
 
+abbrev pub line-slots-size : ℕ
+line-slots-size = slot-places * line-width
+
 -- a list's region begins with its count, in two bytes
 abbrev pub count-size : ℕ
 count-size = 2
+
+abbrev pub contacts-size : ℕ
+contacts-size = count-size + contact-places * member-width
 
 abbrev pub channels-size : Limits → ℕ
 channels-size lim = count-size + lim .channels * channel-width
@@ -143,13 +156,14 @@ channels-size lim = count-size + lim .channels * channel-width
 abbrev pub lines-size : Limits → ℕ
 lines-size lim = count-size + lim .lines * line-width
 
--- how many bytes each region has, the spare ones aside: hash, key, home, system, quick, status, groups, individuals, channels, lines
+-- how many bytes each region has, the spare ones aside: hash, key, home, system, quick, status, groups, individuals, line slots, group contacts,
+-- individual contacts, channels, lines
 abbrev pub region-widths : Limits → List ℕ
 region-widths lim =
     hash-size ∷ key-size ∷ home-size ∷ system-size ∷ quick-size ∷ status-size ∷ member-size ∷ member-size
-    ∷ channels-size lim ∷ lines-size lim ∷ []
+    ∷ line-slots-size ∷ contacts-size ∷ contacts-size ∷ channels-size lim ∷ lines-size lim ∷ []
 
--- where they start; behind the individuals come the two lists, channels and lines
+-- where they start; the lines, behind the channels, start where these end
 abbrev pub key-at : ℕ
 key-at = hash-size
 
@@ -171,11 +185,20 @@ groups-at = status-at + status-size
 abbrev pub individuals-at : ℕ
 individuals-at = groups-at + member-size
 
-abbrev pub lists-at : ℕ
-lists-at = individuals-at + member-size
+abbrev pub line-slots-at : ℕ
+line-slots-at = individuals-at + member-size
+
+abbrev pub group-contacts-at : ℕ
+group-contacts-at = line-slots-at + line-slots-size
+
+abbrev pub individual-contacts-at : ℕ
+individual-contacts-at = group-contacts-at + contacts-size
+
+abbrev pub channels-at : ℕ
+channels-at = individual-contacts-at + contacts-size
 
 abbrev pub lines-at : Limits → ℕ
-lines-at lim = lists-at + channels-size lim
+lines-at lim = channels-at + channels-size lim
 
 -- where region k of the store starts
 abbrev pub region-start : Limits → ℕ → ℕ
@@ -183,7 +206,7 @@ region-start lim k = sum (take k (region-widths lim))
 
 -- the bytes that the tables take
 abbrev pub used-size : Limits → ℕ
-used-size lim = lists-at + (channels-size lim + lines-size lim)
+used-size lim = channels-at + (channels-size lim + lines-size lim)
 
 -- a list table: how many entries it has, and their places
 abbrev pub counted : {A : Type 0} → ℕ → (A → List ℕ) → ℕ → List A → List ℕ
@@ -200,6 +223,9 @@ regions lim t =
     ∷ places status-width status-bytes (t .status)
     ∷ places member-width group-bytes (t .groups)
     ∷ places member-width individual-bytes (t .individuals)
+    ∷ places line-width line-bytes (t .line-slots)
+    ∷ counted member-width group-bytes contact-places (t .group-contacts)
+    ∷ counted member-width individual-bytes contact-places (t .individual-contacts)
     ∷ counted channel-width u16 (lim .channels) (t .channels)
     ∷ counted line-width line-bytes (lim .lines) (t .lines)
     ∷ replicate (lim .size - used-size lim) 0

@@ -3,6 +3,8 @@ pub mod Apply
 pub mod Changing
 pub mod Layout
 pub mod Limits
+pub mod LineHeads
+pub mod MemberKinds
 pub mod Members
 pub mod Owns
 pub mod Store

@@ -2,11 +2,11 @@
 use Prim.Native.Nat.{ℕ, _+_, _*_, _≤_}
 use Rattle.tables.specs.declared.limits.Limits.{Limits}
 
--- "Room: 32 line contacts, 64 channels"; messages of at most 4,096 bytes and a store of 12,288
+-- "Room: 32 line contacts, 64 channels"; messages of at most 4,096 bytes; "The store grows to 24,576 bytes"
 abbrev pub handheld : Limits
-handheld = record { lines = 32; channels = 64; message = 4096; size = 12288 }
+handheld = record { lines = 32; channels = 64; message = 4096; size = 24576 }
 
--- places of quick texts (index 6 bits), of status texts (codes 32 to 127), and of group and individual slots (index 4 bits)
+-- places of quick texts (index 6 bits), of status texts (codes 32 to 127), and of group, individual and line slots (index 4 bits)
 abbrev pub quick-places : ℕ
 quick-places = 64
 
@@ -15,3 +15,7 @@ status-places = 96
 
 abbrev pub slot-places : ℕ
 slot-places = 16
+
+-- "There is room for 64, 64 and 16": group contacts, individual contacts, and the line slots above
+abbrev pub contact-places : ℕ
+contact-places = 64

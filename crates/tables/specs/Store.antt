@@ -28,7 +28,7 @@ pub record StoreOf (lim : Limits) (bytes : List ℕ) : Type 0 where
   pub roomy : Roomy lim
   pub store : IsStore lim bytes
 
--- "11 store not 12,288 bytes"
+-- "11 for the new size": store not 24,576 bytes
 abbrev pub started : Started → ℕ
 started Fresh = 0
 started WrongSize = 11
@@ -42,7 +42,7 @@ pub record Begun : Type 0 where
 abbrev pub begins : Started → List ℕ → Begun
 begins a store = record { number = started a; store = store }
 
--- "Starting a store: any 12,288 bytes become fresh, another length is 11", and touches nothing
+-- "Starting a store: any 12,288 bytes become fresh, another length is 11", and touches nothing; they are 24,576 since A4
 abbrev pub starting : Limits → List ℕ → Ladder Begun
 starting lim before =
     rung (length before ≡ lim .size → Roomy lim → ⊥) (record { number = 11; store = before })

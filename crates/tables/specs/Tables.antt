@@ -31,7 +31,7 @@ pub record LineKey : Type 0 where
 abbrev pub line-key : Line → LineKey
 line-key l = record { pabx = l .flags .pabx; number = l .number }
 
--- a group or an individual in a slot, by the kind of its flags and address
+-- a group or an individual in a slot or a list of contacts, by the kind of its flags and address
 pub record Member (Flags Address : Type 0) : Type 0 where
   pub flags : Flags
   pub address : Address
@@ -48,7 +48,7 @@ pub record Key : Type 0 where
   pub target : KeyTarget
   pub flags : KeyFlags
 
--- quick texts by index, status texts by code less 32, slots by index; lines and channels in order; and the hash kept
+-- quick texts by index, status texts by code less 32, slots by index; contacts, channels and lines in order; and the hash kept
 pub record Tables : Type 0 where
   pub hash : Hash
   pub key : Key
@@ -58,6 +58,9 @@ pub record Tables : Type 0 where
   pub status : List (Option Text)
   pub groups : List (Option GroupMember)
   pub individuals : List (Option IndividualMember)
+  pub line-slots : List (Option Line)
+  pub group-contacts : List GroupMember
+  pub individual-contacts : List IndividualMember
   pub channels : List ℕ
   pub lines : List Line
 
@@ -76,6 +79,9 @@ fresh = record {
   status = replicate status-places none;
   groups = replicate slot-places none;
   individuals = replicate slot-places none;
+  line-slots = replicate slot-places none;
+  group-contacts = [];
+  individual-contacts = [];
   channels = [];
   lines = [];
 }

@@ -1,9 +1,9 @@
 // What differs between sets: room for lines and channels, the largest message, and the size of the store.
 use super::places::CHANNEL_SLOT;
+use super::places::CHANNELS;
 use super::places::COUNT;
 use super::places::COUNTED;
 use super::places::LINE_SLOT;
-use super::places::LISTS;
 ghost use mathlib.Core.Path.{_≡_};
 ghost use mathlib.Core.Bool.{true};
 ghost use mathlib.Core.Logic.{_↔_};
@@ -17,7 +17,7 @@ pub struct Limits {
 }
 
 // How many bytes the store of a hand-held has.
-pub const HANDHELD_SIZE: usize = 12288;
+pub const HANDHELD_SIZE: usize = 24576;
 
 // A hand-held: room for 32 lines and 64 channels, messages of up to 4,096 bytes.
 pub const HANDHELD: Limits = Limits {
@@ -39,5 +39,5 @@ pub fn roomy(limits: Limits) -> bool
     }
     let channels = COUNT + limits.channels * CHANNEL_SLOT;
     let lines = COUNT + limits.lines * LINE_SLOT;
-    LISTS + (channels + lines) <= limits.size
+    CHANNELS + (channels + lines) <= limits.size
 }

@@ -1,4 +1,4 @@
-// The two tables of slots, whose entries have flags, an address and a text.
+// The two kinds of entry that have flags, an address and a text, in slots and in lists of contacts.
 pub enum Members {
     OfGroups,
     OfIndividuals,

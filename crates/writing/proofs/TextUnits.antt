@@ -5,8 +5,8 @@ use Rattle.lists.proofs.Every.{all-left, all-right, all-turn, all-map}
 use Rattle.writing.specs.Canonical.{FitsField, Fits}
 use Rattle.writing.specs.Fields.{bitsOf, Field, val, item, each, Shows}
 use Rattle.writing.specs.declared.Coding.{Coding}
-use Rattle.writing.specs.Settings.{Text, Setting, lines, key, quick-texts, home, channels, system, status-texts, group, individual, last, texts, eight-bit}
-use Rattle.writing.specs.Writing.{unit-width, text, number, contact, quick-text, status-text, fields, Written}
+use Rattle.writing.specs.Settings.{Text, Setting, group-contacts, individual-contacts, lines, key, quick-texts, home, channels, system, status-texts, group, individual, line-slot, last, texts, eight-bit}
+use Rattle.writing.specs.Writing.{unit-width, text, number, addressed, contact, quick-text, status-text, fields, Written}
 use Rattle.writing.proofs.CanonicalLaws.{has-writing}
 
 -- a unit that may stand in a text
@@ -34,6 +34,10 @@ entries-fit c f text-of h es p =
 
 -- the texts of a setting that fits
 pub texts-fit : (c : Coding) (s : Setting) → Fits c s → All (All (UnitOk c)) (texts s)
+texts-fit c (group-contacts o f es) p =
+    entries-fit c (addressed (λ a. a .0) c) (λ e. e .text) (λ e q. q .1) es (p .1 .1 .1 .1 .1 .1 .1 .1 .1 .1 .1)
+texts-fit c (individual-contacts o f es) p =
+    entries-fit c (addressed (λ a. a .0) c) (λ e. e .text) (λ e q. q .1) es (p .1 .1 .1 .1 .1 .1 .1 .1)
 texts-fit c (lines o f es) p =
     entries-fit c (contact c) (λ e. e .text) (λ e q. all-right FitsField (number (e .number)) (text c (e .text)) q) es (p .1 .1 .1 .1 .1 .1 .1 .1 .1)
 texts-fit c (key t f) p = tt
@@ -44,6 +48,8 @@ texts-fit c (system s) p = tt
 texts-fit c (status-texts o es) p = entries-fit c (status-text c) (λ e. e .text) (λ e q. q .1) es (p .1 .1 .1 .1 .1)
 texts-fit c (group o f s) p = (units-fit c (s .text) (p .1 .1 .1 .1 .1 .1 .1 .1 .1 .1 .1 .1), tt)
 texts-fit c (individual o f s) p = (units-fit c (s .text) (p .1 .1 .1 .1 .1 .1 .1 .1 .1), tt)
+texts-fit c (line-slot o f s) p =
+    (units-fit c (s .text) (all-right FitsField (number (s .address)) (text c (s .text)) (p .1 .1 .1 .1 .1 .1 .1 .1 .1)), tt)
 texts-fit c (last f h) p = tt
 
 -- an element that is there, or what stands for one that is not
@@ -62,6 +68,10 @@ no-writing-above-255 s i j bs h w =
 
 -- a setting without texts has the same fields under every coding type
 same-fields : (c d : Coding) (s : Setting) → texts s ≡ [] → fields c s ≡ fields d s
+same-fields c d (group-contacts o f []) e = refl
+same-fields c d (group-contacts o f (x ∷ es)) e = absurd (cons≢nil e)
+same-fields c d (individual-contacts o f []) e = refl
+same-fields c d (individual-contacts o f (x ∷ es)) e = absurd (cons≢nil e)
 same-fields c d (lines o f []) e = refl
 same-fields c d (lines o f (x ∷ es)) e = absurd (cons≢nil e)
 same-fields c d (key t f) e = refl
@@ -74,6 +84,7 @@ same-fields c d (status-texts o []) e = refl
 same-fields c d (status-texts o (x ∷ es)) e = absurd (cons≢nil e)
 same-fields c d (group o f s) e = absurd (cons≢nil e)
 same-fields c d (individual o f s) e = absurd (cons≢nil e)
+same-fields c d (line-slot o f s) e = absurd (cons≢nil e)
 same-fields c d (last f h) e = refl
 
 -- WITHOUT TEXTS: what a setting without texts is written as under one coding type, it is written as under every other

@@ -4,7 +4,7 @@ use Rattle.lists.proofs.Seqs.{cut}
 use Rattle.plan.specs.declared.numbers.GroupAddress.{GroupAddress}
 use Rattle.plan.specs.declared.numbers.IndividualAddress.{IndividualAddress}
 use Rattle.writing.specs.declared.Kind.{Kind}
-use Rattle.writing.specs.declared.Kind.the-variants.{Lines, Key, QuickTexts, Home, Channels, System, StatusTexts, Group, Individual, Last}
+use Rattle.writing.specs.declared.Kind.the-variants.{GroupContacts, IndividualContacts, Lines, Key, QuickTexts, Home, Channels, System, StatusTexts, Group, Individual, LineSlot, Last}
 use Rattle.writing.specs.declared.Operation.{Operation}
 use Rattle.writing.specs.declared.Operation.the-variants.{Add, Delete, Replace}
 use Rattle.writing.specs.declared.KeyTarget.{KeyTarget}
@@ -18,8 +18,8 @@ use Rattle.writing.specs.declared.IndividualFlags.{IndividualFlags}
 use Rattle.writing.specs.declared.LastFlags.{LastFlags}
 use Rattle.writing.specs.Fields.{bitsOf, Field, val, Shows, widths}
 use Rattle.writing.specs.declared.Coding.{Coding}
-use Rattle.writing.specs.Settings.{Contact, Entry, Slot, Hash, Setting, lines, key, quick-texts, home, channels, system, status-texts, group, individual, last, kind}
-use Rattle.writing.specs.Writing.{bit, flag, op-code, op, unit-width, text, fill, number, contact, quick-text, status-text, slot, current, to-group, address, key-address, type-byte, body, data-length, fields, Written, WrittenAll, WrittenAs, request-head}
+use Rattle.writing.specs.Settings.{Text, Contact, Addressed, Entry, Slot, Hash, Setting, kind}
+use Rattle.writing.specs.Writing.{bit, flag, op-code, op, unit-width, text, fill, number, addressed, contact, quick-text, status-text, slot, current, to-group, address, key-address, type-byte, body, data-length, fields, Written, WrittenAll, WrittenAs, request-head}
 use Rattle.writing.proofs.ByKind.{Contents, make, of, kind-make}
 use Rattle.writing.proofs.Bits.{bitsOf-append, length-bitsOf, shows-length, widths-map}
 use Rattle.writing.proofs.Ends.{Agree, Ends, val-ends, res-ends, items-end, same-ends, vals-end, each-ends, all-read, regroup}
@@ -71,11 +71,19 @@ number-ends = record {
       (e, same-ends (fill (suc (length m))) (rw e at z));
 }
 
+-- fields that say where they end, then a text
+module _ {A : Type 0} (f : A → List Field) (k : Ends f) (c : Coding) where
+  then-text : (a b : A) (t u : Text) {fs gs : List Field} {r q : List ℕ} → Agree ((f a ++ text c t) ++ fs) ((f b ++ text c u) ++ gs) r q
+      → (a ≡ b) × (t ≡ u) × Agree fs gs r q
+  then-text a b t u z =
+      let (p, z) = k .ends a b (regroup (f a) (text c t) (f b) (text c u) _ _ z) in
+      let (e, z) = text-ends c .ends t u z in
+      (p, e, z)
+
 pub contact-ends : (c : Coding) → Ends (contact c)
 contact-ends c = record {
   ends = λ x y a.
-      let (p, a) = number-ends .ends (x .number) (y .number) (regroup (number (x .number)) (text c (x .text)) (number (y .number)) (text c (y .text)) _ _ a) in
-      let (e, a) = text-ends c .ends (x .text) (y .text) a in
+      let (p, e, a) = then-text number number-ends c (x .number) (y .number) (x .text) (y .text) a in
       (λ i. record { number = p i; text = e i }, a);
 }
 
@@ -95,21 +103,31 @@ status-ends c = record {
       (λ i. record { index = p i; text = e i }, a);
 }
 
--- a slot, whatever the kind of its address
+-- an address is said by its number, where no two addresses of its kind share one
+pub address-ends : {A : Type 0} (number-of : A → ℕ) → ((a b : A) → number-of a ≡ number-of b → a ≡ b) → Ends (λ (a : A). address (number-of a))
+address-ends number-of one = record { ends = λ x y a. let (p, a) = val-ends a in (one x y p, a) }
+
+group-ends : Ends (λ (a : GroupAddress). address (a .0))
+group-ends = address-ends (λ a. a .0) (λ x y p. λ i. record { 0 = p i })
+
+individual-ends : Ends (λ (a : IndividualAddress). address (a .0))
+individual-ends = address-ends (λ a. a .0) (λ x y p. λ i. record { 0 = p i })
+
+-- a contact and a slot, whatever the kind of their address
+pub addressed-ends : {A : Type 0} (number-of : A → ℕ) → Ends (λ (a : A). address (number-of a)) → (c : Coding) → Ends (addressed number-of c)
+addressed-ends number-of k c = record {
+  ends = λ x y a.
+      let (p, e, a) = then-text (λ b. address (number-of b)) k c (x .address) (y .address) (x .text) (y .text) a in
+      (λ i. record { address = p i; text = e i }, a);
+}
+
 slot-ends : {A : Type 0} (address-of : A → List Field) → Ends address-of → (c : Coding) → Ends (slot address-of c)
 slot-ends address-of k c = record {
   ends = λ x y a.
       let (p, a) = val-ends a in
-      let (s, a) = k .ends (x .address) (y .address) (regroup (address-of (x .address)) (text c (x .text)) (address-of (y .address)) (text c (y .text)) _ _ a) in
-      let (e, a) = text-ends c .ends (x .text) (y .text) a in
+      let (s, e, a) = then-text address-of k c (x .address) (y .address) (x .text) (y .text) a in
       (λ i. record { index = p i; address = s i; text = e i }, a);
 }
-
-group-ends : Ends (λ (a : GroupAddress). address (a .0))
-group-ends = record { ends = λ x y a. let (p, a) = val-ends a in (λ i. record { 0 = p i }, a) }
-
-individual-ends : Ends (λ (a : IndividualAddress). address (a .0))
-individual-ends = record { ends = λ x y a. let (p, a) = val-ends a in (λ i. record { 0 = p i }, a) }
 
 -- where the key calls is said by current, group and the address
 target-ends : (t u : KeyTarget) {fs gs : List Field} {r q : List ℕ} → current t ≡ current u → to-group t ≡ to-group u
@@ -124,16 +142,61 @@ target-ends (ToIndividual x) (Current h) e d a = absurd (true≢false (sym e))
 target-ends (ToIndividual x) (ToGroup y) e d a = absurd (true≢false (sym d))
 target-ends (ToIndividual x) (ToIndividual y) e d a = let (p, a) = individual-ends .ends x y a in (ap ToIndividual p, a)
 
--- ---- the ten, by kind and contents
+-- ---- operations with the flags of lines, groups and individuals, which start both a list's fields and a slot's
+
+abbrev line-head : Operation → LineFlags → List Field
+line-head o f = op o ∷ flag (f .encryption) ∷ flag (f .emergency) ∷ val 2 (f .priority) ∷ flag (f .pabx) ∷ []
+
+abbrev group-head : Operation → GroupFlags → List Field
+group-head o f =
+    op o ∷ val 2 (f .attribute) ∷ flag (f .broadcast) ∷ flag (f .encryption) ∷ flag (f .ovcm) ∷ flag (f .emergency) ∷ val 2 (f .priority) ∷ []
+
+abbrev individual-head : Operation → IndividualFlags → List Field
+individual-head o f = op o ∷ flag (f .encryption) ∷ flag (f .emergency) ∷ val 2 (f .priority) ∷ []
+
+module _ (o p : Operation) {fs gs : List Field} {r q : List ℕ} where
+  line-head-ends : (f g : LineFlags) → Agree (line-head o f ++ fs) (line-head p g ++ gs) r q → (o ≡ p) × (f ≡ g) × Agree fs gs r q
+  line-head-ends f g a =
+      let (e, a) = op-ends o p a in
+      let (p1, a) = flag-ends (f .encryption) (g .encryption) a in
+      let (p2, a) = flag-ends (f .emergency) (g .emergency) a in
+      let (p3, a) = val-ends a in
+      let (p4, a) = flag-ends (f .pabx) (g .pabx) a in
+      (e, λ i. record { encryption = p1 i; emergency = p2 i; priority = p3 i; pabx = p4 i }, a)
+
+  group-head-ends : (f g : GroupFlags) → Agree (group-head o f ++ fs) (group-head p g ++ gs) r q → (o ≡ p) × (f ≡ g) × Agree fs gs r q
+  group-head-ends f g a =
+      let (e, a) = op-ends o p a in
+      let (p1, a) = val-ends a in
+      let (p2, a) = flag-ends (f .broadcast) (g .broadcast) a in
+      let (p3, a) = flag-ends (f .encryption) (g .encryption) a in
+      let (p4, a) = flag-ends (f .ovcm) (g .ovcm) a in
+      let (p5, a) = flag-ends (f .emergency) (g .emergency) a in
+      let (p6, a) = val-ends a in
+      (e, λ i. record { attribute = p1 i; broadcast = p2 i; encryption = p3 i; ovcm = p4 i; emergency = p5 i; priority = p6 i }, a)
+
+  individual-head-ends : (f g : IndividualFlags) → Agree (individual-head o f ++ fs) (individual-head p g ++ gs) r q
+      → (o ≡ p) × (f ≡ g) × Agree fs gs r q
+  individual-head-ends f g a =
+      let (e, a) = op-ends o p a in
+      let (p1, a) = flag-ends (f .encryption) (g .encryption) a in
+      let (p2, a) = flag-ends (f .emergency) (g .emergency) a in
+      let (p3, a) = val-ends a in
+      (e, λ i. record { encryption = p1 i; emergency = p2 i; priority = p3 i }, a)
+
+-- ---- the thirteen, by kind and contents
 
 -- a type byte says its kind
 kind-at : ℕ → Kind
 kind-at n =
-    cond (eqb n 0xCA) Lines (cond (eqb n 0xCB) Key (cond (eqb n 0xCC) QuickTexts (cond (eqb n 0xCD) Home (cond (eqb n 0xCE) Channels
-    (cond (eqb n 0xCF) System (cond (eqb n 0xD0) StatusTexts (cond (eqb n 0xD1) Group (cond (eqb n 0xD2) Individual Last))))))))
+    cond (eqb n 0xC8) GroupContacts (cond (eqb n 0xC9) IndividualContacts (cond (eqb n 0xCA) Lines (cond (eqb n 0xCB) Key (cond (eqb n 0xCC) QuickTexts
+    (cond (eqb n 0xCD) Home (cond (eqb n 0xCE) Channels (cond (eqb n 0xCF) System (cond (eqb n 0xD0) StatusTexts (cond (eqb n 0xD1) Group
+    (cond (eqb n 0xD2) Individual (cond (eqb n 0xD3) LineSlot Last)))))))))))
 
 kind-at-byte : (k : Kind) → kind-at (type-byte k) ≡ k
 unfolding kind-at
+kind-at-byte GroupContacts = refl
+kind-at-byte IndividualContacts = refl
 kind-at-byte Lines = refl
 kind-at-byte Key = refl
 kind-at-byte QuickTexts = refl
@@ -143,6 +206,7 @@ kind-at-byte System = refl
 kind-at-byte StatusTexts = refl
 kind-at-byte Group = refl
 kind-at-byte Individual = refl
+kind-at-byte LineSlot = refl
 kind-at-byte Last = refl
 
 -- no two kinds share a type byte
@@ -151,6 +215,8 @@ one-kind k l e = cc (kind-at-byte k, kind-at-byte l, ap kind-at e)
 
 -- hash values of one length: the fields after DataLength do not say it
 abbrev pub Sized : (k : Kind) → Contents k → Contents k → Type 0
+Sized GroupContacts x y = Unit {0}
+Sized IndividualContacts x y = Unit {0}
 Sized Lines x y = Unit {0}
 Sized Key x y = Unit {0}
 Sized QuickTexts x y = Unit {0}
@@ -160,20 +226,27 @@ Sized System x y = Unit {0}
 Sized StatusTexts x y = Unit {0}
 Sized Group x y = Unit {0}
 Sized Individual x y = Unit {0}
+Sized LineSlot x y = Unit {0}
 Sized Last x y = length (x .1 .value) ≡ length (y .1 .value)
 
 -- the fields after DataLength say where they end
 pub body-ends : (c : Coding) (k : Kind) (x y : Contents k) {fs gs : List Field} {r q : List ℕ} → Sized k x y
     → Agree (body c (make k x) ++ fs) (body c (make k y) ++ gs) r q → (x ≡ y) × Agree fs gs r q
+body-ends c GroupContacts x y n a =
+    let (o, f, a) = group-head-ends (x .0) (y .0) (x .1) (y .1) a in
+    let (l, a) = val-ends (res-ends a) in
+    let (es, a) = each-ends (addressed (λ a. a .0) c) (addressed-ends (λ a. a .0) group-ends c) (x .2) (y .2) l a in
+    (λ i. (o i, f i, es i), a)
+body-ends c IndividualContacts x y n a =
+    let (o, f, a) = individual-head-ends (x .0) (y .0) (x .1) (y .1) a in
+    let (l, a) = val-ends (res-ends a) in
+    let (es, a) = each-ends (addressed (λ a. a .0) c) (addressed-ends (λ a. a .0) individual-ends c) (x .2) (y .2) l a in
+    (λ i. (o i, f i, es i), a)
 body-ends c Lines x y n a =
-    let (o, a) = op-ends (x .0) (y .0) a in
-    let (p1, a) = flag-ends (x .1 .encryption) (y .1 .encryption) a in
-    let (p2, a) = flag-ends (x .1 .emergency) (y .1 .emergency) a in
-    let (p3, a) = val-ends a in
-    let (p4, a) = flag-ends (x .1 .pabx) (y .1 .pabx) a in
+    let (o, f, a) = line-head-ends (x .0) (y .0) (x .1) (y .1) a in
     let (l, a) = val-ends (res-ends a) in
     let (es, a) = each-ends (contact c) (contact-ends c) (x .2) (y .2) l a in
-    (λ i. (o i, record { encryption = p1 i; emergency = p2 i; priority = p3 i; pabx = p4 i }, es i), a)
+    (λ i. (o i, f i, es i), a)
 body-ends c Key x y n a =
     let (t, a) = flag-ends (current (x .0)) (current (y .0)) a in
     let (g, a) = flag-ends (to-group (x .0)) (to-group (y .0)) a in
@@ -208,22 +281,17 @@ body-ends c StatusTexts x y n a =
     let (es, a) = each-ends (status-text c) (status-ends c) (x .1) (y .1) l a in
     (λ i. (o i, es i), a)
 body-ends c Group x y n a =
-    let (o, a) = op-ends (x .0) (y .0) a in
-    let (p1, a) = val-ends a in
-    let (p2, a) = flag-ends (x .1 .broadcast) (y .1 .broadcast) a in
-    let (p3, a) = flag-ends (x .1 .encryption) (y .1 .encryption) a in
-    let (p4, a) = flag-ends (x .1 .ovcm) (y .1 .ovcm) a in
-    let (p5, a) = flag-ends (x .1 .emergency) (y .1 .emergency) a in
-    let (p6, a) = val-ends a in
+    let (o, f, a) = group-head-ends (x .0) (y .0) (x .1) (y .1) a in
     let (s, a) = slot-ends (λ a. address (a .0)) group-ends c .ends (x .2) (y .2) (res-ends a) in
-    (λ i. (o i, record { attribute = p1 i; broadcast = p2 i; encryption = p3 i; ovcm = p4 i; emergency = p5 i; priority = p6 i }, s i), a)
+    (λ i. (o i, f i, s i), a)
 body-ends c Individual x y n a =
-    let (o, a) = op-ends (x .0) (y .0) a in
-    let (p1, a) = flag-ends (x .1 .encryption) (y .1 .encryption) a in
-    let (p2, a) = flag-ends (x .1 .emergency) (y .1 .emergency) a in
-    let (p3, a) = val-ends a in
+    let (o, f, a) = individual-head-ends (x .0) (y .0) (x .1) (y .1) a in
     let (s, a) = slot-ends (λ a. address (a .0)) individual-ends c .ends (x .2) (y .2) (res-ends a) in
-    (λ i. (o i, record { encryption = p1 i; emergency = p2 i; priority = p3 i }, s i), a)
+    (λ i. (o i, f i, s i), a)
+body-ends c LineSlot x y n a =
+    let (o, f, a) = line-head-ends (x .0) (y .0) (x .1) (y .1) a in
+    let (s, a) = slot-ends number number-ends c .ends (x .2) (y .2) (res-ends a) in
+    (λ i. (o i, f i, s i), a)
 body-ends c Last x y n a =
     let (p1, a) = flag-ends (x .0 .reboot) (y .0 .reboot) a in
     let (p2, a) = flag-ends (x .0 .reply) (y .0 .reply) a in
@@ -233,6 +301,8 @@ body-ends c Last x y n a =
 
 -- equal DataLengths are equal hash values' lengths
 sized : (c : Coding) (k : Kind) (x y : Contents k) → data-length c (make k x) ≡ data-length c (make k y) → Sized k x y
+sized c GroupContacts x y e = tt
+sized c IndividualContacts x y e = tt
 sized c Lines x y e = tt
 sized c Key x y e = tt
 sized c QuickTexts x y e = tt
@@ -242,6 +312,7 @@ sized c System x y e = tt
 sized c StatusTexts x y e = tt
 sized c Group x y e = tt
 sized c Individual x y e = tt
+sized c LineSlot x y e = tt
 sized c Last x y e = omega (arith, widths-map (val 8) 8 (λ v. refl) (x .1 .value), widths-map (val 8) 8 (λ v. refl) (y .1 .value))
 
 fields-end : (c : Coding) (k l : Kind) (x : Contents k) (y : Contents l) {fs gs : List Field} {r q : List ℕ}

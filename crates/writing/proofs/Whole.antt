@@ -7,8 +7,8 @@ use Rattle.writing.specs.declared.KeyTarget.the-variants.{Current, ToGro
 use Rattle.writing.specs.Fields.{bits, bitsOf, Field, val, item, res, widths, each}
 use Rattle.writing.specs.declared.Coding.{Coding}
 use Rattle.writing.specs.declared.Coding.the-variants.{Unicode16, EightBit}
-use Rattle.writing.specs.Settings.{Text, Number, Contact, Setting, lines, key, quick-texts, home, channels, system, status-texts, group, individual, last, kind}
-use Rattle.writing.specs.Writing.{unit-width, text, fill, number, contact, quick-text, status-text, key-address, type-byte, body, data-length, fields, Written}
+use Rattle.writing.specs.Settings.{Text, Number, Contact, Addressed, Setting, group-contacts, individual-contacts, lines, key, quick-texts, home, channels, system, status-texts, group, individual, line-slot, last, kind}
+use Rattle.writing.specs.Writing.{unit-width, text, fill, number, address, addressed, contact, quick-text, status-text, key-address, type-byte, body, data-length, fields, Written}
 use Rattle.writing.proofs.Bits.{bits-val, length-bitsOf, shows-length, widths-append, widths-map}
 
 -- so many bits are whole bytes
@@ -67,8 +67,16 @@ entry-whole c fs e t = append-whole fs (text c t) (1, e) (text-whole c t)
 pub contact-whole : (c : Coding) (e : Contact) → Whole (contact c e)
 contact-whole c e = append-whole (number (e .number)) (text c (e .text)) (number-whole (e .number)) (text-whole c (e .text))
 
+-- a contact with an address is whole bytes
+pub addressed-whole : {A : Type 0} (number-of : A → ℕ) (c : Coding) (e : Addressed A) → Whole (addressed number-of c e)
+addressed-whole number-of c e = append-whole (address (number-of (e .address))) (text c (e .text)) (3, refl) (text-whole c (e .text))
+
 -- the fields after DataLength are whole bytes
 pub body-whole : (c : Coding) (s : Setting) → Whole (body c s)
+body-whole c (group-contacts o f es) =
+    let (n, e) = each-whole (addressed (λ a. a .0) c) (addressed-whole (λ a. a .0) c) es in (3 + n, omega arith)
+body-whole c (individual-contacts o f es) =
+    let (n, e) = each-whole (addressed (λ a. a .0) c) (addressed-whole (λ a. a .0) c) es in (2 + n, omega arith)
 body-whole c (lines o f es) = let (n, e) = each-whole (contact c) (contact-whole c) es in (2 + n, omega arith)
 body-whole c (key t f) = let (n, e) = key-whole t in (1 + n, omega arith)
 body-whole c (quick-texts o es) =
@@ -82,6 +90,8 @@ body-whole c (status-texts o es) =
     let (n, e) = each-whole (status-text c) (λ e. entry-whole c (val 8 (e .index) ∷ []) refl (e .text)) es in (2 + n, omega arith)
 body-whole c (group o f s) = let (n, e) = text-whole c (s .text) in (5 + n, omega arith)
 body-whole c (individual o f s) = let (n, e) = text-whole c (s .text) in (5 + n, omega arith)
+body-whole c (line-slot o f s) =
+    let (n, e) = contact-whole c (record { number = s .address; text = s .text }) in (2 + n, omega arith)
 body-whole c (last f h) = (1 + length (h .value), omega (arith, widths-map (val 8) 8 (λ v. refl) (h .value)))
 
 -- WHOLE: every setting is whole bytes

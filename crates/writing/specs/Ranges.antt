@@ -1,4 +1,4 @@
--- Which settings are in range: document 01, "The ten settings", its table and the rules below it.
+-- Which settings are in range: document 01, "The ten settings", its table and the rules below it, and since A4 three more.
 use Prim.Native.Nat.{ℕ, _%_, _^_, _≤_}
 use mathlib.Core.Path.{_≡_}
 use mathlib.Core.Logic.{_≢_}
@@ -9,7 +9,7 @@ use Rattle.writing.specs.declared.Operation.{Operation}
 use Rattle.writing.specs.declared.Operation.the-variants.{Add, Delete, Replace}
 use Rattle.writing.specs.declared.KeyTarget.{KeyTarget}
 use Rattle.writing.specs.declared.KeyTarget.the-variants.{Current, ToGroup, ToIndividual}
-use Rattle.writing.specs.Settings.{Text, Number, Contact, Entry, Slot, Hash, Setting, lines, key, quick-texts, home, channels, system, status-texts, group, individual, last}
+use Rattle.writing.specs.Settings.{Text, Number, Contact, Addressed, Entry, Slot, Hash, Setting, group-contacts, individual-contacts, lines, key, quick-texts, home, channels, system, status-texts, group, individual, line-slot, last}
 
 -- the most units before the end: of any text, and of a quick text
 pub record TextLimits : Type 0 where
@@ -45,6 +45,10 @@ InStatus k e = (32 ≤ e .index) × (e .index ≤ 127) × (length (e .text) ≤ 
 abbrev pub InContact : TextLimits → Contact → Type 0
 InContact k e = InNumber (e .number) × (length (e .text) ≤ k .short)
 
+-- "Other deletes hold every field to its range": a contact's address, by its number, and its text
+abbrev pub InAddressed : {Address : Type 0} → (Address → ℕ) → TextLimits → Addressed Address → Type 0
+InAddressed number-of k e = InAddress (number-of (e .address)) × (length (e .text) ≤ k .short)
+
 abbrev pub InTarget : KeyTarget → Type 0
 InTarget (Current g) = Unit {0}
 InTarget (ToGroup a) = InAddress (a .0)
@@ -56,6 +60,12 @@ InSlot Add P = P
 InSlot Delete P = Unit {0}
 InSlot Replace P = ⊥
 
+-- 11 is out of range in D3, of which every other field is held to its range, in a delete too
+abbrev pub NotReplace : Operation → Type 0
+NotReplace Add = Unit {0}
+NotReplace Delete = Unit {0}
+NotReplace Replace = ⊥
+
 -- "The hash value has 0, 4 or 10 bytes for codes 0, 1, 2; other codes are out of range"
 pub data HashSize : ℕ → ℕ → Type 0 where
   no-hash : HashSize 0 0
@@ -64,6 +74,8 @@ pub data HashSize : ℕ → ℕ → Type 0 where
 
 -- the setting is in range, where so many settings are still counted after it: "An FF that isn't the last setting counted is itself at fault"
 abbrev pub InRange : TextLimits → ℕ → Setting → Type 0
+InRange k left (group-contacts o f es) = (f .attribute ≢ 0) × All (InAddressed (λ a. a .0) k) es
+InRange k left (individual-contacts o f es) = All (InAddressed (λ a. a .0) k) es
 InRange k left (lines o f es) = All (InContact k) es
 InRange k left (key t f) = InTarget t
 InRange k left (quick-texts o es) = All (InQuick k o) es
@@ -73,4 +85,5 @@ InRange k left (system s) = (s .la ≤ 8) × (s .roaming ≢ 3)
 InRange k left (status-texts o es) = All (InStatus k) es
 InRange k left (group o f s) = InSlot o ((f .attribute ≢ 0) × InAddress (s .address .0)) × (length (s .text) ≤ k .short)
 InRange k left (individual o f s) = InSlot o (InAddress (s .address .0)) × (length (s .text) ≤ k .short)
+InRange k left (line-slot o f s) = NotReplace o × InNumber (s .address) × (length (s .text) ≤ k .short)
 InRange k left (last f h) = HashSize (h .code) (length (h .value)) × (left ≡ 0)

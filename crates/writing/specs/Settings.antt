@@ -1,11 +1,11 @@
--- What a setting says: document 01, "The ten settings". Operations, flags and fixed contents are the structs of src/.
+-- What a setting says: document 01, "The ten settings", and since A4 three more. Operations, flags and fixed contents are the structs of src/.
 use Prim.Native.Nat.{ℕ}
 use mathlib.Core.Bool.{Bool, true, false}
 use mathlib.Core.List.{List, [], _∷_, map}
 use Rattle.plan.specs.declared.numbers.GroupAddress.{GroupAddress}
 use Rattle.plan.specs.declared.numbers.IndividualAddress.{IndividualAddress}
 use Rattle.writing.specs.declared.Kind.{Kind}
-use Rattle.writing.specs.declared.Kind.the-variants.{Lines, Key, QuickTexts, Home, Channels, System, StatusTexts, Group, Individual, Last}
+use Rattle.writing.specs.declared.Kind.the-variants.{GroupContacts, IndividualContacts, Lines, Key, QuickTexts, Home, Channels, System, StatusTexts, Group, Individual, LineSlot, Last}
 use Rattle.writing.specs.declared.Operation.{Operation}
 use Rattle.writing.specs.declared.Coding.{Coding}
 use Rattle.writing.specs.declared.Coding.the-variants.{Unicode16, EightBit}
@@ -31,12 +31,17 @@ pub record Contact : Type 0 where
   pub number : Number
   pub text : Text
 
+-- a group or an individual contact, by the kind of its address
+pub record Addressed (Address : Type 0) : Type 0 where
+  pub address : Address
+  pub text : Text
+
 -- a quick text by its index, a status text by its code
 pub record Entry : Type 0 where
   pub index : ℕ
   pub text : Text
 
--- a group or an individual slot, by the kind of its address
+-- a group or an individual slot, by the kind of its address; a line slot, whose address is a number
 pub record Slot (Address : Type 0) : Type 0 where
   pub index : ℕ
   pub address : Address
@@ -47,8 +52,10 @@ pub record Hash : Type 0 where
   pub code : ℕ
   pub value : List ℕ
 
--- the ten settings, each with its operation inside it
+-- the thirteen settings, each with its operation inside it
 pub data Setting : Type 0 where
+  group-contacts : Operation → GroupFlags → List (Addressed GroupAddress) → Setting
+  individual-contacts : Operation → IndividualFlags → List (Addressed IndividualAddress) → Setting
   lines : Operation → LineFlags → List Contact → Setting
   key : KeyTarget → KeyFlags → Setting
   quick-texts : Operation → List Entry → Setting
@@ -58,10 +65,13 @@ pub data Setting : Type 0 where
   status-texts : Operation → List Entry → Setting
   group : Operation → GroupFlags → Slot GroupAddress → Setting
   individual : Operation → IndividualFlags → Slot IndividualAddress → Setting
+  line-slot : Operation → LineFlags → Slot Number → Setting
   last : LastFlags → Hash → Setting
 
--- which of the ten it is
+-- which of the thirteen it is
 abbrev pub kind : Setting → Kind
+kind (group-contacts o f es) = GroupContacts
+kind (individual-contacts o f es) = IndividualContacts
 kind (lines o f es) = Lines
 kind (key t f) = Key
 kind (quick-texts o es) = QuickTexts
@@ -71,10 +81,13 @@ kind (system s) = System
 kind (status-texts o es) = StatusTexts
 kind (group o f s) = Group
 kind (individual o f s) = Individual
+kind (line-slot o f s) = LineSlot
 kind (last f h) = Last
 
 -- the texts that it carries
 abbrev pub texts : Setting → List Text
+texts (group-contacts o f es) = map (λ e. e .text) es
+texts (individual-contacts o f es) = map (λ e. e .text) es
 texts (lines o f es) = map (λ e. e .text) es
 texts (key t f) = []
 texts (quick-texts o es) = map (λ e. e .text) es
@@ -84,6 +97,7 @@ texts (system s) = []
 texts (status-texts o es) = map (λ e. e .text) es
 texts (group o f s) = s .text ∷ []
 texts (individual o f s) = s .text ∷ []
+texts (line-slot o f s) = s .text ∷ []
 texts (last f h) = []
 
 -- "0111 (16-bit Unicode)"

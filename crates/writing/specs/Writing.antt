@@ -1,4 +1,4 @@
--- What bytes a setting is written as: document 01, "The ten settings", the table's columns type and fields, row by row.
+-- What bytes a setting is written as: document 01, "The ten settings", the table's columns type and fields, row by row, and since A4 three more rows.
 use Prim.Native.Nat.{ℕ, zero, suc, _+_, _/_, _≤_}
 use mathlib.Core.Path.{_≡_}
 use mathlib.Core.List.{List, [], _∷_, _++_, map}
@@ -7,7 +7,7 @@ use lib.ListN.{length}
 use Rattle.plan.specs.declared.numbers.GroupAddress.{GroupAddress}
 use Rattle.plan.specs.declared.numbers.IndividualAddress.{IndividualAddress}
 use Rattle.writing.specs.declared.Kind.{Kind}
-use Rattle.writing.specs.declared.Kind.the-variants.{Lines, Key, QuickTexts, Home, Channels, System, StatusTexts, Group, Individual, Last}
+use Rattle.writing.specs.declared.Kind.the-variants.{GroupContacts, IndividualContacts, Lines, Key, QuickTexts, Home, Channels, System, StatusTexts, Group, Individual, LineSlot, Last}
 use Rattle.writing.specs.declared.Operation.{Operation}
 use Rattle.writing.specs.declared.Operation.the-variants.{Add, Delete, Replace}
 use Rattle.writing.specs.declared.KeyTarget.{KeyTarget}
@@ -15,7 +15,7 @@ use Rattle.writing.specs.declared.KeyTarget.the-variants.{Current, ToGro
 use Rattle.writing.specs.Fields.{bitsOf, Field, val, item, res, Shows, widths, each}
 use Rattle.writing.specs.declared.Coding.{Coding}
 use Rattle.writing.specs.declared.Coding.the-variants.{Unicode16, EightBit}
-use Rattle.writing.specs.Settings.{Text, Number, Contact, Entry, Slot, Hash, Setting, lines, key, quick-texts, home, channels, system, status-texts, group, individual, last, kind}
+use Rattle.writing.specs.Settings.{Text, Number, Contact, Addressed, Entry, Slot, Hash, Setting, group-contacts, individual-contacts, lines, key, quick-texts, home, channels, system, status-texts, group, individual, line-slot, last, kind}
 
 -- ---- parts of the fields
 
@@ -69,7 +69,11 @@ status-text c e = val 8 (e .index) ∷ text c (e .text)
 abbrev pub address : ℕ → List Field
 address a = val 24 a ∷ []
 
--- "index 4, address 24, text", by the fields of its kind of address
+-- "each: address 24, text", by the number of its kind of address
+abbrev pub addressed : {Address : Type 0} → (Address → ℕ) → Coding → Addressed Address → List Field
+addressed number-of c e = address (number-of (e .address)) ++ text c (e .text)
+
+-- "index 4, address 24, text", by the fields of its kind of address; of a line slot "index 4, number, text"
 abbrev pub slot : {Address : Type 0} → (Address → List Field) → Coding → Slot Address → List Field
 slot address-of c s = val 4 (s .index) ∷ address-of (s .address) ++ text c (s .text)
 
@@ -98,6 +102,8 @@ hash h = val 6 (h .code) ∷ map (val 8) (h .value)
 
 -- the column type
 abbrev pub type-byte : Kind → ℕ
+type-byte GroupContacts = 0xC8
+type-byte IndividualContacts = 0xC9
 type-byte Lines = 0xCA
 type-byte Key = 0xCB
 type-byte QuickTexts = 0xCC
@@ -107,10 +113,17 @@ type-byte System = 0xCF
 type-byte StatusTexts = 0xD0
 type-byte Group = 0xD1
 type-byte Individual = 0xD2
+type-byte LineSlot = 0xD3
 type-byte Last = 0xFF
 
 -- the column "fields after DataLength"
 abbrev pub body : Coding → Setting → List Field
+body c (group-contacts o f es) =
+    op o ∷ val 2 (f .attribute) ∷ flag (f .broadcast) ∷ flag (f .encryption) ∷ flag (f .ovcm) ∷ flag (f .emergency)
+    ∷ val 2 (f .priority) ∷ res 6 ∷ val 8 (length es) ∷ each (addressed (λ a. a .0) c) es
+body c (individual-contacts o f es) =
+    op o ∷ flag (f .encryption) ∷ flag (f .emergency) ∷ val 2 (f .priority) ∷ res 2
+    ∷ val 8 (length es) ∷ each (addressed (λ a. a .0) c) es
 body c (lines o f es) =
     op o ∷ flag (f .encryption) ∷ flag (f .emergency) ∷ val 2 (f .priority) ∷ flag (f .pabx) ∷ res 1
     ∷ val 8 (length es) ∷ each (contact c) es
@@ -126,6 +139,8 @@ body c (group o f s) =
     ∷ val 2 (f .priority) ∷ res 2 ∷ slot (λ a. address (a .0)) c s
 body c (individual o f s) =
     op o ∷ flag (f .encryption) ∷ flag (f .emergency) ∷ val 2 (f .priority) ∷ res 6 ∷ slot (λ a. address (a .0)) c s
+body c (line-slot o f s) =
+    op o ∷ flag (f .encryption) ∷ flag (f .emergency) ∷ val 2 (f .priority) ∷ flag (f .pabx) ∷ res 5 ∷ slot number c s
 body c (last f h) = flag (f .reboot) ∷ flag (f .reply) ∷ hash h
 
 -- "DataLength (16 bits, counting itself and all that follows in the setting)", in bytes

@@ -1,9 +1,11 @@
-// What the ten settings and a reply say, as code and definitions share it: operations, flags, fixed contents, results. No code reads or writes here.
+// What the thirteen settings and a reply say, as code and definitions share it: operations, flags, fixed contents, results. No code reads or writes here.
 use plan::numbers::GroupAddress;
 use plan::numbers::IndividualAddress;
 
-// The ten types of setting, in the order of their type bytes.
+// The thirteen types of setting, in the order of their type bytes.
 pub enum Kind {
+    GroupContacts,
+    IndividualContacts,
     Lines,
     Key,
     QuickTexts,
@@ -13,6 +15,7 @@ pub enum Kind {
     StatusTexts,
     Group,
     Individual,
+    LineSlot,
     Last,
 }
 
@@ -45,7 +48,7 @@ pub enum Coding {
     EightBit,
 }
 
-// Of all line contacts of one setting.
+// Of all line contacts of one setting, or of a line slot.
 pub struct LineFlags {
     pub encryption: bool,
     pub emergency: bool,

@@ -134,6 +134,6 @@ impl Inputs {
 
     fn exported(&mut self) -> Vec<u8> {
         let part = self.random.within(1..=usize::from(PARTS)) as u8;
-        part_bytes(part, &self.set).expect("the part is one of the seven")
+        part_bytes(part, &self.set).expect("the part is one of the ten")
     }
 }

@@ -3,24 +3,30 @@
 use crate::reference::message::Hash;
 use crate::reference::settings::{EmergencyKey, GroupSlot, IndividualSlot, SystemCode};
 use crate::reference::tables::{Line, Set};
+use std::ops::Range;
 
 #[cfg(test)]
 mod tests;
 
-pub const SIZE: usize = 12_288;
+pub const SIZE: usize = 24_576;
 
-/// The first byte of the channels' region and of the lines'; each begins with its count.
-pub const CHANNELS_AT: usize = 7_286;
-pub const LINES_AT: usize = 7_416;
+/// The first byte of the regions behind the individual slots; from the group contacts on, each begins with its count.
+pub const LINE_SLOTS_AT: usize = 7_286;
+pub const GROUP_CONTACTS_AT: usize = 8_118;
+pub const INDIVIDUAL_CONTACTS_AT: usize = 10_424;
+pub const CHANNELS_AT: usize = 12_730;
+pub const LINES_AT: usize = 12_860;
 /// The first byte that no table uses.
-pub const SPARE_AT: usize = 9_082;
+pub const SPARE_AT: usize = 14_526;
 /// Bytes of a count, high byte first.
 pub const COUNT: usize = 2;
 
 pub const CHANNEL: usize = 2;
 const QUICK: usize = 46;
 const STATUS: usize = 33;
-const SLOT: usize = 36;
+/// Of a group or an individual, in a slot or among the contacts.
+pub const MEMBER: usize = 36;
+/// Of a line, in a slot or among the contacts.
 pub const LINE: usize = 52;
 
 /// The only bytes that keep this set.
@@ -31,29 +37,33 @@ pub fn bytes(set: &Set) -> Vec<u8> {
     out.extend(tables.home.nzi.to_be_bytes());
     out.extend(tables.home.np.to_be_bytes());
     out.extend(system(&tables.system));
-    for text in &tables.quick_texts {
-        push(&mut out, QUICK, text.as_ref().map_or(Vec::new(), |text| units(text)));
-    }
-    for text in &tables.status_texts {
-        push(
-            &mut out,
-            STATUS,
-            text.as_ref().map_or(Vec::new(), |text| [vec![1], units(text)].concat()),
-        );
-    }
-    for slot in &tables.groups {
-        push(&mut out, SLOT, slot.as_ref().map_or(Vec::new(), group));
-    }
-    for slot in &tables.individuals {
-        push(&mut out, SLOT, slot.as_ref().map_or(Vec::new(), individual));
-    }
-    out.extend(count(tables.channels.len()));
-    out.extend(tables.channels.iter().flat_map(|channel| channel.to_be_bytes()));
+    slots(&mut out, QUICK, &tables.quick_texts, |text| units(text));
+    slots(&mut out, STATUS, &tables.status_texts, |text| [vec![1], units(text)].concat());
+    slots(&mut out, MEMBER, &tables.groups, group);
+    slots(&mut out, MEMBER, &tables.individuals, individual);
+    slots(&mut out, LINE, &tables.line_slots, line);
+    list(&mut out, MEMBER, &tables.group_contacts, group);
+    out.resize(INDIVIDUAL_CONTACTS_AT, 0);
+    list(&mut out, MEMBER, &tables.individual_contacts, individual);
+    out.resize(CHANNELS_AT, 0);
+    list(&mut out, CHANNEL, &tables.channels, |channel| channel.to_be_bytes().to_vec());
     out.resize(LINES_AT, 0);
-    out.extend(count(tables.lines.len()));
-    tables.lines.iter().for_each(|entry| push(&mut out, LINE, line(entry)));
+    list(&mut out, LINE, &tables.lines, line);
     out.resize(SIZE, 0);
     out
+}
+
+/// A table by index or code: every slot, an empty one all 0.
+fn slots<T>(out: &mut Vec<u8>, size: usize, table: &[Option<T>], slot: impl Fn(&T) -> Vec<u8>) {
+    for entry in table {
+        push(out, size, entry.as_ref().map_or(Vec::new(), &slot));
+    }
+}
+
+/// A table by position: its count, then the slots in use.
+fn list<T>(out: &mut Vec<u8>, size: usize, table: &[T], slot: impl Fn(&T) -> Vec<u8>) {
+    out.extend(count(table.len()));
+    table.iter().for_each(|entry| push(out, size, slot(entry)));
 }
 
 fn count(entries: usize) -> [u8; COUNT] {
@@ -137,12 +147,20 @@ pub fn is_store(bytes: &[u8]) -> bool {
         && is_system(&bytes[19..22])
         && all(&bytes[22..2_966], QUICK, |slot| slot[..2] != [0, 0] && is_text(slot))
         && all(&bytes[2_966..6_134], STATUS, |slot| slot[0] == 1 && is_text(&slot[1..]))
-        && all(&bytes[6_134..6_710], SLOT, |slot| slot[0] >= 64 && is_member(slot))
-        && all(&bytes[6_710..CHANNELS_AT], SLOT, |slot| slot[0] < 16 && is_member(slot))
+        && all(&bytes[6_134..6_710], MEMBER, is_group)
+        && all(&bytes[6_710..LINE_SLOTS_AT], MEMBER, is_individual)
+        && all(&bytes[LINE_SLOTS_AT..GROUP_CONTACTS_AT], LINE, is_line)
+        && are_contacts(&bytes[GROUP_CONTACTS_AT..INDIVIDUAL_CONTACTS_AT], is_group)
+        && are_contacts(&bytes[INDIVIDUAL_CONTACTS_AT..CHANNELS_AT], is_individual)
         && counted(&bytes[CHANNELS_AT..LINES_AT], CHANNEL, is_channel)
         && counted(&bytes[LINES_AT..SPARE_AT], LINE, is_line)
-        && keys_differ(&bytes[LINES_AT + COUNT..SPARE_AT])
+        && keys_differ(&bytes[LINES_AT + COUNT..SPARE_AT], LINE, 1..20)
         && is_empty(&bytes[SPARE_AT..])
+}
+
+/// A list of groups or individuals, in which no address stands twice.
+fn are_contacts(bytes: &[u8], is_member: fn(&[u8]) -> bool) -> bool {
+    counted(bytes, MEMBER, is_member) && keys_differ(&bytes[COUNT..], MEMBER, 1..4)
 }
 
 fn is_empty(bytes: &[u8]) -> bool {
@@ -200,6 +218,15 @@ fn is_system(bytes: &[u8]) -> bool {
     pair(bytes) < 4_096 && bytes[2] >> 3 <= 8 && bytes[2] >> 1 & 3 != 3
 }
 
+/// The attribute, in the two highest bits, is not 00.
+fn is_group(slot: &[u8]) -> bool {
+    slot[0] >= 64 && is_member(slot)
+}
+
+fn is_individual(slot: &[u8]) -> bool {
+    slot[0] < 16 && is_member(slot)
+}
+
 fn is_member(slot: &[u8]) -> bool {
     is_address(&slot[1..4]) && is_text(&slot[4..])
 }
@@ -214,9 +241,9 @@ fn is_line(slot: &[u8]) -> bool {
     slot[0] < 16 && slot[1] < 2 && length > 0 && is_empty(&digits[length..]) && is_text(&slot[20..])
 }
 
-/// No two lines have one key: a slot's 19 bytes of IDtype and digits.
-fn keys_differ(bytes: &[u8]) -> bool {
-    let lines = bytes.chunks_exact(LINE).filter(|slot| !is_empty(slot));
-    let keys: Vec<&[u8]> = lines.map(|slot| &slot[1..20]).collect();
+/// No two entries have one key, which of a line is IDtype and digits, and of a contact the address.
+fn keys_differ(bytes: &[u8], size: usize, key: Range<usize>) -> bool {
+    let entries = bytes.chunks_exact(size).filter(|slot| !is_empty(slot));
+    let keys: Vec<&[u8]> = entries.map(|slot| &slot[key.clone()]).collect();
     (1..keys.len()).all(|place| !keys[..place].contains(&keys[place]))
 }

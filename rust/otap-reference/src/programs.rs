@@ -23,7 +23,7 @@ pub fn take_prints(input: &[u8]) -> String {
     out
 }
 
-/// The seven records of the set that took the input.
+/// The ten records of the set that took the input.
 pub fn put_writes(input: &[u8]) -> Vec<u8> {
     let mut set = Set::default();
     for record in Records::new(input) {
@@ -33,7 +33,7 @@ pub fn put_writes(input: &[u8]) -> Vec<u8> {
     }
     let mut out = Vec::new();
     for part in 1..=PARTS {
-        let message = part_bytes(part, &set).expect("the part is one of the seven");
+        let message = part_bytes(part, &set).expect("the part is one of the ten");
         push_record(&mut out, u16::from(part), &message);
     }
     out

@@ -20,24 +20,32 @@ fn shown(row: Row, set: &Set) -> Option<String> {
     }
 }
 
+/// A line that begins with a label, in a column as wide as the longest and two spaces.
+fn labelled(label: &str, shown: &str) -> String {
+    format!("  {label:<21}{shown}\n")
+}
+
 /// The row of a table at a place.
 type RowAt = fn(usize) -> Row;
 
 /// A line for each table that has rows.
 fn rows(set: &Set) -> String {
-    let tables: [(&str, RowAt); 5] = [
+    let tables: [(&str, RowAt); 8] = [
         ("lines", Row::Line),
         ("quick texts", Row::Quick),
         ("status texts", Row::Status),
         ("groups", Row::Group),
         ("individuals", Row::Individual),
+        ("group contacts", Row::GroupContact),
+        ("individual contacts", Row::IndividualContact),
+        ("line slots", Row::LineSlot),
     ];
     let mut out = String::new();
     for (name, row) in tables {
         let there = |place| shown(row(place), set).map(|text| format!("{place} {text}"));
         let shown: Vec<String> = (0..256).filter_map(there).collect();
         if !shown.is_empty() {
-            out.push_str(&format!("  {name:<14}{}\n", shown.join(", ")));
+            out.push_str(&labelled(name, &shown.join(", ")));
         }
     }
     if out.is_empty() {
@@ -50,8 +58,9 @@ fn rows(set: &Set) -> String {
 /// How much of the room for lines and channels is taken.
 fn room(set: &Set) -> String {
     let (lines, channels) = set.counts();
-    format!(
-        "  room          lines {lines} of {MOST_LINES}, channels {channels} of {MOST_CHANNELS}\n"
+    labelled(
+        "room",
+        &format!("lines {lines} of {MOST_LINES}, channels {channels} of {MOST_CHANNELS}"),
     )
 }
 
@@ -77,7 +86,7 @@ fn message_lines(answer: &Answer, query: bool, reply: &[u8]) -> String {
     let restart = if answer.reboot { "restart" } else { "no restart" };
     let hex: Vec<String> =
         reply[..answer.length].iter().map(|byte| format!("{byte:02X}")).collect();
-    out + &format!("; {send} the reply; {restart}\n  reply         {}\n", hex.join(" "))
+    out + &format!("; {send} the reply; {restart}\n{}", labelled("reply", &hex.join(" ")))
 }
 
 fn shift_prints(input: &[u8]) -> String {

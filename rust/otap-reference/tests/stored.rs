@@ -18,11 +18,9 @@ fn put_writes_what_is_stored() {
     assert!(put_writes(&stored("put", "stdin")) == stored("put", "stdout"));
 }
 
-/// `put | take` prints seven lines of 0.
+/// `put | take` prints ten lines of 0.
 #[test]
 fn what_put_writes_is_taken() {
-    assert_eq!(
-        take_prints(&stored("put", "stdout")),
-        "1 0 0\n2 0 0\n3 0 0\n4 0 0\n5 0 0\n6 0 0\n7 0 0\n"
-    );
+    let lines: Vec<String> = (1..=10).map(|part| format!("{part} 0 0\n")).collect();
+    assert_eq!(take_prints(&stored("put", "stdout")), lines.concat());
 }

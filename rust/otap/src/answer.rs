@@ -8,7 +8,7 @@ use core::fmt;
 pub enum Refusal {
     /// 10: the reply buffer has fewer than 20 bytes.
     ReplyShort,
-    /// 11: the bytes lent are not 12,288, or not a store.
+    /// 11: the bytes lent are not 24,576, or not a store.
     NotAStore,
     /// 12: the message has fewer than 7 or more than 4,096 bytes.
     MessageLength,
@@ -20,7 +20,7 @@ pub enum Refusal {
     BufferShort,
     /// 16: there is no such part to export; a [`Part`](crate::Part) is always one.
     NoSuchPart,
-    /// 17: there is no such row.
+    /// 17: there is no such row, or it is a background group's, which is not shown.
     NoSuchRow,
     /// 20: the dialled number is outside the plan.
     OutsidePlan,
@@ -83,7 +83,7 @@ pub enum Outcome {
     WrongVersion,
     /// 2: a table has no room.
     NoRoom,
-    /// 3: a setting's type is not among the ten.
+    /// 3: a setting's type is not among the thirteen.
     UnknownType,
     /// 4: a field, a length or a count is wrong.
     BadField,

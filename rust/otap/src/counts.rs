@@ -7,7 +7,7 @@ pub const MOST_LINES: usize = 32;
 /// A set has room for so many channels.
 pub const MOST_CHANNELS: usize = 64;
 
-/// How many entries a store holds of the tables that can be full.
+/// How many entries a store holds of the two lists that the menu shows.
 #[derive(Clone, Copy, Debug, PartialEq, Eq, Hash)]
 pub struct Counts {
     /// Line contacts held.

@@ -31,7 +31,7 @@ pub use conversions::{
     individual_of_dialled, receive, transmit, GroupAddress, IndividualAddress,
 };
 pub use counts::{Counts, MOST_CHANNELS, MOST_LINES};
-pub use row::{Row, Slice, Table};
+pub use row::{Row, Slice, Table, CONTACT_ROWS};
 pub use store::{Part, Store, EXPORT_ROOM, LONGEST_MESSAGE, REPLY_ROOM, SCRATCH_ROOM, STORE_SIZE};
 
 // The README's snippet is compiled and run with the doc examples.

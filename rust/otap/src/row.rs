@@ -2,7 +2,36 @@
 
 use crate::answer::half;
 
+/// Positions of the group contacts, and of the individual contacts: rows 0 to 63.
+pub const CONTACT_ROWS: u32 = 64;
+
 /// A table of the screen, and how its rows are counted.
+///
+/// A background group, attribute 01, is held and exported, but not shown: in both tables of groups its row
+/// is refused with 17. It keeps its position, and the rows behind it do not move up. So a screen asks for
+/// every position of the group contacts, and the first that is refused does not end the list.
+///
+/// ```
+/// # fn main() -> Result<(), otap::Refusal> {
+/// use otap::{Outcome, Refusal, Store, Table, CONTACT_ROWS, REPLY_ROOM, SCRATCH_ROOM, STORE_SIZE};
+/// let (mut bytes, mut scratch) = ([0; STORE_SIZE], [0; SCRATCH_ROOM]);
+/// let mut store = Store::start(&mut bytes)?;
+/// // Adds three group contacts, each by a setting C8: a response group A, a background group B, a member group C.
+/// let message = *b"\x02\x02\0\x25\x08\x04\x08\x03\
+///     \xC8\0\x0A\x60\0\x01\x10\0\x01A\0\xC8\0\x0A\x50\0\x01\x10\0\x02B\0\xC8\0\x0A\x70\0\x01\x10\0\x03C\0";
+/// assert_eq!(store.take(&message, &mut [0; REPLY_ROOM]).outcome, Outcome::Taken);
+/// let mut drawn = [None; CONTACT_ROWS as usize];
+/// for (row, place) in (0..).zip(&mut drawn) {
+///     match store.row(Table::GroupContacts, row, &mut scratch) {
+///         Ok(shown) => *place = shown.units().next(),
+///         Err(Refusal::NoSuchRow) => {} // nothing there, or a background group: the next may be shown
+///         Err(other) => return Err(other),
+///     }
+/// }
+/// assert_eq!(drawn[..4], [Some(u16::from(b'A')), None, Some(u16::from(b'C')), None]);
+/// # Ok(())
+/// # }
+/// ```
 #[derive(Clone, Copy, Debug, PartialEq, Eq, Hash)]
 #[non_exhaustive]
 #[repr(u32)]
@@ -13,16 +42,30 @@ pub enum Table {
     QuickTexts = 2,
     /// Status texts, by code from 32 to 127.
     StatusTexts = 3,
-    /// Groups, by slot from 0.
+    /// Groups, by slot from 0; a background group has no row.
     Groups = 4,
     /// Individuals, by slot from 0.
     Individuals = 5,
+    /// Group contacts, by position from 0; a background group has no row.
+    GroupContacts = 6,
+    /// Individual contacts, by position from 0.
+    IndividualContacts = 7,
+    /// Lines, by slot from 0.
+    LineSlots = 8,
 }
 
 impl Table {
     /// Each of them, in the order of their numbers.
-    pub const ALL: &'static [Table] =
-        &[Table::Lines, Table::QuickTexts, Table::StatusTexts, Table::Groups, Table::Individuals];
+    pub const ALL: &'static [Table] = &[
+        Table::Lines,
+        Table::QuickTexts,
+        Table::StatusTexts,
+        Table::Groups,
+        Table::Individuals,
+        Table::GroupContacts,
+        Table::IndividualContacts,
+        Table::LineSlots,
+    ];
 
     /// The number of document 01.
     pub fn number(self) -> u32 {

@@ -6,7 +6,7 @@ use crate::counts::Counts;
 use crate::row::{Row, Table};
 
 /// A store has exactly so many bytes.
-pub const STORE_SIZE: usize = 12_288;
+pub const STORE_SIZE: usize = 24_576;
 /// A reply buffer has at least so many bytes.
 pub const REPLY_ROOM: usize = 20;
 /// An export buffer has at least so many bytes.
@@ -35,6 +35,12 @@ pub enum Part {
     Groups = 6,
     /// Individual slots.
     Individuals = 7,
+    /// Group contacts, background groups too.
+    GroupContacts = 8,
+    /// Individual contacts.
+    IndividualContacts = 9,
+    /// Line slots.
+    LineSlots = 10,
 }
 
 impl Part {
@@ -47,6 +53,9 @@ impl Part {
         Part::StatusTexts,
         Part::Groups,
         Part::Individuals,
+        Part::GroupContacts,
+        Part::IndividualContacts,
+        Part::LineSlots,
     ];
 
     /// The number of document 01.
@@ -72,7 +81,7 @@ pub struct Store<'s> {
 }
 
 impl<'s> Store<'s> {
-    /// Makes 12,288 bytes a fresh store, whatever they held; another length is refused with 11.
+    /// Makes 24,576 bytes a fresh store, whatever they held; another length is refused with 11.
     ///
     /// ```
     /// use otap::{Refusal, Store, STORE_SIZE};
@@ -124,7 +133,8 @@ impl<'s> Store<'s> {
     /// keeps 16-bit units of both. Another coding type is a bad field, failed ID 0.
     ///
     /// A line contact is known by its IDtype together with its digits: PSTN 2345 and PABX 2345 are two
-    /// lines. A replace empties the list of both.
+    /// lines. A replace empties the list of both. A group or individual contact is known by its address,
+    /// in its own list; slots go by their index.
     ///
     /// ```
     /// # fn main() -> Result<(), otap::Refusal> {
@@ -170,7 +180,7 @@ impl<'s> Store<'s> {
     }
 
     /// What the screen draws for a row: its text, or its number where it has none; refused with
-    /// 15, 11 or 17.
+    /// 15, 11 or 17. A background group is refused with 17 too: [`Table`] has an example.
     ///
     /// A row borrows the store. Dispatch renames a group in the middle of a shift, while an
     /// officer picks the row by its name and presses PTT: here the screen is done with the old
@@ -246,6 +256,7 @@ impl<'s> Store<'s> {
             number => Err(Refusal::from_word(number)),
         }
     }
+
     /// How many line contacts and channels the store holds; refused with 11. Both are read, and not counted anew.
     ///
     /// ```

@@ -5,7 +5,10 @@ pub mod pair;
 pub mod raw;
 
 use otap_reference::reference::message;
-use otap_reference::reference::settings::{LineEntry, LineFlags, Operation, Setting, TextEntry};
+use otap_reference::reference::plan::{GroupAddress, IndividualAddress};
+use otap_reference::reference::settings::{
+    ContactEntry, GroupFlags, IndividualFlags, LineEntry, LineFlags, Operation, Setting, TextEntry,
+};
 use otap_reference::reference::tables::Set;
 use otap_reference::reference::take::{take, REPLY_ROOM};
 
@@ -58,6 +61,25 @@ pub fn lines_add(keys: &[&[u8]]) -> Vec<u8> {
     lines(Operation::Add, keys)
 }
 
+/// Group contacts of an attribute, each an address and a name.
+pub fn group_contacts(operation: Operation, attribute: u8, contacts: &[(u32, &str)]) -> Vec<u8> {
+    let flags = GroupFlags { attribute, ..GroupFlags::default() };
+    let entries = contact_entries(contacts, GroupAddress);
+    Setting::GroupContacts { operation, flags, entries }.write()
+}
+
+pub fn individual_contacts(operation: Operation, contacts: &[(u32, &str)]) -> Vec<u8> {
+    let entries = contact_entries(contacts, IndividualAddress);
+    Setting::IndividualContacts { operation, flags: IndividualFlags::default(), entries }.write()
+}
+
+fn contact_entries<A>(contacts: &[(u32, &str)], kind: fn(u32) -> A) -> Vec<ContactEntry<A>> {
+    contacts
+        .iter()
+        .map(|&(address, text)| ContactEntry { address: kind(address), text: units(text) })
+        .collect()
+}
+
 pub fn channels(operation: Operation, channels: &[u16]) -> Vec<u8> {
     Setting::Channels { operation, channels: channels.to_vec() }.write()
 }
@@ -71,10 +93,7 @@ pub fn status(operation: Operation, entries: &[(u8, &str)]) -> Vec<u8> {
 }
 
 fn text_entries(entries: &[(u8, &str)]) -> Vec<TextEntry> {
-    entries
-        .iter()
-        .map(|&(key, text)| TextEntry { key, text: text.encode_utf16().collect() })
-        .collect()
+    entries.iter().map(|&(key, text)| TextEntry { key, text: units(text) }).collect()
 }
 
 pub fn units(text: &str) -> Vec<u16> {

@@ -25,6 +25,13 @@ impl Pair {
         self.take_into(message, otap::REPLY_ROOM)
     }
 
+    /// Number and failed ID.
+    pub fn told(&mut self, message: &[u8]) -> (u8, u8) {
+        let mut bytes = self.bytes.clone();
+        let failed = Store::lent(&mut bytes).take(message, &mut [0; otap::REPLY_ROOM]).failed_id;
+        (self.take(message), failed)
+    }
+
     /// Both take the message: the same answer, reply buffer and change or stay.
     pub fn take_into(&mut self, message: &[u8], room: usize) -> u8 {
         let (bytes, set) = (self.bytes.clone(), self.set.clone());
@@ -117,9 +124,10 @@ impl Pair {
     /// Every row of every table, and absent ones on either side; says how many were shown.
     pub fn compare_rows(&mut self) -> usize {
         let rooms = otap::SCRATCH_ROOM;
-        let most = [(0, 2), (1, 34), (2, 66), (3, 130), (4, 18), (5, 18), (6, 2)];
-        most.iter()
-            .flat_map(|&(table, rows)| (0..rows).map(move |row| (table, row)))
+        let most = [2, 34, 66, 130, 18, 18, 66, 66, 18, 2];
+        (0..)
+            .zip(most)
+            .flat_map(|(table, rows)| (0..rows).map(move |row| (table, row)))
             .filter(|&(table, row)| self.show_into(table, row, rooms + row as usize) == 0)
             .count()
     }
@@ -157,15 +165,18 @@ fn assert_same(part: Row, shown: &Shown, table: u32, row: u32) {
 fn text_offset(table: u32, row: u32) -> usize {
     let row = row as usize;
     match table {
-        1 => 7_418 + 52 * row + 20,
+        1 => 12_862 + 52 * row + 20,
         2 => 22 + 46 * row,
         3 => 2_966 + 33 * (row - 32) + 1,
         4 => 6_134 + 36 * row + 4,
-        _ => 6_710 + 36 * row + 4,
+        5 => 6_710 + 36 * row + 4,
+        6 => 8_120 + 36 * row + 4,
+        7 => 10_426 + 36 * row + 4,
+        _ => 7_286 + 52 * row + 20,
     }
 }
 
-/// The reference names rows by table; a table outside the five has none.
+/// The reference names rows by table; a table outside the eight has none.
 fn reference_row(table: u32, row: u32) -> Option<screen::Row> {
     let row = row as usize;
     match table {
@@ -174,6 +185,9 @@ fn reference_row(table: u32, row: u32) -> Option<screen::Row> {
         3 => Some(screen::Row::Status(row)),
         4 => Some(screen::Row::Group(row)),
         5 => Some(screen::Row::Individual(row)),
+        6 => Some(screen::Row::GroupContact(row)),
+        7 => Some(screen::Row::IndividualContact(row)),
+        8 => Some(screen::Row::LineSlot(row)),
         _ => None,
     }
 }

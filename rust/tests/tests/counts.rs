@@ -3,6 +3,7 @@
 use otap_reference::inputs::{Inputs, LONGEST_INPUT};
 use otap_reference::reference::message::{first_byte, LONGEST, REQUEST};
 use otap_reference::reference::numbers::BAD_FIELD;
+use otap_reference::reference::settings::{GroupSlot, BACKGROUND};
 use otap_reference::reference::tables::{Line, Set};
 use otap_reference::reference::take::{take, REPLY_ROOM};
 use otap_reference::reference::texts::Text;
@@ -55,6 +56,34 @@ fn tables_fill_and_messages_grow_long() {
     println!("states: {lines} full lines, {channels} full channels, {quick} full quick texts");
     println!("messages: {longest} taken of 4,096 bytes, {over} longer");
     assert!(lines > 1_000 && channels > 1_000 && quick > 100 && longest > 100 && over > 100);
+}
+
+/// Both lists of contacts are often full, with a known address overwritten then, and one in the middle deleted; line slots often change.
+#[test]
+fn contacts_and_line_slots_come_often() {
+    let (mut full, mut overwritten, mut deleted, mut hidden, mut slots) = ([0; 2], 0, 0, 0, 0);
+    for seed in 0..SEEDS {
+        let mut inputs = Inputs::new(seed);
+        let mut set = Set::default();
+        for _ in 0..MESSAGES {
+            let slots_before = set.tables.line_slots.clone();
+            let before = set.tables.group_contacts.clone();
+            take(&inputs.message(), &mut set, &mut [0; REPLY_ROOM]);
+            let after = &set.tables.group_contacts;
+            let moved = !after.is_empty() && before.last() == after.last();
+            full[0] += usize::from(after.len() == 64);
+            full[1] += usize::from(set.tables.individual_contacts.len() == 64);
+            overwritten += usize::from(before.len() == 64 && after.len() == 64 && before != *after);
+            deleted += usize::from(moved && after.len() < before.len());
+            let shown = |group: &GroupSlot| group.attribute != BACKGROUND;
+            hidden += usize::from(after.iter().any(shown) && !after.iter().all(shown));
+            slots += usize::from(set.tables.line_slots != slots_before);
+        }
+    }
+    println!("{full:?} full lists, {overwritten} changed when full, {deleted} with one deleted");
+    println!("{hidden} with background groups among others, {slots} with other line slots");
+    assert!(full.iter().all(|&full| full > 1_000) && overwritten > 200 && deleted > 200);
+    assert!(hidden > 1_000 && slots > 1_000);
 }
 
 /// One number often stands with both IDtypes, in full tables too, and each of the two lines is overwritten and deleted alone.
@@ -128,8 +157,11 @@ fn names(set: &Set) -> Vec<Text> {
     let tables = &set.tables;
     let held = tables.quick_texts.iter().chain(&tables.status_texts).flatten().cloned();
     let lines = tables.lines.iter().map(|line| line.text.clone());
-    let groups = tables.groups.iter().flatten().map(|slot| slot.text.clone());
-    let individuals = tables.individuals.iter().flatten().map(|slot| slot.text.clone());
+    let lines = lines.chain(tables.line_slots.iter().flatten().map(|slot| slot.text.clone()));
+    let groups = tables.groups.iter().flatten().chain(&tables.group_contacts);
+    let groups = groups.map(|group| group.text.clone());
+    let individuals = tables.individuals.iter().flatten().chain(&tables.individual_contacts);
+    let individuals = individuals.map(|individual| individual.text.clone());
     held.chain(lines).chain(groups).chain(individuals).collect()
 }
 

@@ -104,6 +104,49 @@ fn other_settings_under_0100() {
     assert_eq!(narrow("D4 00 03 00"), (Outcome::UnknownType, 1));
 }
 
+/// Both lists of contacts under 0100: each text ends with one byte, and its units are the store's.
+#[test]
+fn contacts_under_0100() {
+    let groups = "C8 00 10 60 00 02 10 00 01 41 31 00 10 00 02 FF 00";
+    let individuals = "C9 00 0D 40 02 10 00 01 00 10 00 02 E9 00";
+    let message = request_as(Coding::Eight, &[bytes(groups), bytes(individuals)]);
+    assert_eq!(shown(&message, Table::GroupContacts, 0), (Slice::Store, bytes("00 41 00 31")));
+    assert_eq!(shown(&message, Table::GroupContacts, 1), (Slice::Store, bytes("00 FF")));
+    let digits = b"32820200".iter().flat_map(|&digit| [0, digit]).collect();
+    assert_eq!(shown(&message, Table::IndividualContacts, 0), (Slice::Scratch, digits));
+    assert_eq!(shown(&message, Table::IndividualContacts, 1), (Slice::Store, bytes("00 E9")));
+    for (units, wanted) in [(0, TAKEN), (16, TAKEN), (17, FIRST_BAD)] {
+        let text = " FF".repeat(units);
+        let [groups, individuals] = [9 + units, 8 + units];
+        assert_eq!(narrow(&format!("C8 00 {groups:02X} 60 00 01 10 00 01{text} 00")), wanted);
+        assert_eq!(narrow(&format!("C9 00 {individuals:02X} 40 01 10 00 01{text} 00")), wanted);
+    }
+    assert_eq!([narrow("C8 00 05 D0 00 00"), narrow("C9 00 04 C0 00")], [TAKEN; 2]);
+    assert_eq!(narrow("C8 00 0A 60 00 01 10 00 01 00 00"), FIRST_BAD);
+}
+
+/// The least is 6 and the most 31 under 0100, 7 and 48 under 0111.
+#[test]
+fn lengths_of_a_line_slot() {
+    let of = |coding: Coding, units: usize| {
+        let (unit, end) =
+            if coding == Coding::Eight { (" FF", " 00") } else { (" 00 FF", " 00 00") };
+        let text = unit.repeat(units) + end;
+        let length = 4 + 10 + text.len() / 3;
+        let digits = "12 34 56 78 90 12 34 56 78 FF";
+        outcome(&request_as(coding, &[bytes(&format!("D3 00 {length:02X} 42 0F {digits}{text}"))]))
+    };
+    for coding in Coding::ALL {
+        assert_eq!([of(coding, 0), of(coding, 16), of(coding, 17)], [TAKEN, TAKEN, FIRST_BAD]);
+    }
+    assert_eq!(narrow("D3 00 06 40 00 1F 00"), TAKEN);
+    assert_eq!(narrow("D3 00 07 40 00 1F 00 00"), FIRST_BAD);
+    assert_eq!(narrow("D3 00 06 80 00 0F 00"), TAKEN);
+    assert_eq!(narrow("D3 00 06 80 00 FF 00"), FIRST_BAD);
+    let named = request_as(Coding::Eight, &[bytes("D3 00 08 40 03 1F 41 31 00")]);
+    assert_eq!(shown(&named, Table::LineSlots, 3), (Slice::Store, bytes("00 41 00 31")));
+}
+
 /// Every value of the carrier's byte, reserved bits too.
 #[test]
 fn coding_types() {

@@ -16,9 +16,9 @@ fn every_part_of_many_stores() {
     }
 }
 
-/// The seven parts give another store the same tables, whatever it held: then all its parts are the same.
+/// The ten parts give another store the same tables, whatever it held: then all its parts are the same.
 #[test]
-fn the_seven_parts_give_the_same_tables() {
+fn the_ten_parts_give_the_same_tables() {
     let mut other = Pair::fresh();
     for seed in 2_100..2_140 {
         let mut inputs = Inputs::new(seed);

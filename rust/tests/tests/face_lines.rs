@@ -37,7 +37,7 @@ fn told(pair: &mut Pair, settings: &[Vec<u8>]) -> (u8, usize) {
 
 /// IDtype and the first four digits of the line at a position, which stand where docs/STORE.md says.
 fn kept(pair: &Pair, position: usize) -> &[u8] {
-    &pair.bytes[7_418 + 52 * position + 1..][..5]
+    &pair.bytes[12_862 + 52 * position + 1..][..5]
 }
 
 #[test]
@@ -68,7 +68,7 @@ fn each_is_overwritten_alone() {
     ] {
         let both = after(&[EXTENSION, TELEPHONE]);
         let mut named = after(&[EXTENSION, TELEPHONE, message]);
-        let slots = |pair: &Pair, place| pair.bytes[7_418 + 52 * place..][..52].to_vec();
+        let slots = |pair: &Pair, place| pair.bytes[12_862 + 52 * place..][..52].to_vec();
         assert_eq!(slots(&named, 1 - place), slots(&both, 1 - place));
         assert_eq!((kept(&named, place), slots(&named, place)[0]), (kept(&both, place), 15));
         let mut scratch = [0; SCRATCH_ROOM];
@@ -156,7 +156,7 @@ fn bytes_of_both_lines() {
         changes.iter().for_each(|&(place, byte)| poked[place] = byte);
         Store::open(&mut poked).map(|store| store.bytes().to_vec())
     };
-    let (first, second) = (7_419, 7_471);
+    let (first, second) = (12_863, 12_915);
     assert_eq!(opened(&[]).as_ref(), Ok(&both));
     assert_eq!(opened(&[(first, 0)]), Err(Refusal::NotAStore));
     assert_eq!(opened(&[(second, 1)]), Err(Refusal::NotAStore));

@@ -96,14 +96,17 @@ fn refusals_of_conversions() {
 fn tables_and_parts() {
     let mut bytes = vec![0; STORE_SIZE];
     let mut store = Store::start(&mut bytes).expect("the size is right");
-    let settings: [&[u8]; 5] = [
+    let settings: [&[u8]; 8] = [
         &[0xCA, 0, 10, 0x40, 1, 0x12, 0x3F, 0, b'L', 0, 0],
         &[0xCC, 0, 8, 0x41, 0, 0, b'Q', 0, 0],
         &[0xD0, 0, 9, 0x40, 1, 32, 0, b'S', 0, 0],
         &[0xD1, 0, 11, 0x60, 0, 0x10, 0, 1, 0, b'G', 0, 0],
         &[0xD2, 0, 11, 0x40, 0, 0x10, 0, 1, 0, b'I', 0, 0],
+        &[0xC8, 0, 12, 0x60, 0, 1, 0x10, 0, 1, 0, b'g', 0, 0],
+        &[0xC9, 0, 11, 0x40, 1, 0x10, 0, 1, 0, b'i', 0, 0],
+        &[0xD3, 0, 10, 0x40, 0, 0x12, 0x3F, 0, b'l', 0, 0],
     ];
-    let message = [&[2, 2, 0, 0, 8, 7, 8, 5], &settings.concat()[..]].concat();
+    let message = [&[2, 2, 0, 0, 8, 7, 8, 8], &settings.concat()[..]].concat();
     assert_eq!(store.take(&message, &mut [0; REPLY_ROOM]).outcome, Outcome::Taken);
     let rows = [
         (Table::Lines, 0, b'L'),
@@ -111,13 +114,19 @@ fn tables_and_parts() {
         (Table::StatusTexts, 32, b'S'),
         (Table::Groups, 0, b'G'),
         (Table::Individuals, 0, b'I'),
+        (Table::GroupContacts, 0, b'g'),
+        (Table::IndividualContacts, 0, b'i'),
+        (Table::LineSlots, 0, b'l'),
     ];
+    assert!(rows.iter().map(|row| &row.0).eq(Table::ALL), "each table by its name");
     for (table, row, unit) in rows {
         let mut scratch = [0; SCRATCH_ROOM];
         let shown = store.row(table, row, &mut scratch).expect("the row is there");
         assert_eq!(shown.bytes(), [0, unit]);
     }
-    for (part, kind) in Part::ALL.iter().zip([0xCA, 0xCB, 0xCC, 0xCE, 0xD0, 0xD1, 0xD2]) {
+    let kinds = [0xCA, 0xCB, 0xCC, 0xCE, 0xD0, 0xD1, 0xD2, 0xC8, 0xC9, 0xD3];
+    assert_eq!(kinds.len(), Part::ALL.len());
+    for (part, kind) in Part::ALL.iter().zip(kinds) {
         let mut buffer = [0; EXPORT_ROOM];
         assert_eq!(store.export(*part, &mut buffer).expect("a part")[8], kind);
     }

@@ -41,9 +41,12 @@ fn numbers_of_rows_without_a_text() {
         "D1 00 09 60 01 10 1B 59 00 00",
         "D2 00 09 40 0F FF 7D C9 00 00",
         "D0 00 07 40 01 7F 00 00",
+        "C8 00 0F 60 00 02 10 00 01 00 00 10 1B 59 00 00",
+        "C9 00 0E 40 02 FF 7D C8 00 00 FF 7D C9 00 00",
+        "D3 00 10 42 0F 87 65 43 21 09 87 65 43 21 FF 00 00",
     ]);
     assert_eq!(pair.take(&message), 0);
-    assert_eq!(pair.compare_rows(), 5);
+    assert_eq!(pair.compare_rows(), 10);
     let mut scratch = [0; SCRATCH_ROOM];
     let store = Store::lent(&mut pair.bytes);
     let mut text = |table, row| {
@@ -55,6 +58,11 @@ fn numbers_of_rows_without_a_text() {
     assert_eq!(text(Table::Groups, 0), number("32820900"));
     assert_eq!(text(Table::Groups, 1), number("101B59"));
     assert_eq!(text(Table::Individuals, 15), number("FF7DC9"));
+    assert_eq!(text(Table::GroupContacts, 0), number("32820900"));
+    assert_eq!(text(Table::GroupContacts, 1), number("101B59"));
+    assert_eq!(text(Table::IndividualContacts, 0), number("80689549"));
+    assert_eq!(text(Table::IndividualContacts, 1), number("FF7DC9"));
+    assert_eq!(text(Table::LineSlots, 15), number("876543210987654321"));
     assert_eq!(text(Table::StatusTexts, 127), (Slice::Store, String::new()));
     assert_eq!(store.row(Table::QuickTexts, 0, &mut scratch), Err(Refusal::NoSuchRow));
 }

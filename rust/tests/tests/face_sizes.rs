@@ -5,8 +5,20 @@ use otap_reference::inputs::calls::{Call, Calls};
 use otap_tests::pair::{number_of, patterned, Pair};
 use std::collections::BTreeMap;
 
-const SIZES: [usize; 8] =
-    [0, 1, SCRATCH_ROOM - 1, EXPORT_ROOM, STORE_SIZE - 1, STORE_SIZE + 1, 2 * STORE_SIZE, 65_536];
+/// A store's size before the contact lists, half of today's.
+const FORMER_SIZE: usize = 12_288;
+
+const SIZES: [usize; 9] = [
+    0,
+    1,
+    SCRATCH_ROOM - 1,
+    EXPORT_ROOM,
+    FORMER_SIZE,
+    STORE_SIZE - 1,
+    STORE_SIZE + 1,
+    2 * STORE_SIZE,
+    65_536,
+];
 
 fn call(pair: &mut Pair, call: &Call) -> u8 {
     match call {

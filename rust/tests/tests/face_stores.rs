@@ -1,7 +1,7 @@
 //! Which bytes are a store: those that messages make, those that docs/STORE.md allows, and no others.
 
 use otap::{Outcome, Part, Store, Table, EXPORT_ROOM, REPLY_ROOM, SCRATCH_ROOM, STORE_SIZE};
-use otap_reference::inputs::pokes::{poke_count, poke_list};
+use otap_reference::inputs::pokes::{poke_count, poke_line_slot, poke_list};
 use otap_reference::inputs::random::Random;
 use otap_reference::inputs::Inputs;
 use otap_reference::layout;
@@ -102,14 +102,17 @@ fn damaged_bytes_are_refused_or_are_a_store() {
     assert!(stores > 1_000 && refused > 1_000);
 }
 
-/// First slot, slots and size of each part that has slots; those of channels and lines stand behind their count.
-const SLOTS: [(usize, usize, usize); 6] = [
+/// First slot, slots and size of each region that has slots; those of contacts, channels and lines stand behind their count.
+const SLOTS: [(usize, usize, usize); 9] = [
     (22, 64, 46),
     (2_966, 96, 33),
     (6_134, 16, 36),
     (6_710, 16, 36),
-    (7_288, 64, 2),
-    (7_418, 32, 52),
+    (7_286, 16, 52),
+    (8_120, 64, 36),
+    (10_426, 64, 36),
+    (12_732, 64, 2),
+    (12_862, 32, 52),
 ];
 
 /// Slots copied over others, emptied or exchanged: gaps, equal keys, and entries of another order.
@@ -166,6 +169,28 @@ fn poked_counts_are_refused() {
     }
     println!("{stores} still a store, {refused} refused");
     assert!(stores > 500 && refused > 500);
+}
+
+/// Line slots copied from others or from a line contact, emptied, or changed in a byte.
+#[test]
+fn poked_line_slots_are_refused_or_are_a_store() {
+    let mut random = Random::new(8);
+    let (mut stores, mut refused) = (0, 0);
+    for seed in 5_500..5_530 {
+        let pair = grown(seed, 40);
+        for turn in 0..300 {
+            let mut bytes = pair.bytes.clone();
+            poke_line_slot(&mut random, &mut bytes);
+            if is_store(&mut bytes) {
+                assert!(made_again(&mut bytes) == bytes, "seed {seed} turn {turn}");
+                stores += 1;
+            } else {
+                refused += 1;
+            }
+        }
+    }
+    println!("{stores} still a store, {refused} refused");
+    assert!(stores > 1_000 && refused > 500);
 }
 
 /// Every byte of a fresh store changed: a store only where made again it is the same.

@@ -92,7 +92,7 @@ fn take_exports(from: &Set, into: &mut Set) {
 }
 
 #[test]
-fn the_seven_exports_give_the_same_tables() {
+fn the_ten_exports_give_the_same_tables() {
     let mut other = Set::default();
     for_each_state(30, 100, |set| {
         take_exports(set, &mut other);
@@ -130,6 +130,8 @@ fn exports_of_a_fresh_set() {
         (3, "02 02 00 08 08 07 08 01 CC 00 03 C0"),
         (4, "02 02 00 09 08 07 08 01 CE 00 04 C0 00"),
         (5, "02 02 00 09 08 07 08 01 D0 00 04 C0 00"),
+        (8, "02 02 00 0A 08 07 08 01 C8 00 05 D0 00 00"),
+        (9, "02 02 00 09 08 07 08 01 C9 00 04 C0 00"),
     ];
     for (part, hex) in expected {
         assert_eq!(part_bytes(part, &set), Some(otap_tests::bytes(hex)));
@@ -140,6 +142,11 @@ fn exports_of_a_fresh_set() {
         for (index, setting) in (0..16).zip(message[8..].chunks(10)) {
             assert_eq!(setting, [kind, 0, 9, 0x80, index, 0, 0, 0, 0, 0]);
         }
+    }
+    let message = part_bytes(10, &set).unwrap();
+    assert_eq!((message.len(), message[7]), (136, 16));
+    for (index, setting) in (0..16).zip(message[8..].chunks(8)) {
+        assert_eq!(setting, [0xD3, 0, 7, 0x80, index, 0x0F, 0, 0]);
     }
 }
 
@@ -171,10 +178,12 @@ fn settings_of(message: &[u8], coding: Coding) -> Vec<(Setting, &[u8])> {
 
 fn has_texts(setting: &Setting) -> bool {
     match setting {
+        Setting::GroupContacts { entries, .. } => !entries.is_empty(),
+        Setting::IndividualContacts { entries, .. } => !entries.is_empty(),
         Setting::Lines { entries, .. } => !entries.is_empty(),
         Setting::QuickTexts { entries, .. } => !entries.is_empty(),
         Setting::StatusTexts { entries, .. } => !entries.is_empty(),
-        Setting::Group { .. } | Setting::Individual { .. } => true,
+        Setting::Group { .. } | Setting::Individual { .. } | Setting::LineSlot { .. } => true,
         _ => false,
     }
 }
@@ -289,6 +298,10 @@ fn screen_rows() {
         "D1 00 0B 60 02 10 00 01 4E 2D 00 00",
         "D2 00 09 40 00 10 00 01 00 00",
         "D2 00 09 40 0F FF 7D C9 00 00",
+        "C8 00 0C 50 00 01 10 00 01 00 41 00 00",
+        "C8 00 0A 70 00 01 10 00 02 00 00",
+        "C9 00 0B 40 01 10 00 01 00 42 00 00",
+        "D3 00 07 40 0F 1F 00 00",
     ]));
     let shown = |row| row_part(row, true, &set, &mut [0; SCRATCH_ROOM]);
     assert_eq!(shown(Row::Line(0)), Shown::Scratch(units("2345")));
@@ -303,6 +316,10 @@ fn screen_rows() {
     assert_eq!(shown(Row::Individual(0)), Shown::Scratch(units("32820200")));
     assert_eq!(shown(Row::Individual(15)), Shown::Scratch(units("FF7DC9")));
     assert_eq!(shown(Row::Individual(16)), Shown::Nothing);
+    assert_eq!(shown(Row::GroupContact(0)), Shown::Nothing);
+    assert_eq!(shown(Row::GroupContact(1)), Shown::Scratch(units("32820901")));
+    assert_eq!(shown(Row::IndividualContact(0)), Shown::Stored(units("B")));
+    assert_eq!(shown(Row::LineSlot(15)), Shown::Scratch(units("1")));
     let number = |row, is_store, room| row_number(row, is_store, &set, &vec![0; room]);
     assert_eq!(number(Row::Line(9), false, SCRATCH_ROOM - 1), BUFFER_SHORT);
     assert_eq!(number(Row::Line(9), false, SCRATCH_ROOM), NOT_A_STORE);

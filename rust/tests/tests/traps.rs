@@ -35,6 +35,15 @@ fn repeated_keys_in_a_replace() {
     let lines_twice = taken(&hex_request(&[line]));
     let texts: Vec<_> = lines_twice.tables.lines.iter().map(|line| line.text.clone()).collect();
     assert_eq!(texts, [units("B"), units("")]);
+    let contacts = [(0x10_0001, "A"), (0x10_0002, ""), (0x10_0001, "B")];
+    let contacts_twice = taken(&request(&[
+        group_contacts(Replace, 2, &contacts),
+        individual_contacts(Replace, &contacts),
+    ]));
+    let groups = contacts_twice.tables.group_contacts.iter().map(|contact| contact.text.clone());
+    let individuals =
+        contacts_twice.tables.individual_contacts.iter().map(|contact| contact.text.clone());
+    assert!(groups.eq([units("B"), units("")]) && individuals.eq([units("B"), units("")]));
 }
 
 #[test]
@@ -183,6 +192,26 @@ fn a_slot_delete_holds_only_its_text() {
     assert_eq!(number_of(&hex_request(&[&long])), (BAD_FIELD, 1));
 }
 
+/// Unlike one of D1 or D2: attribute, address and number are in range in a delete too.
+#[test]
+fn a_contact_delete_holds_every_field() {
+    assert_eq!(number_of(&hex_request(&["C8 00 0A 80 00 01 10 00 01 00 00"])), (BAD_FIELD, 1));
+    assert_eq!(number_of(&hex_request(&["C8 00 0A 90 00 01 10 00 01 00 00"])), (TAKEN, 0));
+    assert_eq!(number_of(&hex_request(&["C8 00 0A 90 00 01 00 00 00 00 00"])), (BAD_FIELD, 1));
+    assert_eq!(number_of(&hex_request(&["C9 00 09 80 01 10 80 00 00 00"])), (BAD_FIELD, 1));
+    assert_eq!(number_of(&hex_request(&["D3 00 07 80 03 0F 00 00"])), (TAKEN, 0));
+    assert_eq!(number_of(&hex_request(&["D3 00 07 80 03 FF 00 00"])), (BAD_FIELD, 1));
+    assert_eq!(number_of(&hex_request(&["D3 00 07 C0 03 0F 00 00"])), (BAD_FIELD, 1));
+}
+
+/// The exported replace that empties the group contacts has attribute 01, for 00 is refused.
+#[test]
+fn a_replace_without_entries_has_an_attribute() {
+    assert_eq!(number_of(&hex_request(&["C8 00 05 C0 00 00"])), (BAD_FIELD, 1));
+    assert_eq!(number_of(&hex_request(&["C8 00 05 D0 00 00"])), (TAKEN, 0));
+    assert_eq!(number_of(&hex_request(&["C9 00 04 C0 00"])), (TAKEN, 0));
+}
+
 #[test]
 fn an_emergency_address_is_dropped() {
     let set = taken(&hex_request(&["CB 00 06 78 10 00 01", "CB 00 03 C8"]));
@@ -195,10 +224,16 @@ fn an_emergency_address_is_dropped() {
 
 #[test]
 fn reserved_bits_are_ignored() {
-    let settings = ["CD 00 05 07 E4 DF", "CF 00 05 00 00 1F", "CE 00 06 FC 01 0F 1F"];
-    let noisy = taken(&hex_request(&settings));
-    let plain = ["CD 00 05 07 E4 C0", "CF 00 05 00 00 00", "CE 00 06 C0 01 0F 1F"];
-    assert_eq!(noisy, taken(&hex_request(&plain)));
+    for (noisy, plain) in [
+        ("CD 00 05 07 E4 DF", "CD 00 05 07 E4 C0"),
+        ("CF 00 05 00 00 1F", "CF 00 05 00 00 00"),
+        ("CE 00 06 FC 01 0F 1F", "CE 00 06 C0 01 0F 1F"),
+        ("C8 00 0A 60 3F 01 10 00 01 00 00", "C8 00 0A 60 00 01 10 00 01 00 00"),
+        ("C9 00 09 43 01 10 00 01 00 00", "C9 00 09 40 01 10 00 01 00 00"),
+        ("D3 00 07 41 F3 1F 00 00", "D3 00 07 40 03 1F 00 00"),
+    ] {
+        assert_eq!(taken(&hex_request(&[noisy])), taken(&hex_request(&[plain])), "{noisy}");
+    }
     let mut message = hex_request(&[HOME]);
     message[5] |= 0xF0;
     assert_eq!(number_of(&message), (TAKEN, 0));

@@ -1,14 +1,16 @@
-use Rattle.lists.proofs.Kit.{needs, _≤_, _-_, _≡_, arith, length}
+use Rattle.lists.proofs.Kit.{needs, _+_, _≤_, _-_, _≡_, arith, length}
+use Rattle.tables.specs.Limits.{handheld}
+use Rattle.export.specs.Exported.{ten}
 use Rattle.put.proofs.main.Statement.{statement}
 use Rattle.put.proofs.main.Tie as tie
 
 abbrev Inv-loop : tie.InvT-loop
 Inv-loop buffer₀ store part₀ buffer part =
-    (length buffer ≡ 4096) × (length store ≡ 12288) × (part ≤ 8)
+    (length buffer ≡ 4096) × (length store ≡ handheld .size) × (part ≤ 1 + length ten)
 
 abbrev μ-loop : tie.MeasureT-loop
 μ-loop buffer₀ store part₀ buffer part =
-    8 - part
+    1 + length ten - part
 
 slice-aggregate-start : tie.Need-slice-aggregate-start Inv-loop μ-loop
 slice-aggregate-start c = search needs

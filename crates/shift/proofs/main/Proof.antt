@@ -7,7 +7,7 @@ use Rattle.shift.proofs.main.Statement.{statement}
 use Rattle.shift.proofs.main.Tie as tie
 
 abbrev Inv-loop : tie.InvT-loop
-Inv-loop buffer₀ store₀ reply₀ n₀ buffer store reply n = (length buffer ≡ 4096) × (length store ≡ 12288) × (length reply ≡ 20)
+Inv-loop buffer₀ store₀ reply₀ n₀ buffer store reply n = (length buffer ≡ 4096) × (length store ≡ 24576) × (length reply ≡ 20)
 
 abbrev μ-loop : tie.MeasureT-loop
 μ-loop buffer₀ store₀ reply₀ n₀ buffer store reply n = 18446744073709551615 - n

@@ -1,12 +1,13 @@
 use borrow.Author.Needs.{needs}
 use mathlib.Core.Path.{_≡_, refl}
 use lib.ListN.{length}
+use Rattle.tables.specs.Limits.{handheld}
 use Rattle.take.proofs.main.Statement.{statement}
 use Rattle.take.proofs.main.Tie as tie
 
 abbrev Inv-loop : tie.InvT-loop
 Inv-loop buffer₀ store₀ reply₀ turns₀ buffer store reply turns =
-    (length buffer ≡ 4096) × (length store ≡ 12288) × (length reply ≡ 20)
+    (length buffer ≡ 4096) × (length store ≡ handheld .size) × (length reply ≡ 20)
 
 abbrev μ-loop : tie.MeasureT-loop
 μ-loop buffer₀ store₀ reply₀ turns₀ buffer store reply turns =

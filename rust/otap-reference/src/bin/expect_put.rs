@@ -1,4 +1,4 @@
-//! Writes the seven records that document 01's program `put` must write for the records on standard input.
+//! Writes the ten records that document 01's program `put` must write for the records on standard input.
 
 use std::io::{self, Read, Write};
 

@@ -7,7 +7,8 @@ use crate::reference::screen::SCRATCH_ROOM;
 use crate::reference::take::REPLY_ROOM;
 
 /// For each table of the screen, the first row to ask for and how many.
-const ROWS: [(u32, usize); 5] = [(0, 34), (0, 66), (30, 100), (0, 18), (0, 18)];
+const ROWS: [(u32, usize); 8] =
+    [(0, 34), (0, 66), (30, 100), (0, 18), (0, 18), (0, 66), (0, 66), (0, 18)];
 
 /// A call and the room of the buffer that it writes to, if there is one.
 #[derive(Clone, Debug, PartialEq, Eq)]

@@ -83,9 +83,14 @@ fn sum(random: &mut Random, draft: &mut Draft) {
     draft.sum = Some(random.pick(&wrong));
 }
 
-/// Where a setting has a Count, it stands in the second byte of its fields, or in the first.
+/// Where a setting has a Count, it stands in the second byte of its fields, of quick texts in the first, of group contacts in the third.
 fn count(random: &mut Random, setting: &mut [u8]) {
-    let place = if setting[0] == 0xCC { 3 } else { 4 }.min(setting.len() - 1);
+    let place = match setting[0] {
+        0xCC => 3,
+        0xC8 => 5,
+        _ => 4,
+    };
+    let place = place.min(setting.len() - 1);
     let step = random.pick(&[1, 255, 2, 254]);
     setting[place] = setting[place].wrapping_add(step);
 }
@@ -114,7 +119,7 @@ fn out_of_range(random: &mut Random, tables: &Tables, draft: &mut Draft) {
 }
 
 fn unknown_type(random: &mut Random, draft: &mut Draft, place: usize) {
-    let unknown = random.pick(&[0x00, 0xC7, 0xD4, 0xFE, 0x8A, 0xC0, 0x4A]);
+    let unknown = random.pick(&[0x00, 0xC7, 0xD4, 0xD5, 0xD6, 0xFE, 0x88, 0xC0, 0x4A]);
     match random.below(3) {
         0 => draft.settings[place] = vec![unknown],
         1 => {
@@ -131,7 +136,7 @@ fn other_coding(random: &mut Random, tables: &Tables, draft: &mut Draft, place: 
         Coding::Eight => Coding::Unicode,
         Coding::Unicode => Coding::Eight,
     };
-    let kind = random.pick(&[0xCA, 0xCC, 0xD0, 0xD1, 0xD2]);
+    let kind = random.pick(&[0xC8, 0xC9, 0xCA, 0xCC, 0xD0, 0xD1, 0xD2, 0xD3]);
     let mut maker = Maker { random, tables, coding, slip_after: None };
     draft.settings[place] = maker.of_type(kind, Size::Small);
 }

@@ -1,6 +1,8 @@
 //! Single settings of every type, with values put out of range as often as asked.
 
+pub mod contacts;
 pub mod lines;
+mod slots;
 
 use super::random::Random;
 use crate::reference::bits::BitWriter;
@@ -8,7 +10,12 @@ use crate::reference::message::Hash;
 use crate::reference::tables::Tables;
 use crate::reference::texts::Coding;
 
-pub const TYPES: [u8; 9] = [0xCA, 0xCB, 0xCC, 0xCD, 0xCE, 0xCF, 0xD0, 0xD1, 0xD2];
+/// All but the last item's.
+pub const TYPES: [u8; 12] =
+    [0xC8, 0xC9, 0xCA, 0xCB, 0xCC, 0xCD, 0xCE, 0xCF, 0xD0, 0xD1, 0xD2, 0xD3];
+
+/// Too small, or with low 15 bits 0.
+const NO_ADDRESSES: [u32; 7] = [0, 1, 0x0F_FFFF, 0x10_0000, 0x10_8000, 0xFF_8000, 0x00_8001];
 
 const ADD: u32 = 1;
 const DELETE: u32 = 2;
@@ -68,6 +75,7 @@ impl Maker<'_> {
 
     pub fn of_type(&mut self, kind: u8, size: Size) -> Vec<u8> {
         match kind {
+            0xC8 | 0xC9 => self.contacts(kind, size),
             0xCA => self.lines(size),
             0xCB => self.emergency(),
             0xCC => self.quick_texts(size),
@@ -77,6 +85,7 @@ impl Maker<'_> {
             0xD0 => self.status_texts(size),
             0xD1 => self.group(),
             0xD2 => self.individual(),
+            0xD3 => self.line_slot(),
             _ => self.last(),
         }
     }
@@ -149,15 +158,21 @@ impl Maker<'_> {
     }
 
     fn address(&mut self) -> u32 {
-        let any = loop {
+        let good = self.good_address();
+        self.ranged(good, &NO_ADDRESSES)
+    }
+
+    /// Any address, or often one at the edges.
+    fn good_address(&mut self) -> u32 {
+        if self.random.percent(30) {
+            return self.random.pick(&[0x10_0001, 0x10_7FFF, 0xFF_8001, 0xFF_FFFF, 0x10_8001]);
+        }
+        loop {
             let any = self.random.bits(24);
             if any >= 0x10_0000 && any & 0x7FFF != 0 {
-                break any;
+                return any;
             }
-        };
-        let edge = self.random.pick(&[0x10_0001, 0x10_7FFF, 0xFF_8001, 0xFF_FFFF, 0x10_8001]);
-        let good = if self.random.percent(70) { any } else { edge };
-        self.ranged(good, &[0, 1, 0x0F_FFFF, 0x10_0000, 0x10_8000, 0xFF_8000, 0x00_8001])
+        }
     }
 
     fn keys(&mut self) -> Keys {
@@ -186,20 +201,29 @@ impl Maker<'_> {
     }
 
     fn quick_texts(&mut self, size: Size) -> Vec<u8> {
-        let mut bits = BitWriter::new();
         let operation = self.operation(&[ADD, ADD, DELETE, REPLACE]);
         let count = self.count(size, 63);
-        bits.bits(operation, 2);
-        bits.bits(count as u32, 6);
         let first = self.random.below(64);
         let in_order = self.random.flag();
-        for place in 0..count {
-            let index = if in_order { (first + place) % 64 } else { self.random.below(64) };
+        let index = |place| if in_order { (first + place) % 64 } else { self.random.below(64) };
+        let indexes: Vec<usize> = (0..count).map(index).collect();
+        self.quick_setting(operation, &indexes)
+    }
+
+    fn quick_setting(&mut self, operation: u32, indexes: &[usize]) -> Vec<u8> {
+        let mut bits = BitWriter::new();
+        bits.bits(operation, 2);
+        bits.bits(indexes.len() as u32, 6);
+        for &index in indexes {
             self.reserved(&mut bits, 2);
             bits.bits(index as u32, 6);
             self.text(&mut bits, usize::from(operation != DELETE), 23);
         }
         setting(0xCC, bits)
+    }
+
+    pub fn add_quick_texts(&mut self, indexes: &[usize]) -> Vec<u8> {
+        self.quick_setting(ADD, indexes)
     }
 
     fn home(&mut self) -> Vec<u8> {
@@ -290,50 +314,6 @@ impl Maker<'_> {
             self.text(&mut bits, 0, most);
         }
         setting(0xD0, bits)
-    }
-
-    /// Add or delete; a slip is 00 or, here, 11.
-    fn slot_operation(&mut self) -> u32 {
-        let good = self.random.pick(&[ADD, ADD, DELETE]);
-        self.ranged(good, &[0, REPLACE])
-    }
-
-    /// A delete's address is free.
-    fn slot_address(&mut self, operation: u32) -> u32 {
-        if operation == DELETE && self.random.flag() {
-            return self.random.pick(&[0, 0x10_0000, 0x0F_FFFF, 0xFF_8000]);
-        }
-        self.address()
-    }
-
-    fn group(&mut self) -> Vec<u8> {
-        let mut bits = BitWriter::new();
-        let operation = self.slot_operation();
-        let free = self.random.bits(2);
-        let good = self.random.within(1..=3) as u32;
-        let held = self.ranged(good, &[0]);
-        bits.bits(operation, 2);
-        bits.bits(if operation == DELETE { free } else { held }, 2);
-        self.flags(&mut bits, 6);
-        self.reserved(&mut bits, 2);
-        self.flags(&mut bits, 4);
-        let address = self.slot_address(operation);
-        bits.bits(address, 24);
-        self.text(&mut bits, 0, 16);
-        setting(0xD1, bits)
-    }
-
-    fn individual(&mut self) -> Vec<u8> {
-        let mut bits = BitWriter::new();
-        let operation = self.slot_operation();
-        bits.bits(operation, 2);
-        self.flags(&mut bits, 4);
-        self.reserved(&mut bits, 6);
-        self.flags(&mut bits, 4);
-        let address = self.slot_address(operation);
-        bits.bits(address, 24);
-        self.text(&mut bits, 0, 16);
-        setting(0xD2, bits)
     }
 
     pub fn last(&mut self) -> Vec<u8> {

@@ -1,8 +1,11 @@
-//! Stores with a poked count, or with a list that changed beside its count.
+//! Stores with a poked count, with a list that changed beside its count, or with a poked line slot.
 
 use super::random::Random;
-use crate::layout::{CHANNEL, CHANNELS_AT, COUNT, LINE, LINES_AT};
-use crate::reference::tables::{MOST_CHANNELS, MOST_LINES};
+use crate::layout::{
+    CHANNEL, CHANNELS_AT, COUNT, GROUP_CONTACTS_AT, INDIVIDUAL_CONTACTS_AT, LINE, LINES_AT,
+    LINE_SLOTS_AT, MEMBER,
+};
+use crate::reference::tables::{MOST_CHANNELS, MOST_CONTACTS, MOST_LINES, SLOTS};
 
 /// A region that begins with its count: its first byte, the bytes of a slot, and how many there are.
 #[derive(Clone, Copy, Debug, PartialEq, Eq)]
@@ -12,8 +15,13 @@ pub struct Region {
     pub places: usize,
 }
 
+pub const GROUP_CONTACTS: Region =
+    Region { at: GROUP_CONTACTS_AT, width: MEMBER, places: MOST_CONTACTS };
+pub const INDIVIDUAL_CONTACTS: Region =
+    Region { at: INDIVIDUAL_CONTACTS_AT, width: MEMBER, places: MOST_CONTACTS };
 pub const CHANNELS: Region = Region { at: CHANNELS_AT, width: CHANNEL, places: MOST_CHANNELS };
 pub const LINES: Region = Region { at: LINES_AT, width: LINE, places: MOST_LINES };
+pub const REGIONS: [Region; 4] = [GROUP_CONTACTS, INDIVIDUAL_CONTACTS, CHANNELS, LINES];
 
 impl Region {
     pub fn count(self, bytes: &[u8]) -> u16 {
@@ -31,7 +39,9 @@ impl Region {
 
 /// Gives one of a store's counts another value, or at times the one that it has.
 pub fn poke_count(random: &mut Random, bytes: &mut [u8]) {
-    let (region, other) = random.pick(&[(CHANNELS, LINES), (LINES, CHANNELS)]);
+    let place = random.below(REGIONS.len());
+    let region = REGIONS[place];
+    let other = REGIONS[(place + random.within(1..=REGIONS.len() - 1)) % REGIONS.len()];
     let truth = region.count(bytes);
     let places = region.places as u16;
     let poked = match random.below(11) {
@@ -51,17 +61,16 @@ pub fn poke_count(random: &mut Random, bytes: &mut [u8]) {
     region.set_count(bytes, poked);
 }
 
-/// Copies the first entry of a store's list to its end, a line at times with the other IDtype, or takes the last one away; half of the time its count
-/// follows.
+/// Copies the first entry of a store's list to its end, at times with another key, or takes the last one away; half of the time its count follows.
 pub fn poke_list(random: &mut Random, bytes: &mut [u8]) {
-    let region = random.pick(&[CHANNELS, LINES]);
+    let region = random.pick(&REGIONS);
     let count = usize::from(region.count(bytes));
     let longer = if random.percent(50) {
-        // Of a full list the last entry is overwritten; of an empty one a slot stays empty, or gets an IDtype alone.
+        // Of a full list the last entry is overwritten; of an empty one a slot stays empty, or gets some of a key alone.
         let end = region.slot(count.min(region.places - 1));
         bytes.copy_within(region.slot(0)..region.slot(1), end);
-        if region == LINES && random.flag() {
-            bytes[end + 1] ^= 1;
+        if random.flag() {
+            other_key(random, region, &mut bytes[end..end + region.width]);
         }
         count + 1
     } else {
@@ -71,5 +80,35 @@ pub fn poke_list(random: &mut Random, bytes: &mut [u8]) {
     };
     if random.percent(50) {
         region.set_count(bytes, longer as u16);
+    }
+}
+
+/// A line with the other IDtype, or a contact whose address differs in one bit; a channel has no key.
+fn other_key(random: &mut Random, region: Region, slot: &mut [u8]) {
+    if region == LINES {
+        slot[1] ^= 1;
+    } else if region != CHANNELS {
+        slot[random.within(1..=3)] ^= 1 << random.below(8);
+    }
+}
+
+/// Gives a line slot what another or a line contact has, empties it, or changes a byte of its flags, IDtype or digits.
+pub fn poke_line_slot(random: &mut Random, bytes: &mut [u8]) {
+    let slot = |place: usize| LINE_SLOTS_AT + place * LINE;
+    let at = slot(random.below(SLOTS));
+    match random.below(4) {
+        0 => {
+            let from = slot(random.below(SLOTS));
+            bytes.copy_within(from..from + LINE, at);
+        }
+        1 => {
+            let from = LINES.slot(random.below(MOST_LINES));
+            bytes.copy_within(from..from + LINE, at);
+        }
+        2 => bytes[at..at + LINE].fill(0),
+        _ => {
+            let place = at + random.pick(&[0, 1, 2, 3, 10, 18, 19]);
+            bytes[place] = random.pick(&[0, 1, 2, 9, 10, 11, 15, 16, 255]);
+        }
     }
 }

@@ -3,7 +3,7 @@
 use super::draft::carried;
 
 /// A coding type, and data with one or more settings: every type with every operation among them, and those with texts under both.
-pub const BASES: [(u8, &[u8]); 30] = [
+pub const BASES: [(u8, &[u8]); 42] = [
     (7, &[8, 1, 0xCA, 0, 9, 0x42, 1, 0x23, 0x45, 0xFF, 0, 0]),
     (7, &[8, 1, 0xCA, 0, 14, 0xC0, 2, 0x12, 0x3F, 0, 0x41, 0, 0, 0x1F, 0, 0]),
     (7, &[8, 1, 0xCA, 0, 8, 0x80, 1, 0x12, 0x3F, 0, 0]),
@@ -41,6 +41,19 @@ pub const BASES: [(u8, &[u8]); 30] = [
             0x1F, 0,
         ],
     ),
+    // Contacts and line slots.
+    (7, &[8, 1, 0xC8, 0, 12, 0x60, 0, 1, 0x10, 0, 1, 0, 0x41, 0, 0]),
+    (7, &[8, 1, 0xC8, 0, 15, 0xDF, 0xC0, 2, 0x10, 0, 1, 0, 0, 0xFF, 0xFF, 0xFF, 0, 0]),
+    (7, &[8, 1, 0xC8, 0, 10, 0xA0, 0, 1, 0x10, 0, 1, 0, 0]),
+    (7, &[8, 1, 0xC8, 0, 5, 0xD0, 0, 0]),
+    (7, &[8, 1, 0xC9, 0, 9, 0x40, 1, 0x10, 0, 1, 0, 0]),
+    (7, &[8, 2, 0xC9, 0, 9, 0x7C, 1, 0x10, 0, 1, 0, 0, 0xC9, 0, 9, 0x80, 1, 0x10, 0, 1, 0, 0]),
+    (7, &[8, 1, 0xC9, 0, 4, 0xC0, 0]),
+    (7, &[8, 1, 0xD3, 0, 9, 0x42, 3, 0x23, 0x45, 0xFF, 0, 0]),
+    (7, &[8, 1, 0xD3, 0, 7, 0x80, 15, 0x0F, 0, 0]),
+    (4, &[8, 1, 0xC8, 0, 10, 0x50, 0, 1, 0x10, 0, 1, 0x41, 0]),
+    (4, &[8, 1, 0xC9, 0, 13, 0x7C, 2, 0x10, 0, 1, 0, 0x10, 0, 1, 0x41, 0]),
+    (4, &[8, 2, 0xD3, 0, 8, 0x7E, 5, 0x12, 0x3F, 0x41, 0, 0xD3, 0, 6, 0x80, 5, 0x0F, 0]),
 ];
 
 /// The base, its every one-byte change, every cut with a true length, and every extension by one.

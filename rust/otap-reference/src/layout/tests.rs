@@ -1,40 +1,101 @@
-//! The counts among a store's bytes, and the keys of its lines: where they stand, and that a false count or one key twice makes bytes no store.
+//! The counts among a store's bytes, the keys of its lists and the line slots: where they stand, and that a false count or one key twice makes
+//! bytes no store.
 
 use super::*;
-use crate::inputs::pokes::{poke_count, poke_list, CHANNELS, LINES};
+use crate::inputs::pokes::{
+    poke_count, poke_line_slot, poke_list, Region, GROUP_CONTACTS, INDIVIDUAL_CONTACTS, REGIONS,
+};
 use crate::inputs::random::Random;
 use crate::inputs::Inputs;
-use crate::reference::settings::LineFlags;
+use crate::reference::plan::{GroupAddress, IndividualAddress};
+use crate::reference::settings::{GroupFlags, IndividualFlags, LineFlags};
 use crate::reference::take::{take, REPLY_ROOM};
 
-/// A set with so many lines and channels; no two lines have one number.
-fn held(lines: u8, channels: u16) -> Set {
+/// A set with so many group contacts, individual contacts, channels and lines; no two of a list have one key.
+fn held([groups, individuals, channels, lines]: [u16; 4]) -> Set {
     let mut set = Set::default();
-    let line = |place| Line {
-        digits: vec![place / 10, place % 10],
+    let address = |place: u16| 0x10_0001 + u32::from(place);
+    let flags = GroupFlags { attribute: 1, ..GroupFlags::default() };
+    let group = |place| flags.of(GroupAddress(address(place)), vec![0x4E2D]);
+    let individual =
+        |place| IndividualFlags::default().of(IndividualAddress(address(place)), vec![0x4E2D]);
+    let line = |place: u16| Line {
+        digits: vec![(place / 10) as u8, (place % 10) as u8],
         flags: LineFlags::default(),
         text: vec![0x4E2D],
     };
-    set.tables.lines = (0..lines).map(line).collect();
+    set.tables.group_contacts = (0..groups).map(group).collect();
+    set.tables.individual_contacts = (0..individuals).map(individual).collect();
     set.tables.channels = (0..channels).map(|place| 241 + place).collect();
+    set.tables.lines = (0..lines).map(line).collect();
     set
 }
 
+/// The rooms, and what `held` puts there.
+const FULL: [u16; 4] = [64, 64, 64, 32];
+
 #[test]
 fn counts_stand_before_their_lists() {
-    let bytes = bytes(&held(32, 64));
+    let bytes = bytes(&held(FULL));
     assert!(is_store(&bytes));
-    assert_eq!(bytes[7_286..7_290], [0, 64, 0, 241]);
+    // A count, then a group's flags, address and text, and at the region's end the last one's.
+    assert_eq!(bytes[8_118..8_126], [0, 64, 64, 0x10, 0, 1, 0x4E, 0x2D]);
+    assert_eq!(bytes[8_120 + 63 * 36..][..6], [64, 0x10, 0, 64, 0x4E, 0x2D]);
+    assert_eq!(bytes[10_424..10_432], [0, 64, 0, 0x10, 0, 1, 0x4E, 0x2D]);
+    assert_eq!(bytes[10_426 + 63 * 36..][..6], [0, 0x10, 0, 64, 0x4E, 0x2D]);
+    assert_eq!(bytes[12_730..12_734], [0, 64, 0, 241]);
     // The last channel, the count of lines, then the first one's flags, IDtype and digits 0 and 0.
-    assert_eq!(bytes[7_414..7_423], [1, 48, 0, 32, 0, 0, 1, 1, 0]);
-    assert_eq!(bytes[7_418 + 31 * 52 + 20..][..2], [0x4E, 0x2D]);
-    assert_eq!((SPARE_AT, SIZE - SPARE_AT), (7_418 + 32 * 52, 3_206));
+    assert_eq!(bytes[12_858..12_867], [1, 48, 0, 32, 0, 0, 1, 1, 0]);
+    assert_eq!(bytes[12_862 + 31 * 52 + 20..][..2], [0x4E, 0x2D]);
+    assert_eq!((SPARE_AT, SIZE - SPARE_AT), (12_862 + 32 * 52, 10_050));
+}
+
+#[test]
+fn regions_follow_each_other() {
+    assert_eq!(GROUP_CONTACTS_AT, LINE_SLOTS_AT + 16 * 52);
+    assert_eq!(INDIVIDUAL_CONTACTS_AT, GROUP_CONTACTS_AT + 2 + 64 * 36);
+    assert_eq!(CHANNELS_AT, INDIVIDUAL_CONTACTS_AT + 2 + 64 * 36);
+    assert_eq!(LINES_AT, CHANNELS_AT + 2 + 64 * 2);
 }
 
 #[test]
 fn a_fresh_store_counts_nothing() {
     let fresh = bytes(&Set::default());
-    assert!(is_store(&fresh) && is_empty(&fresh[CHANNELS_AT..]));
+    assert!(is_store(&fresh) && is_empty(&fresh[LINE_SLOTS_AT..]));
+    assert_eq!(fresh.len(), 24_576);
+    // The size before A4, and others around.
+    for size in [0, 12_288, 24_575, 24_577] {
+        let mut other = fresh.clone();
+        other.resize(size, 0);
+        assert!(!is_store(&other), "{size}");
+    }
+}
+
+#[test]
+fn line_slots_stand_by_index() {
+    let mut set = Set::default();
+    let flags = LineFlags { encryption: true, emergency: true, priority: 3, pabx: true };
+    let line = Line { digits: vec![0, 9], flags, text: vec![0x4E2D] };
+    set.tables.line_slots[0] = Some(line.clone());
+    set.tables.line_slots[15] = Some(line);
+    let bytes = bytes(&set);
+    // One line may stand in two slots.
+    assert!(is_store(&bytes));
+    for at in [7_286, 7_286 + 15 * 52] {
+        assert_eq!(bytes[at..at + 5], [15, 1, 1, 10, 0]);
+        assert_eq!(bytes[at + 20..at + 24], [0x4E, 0x2D, 0, 0]);
+    }
+    assert!(is_empty(&bytes[7_286 + 52..7_286 + 15 * 52]));
+    let changed = |place: usize, byte: u8| {
+        let mut poked = bytes.clone();
+        poked[7_286 + 15 * 52 + place] = byte;
+        is_store(&poked)
+    };
+    assert!(changed(0, 0) && !changed(0, 16), "flags");
+    assert!(changed(1, 0) && !changed(1, 2), "IDtype");
+    assert!(!changed(2, 0) && !changed(2, 11) && changed(2, 10), "the first digit");
+    assert!(changed(3, 0) && changed(4, 1) && !changed(5, 1), "the number's end");
+    assert!(changed(20, 0) && changed(22, 1) && !changed(24, 1), "the text");
 }
 
 /// Counts near the right one and near the room, with each of some high bytes, and such as overflow 16 bits when multiplied.
@@ -44,18 +105,20 @@ fn other_counts(right: u16) -> impl Iterator<Item = u16> {
     (0..=66).chain(high).chain(far).filter(move |&count| count != right)
 }
 
-/// Of empty lists, full ones and others, and each whatever the other is.
+/// Of empty lists, full ones and others, and each whatever the others are.
 #[test]
 fn a_false_count_is_no_store() {
-    for (lines, channels) in [(0, 0), (32, 64), (32, 0), (0, 64), (1, 1), (31, 63), (7, 40)] {
-        let bytes = bytes(&held(lines, channels));
-        assert!(is_store(&bytes), "{lines} lines, {channels} channels");
-        for (region, right) in [(CHANNELS, channels), (LINES, u16::from(lines))] {
+    let some =
+        [[0; 4], FULL, [0, 64, 0, 32], [64, 0, 64, 0], [1; 4], [63, 63, 63, 31], [7, 40, 9, 7]];
+    for entries in some {
+        let bytes = bytes(&held(entries));
+        assert!(is_store(&bytes), "{entries:?}");
+        for (region, right) in REGIONS.into_iter().zip(entries) {
             assert_eq!(region.count(&bytes), right);
             for count in other_counts(right) {
                 let mut poked = bytes.clone();
                 region.set_count(&mut poked, count);
-                assert!(!is_store(&poked), "{lines} lines, {channels} channels: {count}");
+                assert!(!is_store(&poked), "{entries:?}: {count}");
             }
         }
     }
@@ -64,9 +127,9 @@ fn a_false_count_is_no_store() {
 /// A count that is right for its list, whose end has moved: of lists that are neither empty nor full.
 #[test]
 fn a_list_and_its_count_change_together() {
-    let (few, more) = (bytes(&held(7, 40)), bytes(&held(8, 41)));
+    let (few, more) = (bytes(&held([7, 8, 40, 7])), bytes(&held([8, 9, 41, 8])));
     for (from, to) in [(&few, &more), (&more, &few)] {
-        for region in [CHANNELS, LINES] {
+        for region in REGIONS {
             let mut poked = from.clone();
             let slots = region.at + COUNT..region.at + COUNT + region.places * region.width;
             poked[slots.clone()].copy_from_slice(&to[slots]);
@@ -77,10 +140,59 @@ fn a_list_and_its_count_change_together() {
     }
 }
 
+/// Two contacts are told apart by each of the three bytes of the address, and by no other byte.
+#[test]
+fn contacts_differ_in_their_address() {
+    let bytes = bytes(&held([2, 2, 0, 0]));
+    for region in [GROUP_CONTACTS, INDIVIDUAL_CONTACTS] {
+        let (first, second) = (region.at + COUNT, region.at + COUNT + MEMBER);
+        let mut equal = bytes.clone();
+        equal.copy_within(first..second, second);
+        assert!(!is_store(&equal), "one contact twice");
+        let changed = |place: usize, byte: u8| {
+            let mut poked = equal.clone();
+            poked[second + place] = byte;
+            is_store(&poked)
+        };
+        assert!(!changed(0, if region == GROUP_CONTACTS { 0xFF } else { 15 }), "other flags");
+        assert!(!changed(4, 0x41), "another text");
+        assert!(changed(1, 0x11) && changed(1, 0x90), "the high byte");
+        assert!(changed(2, 1) && changed(2, 0x80), "the middle byte");
+        assert!(changed(3, 2) && changed(3, 0xFF), "the low byte");
+        assert!(!changed(1, 0x0F) && !changed(3, 0), "no address");
+    }
+}
+
+/// The flags of either kind are none of the other's; one address may stand in both lists and in the slots.
+#[test]
+fn kinds_of_contacts() {
+    let bytes = bytes(&held([3, 3, 0, 0]));
+    let flags = |region: Region, byte: u8| {
+        let mut poked = bytes.clone();
+        poked[region.at + COUNT + MEMBER] = byte;
+        is_store(&poked)
+    };
+    for byte in 0..=255 {
+        assert_eq!(flags(GROUP_CONTACTS, byte), byte >= 64, "{byte}");
+        assert_eq!(flags(INDIVIDUAL_CONTACTS, byte), byte < 16, "{byte}");
+    }
+    let mut slots = bytes.clone();
+    slots.copy_within(8_120..8_156, 6_134);
+    slots.copy_within(8_120..8_156, 6_170);
+    slots.copy_within(10_426..10_462, 6_710);
+    assert!(is_store(&slots));
+    // A gap, with the count that the entries would have.
+    let mut gap = bytes.clone();
+    gap[8_120 + 36..8_120 + 72].fill(0);
+    assert!(!is_store(&gap));
+    GROUP_CONTACTS.set_count(&mut gap, 2);
+    assert!(!is_store(&gap));
+}
+
 /// Two lines are told apart by each of the 19 bytes of IDtype and digits, and by no other byte.
 #[test]
 fn lines_differ_in_their_key() {
-    let mut set = held(0, 0);
+    let mut set = Set::default();
     let line = |text: u16| Line {
         digits: vec![7; 18],
         flags: LineFlags { pabx: true, ..LineFlags::default() },
@@ -122,7 +234,10 @@ fn poked_stores() {
             poked.copy_from_slice(&bytes);
             poke_list(&mut random, &mut poked);
             *if is_store(&poked) { &mut stores } else { &mut refused } += 1;
+            poked.copy_from_slice(&bytes);
+            poke_line_slot(&mut random, &mut poked);
+            *if is_store(&poked) { &mut stores } else { &mut refused } += 1;
         }
     }
-    assert!(stores > 50 && refused > 50, "{stores} still a store, {refused} refused");
+    assert!(stores > 100 && refused > 100, "{stores} still a store, {refused} refused");
 }

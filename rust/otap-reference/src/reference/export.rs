@@ -1,13 +1,16 @@
-//! The seven export parts, as requests with true lengths and no last item.
+//! The ten export parts, as requests with true lengths and no last item.
 
 use super::message::request;
 use super::numbers::{BUFFER_SHORT, NOT_A_STORE, NO_SUCH_PART, TAKEN};
-use super::settings::{LineEntry, LineFlags, Operation, Setting, TextEntry};
+use super::settings::{
+    ContactEntry, GroupFlags, IndividualFlags, LineEntry, LineFlags, Operation, Setting, TextEntry,
+    BACKGROUND,
+};
 use super::tables::{Set, Tables, FIRST_STATUS};
 use super::texts::Text;
 
 pub const EXPORT_ROOM: usize = 4_096;
-pub const PARTS: u8 = 7;
+pub const PARTS: u8 = 10;
 
 /// Most entries a quick-text setting's 6-bit Count can say.
 const MOST_QUICK: usize = 63;
@@ -36,7 +39,7 @@ pub fn export(part: u8, is_store: bool, set: &Set, buffer: &mut [u8]) -> Exporte
     }
 }
 
-/// The bytes of part 1 to 7.
+/// The bytes of part 1 to 10.
 pub fn part_bytes(part: u8, set: &Set) -> Option<Vec<u8>> {
     let tables = &set.tables;
     let settings = match part {
@@ -54,6 +57,9 @@ pub fn part_bytes(part: u8, set: &Set) -> Option<Vec<u8>> {
         5 => vec![status_texts(tables)],
         6 => slots(&tables.groups, |index, slot| Setting::Group { index, slot }),
         7 => slots(&tables.individuals, |index, slot| Setting::Individual { index, slot }),
+        8 => group_contacts(tables),
+        9 => individual_contacts(tables),
+        10 => slots(&tables.line_slots, |index, slot| Setting::LineSlot { index, slot }),
         _ => return None,
     };
     let written: Vec<_> = settings.iter().map(Setting::write).collect();
@@ -71,6 +77,29 @@ fn lines(tables: &Tables) -> Vec<Setting> {
         operation: Operation::Add,
         flags: line.flags,
         entries: vec![LineEntry { digits: line.digits.clone(), text: line.text.clone() }],
+    });
+    std::iter::once(clear).chain(adds).collect()
+}
+
+fn group_contacts(tables: &Tables) -> Vec<Setting> {
+    let setting = |operation, flags, entries| Setting::GroupContacts { operation, flags, entries };
+    // Attribute 00 would be refused; 01 is the least that is taken.
+    let flags = GroupFlags { attribute: BACKGROUND, ..GroupFlags::default() };
+    let clear = setting(Operation::Replace, flags, Vec::new());
+    let adds = tables.group_contacts.iter().map(|contact| {
+        let entry = ContactEntry { address: contact.address, text: contact.text.clone() };
+        setting(Operation::Add, contact.flags(), vec![entry])
+    });
+    std::iter::once(clear).chain(adds).collect()
+}
+
+fn individual_contacts(tables: &Tables) -> Vec<Setting> {
+    let setting =
+        |operation, flags, entries| Setting::IndividualContacts { operation, flags, entries };
+    let clear = setting(Operation::Replace, IndividualFlags::default(), Vec::new());
+    let adds = tables.individual_contacts.iter().map(|contact| {
+        let entry = ContactEntry { address: contact.address, text: contact.text.clone() };
+        setting(Operation::Add, contact.flags(), vec![entry])
     });
     std::iter::once(clear).chain(adds).collect()
 }

@@ -1,6 +1,8 @@
 //! Document 01 by subject, with the requests of document 02 that have landed. Nothing here knows the store's byte layout.
 
 pub mod bits;
+#[cfg(test)]
+mod by_hand;
 pub mod export;
 pub mod menu;
 pub mod message;

@@ -2,6 +2,7 @@
 
 use super::numbers::{BUFFER_SHORT, NOT_A_STORE, NO_SUCH_ROW, TAKEN};
 use super::plan::{dialled_group, dialled_individual};
+use super::settings::{GroupSlot, IndividualSlot, Line, BACKGROUND};
 use super::tables::{Set, FIRST_STATUS};
 
 pub const SCRATCH_ROOM: usize = 36;
@@ -14,6 +15,9 @@ pub enum Row {
     Status(usize),
     Group(usize),
     Individual(usize),
+    GroupContact(usize),
+    IndividualContact(usize),
+    LineSlot(usize),
 }
 
 /// The part given to the screen, as 16-bit units.
@@ -55,25 +59,34 @@ pub fn row_part(row: Row, is_store: bool, set: &Set, scratch: &mut [u8]) -> Show
 fn row_units(row: Row, set: &Set) -> Option<Shown> {
     let tables = &set.tables;
     match row {
-        Row::Line(position) => {
-            let line = tables.lines.get(position)?;
-            let digits = || line.digits.iter().map(|digit| u16::from(b'0' + digit)).collect();
-            Some(text_or(&line.text, digits))
-        }
+        Row::Line(position) => tables.lines.get(position).map(line),
         Row::Quick(index) => held(&tables.quick_texts, index).cloned().map(Shown::Stored),
         Row::Status(code) => {
             let place = code.checked_sub(usize::from(FIRST_STATUS))?;
             held(&tables.status_texts, place).cloned().map(Shown::Stored)
         }
-        Row::Group(index) => {
-            let slot = held(&tables.groups, index)?;
-            Some(text_or(&slot.text, || number(dialled_group(slot.address), slot.address.0)))
+        Row::Group(index) => held(&tables.groups, index).and_then(group),
+        Row::Individual(index) => held(&tables.individuals, index).map(individual),
+        Row::GroupContact(position) => tables.group_contacts.get(position).and_then(group),
+        Row::IndividualContact(position) => {
+            tables.individual_contacts.get(position).map(individual)
         }
-        Row::Individual(index) => {
-            let slot = held(&tables.individuals, index)?;
-            Some(text_or(&slot.text, || number(dialled_individual(slot.address), slot.address.0)))
-        }
+        Row::LineSlot(index) => held(&tables.line_slots, index).map(line),
     }
+}
+
+fn line(line: &Line) -> Shown {
+    text_or(&line.text, || line.digits.iter().map(|digit| u16::from(b'0' + digit)).collect())
+}
+
+/// Nothing of a background group, wherever it stands; the rows behind it keep their places.
+fn group(group: &GroupSlot) -> Option<Shown> {
+    let shown = || text_or(&group.text, || number(dialled_group(group.address), group.address.0));
+    (group.attribute != BACKGROUND).then(shown)
+}
+
+fn individual(one: &IndividualSlot) -> Shown {
+    text_or(&one.text, || number(dialled_individual(one.address), one.address.0))
 }
 
 fn held<T>(table: &[Option<T>], place: usize) -> Option<&T> {

@@ -1,39 +1,32 @@
 //! The tables and what each operation does to them.
 
 use super::message::Hash;
+pub use super::settings::Line;
 use super::settings::{
-    EmergencyKey, GroupSlot, HomeNumbers, IndividualSlot, LineEntry, LineFlags, Operation, Setting,
+    EmergencyKey, GroupSlot, HomeNumbers, IndividualSlot, LineEntry, Operation, Setting,
     SystemCode, TextEntry,
 };
 use super::texts::Text;
 
+#[cfg(test)]
+mod contact_tests;
 #[cfg(test)]
 mod tests;
 
 /// Places that lines of both IDtypes share.
 pub const MOST_LINES: usize = 32;
 pub const MOST_CHANNELS: usize = 64;
+/// Of the group contacts, and of the individual ones.
+pub const MOST_CONTACTS: usize = 64;
 pub const QUICK_TEXTS: usize = 64;
 pub const FIRST_STATUS: u8 = 32;
 pub const STATUS_TEXTS: usize = 96;
 pub const SLOTS: usize = 16;
 
 #[derive(Clone, Debug, PartialEq, Eq)]
-pub struct Line {
-    pub digits: Vec<u8>,
-    pub flags: LineFlags,
-    pub text: Text,
-}
-
-impl Line {
-    /// What tells lines apart: IDtype, true for PABX, and digits (document 02, A3).
-    pub fn key(&self) -> (bool, &[u8]) {
-        (self.flags.pabx, &self.digits)
-    }
-}
-
-#[derive(Clone, Debug, PartialEq, Eq)]
 pub struct Tables {
+    pub group_contacts: Vec<GroupSlot>,
+    pub individual_contacts: Vec<IndividualSlot>,
     pub lines: Vec<Line>,
     pub emergency: EmergencyKey,
     /// By index 0 to 63.
@@ -45,6 +38,7 @@ pub struct Tables {
     pub status_texts: Vec<Option<Text>>,
     pub groups: Vec<Option<GroupSlot>>,
     pub individuals: Vec<Option<IndividualSlot>>,
+    pub line_slots: Vec<Option<Line>>,
 }
 
 /// What a store stands for: the tables and the hash kept.
@@ -60,6 +54,8 @@ pub struct NoRoom;
 impl Default for Tables {
     fn default() -> Self {
         Tables {
+            group_contacts: Vec::new(),
+            individual_contacts: Vec::new(),
             lines: Vec::new(),
             emergency: EmergencyKey::default(),
             quick_texts: vec![None; QUICK_TEXTS],
@@ -69,16 +65,76 @@ impl Default for Tables {
             status_texts: vec![None; STATUS_TEXTS],
             groups: vec![None; SLOTS],
             individuals: vec![None; SLOTS],
+            line_slots: vec![None; SLOTS],
         }
     }
+}
+
+/// An entry of a list that holds each key once.
+trait Keyed {
+    fn same_key(&self, other: &Self) -> bool;
+}
+
+impl Keyed for GroupSlot {
+    fn same_key(&self, other: &Self) -> bool {
+        self.address == other.address
+    }
+}
+
+impl Keyed for IndividualSlot {
+    fn same_key(&self, other: &Self) -> bool {
+        self.address == other.address
+    }
+}
+
+impl Keyed for Line {
+    fn same_key(&self, other: &Self) -> bool {
+        self.key() == other.key()
+    }
+}
+
+/// A new key comes last, if there is a place left, and a known one is overwritten in its place; a delete closes the gap.
+fn apply_keyed<T: Keyed>(
+    list: &mut Vec<T>,
+    most: usize,
+    operation: Operation,
+    entries: impl Iterator<Item = T>,
+) -> Result<(), NoRoom> {
+    if operation == Operation::Replace {
+        // Of lines those of both IDtypes: it is the table that is emptied.
+        list.clear();
+    }
+    for entry in entries {
+        if operation == Operation::Delete {
+            list.retain(|kept| !kept.same_key(&entry));
+            continue;
+        }
+        match list.iter().position(|kept| kept.same_key(&entry)) {
+            Some(place) => list[place] = entry,
+            None if list.len() == most => return Err(NoRoom),
+            None => list.push(entry),
+        }
+    }
+    Ok(())
 }
 
 impl Tables {
     /// Applies one setting; without room the tables are left half changed, for the caller to drop.
     pub fn apply(&mut self, setting: Setting) -> Result<(), NoRoom> {
         match setting {
+            Setting::GroupContacts { operation, flags, entries } => {
+                let new = entries.into_iter().map(|entry| flags.of(entry.address, entry.text));
+                return apply_keyed(&mut self.group_contacts, MOST_CONTACTS, operation, new);
+            }
+            Setting::IndividualContacts { operation, flags, entries } => {
+                let new = entries.into_iter().map(|entry| flags.of(entry.address, entry.text));
+                return apply_keyed(&mut self.individual_contacts, MOST_CONTACTS, operation, new);
+            }
             Setting::Lines { operation, flags, entries } => {
-                return self.apply_lines(operation, flags, entries)
+                let line =
+                    |entry: LineEntry| Line { digits: entry.digits, flags, text: entry.text };
+                let new = entries.into_iter().map(line);
+                return apply_keyed(&mut self.lines, MOST_LINES, operation, new);
             }
             Setting::Channels { operation, channels } => {
                 return self.apply_channels(operation, channels)
@@ -90,37 +146,8 @@ impl Tables {
             Setting::System(code) => self.system = code,
             Setting::Group { index, slot } => self.groups[usize::from(index)] = slot,
             Setting::Individual { index, slot } => self.individuals[usize::from(index)] = slot,
+            Setting::LineSlot { index, slot } => self.line_slots[usize::from(index)] = slot,
             Setting::Last(_) => {}
-        }
-        Ok(())
-    }
-
-    fn apply_lines(
-        &mut self,
-        operation: Operation,
-        flags: LineFlags,
-        entries: Vec<LineEntry>,
-    ) -> Result<(), NoRoom> {
-        if operation == Operation::Replace {
-            // Of both IDtypes: it is the table that is emptied.
-            self.lines.clear();
-        }
-        for entry in entries {
-            let line = Line { digits: entry.digits, flags, text: entry.text };
-            if operation == Operation::Delete {
-                self.lines.retain(|kept| kept.key() != line.key());
-            } else {
-                self.add_line(line)?;
-            }
-        }
-        Ok(())
-    }
-
-    fn add_line(&mut self, new: Line) -> Result<(), NoRoom> {
-        match self.lines.iter().position(|line| line.key() == new.key()) {
-            Some(place) => self.lines[place] = new,
-            None if self.lines.len() == MOST_LINES => return Err(NoRoom),
-            None => self.lines.push(new),
         }
         Ok(())
     }

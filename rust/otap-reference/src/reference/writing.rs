@@ -1,9 +1,11 @@
-//! Writing the ten settings, for the exports and the tests.
+//! Writing the thirteen settings, for the exports and the tests.
 
 use super::bits::BitWriter;
+use super::plan::{GroupAddress, IndividualAddress};
 use super::settings::{
-    EmergencyKey, GroupSlot, HomeNumbers, IndividualSlot, LastItem, LineEntry, LineFlags,
-    Operation, Setting, SystemCode, TextEntry,
+    ContactEntry, EmergencyKey, GroupFlags, GroupSlot, HomeNumbers, IndividualFlags,
+    IndividualSlot, LastItem, Line, LineEntry, LineFlags, Operation, Setting, SystemCode,
+    TextEntry,
 };
 use super::texts::Coding;
 
@@ -26,6 +28,12 @@ impl Setting {
 
     fn write_fields(&self, coding: Coding, bits: &mut BitWriter) -> Option<u8> {
         match self {
+            Setting::GroupContacts { operation, flags, entries } => {
+                write_group_contacts(coding, bits, *operation, flags, entries)
+            }
+            Setting::IndividualContacts { operation, flags, entries } => {
+                write_individual_contacts(coding, bits, *operation, flags, entries)
+            }
             Setting::Lines { operation, flags, entries } => {
                 write_lines(coding, bits, *operation, flags, entries)
             }
@@ -45,9 +53,55 @@ impl Setting {
             Setting::Individual { index, slot } => {
                 write_individual(coding, bits, *index, slot.as_ref())
             }
+            Setting::LineSlot { index, slot } => {
+                write_line_slot(coding, bits, *index, slot.as_ref())
+            }
             Setting::Last(item) => Some(write_last(bits, item)),
         }
     }
+}
+
+fn write_group_contacts(
+    coding: Coding,
+    bits: &mut BitWriter,
+    operation: Operation,
+    flags: &GroupFlags,
+    entries: &[ContactEntry<GroupAddress>],
+) -> Option<u8> {
+    write_operation(bits, operation);
+    write_group_flags(bits, flags);
+    bits.bits(0, 6);
+    write_contacts(coding, bits, entries, |address| address.0)?;
+    Some(0xC8)
+}
+
+fn write_individual_contacts(
+    coding: Coding,
+    bits: &mut BitWriter,
+    operation: Operation,
+    flags: &IndividualFlags,
+    entries: &[ContactEntry<IndividualAddress>],
+) -> Option<u8> {
+    write_operation(bits, operation);
+    write_individual_flags(bits, flags);
+    bits.bits(0, 2);
+    write_contacts(coding, bits, entries, |address| address.0)?;
+    Some(0xC9)
+}
+
+/// Count, then each address with its text.
+fn write_contacts<Address: Copy>(
+    coding: Coding,
+    bits: &mut BitWriter,
+    entries: &[ContactEntry<Address>],
+    number: fn(Address) -> u32,
+) -> Option<()> {
+    bits.bits(entries.len() as u32, 8);
+    for entry in entries {
+        bits.bits(number(entry.address), 24);
+        coding.write_text(bits, &entry.text)?;
+    }
+    Some(())
 }
 
 fn write_lines(
@@ -58,10 +112,7 @@ fn write_lines(
     entries: &[LineEntry],
 ) -> Option<u8> {
     write_operation(bits, operation);
-    bits.flag(flags.encryption);
-    bits.flag(flags.emergency);
-    bits.bits(u32::from(flags.priority), 2);
-    bits.flag(flags.pabx);
+    write_line_flags(bits, flags);
     bits.bits(0, 1);
     bits.bits(entries.len() as u32, 8);
     for entry in entries {
@@ -151,12 +202,7 @@ fn write_group(
     slot: Option<&GroupSlot>,
 ) -> Option<u8> {
     write_operation(bits, slot_operation(slot));
-    bits.bits(slot.map_or(0, |slot| u32::from(slot.attribute)), 2);
-    bits.flag(slot.is_some_and(|slot| slot.broadcast));
-    bits.flag(slot.is_some_and(|slot| slot.encryption));
-    bits.flag(slot.is_some_and(|slot| slot.ovcm));
-    bits.flag(slot.is_some_and(|slot| slot.emergency));
-    bits.bits(slot.map_or(0, |slot| u32::from(slot.priority)), 2);
+    write_group_flags(bits, &slot.map(GroupSlot::flags).unwrap_or_default());
     bits.bits(0, 2);
     bits.bits(u32::from(index), 4);
     bits.bits(slot.map_or(0, |slot| slot.address.0), 24);
@@ -171,14 +217,28 @@ fn write_individual(
     slot: Option<&IndividualSlot>,
 ) -> Option<u8> {
     write_operation(bits, slot_operation(slot));
-    bits.flag(slot.is_some_and(|slot| slot.encryption));
-    bits.flag(slot.is_some_and(|slot| slot.emergency));
-    bits.bits(slot.map_or(0, |slot| u32::from(slot.priority)), 2);
+    write_individual_flags(bits, &slot.map(IndividualSlot::flags).unwrap_or_default());
     bits.bits(0, 6);
     bits.bits(u32::from(index), 4);
     bits.bits(slot.map_or(0, |slot| slot.address.0), 24);
     coding.write_text(bits, slot.map_or(&[], |slot| &slot.text[..]))?;
     Some(0xD2)
+}
+
+/// A delete has the number 0, for an empty number is out of range.
+fn write_line_slot(
+    coding: Coding,
+    bits: &mut BitWriter,
+    index: u8,
+    slot: Option<&Line>,
+) -> Option<u8> {
+    write_operation(bits, slot_operation(slot));
+    write_line_flags(bits, &slot.map(|line| line.flags).unwrap_or_default());
+    bits.bits(0, 5);
+    bits.bits(u32::from(index), 4);
+    write_digits(bits, slot.map_or(&[0], |line| &line.digits[..]));
+    coding.write_text(bits, slot.map_or(&[], |line| &line.text[..]))?;
+    Some(0xD3)
 }
 
 fn write_last(bits: &mut BitWriter, item: &LastItem) -> u8 {
@@ -194,6 +254,27 @@ fn slot_operation<T>(slot: Option<&T>) -> Operation {
     } else {
         Operation::Delete
     }
+}
+
+fn write_group_flags(bits: &mut BitWriter, flags: &GroupFlags) {
+    bits.bits(u32::from(flags.attribute), 2);
+    for flag in [flags.broadcast, flags.encryption, flags.ovcm, flags.emergency] {
+        bits.flag(flag);
+    }
+    bits.bits(u32::from(flags.priority), 2);
+}
+
+fn write_individual_flags(bits: &mut BitWriter, flags: &IndividualFlags) {
+    bits.flag(flags.encryption);
+    bits.flag(flags.emergency);
+    bits.bits(u32::from(flags.priority), 2);
+}
+
+fn write_line_flags(bits: &mut BitWriter, flags: &LineFlags) {
+    bits.flag(flags.encryption);
+    bits.flag(flags.emergency);
+    bits.bits(u32::from(flags.priority), 2);
+    bits.flag(flags.pabx);
 }
 
 fn write_operation(bits: &mut BitWriter, operation: Operation) {

@@ -13,8 +13,8 @@ returns-2 c = past-parts (c .before .before .args .number) (omega arith)
 cast-place : tie.Need-cast-place
 cast-place c = search needs
 
-array-copy-out-t15 : tie.Need-array-copy-out-t15
-array-copy-out-t15 c = search needs
+array-copy-out-which : tie.Need-array-copy-out-which
+array-copy-out-which c = search needs
 
 returns-3 : tie.Need-returns-3
 returns-3 c =
@@ -22,4 +22,4 @@ returns-3 c =
     part-within n (n - 1) (omega arith) (omega arith)
 
 pub part-of-spec : {M : Type 1} → statement M
-part-of-spec = tie.close (tie.spec returns returns-2 cast-place array-copy-out-t15 returns-3)
+part-of-spec = tie.close (tie.spec returns returns-2 cast-place array-copy-out-which returns-3)

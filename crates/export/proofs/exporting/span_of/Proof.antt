@@ -29,6 +29,21 @@ enum-told-6 c = search needs
 enum-told-7 : tie.Need-enum-told-7
 enum-told-7 c = search needs
 
+enum-told-8 : tie.Need-enum-told-8
+enum-told-8 c = search needs
+
+add-t7 : tie.Need-add-t7
+add-t7 c = search needs
+
+enum-told-9 : tie.Need-enum-told-9
+enum-told-9 c = search needs
+
+add-t8 : tie.Need-add-t8
+add-t8 c = search needs
+
+enum-told-10 : tie.Need-enum-told-10
+enum-told-10 c = search needs
+
 returns : tie.Need-returns
 returns c = rw (c .enum-told .given .1) (refl, refl, omega arith, omega arith)
 
@@ -50,6 +65,15 @@ returns-6 c = search needs
 returns-7 : tie.Need-returns-7
 returns-7 c = search needs
 
+returns-8 : tie.Need-returns-8
+returns-8 c = search needs
+
+returns-9 : tie.Need-returns-9
+returns-9 c = search needs
+
+returns-10 : tie.Need-returns-10
+returns-10 c = search needs
+
 pub span-of-spec : {M : Type 1} → statement M
 span-of-spec =
     tie.close
@@ -63,10 +87,18 @@ span-of-spec =
     enum-told-5
     enum-told-6
     enum-told-7
+    enum-told-8
+    add-t7
+    enum-told-9
+    add-t8
+    enum-told-10
     returns
     returns-2
     returns-3
     returns-4
     returns-5
     returns-6
-    returns-7)
+    returns-7
+    returns-8
+    returns-9
+    returns-10)

@@ -44,6 +44,24 @@ enum-told-7 c = search needs
 export-members-requires-2 : tie.Need-export-members-requires-2
 export-members-requires-2 c κs = search needs
 
+enum-told-8 : tie.Need-enum-told-8
+enum-told-8 c = search needs
+
+export-contacts-requires : tie.Need-export-contacts-requires
+export-contacts-requires c κs = search needs
+
+enum-told-9 : tie.Need-enum-told-9
+enum-told-9 c = search needs
+
+export-contacts-requires-2 : tie.Need-export-contacts-requires-2
+export-contacts-requires-2 c κs = search needs
+
+enum-told-10 : tie.Need-enum-told-10
+enum-told-10 c = search needs
+
+export-line-slots-requires : tie.Need-export-line-slots-requires
+export-line-slots-requires c κs = search needs
+
 same-length : tie.Need-same-length
 same-length c = search needs
 
@@ -86,6 +104,24 @@ same-length-7 c = search needs
 returns-7 : tie.Need-returns-7
 returns-7 c = rw (c .before .before .before .before .enum-told7 .given .1) (c .before .before .export-members2 .ensures)
 
+same-length-8 : tie.Need-same-length-8
+same-length-8 c = search needs
+
+returns-8 : tie.Need-returns-8
+returns-8 c = rw (c .before .before .before .before .enum-told8 .given .1) (c .before .before .export-contacts .ensures)
+
+same-length-9 : tie.Need-same-length-9
+same-length-9 c = search needs
+
+returns-9 : tie.Need-returns-9
+returns-9 c = rw (c .before .before .before .before .enum-told9 .given .1) (c .before .before .export-contacts2 .ensures)
+
+same-length-10 : tie.Need-same-length-10
+same-length-10 c = search needs
+
+returns-10 : tie.Need-returns-10
+returns-10 c = rw (c .before .before .before .before .enum-told10 .given .1) (c .before .before .export-line-slots .ensures)
+
 pub write-held-spec : {M : Type 1} → statement M
 write-held-spec =
     tie.close
@@ -104,6 +140,12 @@ write-held-spec =
     export-members-requires
     enum-told-7
     export-members-requires-2
+    enum-told-8
+    export-contacts-requires
+    enum-told-9
+    export-contacts-requires-2
+    enum-told-10
+    export-line-slots-requires
     same-length
     returns
     same-length-2
@@ -117,4 +159,10 @@ write-held-spec =
     same-length-6
     returns-6
     same-length-7
-    returns-7)
+    returns-7
+    same-length-8
+    returns-8
+    same-length-9
+    returns-9
+    same-length-10
+    returns-10)

@@ -1,14 +1,14 @@
-use Rattle.lists.proofs.Kit.{length-map, length, map, needs, _≤_, _-_, _+_, _*_, _≡_, refl, arith}
-use Rattle.export_write.specs.LineSettings.{line-add}
-use Rattle.writing.specs.Settings.{unicode16}
-use Rattle.writing.specs.Canonical.{canonical-all}
-use Rattle.export_write.proofs.WroteLaws.{writing-start}
-use Rattle.export_write.proofs.LineWriting.{Lined, lined-more, lined-end, lines-used}
+use Rattle.lists.proofs.Kit.{length-map, length, [], needs, _≤_, _-_, _+_, _*_, _≡_, refl, arith}
+use Rattle.export_write.specs.LineSettings.{no-line-flags, line-add}
+use Rattle.writing.specs.declared.Operation.the-variants.{Replace}
+use Rattle.writing.specs.Settings.{lines}
+use Rattle.export_write.proofs.LineWriting.{line-slotted}
+use Rattle.export_write.proofs.ListWriting.{entries-used, Adding, adding-start, adding-more, adding-end}
 use Rattle.export_write.proofs.lines.export_lines.Statement.{statement}
 use Rattle.export_write.proofs.lines.export_lines.Tie as tie
 
 abbrev Inv-loop : tie.InvT-loop
-Inv-loop buffer₀ region end₀ count i₀ buffer end i = (length buffer ≡ length buffer₀) × (i ≤ count) × (end₀ ≤ end) × (end ≤ end₀ + 49 * i) × Lined region buffer₀ buffer end₀ end i
+Inv-loop buffer₀ region end₀ count i₀ buffer end i = (length buffer ≡ length buffer₀) × (i ≤ count) × (end₀ ≤ end) × (end ≤ end₀ + 49 * i) × Adding line-slotted line-add region buffer₀ end₀ buffer end i
 
 abbrev μ-loop : tie.MeasureT-loop
 μ-loop buffer₀ region end₀ count i₀ buffer end i = count - i
@@ -40,7 +40,7 @@ used-requires c κs = search needs
 loop-holds : tie.Need-loop-holds Inv-loop μ-loop
 loop-holds c =
     let w = c .before .before .before .write-bytes in
-    (refl, omega arith, omega arith, omega arith, λ ls t. writing-start (canonical-all unicode16 (map line-add ls)) (w .result) (w .last .0) (omega arith))
+    (refl, omega arith, omega arith, omega arith, adding-start line-slotted line-add _ (w .last .0) (w .result) (omega arith))
 
 mul-a : tie.Need-mul-a Inv-loop μ-loop
 mul-a c = search needs
@@ -77,7 +77,7 @@ loop-again c =
       omega arith,
       omega arith,
       omega arith,
-      lined-more (a .region .now) (v .last .0) (l .buffer) (w .last .0) (v .result) (l .end) (l .i) (u .result) (w .result) (omega arith) (u .ensures) (l .inv .4) (w .ensures),
+      adding-more line-slotted line-add (a .region .now) (v .last .0) (v .result) (l .buffer) (w .last .0) (l .end) (l .i) (u .result) 49 (w .result) (omega arith) (u .ensures) (l .inv .4) (w .ensures),
     )
 
 cast-t27 : tie.Need-cast-t27 Inv-loop μ-loop
@@ -99,9 +99,9 @@ returns-3 c =
       writes = record {
         from = omega arith;
         most = omega (arith, u .ensures .within);
-        wrote = lined-end (a .region .now) (a .buffer .now) (v .last .0) (l .buffer) 8 (v .result) (l .end) (l .i) (u .result) (omega arith) (u .ensures) (v .ensures) (l .inv .4);
+        wrote = adding-end line-slotted line-add (a .region .now) (v .last .0) (v .result) (lines Replace no-line-flags []) (a .buffer .now) (l .buffer) 8 (l .end) (l .i) (u .result) (omega arith) (u .ensures) (v .ensures) (l .inv .4);
       };
-      counted = λ ls k. omega (arith, lines-used (a .region .now) ls (u .result) k (u .ensures), length-map ls line-add);
+      counted = λ ls k. omega (arith, entries-used line-slotted (a .region .now) ls (u .result) k (u .ensures), length-map ls line-add);
     }
 
 pub export-lines-spec : {M : Type 1} → statement M

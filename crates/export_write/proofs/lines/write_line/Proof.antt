@@ -1,46 +1,15 @@
-use Rattle.lists.proofs.Kit.{mid-len, needs, arith}
 use Rattle.export_write.specs.LineSettings.{line-add}
 use Rattle.export_write.proofs.LineWriting.{line-wrote}
 use Rattle.export_write.proofs.StartLaws.{setting-writes}
-use Rattle.tables.specs.Layout.{line-width}
+use Rattle.lists.proofs.Kit.{needs, arith}
 use Rattle.export_write.proofs.lines.write_line.Statement.{statement}
 use Rattle.export_write.proofs.lines.write_line.Tie as tie
 
-line-byte-requires : tie.Need-line-byte-requires
-line-byte-requires c κs = search needs
+add-write-fields : tie.Need-add-write-fields
+add-write-fields c = search needs
 
-add-write-bytes : tie.Need-add-write-bytes
-add-write-bytes c = search needs
-
-slice-aggregate-write-bytes : tie.Need-slice-aggregate-write-bytes
-slice-aggregate-write-bytes c = search needs
-
-write-bytes-requires : tie.Need-write-bytes-requires
-write-bytes-requires c κs = search needs
-
-sub-write-number : tie.Need-sub-write-number
-sub-write-number c = search needs
-
-part-write-number-start : tie.Need-part-write-number-start
-part-write-number-start c = search needs
-
-part-write-number-end : tie.Need-part-write-number-end
-part-write-number-end c = search needs
-
-write-number-requires : tie.Need-write-number-requires
-write-number-requires c κs = search needs
-
-sub-write-text : tie.Need-sub-write-text
-sub-write-text c = search needs
-
-part-write-text-start : tie.Need-part-write-text-start
-part-write-text-start c = search needs
-
-part-write-text-end : tie.Need-part-write-text-end
-part-write-text-end c = search needs
-
-write-text-requires : tie.Need-write-text-requires
-write-text-requires c κs = search needs
+write-fields-requires : tie.Need-write-fields-requires
+write-fields-requires c κs = search needs
 
 start-setting-requires : tie.Need-start-setting-requires
 start-setting-requires c κs = search needs
@@ -50,33 +19,13 @@ same-length c = search needs
 
 returns : tie.Need-returns
 returns c =
-    let a = c .before .before .before .before .before .before .before .before .before .before .before .before .before .before .before .before .before .before .before .before .before .before .args in
-    let p = c .before .before .before .before .before .before .before .before .before .before .before .before .before .before .before .before .before .before .before .before .before .before .pre in
-    let b = c .before .before .before .before .before .before .before .before .before .before .before .before .before .before .before .before .before .before .before .line-byte in
-    let v = c .before .before .before .before .before .before .before .before .before .before .before .before .before .before .before .before .write-bytes in
-    let n = c .before .before .before .before .before .before .before .before .before .before .before .write-number in
-    let w = c .before .before .before .before .before .before .write-text in
+    let a = c .before .before .before .before .before .before .before .before .before .before .args in
+    let w = c .before .before .before .before .before .before .write-fields in
     let z = c .before .before .start-setting in
-    let t = mid-len 20 line-width (a .slot .now) (omega (arith, p .0)) in
-    setting-writes _ line-add _ (a .at) 49 (w .result) (z .result) (a .buffer .now) (w .last .0) (z .last .0) (z .ensures) (omega arith) (omega (arith, t))
-    (line-wrote (a .slot .now) (a .at) (v .result) (n .result) (w .result) (b .result) (a .buffer .now) (v .last .0) (n .last .0) (w .last .0) (b .ensures) (v .ensures) (n .ensures) (w .ensures))
+    setting-writes _ line-add _ (a .at) 49 (w .result) (z .result) (a .buffer .now) (w .last .0) (z .last .0) (z .ensures) (omega (arith, w .ensures .from)) (omega (arith, w .ensures .most))
+    (line-wrote (a .slot .now) (a .at) (w .result) (a .buffer .now) (w .last .0) (w .ensures))
 
 pub write-line-spec : {M : Type 1} → statement M
 write-line-spec =
     tie.close
-    (tie.spec
-    line-byte-requires
-    add-write-bytes
-    slice-aggregate-write-bytes
-    write-bytes-requires
-    sub-write-number
-    part-write-number-start
-    part-write-number-end
-    write-number-requires
-    sub-write-text
-    part-write-text-start
-    part-write-text-end
-    write-text-requires
-    start-setting-requires
-    same-length
-    returns)
+    (tie.spec add-write-fields write-fields-requires start-setting-requires same-length returns)

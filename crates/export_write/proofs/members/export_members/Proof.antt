@@ -1,15 +1,13 @@
-use Rattle.export_write.specs.MemberWriters.{member-settings}
-use Rattle.writing.specs.Settings.{unicode16}
-use Rattle.writing.specs.Canonical.{canonical-all}
-use Rattle.export_write.proofs.WroteLaws.{writing-start}
-use Rattle.export_write.proofs.MemberWriting.{Membered, membered-more, membered-end, settings-length}
+use Rattle.export_write.specs.MemberWriters.{member-setting}
+use Rattle.export_write.proofs.MemberWriting.{member-slotted}
+use Rattle.export_write.proofs.SlotWriting.{slots-length, Placing, placing-start, placing-more, placing-end}
 use Rattle.lists.proofs.Kit.{needs, _≤_, _-_, _+_, _*_, _≡_, refl, sym, _∙_, arith, length}
 use Rattle.tables.specs.Limits.{slot-places}
 use Rattle.export_write.proofs.members.export_members.Statement.{statement}
 use Rattle.export_write.proofs.members.export_members.Tie as tie
 
 abbrev Inv-loop : tie.InvT-loop
-Inv-loop buffer₀ which region end₀ index₀ buffer end index = (length buffer ≡ length buffer₀) × (index ≤ slot-places) × (8 ≤ end) × (end ≤ 8 + 42 * index) × Membered which region buffer₀ buffer 8 end index
+Inv-loop buffer₀ which region end₀ index₀ buffer end index = (length buffer ≡ length buffer₀) × (index ≤ slot-places) × (8 ≤ end) × (end ≤ 8 + 42 * index) × Placing (member-slotted which) (member-setting which) slot-places region buffer₀ 8 buffer end index
 
 abbrev μ-loop : tie.MeasureT-loop
 μ-loop buffer₀ which region end₀ index₀ buffer end index = slot-places - index
@@ -26,7 +24,7 @@ returns-2 c = λ h. absurd (omega (arith, h .1))
 loop-holds : tie.Need-loop-holds Inv-loop μ-loop
 loop-holds c =
     let a = c .before .before .before .before .args in
-    (refl, omega arith, omega arith, omega arith, λ os t. writing-start (canonical-all unicode16 (member-settings (a .which) 0 os)) 8 (a .buffer .now) (omega arith))
+    (refl, omega arith, omega arith, omega arith, placing-start (member-slotted (a .which)) (member-setting (a .which)) slot-places _ (a .buffer .now) 8 (omega arith))
 
 mul-a : tie.Need-mul-a Inv-loop μ-loop
 mul-a c = search needs
@@ -64,7 +62,7 @@ loop-again c =
       omega arith,
       omega arith,
       omega arith,
-      membered-more (a .which) (a .region .now) (a .buffer .now) (l .buffer) (w .last .0) 8 (l .end) (l .index) (w .result) (omega arith) (l .inv .4) (w .ensures),
+      placing-more (member-slotted (a .which)) (member-setting (a .which)) slot-places (a .region .now) (a .buffer .now) 8 (l .buffer) (w .last .0) (l .end) (l .index) 42 (w .result) (omega arith) (l .inv .4) (w .ensures),
     )
 
 cast-t19 : tie.Need-cast-t19 Inv-loop μ-loop
@@ -81,9 +79,9 @@ returns-3 c =
       writes = record {
         from = omega arith;
         most = omega arith;
-        wrote = membered-end (a .which) (a .region .now) (a .buffer .now) (l .buffer) 8 (l .end) (l .index) (omega arith) (l .inv .4);
+        wrote = placing-end (member-slotted (a .which)) (member-setting (a .which)) slot-places (a .region .now) (a .buffer .now) 8 (l .buffer) (l .end) (l .index) (omega arith) (l .inv .4);
       };
-      counted = λ os t. sym (settings-length (a .which) 0 os ∙ t .many);
+      counted = λ os t. sym (slots-length (member-setting (a .which)) 0 os ∙ t .many);
     }
 
 pub export-members-spec : {M : Type 1} → statement M

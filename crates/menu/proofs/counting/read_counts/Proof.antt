@@ -1,5 +1,5 @@
 use Rattle.lists.proofs.Kit.{needs, arith, _+_, _-_}
-use Rattle.tables.specs.Layout.{channels-size, lines-at, lines-size, lists-at}
+use Rattle.tables.specs.Layout.{channels-size, lines-at, lines-size, channels-at}
 use Rattle.menu.proofs.CountLaws.{counts-read}
 use Rattle.menu.proofs.counting.read_counts.Statement.{statement}
 use Rattle.menu.proofs.counting.read_counts.Tie as tie
@@ -56,7 +56,7 @@ returns : tie.Need-returns
 returns c =
     let s = c .before .before .before .before .before .before .before in
     let a = s .args in
-    counts-read (a .limits) (s .pre .0) (a .store .now) (lines-at (a .limits) + lines-size (a .limits) - lines-at (a .limits)) (lists-at + channels-size (a .limits) - lists-at) (omega arith) (omega arith) (c .before .before .count .result) (c .count2 .result) (c .before .before .count .ensures) (c .count2 .ensures)
+    counts-read (a .limits) (s .pre .0) (a .store .now) (lines-at (a .limits) + lines-size (a .limits) - lines-at (a .limits)) (channels-at + channels-size (a .limits) - channels-at) (omega arith) (omega arith) (c .before .before .count .result) (c .count2 .result) (c .before .before .count .ensures) (c .count2 .ensures)
 
 pub read-counts-spec : {M : Type 1} → statement M
 read-counts-spec =

@@ -1,9 +1,12 @@
-use Rattle.lists.proofs.Kit.{needs, arith, _+_, _/_, _%_, refl, sym, _∙_, subst}
-use Rattle.settings.proofs.BodyLaws.{no-room, no-body, the-body, flag-bit}
-use Rattle.read_bodies.proofs.SlotLaws.{group-head, slot-op, slot-in}
-use Rattle.settings.specs.declared.settings.Setting.the-variants.{Group}
+use Rattle.lists.proofs.Kit.{needs, arith, _+_, _/_, _%_, _≤_, refl, sym, _∙_, subst, _≢_, length}
+use Rattle.lists.specs.Bytes.{Bytes}
 use Rattle.writing.specs.declared.Kind.the-variants.{Group as KGroup}
 use Rattle.settings.specs.TypeTable.{OperationIs}
+use Rattle.settings.specs.declared.settings.Setting.the-variants.{Group}
+use Rattle.settings.proofs.BodyLaws.{no-room, no-body, the-body}
+use Rattle.read_bodies.proofs.SlotLaws.{group-head, slot-op, slot-in}
+use Rattle.read_bodies.proofs.FlagLaws.{group-shifted}
+use Rattle.writing.specs.Ranges.{InAddress, InSlot}
 use Rattle.read_fields.specs.TextsAndNumbers.{TextAt}
 use Rattle.read_fields.proofs.TextWalk.{text-read}
 use Rattle.read_bodies.specs.Refused.{SlotRefused}
@@ -14,7 +17,10 @@ remaining-requires : tie.Need-remaining-requires
 remaining-requires c κs = search needs
 
 returns : tie.Need-returns
-returns c = λ ops left. no-room KGroup (group-head (c .before .before .before .args .coding)) left (c .before .before .before .args .m .now) (c .before .before .before .args .p) (λ i. (c .before .before .shared-slice-known .given i) .fits) (omega arith)
+returns c =
+    let a = c .before .before .before .args in
+    let h : Bytes (a .m .now) = λ i. (c .before .before .shared-slice-known .given i) .fits in
+    λ ops left. no-room KGroup (group-head (a .coding)) left (a .m .now) (a .p) h (omega arith)
 
 number-requires : tie.Need-number-requires
 number-requires c κs = search needs
@@ -30,12 +36,17 @@ enum-told c = search needs
 
 returns-2 : tie.Need-returns-2
 returns-2 c =
-    λ ops left.
-    let told = subst (OperationIs (c .before .before .before .number .result / 274877906944 % 4) (c .before .before .before .before .before .before .before .args .operations)) (c .enum-told .given .1) (c .before .before .operation-of .ensures) in
-    no-body KGroup (group-head (c .before .before .before .before .before .before .before .args .coding)) left (c .before .before .before .before .before .before .before .args .m .now) (c .before .before .before .before .before .before .before .args .p) (λ i. (c .before .before .before .before .before .before .shared-slice-known .given i) .fits) (c .before .before .before .number .ensures (omega arith, omega arith)) (λ x next k i t. told (x .0) (sym (k .0)) (omega (arith, slot-op (x .0) _ (i .0), k .0)))
+    let a = c .before .before .before .before .before .before .before .args in
+    let h : Bytes (a .m .now) = λ i. (c .before .before .before .before .before .before .shared-slice-known .given i) .fits in
+    let n = c .before .before .before .number in
+    let room : a .p + 5 ≤ length (a .m .now) = omega arith in
+    let is = n .ensures (omega arith, room) in
+    let told = subst (OperationIs _ _) (c .enum-told .given .1) (c .before .before .operation-of .ensures) in
+    λ ops left. no-body KGroup (group-head (a .coding)) left (a .m .now) (a .p) h is
+    (λ x next k i t. told (x .0) (sym (k .0)) (omega (arith, slot-op (x .0) (λ q. InSlot q ((x .1 .attribute ≢ 0) × InAddress (x .2 .address .0))) (λ e. e) (i .0), k .0)))
 
-cast-attribute : tie.Need-cast-attribute
-cast-attribute c = search needs
+group-flags-requires : tie.Need-group-flags-requires
+group-flags-requires c κs = search needs
 
 cast-address : tie.Need-cast-address
 cast-address c = search needs
@@ -45,10 +56,17 @@ slot-refused-requires c κs = search needs
 
 returns-3 : tie.Need-returns-3
 returns-3 c =
-    λ ops left.
-    let told = subst (OperationIs (c .before .before .before .before .before .before .number .result / 274877906944 % 4) (c .before .before .before .before .before .before .before .before .before .before .args .operations)) (c .before .before .before .o .given .1) (c .before .before .before .before .before .operation-of .ensures) in
-    let never = subst (SlotRefused (c .before .before .before .o .given .0 .0) (c .before .before .before .before .before .before .number .result / 68719476736 % 4) (c .before .before .before .before .before .before .number .result % 16777216)) (c .if2 .taken) (c .before .slot-refused .ensures) in
-    no-body KGroup (group-head (c .before .before .before .before .before .before .before .before .before .before .args .coding)) left (c .before .before .before .before .before .before .before .before .before .before .args .m .now) (c .before .before .before .before .before .before .before .before .before .before .args .p) (λ i. (c .before .before .before .before .before .before .before .before .before .shared-slice-known .given i) .fits) (c .before .before .before .before .before .before .number .ensures (omega arith, omega arith)) (λ x next k i t. never (slot-in (c .before .before .before .o .given .0 .0) (x .0) (c .before .before .before .before .before .before .number .result / 68719476736 % 4) _ (c .before .before .before .before .before .before .number .result % 16777216) _ (told .0 ∙ k .0) (k .1 .0) (omega (arith, k .1 .1 .1 .1 .1 .1 .1 .1 .1 .0)) (i .0)))
+    let a = c .before .before .before .before .before .before .before .before .before .before .before .args in
+    let h : Bytes (a .m .now) = λ i. (c .before .before .before .before .before .before .before .before .before .before .shared-slice-known .given i) .fits in
+    let n = c .before .before .before .before .before .before .before .number in
+    let room : a .p + 5 ≤ length (a .m .now) = omega arith in
+    let is = n .ensures (omega arith, room) in
+    let told = subst (OperationIs _ _) (c .before .before .before .before .o .given .1) (c .before .before .before .before .before .before .operation-of .ensures) in
+    let o = c .before .before .before .before .o .given .0 .0 in
+    let never = subst (SlotRefused (c .before .before .before .before .o .given .0 .0) (c .before .before .group-flags .result .attribute) (n .result % 16777216)) (c .if2 .taken) (c .before .slot-refused .ensures) in
+    let g = group-shifted (n .result) 16777216 (c .before .before .group-flags .ensures) in
+    λ ops left. no-body KGroup (group-head (a .coding)) left (a .m .now) (a .p) h is
+    (λ x next k i t. never (slot-in o (x .0) (c .before .before .group-flags .result .attribute) (x .1 .attribute) (n .result % 16777216) (x .2 .address .0) (told .0 ∙ k .0) (sym (g .0) ∙ k .1 .0) (omega (arith, k .1 .1 .1 .1 .1 .1 .1 .1 .1 .0)) (i .0)))
 
 add-read-text : tie.Need-add-read-text
 add-read-text c = search needs
@@ -64,37 +82,37 @@ enum-told-2 c = search needs
 
 returns-4 : tie.Need-returns-4
 returns-4 c =
-    λ ops left.
-    let none = subst (TextAt (c .before .before .before .before .before .before .before .before .before .before .before .before .before .args .coding) (c .before .before .before .before .before .before .before .before .before .before .before .before .before .args .m .now) (c .before .before .before .before .before .before .before .before .before .before .before .before .before .args .p + 5) 16) (c .enum-told2 .given .1) (c .before .before .read-text .ensures) in
-    no-body KGroup (group-head (c .before .before .before .before .before .before .before .before .before .before .before .before .before .args .coding)) left (c .before .before .before .before .before .before .before .before .before .before .before .before .before .args .m .now) (c .before .before .before .before .before .before .before .before .before .before .before .before .before .args .p) (λ i. (c .before .before .before .before .before .before .before .before .before .before .before .before .shared-slice-known .given i) .fits) (c .before .before .before .before .before .before .before .before .before .number .ensures (omega arith, omega arith)) (λ x next k i t. none (x .2 .text) next (i .1) t)
-
-flag-requires : tie.Need-flag-requires
-flag-requires c κs = search needs
-
-flag-requires-2 : tie.Need-flag-requires-2
-flag-requires-2 c κs = search needs
-
-flag-requires-3 : tie.Need-flag-requires-3
-flag-requires-3 c κs = search needs
-
-flag-requires-4 : tie.Need-flag-requires-4
-flag-requires-4 c κs = search needs
-
-cast-t28 : tie.Need-cast-t28
-cast-t28 c = search needs
+    let a = c .before .before .before .before .before .before .before .before .before .before .before .before .before .before .args in
+    let h : Bytes (a .m .now) = λ i. (c .before .before .before .before .before .before .before .before .before .before .before .before .before .shared-slice-known .given i) .fits in
+    let n = c .before .before .before .before .before .before .before .before .before .before .number in
+    let room : a .p + 5 ≤ length (a .m .now) = omega arith in
+    let is = n .ensures (omega arith, room) in
+    let none = subst (TextAt (a .coding) (a .m .now) (a .p + 5) 16) (c .enum-told2 .given .1) (c .before .before .read-text .ensures) in
+    λ ops left. no-body KGroup (group-head (a .coding)) left (a .m .now) (a .p) h is (λ x next k i t. none (x .2 .text) next (i .1) t)
 
 cast-index : tie.Need-cast-index
 cast-index c = search needs
 
 returns-5 : tie.Need-returns-5
 returns-5 c =
-    λ ops left.
-    let told = subst (OperationIs (c .before .before .before .before .before .before .before .before .before .before .before .before .before .before .number .result / 274877906944 % 4) (c .before .before .before .before .before .before .before .before .before .before .before .before .before .before .before .before .before .before .args .operations)) (c .before .before .before .before .before .before .before .before .before .before .before .o .given .1) (c .before .before .before .before .before .before .before .before .before .before .before .before .before .operation-of .ensures) in
-    let good = subst (SlotRefused (c .before .before .before .before .before .before .before .before .before .before .before .o .given .0 .0) (c .before .before .before .before .before .before .before .before .before .before .before .before .before .before .number .result / 68719476736 % 4) (c .before .before .before .before .before .before .before .before .before .before .before .before .before .before .number .result % 16777216)) (c .before .before .before .before .before .before .before .before .if2 .left) (c .before .before .before .before .before .before .before .before .before .slot-refused .ensures) in
-    let z = text-read (c .before .before .before .before .before .before .before .before .before .before .before .before .before .before .before .before .before .before .args .coding) (c .before .before .before .before .before .before .before .before .before .before .before .before .before .before .before .before .before .before .args .m .now) (c .before .before .before .before .before .before .before .before .before .before .before .before .before .before .before .before .before .before .args .p + 5) 16 (c .before .before .before .before .before .units .given .0 .0) (c .before .before .before .before .before .units .given .0 .1 .0) (c .before .before .before .before .before .before .before .read-text .ensures) (c .before .before .before .before .before .units .given .1) in
-    the-body KGroup (group-head (c .before .before .before .before .before .before .before .before .before .before .before .before .before .before .before .before .before .before .args .coding)) left (c .before .before .before .before .before .before .before .before .before .before .before .before .before .before .before .before .before .before .args .m .now) (c .before .before .before .before .before .before .before .before .before .before .before .before .before .before .before .before .before .before .args .p) (λ i. (c .before .before .before .before .before .before .before .before .before .before .before .before .before .before .before .before .before .shared-slice-known .given i) .fits) (c .before .before .before .before .before .before .before .before .before .before .before .before .before .before .number .ensures (omega arith, omega arith)) ((c .before .before .before .before .before .before .before .before .before .before .before .o .given .0 .0), (record { attribute = (c .before .before .before .before .before .before .before .before .before .before .before .before .before .before .number .result / 68719476736 % 4); broadcast = c .before .before .before .flag .result; encryption = c .before .before .flag2 .result; ovcm = c .before .flag3 .result; emergency = c .flag4 .result; priority = c .before .before .before .before .before .before .before .before .before .before .before .before .before .before .number .result / 1073741824 % 4 }), record { index = c .before .before .before .before .before .before .before .before .before .before .before .before .before .before .number .result / 16777216 % 16; address = record { 0 = (c .before .before .before .before .before .before .before .before .before .before .before .before .before .before .number .result % 16777216) }; text = z .0 }) (Group (c .before .before .before .before .before .before .before .before .before .before .before .o .given .0 .0) (record { attribute = (c .before .before .before .before .before .before .before .before .before .before .before .before .before .before .number .result / 68719476736 % 4); broadcast = c .before .before .before .flag .result; encryption = c .before .before .flag2 .result; ovcm = c .before .flag3 .result; emergency = c .flag4 .result; priority = c .before .before .before .before .before .before .before .before .before .before .before .before .before .before .number .result / 1073741824 % 4 }) (record { index = c .before .before .before .before .before .before .before .before .before .before .before .before .before .before .number .result / 16777216 % 16; address = record { 0 = (c .before .before .before .before .before .before .before .before .before .before .before .before .before .before .number .result % 16777216) }; text = (c .before .before .before .before .before .units .given .0 .0) })) (c .before .before .before .before .before .units .given .0 .1 .0) (omega arith)
-    (sym (told .0), (refl, (flag-bit (c .before .before .before .before .before .before .before .before .before .before .before .before .before .before .number .result / 34359738368) (c .before .before .before .flag .result) (c .before .before .before .flag .ensures), (flag-bit (c .before .before .before .before .before .before .before .before .before .before .before .before .before .before .number .result / 17179869184) (c .before .before .flag2 .result) (c .before .before .flag2 .ensures), (flag-bit (c .before .before .before .before .before .before .before .before .before .before .before .before .before .before .number .result / 8589934592) (c .before .flag3 .result) (c .before .flag3 .ensures), (flag-bit (c .before .before .before .before .before .before .before .before .before .before .before .before .before .before .number .result / 4294967296) (c .flag4 .result) (c .flag4 .ensures), (refl, (tt, (refl, (omega arith, tt))))))))))
-    (good, z .1) (z .3) (z .0, refl, ((c .before .before .before .before .before .units .given .0 .1 .0), z .2))
+    let a = c .before .before .before .before .before .before .before .before .before .before .before .before .before .before .before .args in
+    let h : Bytes (a .m .now) = λ i. (c .before .before .before .before .before .before .before .before .before .before .before .before .before .before .shared-slice-known .given i) .fits in
+    let n = c .before .before .before .before .before .before .before .before .before .before .before .number in
+    let room : a .p + 5 ≤ length (a .m .now) = omega arith in
+    let is = n .ensures (omega arith, room) in
+    let told = subst (OperationIs _ _) (c .before .before .before .before .before .before .before .before .o .given .1) (c .before .before .before .before .before .before .before .before .before .before .operation-of .ensures) in
+    let o = c .before .before .before .before .before .before .before .before .o .given .0 .0 in
+    let f = c .before .before .before .before .before .before .group-flags in
+    let g = group-shifted (n .result) 16777216 (f .ensures) in
+    let good = subst (SlotRefused (c .before .before .before .before .before .before .before .before .o .given .0 .0) (c .before .before .before .before .before .before .group-flags .result .attribute) (n .result % 16777216)) (c .before .before .before .before .if2 .left) (c .before .before .before .before .before .slot-refused .ensures) in
+    let u = c .before .units .given in
+    let z = text-read (a .coding) (a .m .now) (a .p + 5) 16 (u .0 .0) (u .0 .1 .0) (c .before .before .before .read-text .ensures) (u .1) in
+    λ ops left. the-body KGroup (group-head (a .coding)) left (a .m .now) (a .p) h is
+    (o, f .result, record { index = n .result / 16777216 % 16; address = record { 0 = n .result % 16777216 }; text = z .0 })
+    (Group o (f .result) (record { index = n .result / 16777216 % 16; address = record { 0 = n .result % 16777216 }; text = u .0 .0 }))
+    (u .0 .1 .0) room
+    (sym (told .0), (g .0, (g .1, (g .2, (g .3, (g .4, (g .5, (tt, (refl, (omega arith, tt))))))))))
+    (good, z .1) (z .3) (z .0, refl, (u .0 .1 .0, z .2))
 
 pub read-group-spec : {M : Type 1} → statement M
 read-group-spec =
@@ -107,7 +125,7 @@ read-group-spec =
     enum-known-o
     enum-told
     returns-2
-    cast-attribute
+    group-flags-requires
     cast-address
     slot-refused-requires
     returns-3
@@ -116,10 +134,5 @@ read-group-spec =
     enum-known-units
     enum-told-2
     returns-4
-    flag-requires
-    flag-requires-2
-    flag-requires-3
-    flag-requires-4
-    cast-t28
     cast-index
     returns-5)

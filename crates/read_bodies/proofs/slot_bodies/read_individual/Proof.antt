@@ -1,9 +1,12 @@
-use Rattle.lists.proofs.Kit.{needs, arith, _+_, _/_, _%_, refl, sym, _∙_, subst}
-use Rattle.settings.proofs.BodyLaws.{no-room, no-body, the-body, flag-bit}
-use Rattle.read_bodies.proofs.SlotLaws.{individual-head, slot-op, slot-in, slot-turn}
-use Rattle.settings.specs.declared.settings.Setting.the-variants.{Individual}
+use Rattle.lists.proofs.Kit.{needs, arith, _+_, _/_, _%_, _≤_, refl, sym, _∙_, subst, _≢_, length}
+use Rattle.lists.specs.Bytes.{Bytes}
 use Rattle.writing.specs.declared.Kind.the-variants.{Individual as KIndividual}
 use Rattle.settings.specs.TypeTable.{OperationIs}
+use Rattle.settings.specs.declared.settings.Setting.the-variants.{Individual}
+use Rattle.settings.proofs.BodyLaws.{no-room, no-body, the-body}
+use Rattle.read_bodies.proofs.SlotLaws.{individual-head, slot-op, slot-in, slot-turn}
+use Rattle.read_bodies.proofs.FlagLaws.{individual-shifted}
+use Rattle.writing.specs.Ranges.{InAddress, InSlot}
 use Rattle.read_fields.specs.TextsAndNumbers.{TextAt}
 use Rattle.read_fields.proofs.TextWalk.{text-read}
 use Rattle.read_bodies.specs.Refused.{SlotRefused}
@@ -14,7 +17,10 @@ remaining-requires : tie.Need-remaining-requires
 remaining-requires c κs = search needs
 
 returns : tie.Need-returns
-returns c = λ ops left. no-room KIndividual (individual-head (c .before .before .before .args .coding)) left (c .before .before .before .args .m .now) (c .before .before .before .args .p) (λ i. (c .before .before .shared-slice-known .given i) .fits) (omega arith)
+returns c =
+    let a = c .before .before .before .args in
+    let h : Bytes (a .m .now) = λ i. (c .before .before .shared-slice-known .given i) .fits in
+    λ ops left. no-room KIndividual (individual-head (a .coding)) left (a .m .now) (a .p) h (omega arith)
 
 number-requires : tie.Need-number-requires
 number-requires c κs = search needs
@@ -30,9 +36,14 @@ enum-told c = search needs
 
 returns-2 : tie.Need-returns-2
 returns-2 c =
-    λ ops left.
-    let told = subst (OperationIs (c .before .before .before .number .result / 274877906944 % 4) (c .before .before .before .before .before .before .before .args .operations)) (c .enum-told .given .1) (c .before .before .operation-of .ensures) in
-    no-body KIndividual (individual-head (c .before .before .before .before .before .before .before .args .coding)) left (c .before .before .before .before .before .before .before .args .m .now) (c .before .before .before .before .before .before .before .args .p) (λ i. (c .before .before .before .before .before .before .shared-slice-known .given i) .fits) (c .before .before .before .number .ensures (omega arith, omega arith)) (λ x next k i t. told (x .0) (sym (k .0)) (omega (arith, slot-op (x .0) _ (i .0), k .0)))
+    let a = c .before .before .before .before .before .before .before .args in
+    let h : Bytes (a .m .now) = λ i. (c .before .before .before .before .before .before .shared-slice-known .given i) .fits in
+    let n = c .before .before .before .number in
+    let room : a .p + 5 ≤ length (a .m .now) = omega arith in
+    let is = n .ensures (omega arith, room) in
+    let told = subst (OperationIs _ _) (c .enum-told .given .1) (c .before .before .operation-of .ensures) in
+    λ ops left. no-body KIndividual (individual-head (a .coding)) left (a .m .now) (a .p) h is
+    (λ x next k i t. told (x .0) (sym (k .0)) (omega (arith, slot-op (x .0) (λ q. InSlot q (InAddress (x .2 .address .0))) (λ e. e) (i .0), k .0)))
 
 cast-address : tie.Need-cast-address
 cast-address c = search needs
@@ -42,10 +53,16 @@ slot-refused-requires c κs = search needs
 
 returns-3 : tie.Need-returns-3
 returns-3 c =
-    λ ops left.
-    let told = subst (OperationIs (c .before .before .before .before .before .before .number .result / 274877906944 % 4) (c .before .before .before .before .before .before .before .before .before .before .args .operations)) (c .before .before .before .o .given .1) (c .before .before .before .before .before .operation-of .ensures) in
-    let never = subst (SlotRefused (c .before .before .before .o .given .0 .0) 1 (c .before .before .before .before .before .before .number .result % 16777216)) (c .if2 .taken) (c .before .slot-refused .ensures) in
-    no-body KIndividual (individual-head (c .before .before .before .before .before .before .before .before .before .before .args .coding)) left (c .before .before .before .before .before .before .before .before .before .before .args .m .now) (c .before .before .before .before .before .before .before .before .before .before .args .p) (λ i. (c .before .before .before .before .before .before .before .before .before .shared-slice-known .given i) .fits) (c .before .before .before .before .before .before .number .ensures (omega arith, omega arith)) (λ x next k i t. never (slot-in (c .before .before .before .o .given .0 .0) (x .0) 1 1 (c .before .before .before .before .before .before .number .result % 16777216) (x .2 .address .0) (told .0 ∙ k .0) refl (omega (arith, k .1 .1 .1 .1 .1 .1 .0)) (slot-turn (x .0) (λ q. (λ e. omega arith, q)) (i .0))))
+    let a = c .before .before .before .before .before .before .before .before .before .before .args in
+    let h : Bytes (a .m .now) = λ i. (c .before .before .before .before .before .before .before .before .before .shared-slice-known .given i) .fits in
+    let n = c .before .before .before .before .before .before .number in
+    let room : a .p + 5 ≤ length (a .m .now) = omega arith in
+    let is = n .ensures (omega arith, room) in
+    let told = subst (OperationIs _ _) (c .before .before .before .o .given .1) (c .before .before .before .before .before .operation-of .ensures) in
+    let o = c .before .before .before .o .given .0 .0 in
+    let never = subst (SlotRefused (c .before .before .before .o .given .0 .0) 1 (n .result % 16777216)) (c .if2 .taken) (c .before .slot-refused .ensures) in
+    λ ops left. no-body KIndividual (individual-head (a .coding)) left (a .m .now) (a .p) h is
+    (λ x next k i t. never (slot-in o (x .0) 1 1 (n .result % 16777216) (x .2 .address .0) (told .0 ∙ k .0) refl (omega (arith, k .1 .1 .1 .1 .1 .1 .0)) (slot-turn (x .0) (λ q. (λ e. omega arith, q)) (i .0))))
 
 add-read-text : tie.Need-add-read-text
 add-read-text c = search needs
@@ -61,31 +78,40 @@ enum-told-2 c = search needs
 
 returns-4 : tie.Need-returns-4
 returns-4 c =
-    λ ops left.
-    let none = subst (TextAt (c .before .before .before .before .before .before .before .before .before .before .before .before .before .args .coding) (c .before .before .before .before .before .before .before .before .before .before .before .before .before .args .m .now) (c .before .before .before .before .before .before .before .before .before .before .before .before .before .args .p + 5) 16) (c .enum-told2 .given .1) (c .before .before .read-text .ensures) in
-    no-body KIndividual (individual-head (c .before .before .before .before .before .before .before .before .before .before .before .before .before .args .coding)) left (c .before .before .before .before .before .before .before .before .before .before .before .before .before .args .m .now) (c .before .before .before .before .before .before .before .before .before .before .before .before .before .args .p) (λ i. (c .before .before .before .before .before .before .before .before .before .before .before .before .shared-slice-known .given i) .fits) (c .before .before .before .before .before .before .before .before .before .number .ensures (omega arith, omega arith)) (λ x next k i t. none (x .2 .text) next (i .1) t)
+    let a = c .before .before .before .before .before .before .before .before .before .before .before .before .before .args in
+    let h : Bytes (a .m .now) = λ i. (c .before .before .before .before .before .before .before .before .before .before .before .before .shared-slice-known .given i) .fits in
+    let n = c .before .before .before .before .before .before .before .before .before .number in
+    let room : a .p + 5 ≤ length (a .m .now) = omega arith in
+    let is = n .ensures (omega arith, room) in
+    let none = subst (TextAt (a .coding) (a .m .now) (a .p + 5) 16) (c .enum-told2 .given .1) (c .before .before .read-text .ensures) in
+    λ ops left. no-body KIndividual (individual-head (a .coding)) left (a .m .now) (a .p) h is (λ x next k i t. none (x .2 .text) next (i .1) t)
 
-flag-requires : tie.Need-flag-requires
-flag-requires c κs = search needs
-
-flag-requires-2 : tie.Need-flag-requires-2
-flag-requires-2 c κs = search needs
-
-cast-t23 : tie.Need-cast-t23
-cast-t23 c = search needs
+individual-flags-requires : tie.Need-individual-flags-requires
+individual-flags-requires c κs = search needs
 
 cast-index : tie.Need-cast-index
 cast-index c = search needs
 
 returns-5 : tie.Need-returns-5
 returns-5 c =
-    λ ops left.
-    let told = subst (OperationIs (c .before .before .before .before .before .before .before .before .before .before .before .before .number .result / 274877906944 % 4) (c .before .before .before .before .before .before .before .before .before .before .before .before .before .before .before .before .args .operations)) (c .before .before .before .before .before .before .before .before .before .o .given .1) (c .before .before .before .before .before .before .before .before .before .before .before .operation-of .ensures) in
-    let good = subst (SlotRefused (c .before .before .before .before .before .before .before .before .before .o .given .0 .0) 1 (c .before .before .before .before .before .before .before .before .before .before .before .before .number .result % 16777216)) (c .before .before .before .before .before .before .if2 .left) (c .before .before .before .before .before .before .before .slot-refused .ensures) in
-    let z = text-read (c .before .before .before .before .before .before .before .before .before .before .before .before .before .before .before .before .args .coding) (c .before .before .before .before .before .before .before .before .before .before .before .before .before .before .before .before .args .m .now) (c .before .before .before .before .before .before .before .before .before .before .before .before .before .before .before .before .args .p + 5) 16 (c .before .before .before .units .given .0 .0) (c .before .before .before .units .given .0 .1 .0) (c .before .before .before .before .before .read-text .ensures) (c .before .before .before .units .given .1) in
-    the-body KIndividual (individual-head (c .before .before .before .before .before .before .before .before .before .before .before .before .before .before .before .before .args .coding)) left (c .before .before .before .before .before .before .before .before .before .before .before .before .before .before .before .before .args .m .now) (c .before .before .before .before .before .before .before .before .before .before .before .before .before .before .before .before .args .p) (λ i. (c .before .before .before .before .before .before .before .before .before .before .before .before .before .before .before .shared-slice-known .given i) .fits) (c .before .before .before .before .before .before .before .before .before .before .before .before .number .ensures (omega arith, omega arith)) ((c .before .before .before .before .before .before .before .before .before .o .given .0 .0), (record { encryption = c .before .flag .result; emergency = c .flag2 .result; priority = c .before .before .before .before .before .before .before .before .before .before .before .before .number .result / 17179869184 % 4 }), record { index = c .before .before .before .before .before .before .before .before .before .before .before .before .number .result / 16777216 % 16; address = record { 0 = (c .before .before .before .before .before .before .before .before .before .before .before .before .number .result % 16777216) }; text = z .0 }) (Individual (c .before .before .before .before .before .before .before .before .before .o .given .0 .0) (record { encryption = c .before .flag .result; emergency = c .flag2 .result; priority = c .before .before .before .before .before .before .before .before .before .before .before .before .number .result / 17179869184 % 4 }) (record { index = c .before .before .before .before .before .before .before .before .before .before .before .before .number .result / 16777216 % 16; address = record { 0 = (c .before .before .before .before .before .before .before .before .before .before .before .before .number .result % 16777216) }; text = (c .before .before .before .units .given .0 .0) })) (c .before .before .before .units .given .0 .1 .0) (omega arith)
-    (sym (told .0), (flag-bit (c .before .before .before .before .before .before .before .before .before .before .before .before .number .result / 137438953472) (c .before .flag .result) (c .before .flag .ensures), (flag-bit (c .before .before .before .before .before .before .before .before .before .before .before .before .number .result / 68719476736) (c .flag2 .result) (c .flag2 .ensures), (refl, (tt, (refl, (omega arith, tt)))))))
-    (slot-turn (c .before .before .before .before .before .before .before .before .before .o .given .0 .0) (λ q. q .1) good, z .1) (z .3) (z .0, refl, ((c .before .before .before .units .given .0 .1 .0), z .2))
+    let a = c .before .before .before .before .before .before .before .before .before .before .before .before .before .before .before .args in
+    let h : Bytes (a .m .now) = λ i. (c .before .before .before .before .before .before .before .before .before .before .before .before .before .before .shared-slice-known .given i) .fits in
+    let n = c .before .before .before .before .before .before .before .before .before .before .before .number in
+    let room : a .p + 5 ≤ length (a .m .now) = omega arith in
+    let is = n .ensures (omega arith, room) in
+    let told = subst (OperationIs _ _) (c .before .before .before .before .before .before .before .before .o .given .1) (c .before .before .before .before .before .before .before .before .before .before .operation-of .ensures) in
+    let o = c .before .before .before .before .before .before .before .before .o .given .0 .0 in
+    let f = c .individual-flags in
+    let g = individual-shifted (n .result) 16777216 (f .ensures) in
+    let good = subst (SlotRefused (c .before .before .before .before .before .before .before .before .o .given .0 .0) 1 (n .result % 16777216)) (c .before .before .before .before .before .if2 .left) (c .before .before .before .before .before .before .slot-refused .ensures) in
+    let u = c .before .before .units .given in
+    let z = text-read (a .coding) (a .m .now) (a .p + 5) 16 (u .0 .0) (u .0 .1 .0) (c .before .before .before .before .read-text .ensures) (u .1) in
+    λ ops left. the-body KIndividual (individual-head (a .coding)) left (a .m .now) (a .p) h is
+    (o, f .result, record { index = n .result / 16777216 % 16; address = record { 0 = n .result % 16777216 }; text = z .0 })
+    (Individual o (f .result) (record { index = n .result / 16777216 % 16; address = record { 0 = n .result % 16777216 }; text = u .0 .0 }))
+    (u .0 .1 .0) room
+    (sym (told .0), (g .0, (g .1, (g .2, (tt, (refl, (omega arith, tt)))))))
+    (slot-turn o (λ q. q .1) good, z .1) (z .3) (z .0, refl, (u .0 .1 .0, z .2))
 
 pub read-individual-spec : {M : Type 1} → statement M
 read-individual-spec =
@@ -106,8 +132,6 @@ read-individual-spec =
     enum-known-units
     enum-told-2
     returns-4
-    flag-requires
-    flag-requires-2
-    cast-t23
+    individual-flags-requires
     cast-index
     returns-5)

@@ -10,7 +10,7 @@ remaining-requires : tie.Need-remaining-requires
 remaining-requires c κs = search needs
 
 returns : tie.Need-returns
-returns c = no-byte (λ i. res 2 ∷ val 6 i ∷ []) (λ N. N % 64) quick-byte (c .before .before .before .args .coding) (QuickFrom text-limits (c .before .before .before .args .least)) (c .before .before .before .args .m .now) (c .before .before .before .args .at) (λ i. (c .before .before .shared-slice-known .given i) .fits) (omega arith)
+returns c = no-byte 1 (λ i. res 2 ∷ val 6 i ∷ []) (λ N. N % 64) quick-byte (c .before .before .before .args .coding) (QuickFrom text-limits (c .before .before .before .args .least)) (c .before .before .before .args .m .now) (c .before .before .before .args .at) (λ i. (c .before .before .shared-slice-known .given i) .fits) (omega arith)
 
 number-requires : tie.Need-number-requires
 number-requires c κs = search needs
@@ -31,13 +31,13 @@ enum-told : tie.Need-enum-told
 enum-told c = search needs
 
 returns-2 : tie.Need-returns-2
-returns-2 c = no-entry-text (λ i. res 2 ∷ val 6 i ∷ []) (λ N. N % 64) quick-byte (c .before .before .before .before .before .before .before .args .coding) (QuickFrom text-limits (c .before .before .before .before .before .before .before .args .least)) (c .before .before .before .before .before .before .before .args .m .now) (c .before .before .before .before .before .before .before .args .at) (λ i. (c .before .before .before .before .before .before .shared-slice-known .given i) .fits) (c .before .before .before .number .ensures (omega arith, omega arith)) 23 (λ e i. i .1) (c .before .before .read-text .ensures) (c .enum-told .given .1)
+returns-2 c = no-entry-text 1 (λ i. res 2 ∷ val 6 i ∷ []) (λ N. N % 64) quick-byte (c .before .before .before .before .before .before .before .args .coding) (QuickFrom text-limits (c .before .before .before .before .before .before .before .args .least)) (c .before .before .before .before .before .before .before .args .m .now) (c .before .before .before .before .before .before .before .args .at) (λ i. (c .before .before .before .before .before .before .shared-slice-known .given i) .fits) (c .before .before .before .number .ensures (omega arith, omega arith)) 23 (λ e i. i .1) (c .before .before .read-text .ensures) (c .enum-told .given .1)
 
 returns-3 : tie.Need-returns-3
-returns-3 c = no-such-text (λ i. res 2 ∷ val 6 i ∷ []) (λ N. N % 64) quick-byte (c .before .before .before .before .before .before .before .before .before .before .args .coding) (QuickFrom text-limits (c .before .before .before .before .before .before .before .before .before .before .args .least)) (c .before .before .before .before .before .before .before .before .before .before .args .m .now) (c .before .before .before .before .before .before .before .before .before .before .args .at) (λ i. (c .before .before .before .before .before .before .before .before .before .shared-slice-known .given i) .fits) (c .before .before .before .before .before .before .number .ensures (omega arith, omega arith)) 23 (λ e i. i .1) _ _ (c .before .before .before .before .before .read-text .ensures) (c .before .before .before .units .given .1) (λ e i l. omega (arith, i .0))
+returns-3 c = no-such-text 1 (λ i. res 2 ∷ val 6 i ∷ []) (λ N. N % 64) quick-byte (c .before .before .before .before .before .before .before .before .before .before .args .coding) (QuickFrom text-limits (c .before .before .before .before .before .before .before .before .before .before .args .least)) (c .before .before .before .before .before .before .before .before .before .before .args .m .now) (c .before .before .before .before .before .before .before .before .before .before .args .at) (λ i. (c .before .before .before .before .before .before .before .before .before .shared-slice-known .given i) .fits) (c .before .before .before .before .before .before .number .ensures (omega arith, omega arith)) 23 (λ e i. i .1) _ _ (c .before .before .before .before .before .read-text .ensures) (c .before .before .before .units .given .1) (λ e i l. omega (arith, i .0))
 
 returns-4 : tie.Need-returns-4
-returns-4 c = the-entry (λ i. res 2 ∷ val 6 i ∷ []) (λ N. N % 64) quick-byte (c .before .before .before .before .before .before .before .before .before .before .args .coding) (QuickFrom text-limits (c .before .before .before .before .before .before .before .before .before .before .args .least)) (c .before .before .before .before .before .before .before .before .before .before .args .m .now) (c .before .before .before .before .before .before .before .before .before .before .args .at) (λ i. (c .before .before .before .before .before .before .before .before .before .shared-slice-known .given i) .fits) (c .before .before .before .before .before .before .number .ensures (omega arith, omega arith)) 23 (λ e i. i .1) _ _ (c .before .before .before .before .before .read-text .ensures) (c .before .before .before .units .given .1) _ refl (omega arith) (λ us l e. (omega arith, l))
+returns-4 c = the-entry 1 (λ i. res 2 ∷ val 6 i ∷ []) (λ N. N % 64) quick-byte (c .before .before .before .before .before .before .before .before .before .before .args .coding) (QuickFrom text-limits (c .before .before .before .before .before .before .before .before .before .before .args .least)) (c .before .before .before .before .before .before .before .before .before .before .args .m .now) (c .before .before .before .before .before .before .before .before .before .before .args .at) (λ i. (c .before .before .before .before .before .before .before .before .before .shared-slice-known .given i) .fits) (c .before .before .before .before .before .before .number .ensures (omega arith, omega arith)) 23 (λ e i. i .1) _ _ (c .before .before .before .before .before .read-text .ensures) (c .before .before .before .units .given .1) _ refl (omega arith) (λ us l e. (omega arith, l))
 
 pub read-quick-spec : {M : Type 1} → statement M
 read-quick-spec =

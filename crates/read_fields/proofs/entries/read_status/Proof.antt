@@ -9,7 +9,7 @@ remaining-requires : tie.Need-remaining-requires
 remaining-requires c κs = search needs
 
 returns : tie.Need-returns
-returns c = no-byte (λ i. val 8 i ∷ []) (λ N. N % 256) status-byte (c .before .before .before .args .coding) (InStatus text-limits) (c .before .before .before .args .m .now) (c .before .before .before .args .at) (λ i. (c .before .before .shared-slice-known .given i) .fits) (omega arith)
+returns c = no-byte 1 (λ i. val 8 i ∷ []) (λ N. N % 256) status-byte (c .before .before .before .args .coding) (InStatus text-limits) (c .before .before .before .args .m .now) (c .before .before .before .args .at) (λ i. (c .before .before .shared-slice-known .given i) .fits) (omega arith)
 
 number-requires : tie.Need-number-requires
 number-requires c κs = search needs
@@ -18,10 +18,10 @@ cast-code : tie.Need-cast-code
 cast-code c = search needs
 
 returns-2 : tie.Need-returns-2
-returns-2 c = no-index (λ i. val 8 i ∷ []) (λ N. N % 256) status-byte (c .before .before .before .before .before .args .coding) (InStatus text-limits) (c .before .before .before .before .before .args .m .now) (c .before .before .before .before .before .args .at) (λ i. (c .before .before .before .before .shared-slice-known .given i) .fits) (c .before .number .ensures (omega arith, omega arith)) (λ e i d. omega (arith, i .0))
+returns-2 c = no-index 1 (λ i. val 8 i ∷ []) (λ N. N % 256) status-byte (c .before .before .before .before .before .args .coding) (InStatus text-limits) (c .before .before .before .before .before .args .m .now) (c .before .before .before .before .before .args .at) (λ i. (c .before .before .before .before .shared-slice-known .given i) .fits) (c .before .number .ensures (omega arith, omega arith)) (λ e i d. omega (arith, i .0))
 
 returns-3 : tie.Need-returns-3
-returns-3 c = no-index (λ i. val 8 i ∷ []) (λ N. N % 256) status-byte (c .before .before .before .before .before .before .args .coding) (InStatus text-limits) (c .before .before .before .before .before .before .args .m .now) (c .before .before .before .before .before .before .args .at) (λ i. (c .before .before .before .before .before .shared-slice-known .given i) .fits) (c .before .before .number .ensures (omega arith, omega arith)) (λ e i d. omega (arith, i .1))
+returns-3 c = no-index 1 (λ i. val 8 i ∷ []) (λ N. N % 256) status-byte (c .before .before .before .before .before .before .args .coding) (InStatus text-limits) (c .before .before .before .before .before .before .args .m .now) (c .before .before .before .before .before .before .args .at) (λ i. (c .before .before .before .before .before .shared-slice-known .given i) .fits) (c .before .before .number .ensures (omega arith, omega arith)) (λ e i d. omega (arith, i .1))
 
 add-read-text : tie.Need-add-read-text
 add-read-text c = search needs
@@ -36,10 +36,10 @@ enum-told : tie.Need-enum-told
 enum-told c = search needs
 
 returns-4 : tie.Need-returns-4
-returns-4 c = no-entry-text (λ i. val 8 i ∷ []) (λ N. N % 256) status-byte (c .before .before .before .before .before .before .before .before .before .args .coding) (InStatus text-limits) (c .before .before .before .before .before .before .before .before .before .args .m .now) (c .before .before .before .before .before .before .before .before .before .args .at) (λ i. (c .before .before .before .before .before .before .before .before .shared-slice-known .given i) .fits) (c .before .before .before .before .before .number .ensures (omega arith, omega arith)) 16 (λ e i. i .2) (c .before .before .read-text .ensures) (c .enum-told .given .1)
+returns-4 c = no-entry-text 1 (λ i. val 8 i ∷ []) (λ N. N % 256) status-byte (c .before .before .before .before .before .before .before .before .before .args .coding) (InStatus text-limits) (c .before .before .before .before .before .before .before .before .before .args .m .now) (c .before .before .before .before .before .before .before .before .before .args .at) (λ i. (c .before .before .before .before .before .before .before .before .shared-slice-known .given i) .fits) (c .before .before .before .before .before .number .ensures (omega arith, omega arith)) 16 (λ e i. i .2) (c .before .before .read-text .ensures) (c .enum-told .given .1)
 
 returns-5 : tie.Need-returns-5
-returns-5 c = the-entry (λ i. val 8 i ∷ []) (λ N. N % 256) status-byte (c .before .before .before .before .before .before .before .before .before .before .args .coding) (InStatus text-limits) (c .before .before .before .before .before .before .before .before .before .before .args .m .now) (c .before .before .before .before .before .before .before .before .before .before .args .at) (λ i. (c .before .before .before .before .before .before .before .before .before .shared-slice-known .given i) .fits) (c .before .before .before .before .before .before .number .ensures (omega arith, omega arith)) 16 (λ e i. i .2) _ _ (c .before .before .before .read-text .ensures) (c .before .units .given .1) _ refl (omega arith) (λ us l e. (omega arith, omega arith, l))
+returns-5 c = the-entry 1 (λ i. val 8 i ∷ []) (λ N. N % 256) status-byte (c .before .before .before .before .before .before .before .before .before .before .args .coding) (InStatus text-limits) (c .before .before .before .before .before .before .before .before .before .before .args .m .now) (c .before .before .before .before .before .before .before .before .before .before .args .at) (λ i. (c .before .before .before .before .before .before .before .before .before .shared-slice-known .given i) .fits) (c .before .before .before .before .before .before .number .ensures (omega arith, omega arith)) 16 (λ e i. i .2) _ _ (c .before .before .before .read-text .ensures) (c .before .units .given .1) _ refl (omega arith) (λ us l e. (omega arith, omega arith, l))
 
 pub read-status-spec : {M : Type 1} → statement M
 read-status-spec =

@@ -3,7 +3,7 @@ use Rattle.tables.specs.Layout.{Roomy}
 use Rattle.tables.specs.Store.{Holds}
 use Rattle.tables.specs.Tables.{Tables}
 use Rattle.export.specs.Exportable.{Exportable}
-use Rattle.export.specs.Exported.{seven}
+use Rattle.export.specs.Exported.{ten}
 use Rattle.restore.specs.Restoring.{Lent}
 use Rattle.restore.proofs.RestoreLaws.{SoFar, so-far-start, so-far-on, so-far-end}
 use Rattle.restore.proofs.restore.move_parts.Statement.{statement}
@@ -11,11 +11,11 @@ use Rattle.restore.proofs.restore.move_parts.Tie as tie
 
 abbrev Inv-loop : tie.InvT-loop
 Inv-loop from to₀ buffer₀ reply₀ limits work₀ done₀ to buffer reply work done =
-    (length to ≡ length to₀) × (length buffer ≡ length buffer₀) × (length reply ≡ length reply₀) × (length work ≡ length work₀) × (done ≤ length seven) × ((t u : Tables) → Exportable limits → Roomy limits → Holds limits t from → Holds limits u to₀ → Lent limits buffer₀ reply₀ work₀ → SoFar limits from to₀ buffer₀ reply₀ t u done to buffer reply)
+    (length to ≡ length to₀) × (length buffer ≡ length buffer₀) × (length reply ≡ length reply₀) × (length work ≡ length work₀) × (done ≤ length ten) × ((t u : Tables) → Exportable limits → Roomy limits → Holds limits t from → Holds limits u to₀ → Lent limits buffer₀ reply₀ work₀ → SoFar limits from to₀ buffer₀ reply₀ t u done to buffer reply)
 
 abbrev μ-loop : tie.MeasureT-loop
 μ-loop from to₀ buffer₀ reply₀ limits work₀ done₀ to buffer reply work done =
-    length seven - done
+    length ten - done
 
 loop-holds : tie.Need-loop-holds Inv-loop μ-loop
 loop-holds c =
@@ -44,7 +44,7 @@ loop-again c =
       search needs,
       search needs,
       search needs,
-      λ t u x room h i lent. so-far-on (a .limits) (a .from .now) (a .to .now) (a .buffer .now) (a .reply .now) t u (l .done) (l .to) (l .buffer) (l .reply) (l .work) _ _ _ (c .before .before .before .before .before .before .before .before .before .before .before .before .before .loop-test .taken) x room h
+      λ t u x room h i lent. so-far-on (a .limits) (a .from .now) (a .to .now) (a .buffer .now) (a .reply .now) t u (l .done) (l .to) (l .buffer) (l .reply) (l .work) _ _ _ (omega (arith, c .before .before .before .before .before .before .before .before .before .before .before .before .before .loop-test .taken)) x room h
           (record { message = omega (arith, lent .message, l .inv .1); answer = omega (arith, lent .answer, l .inv .2); copy = l .inv .3 ∙ lent .copy }) (l .inv .5 t u x room h i lent) (k .ensures),
     )
 

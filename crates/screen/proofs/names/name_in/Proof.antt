@@ -1,7 +1,6 @@
 -- `screen::names::name_in` meets its contract. Assumes nothing.
-use Rattle.lists.proofs.Kit.{_≡_, sym, _∙_, needs, arith, _+_, inl, inr, length}
-use Rattle.screen.proofs.NameLaws.{Here, here, named-beyond, found-fits, member-text, three-bytes, named-zeros, named-text, named-empty, named-digits, named-group, named-individual}
-use Rattle.screen.proofs.SlotLaws.{SlotFits}
+use Rattle.lists.proofs.Kit.{sym, _∙_, needs, arith}
+use Rattle.screen.proofs.NameLaws.{Here, here, Shown, named-beyond, found-fits, group-text, individual-text, three-bytes, named-zeros, named-hidden, named-text, named-empty, named-digits, named-group, named-individual}
 use Rattle.screen.proofs.names.name_in.Statement.{statement}
 use Rattle.screen.proofs.names.name_in.Tie as tie
 
@@ -9,16 +8,13 @@ use Rattle.screen.proofs.names.name_in.Tie as tie
 slot-here : (c : tie.After-slot) → Here (c .before .before .before .before .args .limits) (c .before .before .before .before .args .store .now) (c .before .before .before .before .args .row) (c .slot .given .0 .0)
 slot-here c = here (c .before .before .before .before .pre) (c .before .before .slot-of .ensures) (c .slot .given .1)
 
--- it lies in the store
-fits : (c : tie.After-slot) → SlotFits (c .slot .given .0 .0) (length (c .before .before .before .before .args .store .now))
-fits c = found-fits (slot-here c)
-
--- a group's address, and an individual's, stand before the text
-group-text : (c : tie.After-enum-told3) → c .before .before .before .before .before .before .before .before .before .slot .given .0 .0 .text ≡ c .before .before .before .before .before .before .before .before .before .slot .given .0 .0 .start + 4
-group-text c = member-text (slot-here (c .before .before .before .before .before .before .before .before .before)) (inl (c .enum-told3 .given .1))
-
-individual-text : (c : tie.After-enum-told4) → c .before .before .before .before .before .before .before .before .before .slot .given .0 .0 .text ≡ c .before .before .before .before .before .before .before .before .before .slot .given .0 .0 .start + 4
-individual-text c = member-text (slot-here (c .before .before .before .before .before .before .before .before .before)) (inr (c .enum-told4 .given .1))
+-- and the row, where it is neither empty nor hidden
+row-here : (c : tie.Else2) → Shown (c .before .before .before .before .before .before .before .before .before .before .before .args .limits) (c .before .before .before .before .before .before .before .before .before .before .before .args .store .now) (c .before .before .before .before .before .before .before .before .before .before .before .args .row) (c .before .before .before .before .before .before .before .slot .given .0 .0)
+row-here c = record {
+  found = slot-here (c .before .before .before .before .before .before .before);
+  filled = sym (c .before .before .before .before .is-zeros .ensures) ∙ c .before .before .before .if1 .left;
+  not-hidden = sym (c .before .is-hidden .ensures) ∙ c .if2 .left;
+}
 
 slot-of-requires : tie.Need-slot-of-requires
 slot-of-requires c κs = search needs
@@ -36,13 +32,13 @@ returns c =
     named-beyond (s .args .limits) (s .args .store .now) (s .args .row) (k .result) (k .ensures) (c .enum-told .given .1)
 
 sub-is-zeros : tie.Need-sub-is-zeros
-sub-is-zeros c = let f = fits (c .before) in omega (arith, f .text-in, f .ends, f .inside)
+sub-is-zeros c = let f = found-fits (slot-here (c .before)) in omega (arith, f .text-in, f .ends, f .some-byte, f .inside)
 
 part-is-zeros-start : tie.Need-part-is-zeros-start
-part-is-zeros-start c = let f = fits (c .before) in omega (arith, f .text-in, f .ends, f .inside)
+part-is-zeros-start c = let f = found-fits (slot-here (c .before)) in omega (arith, f .text-in, f .ends, f .some-byte, f .inside)
 
 part-is-zeros-end : tie.Need-part-is-zeros-end
-part-is-zeros-end c = let f = fits (c .before) in omega (arith, f .text-in, f .ends, f .inside)
+part-is-zeros-end c = let f = found-fits (slot-here (c .before)) in omega (arith, f .text-in, f .ends, f .some-byte, f .inside)
 
 is-zeros-requires : tie.Need-is-zeros-requires
 is-zeros-requires c κs = search needs
@@ -50,71 +46,71 @@ is-zeros-requires c κs = search needs
 returns-2 : tie.Need-returns-2
 returns-2 c = named-zeros (slot-here (c .before .before .before .before)) (sym (c .before .is-zeros .ensures) ∙ c .if1 .taken)
 
+shared-slice-read-is-hidden : tie.Need-shared-slice-read-is-hidden
+shared-slice-read-is-hidden c = let f = found-fits (slot-here (c .before .before .before .before .before)) in omega (arith, f .text-in, f .ends, f .some-byte, f .inside)
+
+is-hidden-requires : tie.Need-is-hidden-requires
+is-hidden-requires c κs = search needs
+
+returns-3 : tie.Need-returns-3
+returns-3 c = named-hidden (slot-here (c .before .before .before .before .before .before .before)) (sym (c .before .before .before .before .is-zeros .ensures) ∙ c .before .before .before .if1 .left) (sym (c .before .is-hidden .ensures) ∙ c .if2 .taken)
+
 sub-used : tie.Need-sub-used
-sub-used c = let f = fits (c .before .before .before .before) in omega (arith, f .text-in, f .ends, f .inside)
+sub-used c = let f = found-fits (slot-here (c .before .before .before .before .before .before .before)) in omega (arith, f .text-in, f .ends, f .some-byte, f .inside)
 
 part-used-start : tie.Need-part-used-start
-part-used-start c = let f = fits (c .before .before .before .before) in omega (arith, f .text-in, f .ends, f .inside)
+part-used-start c = let f = found-fits (slot-here (c .before .before .before .before .before .before .before)) in omega (arith, f .text-in, f .ends, f .some-byte, f .inside)
 
 part-used-end : tie.Need-part-used-end
-part-used-end c = let f = fits (c .before .before .before .before) in omega (arith, f .text-in, f .ends, f .inside)
+part-used-end c = let f = found-fits (slot-here (c .before .before .before .before .before .before .before)) in omega (arith, f .text-in, f .ends, f .some-byte, f .inside)
 
 used-requires : tie.Need-used-requires
 used-requires c κs = search needs
 
-returns-3 : tie.Need-returns-3
-returns-3 c = named-text (slot-here (c .before .before .before .before .before .before .before)) (sym (c .before .before .before .before .is-zeros .ensures) ∙ c .before .before .before .if1 .left) (c .before .used .ensures) (c .if2 .taken)
+returns-4 : tie.Need-returns-4
+returns-4 c = named-text (row-here (c .before .before .before)) (c .before .used .ensures) (c .if3 .taken)
 
 add-head : tie.Need-add-head
-add-head c = let f = fits (c .before .before .before .before .before .before .before) in omega (arith, f .text-in, f .ends, f .inside)
+add-head c = let f = found-fits (slot-here (c .before .before .before .before .before .before .before .before .before .before)) in omega (arith, f .text-in, f .ends, f .some-byte, f .inside)
 
 add-digits : tie.Need-add-digits
-add-digits c = let f = fits (c .before .before .before .before .before .before .before) in omega (arith, f .text-in, f .ends, f .inside)
-
-enum-told-2 : tie.Need-enum-told-2
-enum-told-2 c = search needs
-
-enum-told-3 : tie.Need-enum-told-3
-enum-told-3 c = search needs
+add-digits c = let f = found-fits (slot-here (c .before .before .before .before .before .before .before .before .before .before)) in omega (arith, f .text-in, f .ends, f .some-byte, f .inside)
 
 sub-address-of : tie.Need-sub-address-of
-sub-address-of c = let f = fits (c .before .before .before .before .before .before .before .before .before) in omega (arith, f .text-in, f .ends, f .inside, group-text c)
+sub-address-of c = let f = found-fits (slot-here (c .before .before .before .before .before .before .before .before .before .before .before)) in omega (arith, f .text-in, f .ends, f .inside, group-text (slot-here (c .before .before .before .before .before .before .before .before .before .before .before)) (c .match2 .keys2))
 
 part-address-of-start : tie.Need-part-address-of-start
-part-address-of-start c = let f = fits (c .before .before .before .before .before .before .before .before .before) in omega (arith, f .text-in, f .ends, f .inside, group-text c)
+part-address-of-start c = let f = found-fits (slot-here (c .before .before .before .before .before .before .before .before .before .before .before)) in omega (arith, f .text-in, f .ends, f .inside, group-text (slot-here (c .before .before .before .before .before .before .before .before .before .before .before)) (c .match2 .keys2))
 
 part-address-of-end : tie.Need-part-address-of-end
-part-address-of-end c = let f = fits (c .before .before .before .before .before .before .before .before .before) in omega (arith, f .text-in, f .ends, f .inside, group-text c)
+part-address-of-end c = let f = found-fits (slot-here (c .before .before .before .before .before .before .before .before .before .before .before)) in omega (arith, f .text-in, f .ends, f .inside, group-text (slot-here (c .before .before .before .before .before .before .before .before .before .before .before)) (c .match2 .keys2))
 
 address-of-requires : tie.Need-address-of-requires
-address-of-requires c κs = three-bytes (slot-here (c .before .before .before .before .before .before .before .before .before .before)) (group-text (c .before))
-
-enum-told-4 : tie.Need-enum-told-4
-enum-told-4 c = search needs
+address-of-requires c κs = three-bytes (slot-here (c .before .before .before .before .before .before .before .before .before .before .before .before)) (group-text (slot-here (c .before .before .before .before .before .before .before .before .before .before .before .before)) (c .before .match2 .keys2))
 
 sub-address-of-2 : tie.Need-sub-address-of-2
-sub-address-of-2 c = let f = fits (c .before .before .before .before .before .before .before .before .before) in omega (arith, f .text-in, f .ends, f .inside, individual-text c)
+sub-address-of-2 c = let f = found-fits (slot-here (c .before .before .before .before .before .before .before .before .before .before .before)) in omega (arith, f .text-in, f .ends, f .inside, individual-text (slot-here (c .before .before .before .before .before .before .before .before .before .before .before)) (c .match2 .keys3))
 
 part-address-of-start-2 : tie.Need-part-address-of-start-2
-part-address-of-start-2 c = let f = fits (c .before .before .before .before .before .before .before .before .before) in omega (arith, f .text-in, f .ends, f .inside, individual-text c)
+part-address-of-start-2 c = let f = found-fits (slot-here (c .before .before .before .before .before .before .before .before .before .before .before)) in omega (arith, f .text-in, f .ends, f .inside, individual-text (slot-here (c .before .before .before .before .before .before .before .before .before .before .before)) (c .match2 .keys3))
 
 part-address-of-end-2 : tie.Need-part-address-of-end-2
-part-address-of-end-2 c = let f = fits (c .before .before .before .before .before .before .before .before .before) in omega (arith, f .text-in, f .ends, f .inside, individual-text c)
+part-address-of-end-2 c = let f = found-fits (slot-here (c .before .before .before .before .before .before .before .before .before .before .before)) in omega (arith, f .text-in, f .ends, f .inside, individual-text (slot-here (c .before .before .before .before .before .before .before .before .before .before .before)) (c .match2 .keys3))
 
 address-of-requires-2 : tie.Need-address-of-requires-2
-address-of-requires-2 c κs = three-bytes (slot-here (c .before .before .before .before .before .before .before .before .before .before)) (individual-text (c .before))
-
-returns-4 : tie.Need-returns-4
-returns-4 c = named-digits (slot-here (c .before .before .before .before .before .before .before .before .before)) (sym (c .before .before .before .before .before .before .is-zeros .ensures) ∙ c .before .before .before .before .before .if1 .left) (c .before .before .before .used .ensures) (c .before .before .if2 .left) (c .enum-told2 .given .1)
+address-of-requires-2 c κs = three-bytes (slot-here (c .before .before .before .before .before .before .before .before .before .before .before .before)) (individual-text (slot-here (c .before .before .before .before .before .before .before .before .before .before .before .before)) (c .before .match2 .keys3))
 
 returns-5 : tie.Need-returns-5
-returns-5 c = named-group (slot-here (c .before .before .before .before .before .before .before .before .before .before .before)) (sym (c .before .before .before .before .before .before .before .before .is-zeros .ensures) ∙ c .before .before .before .before .before .before .before .if1 .left) (c .before .before .before .before .before .used .ensures) (c .before .before .before .before .if2 .left) (c .address-of .result) (c .address-of .ensures) (c .before .before .enum-told3 .given .1)
+returns-5 c = named-digits (row-here (c .before .before .before .before)) (c .before .before .used .ensures) (c .before .if3 .left) (c .match2 .keys1)
 
 returns-6 : tie.Need-returns-6
-returns-6 c = named-individual (slot-here (c .before .before .before .before .before .before .before .before .before .before .before)) (sym (c .before .before .before .before .before .before .before .before .is-zeros .ensures) ∙ c .before .before .before .before .before .before .before .if1 .left) (c .before .before .before .before .before .used .ensures) (c .before .before .before .before .if2 .left) (c .address-of2 .result) (c .address-of2 .ensures) (c .before .before .enum-told4 .given .1)
+returns-6 c = named-group (row-here (c .before .before .before .before .before .before)) (c .before .before .before .before .used .ensures) (c .before .before .before .if3 .left) (c .address-of .result) (c .address-of .ensures) (c .before .before .match2 .keys2)
 
 returns-7 : tie.Need-returns-7
-returns-7 c = named-empty (slot-here (c .before .before .before .before .before .before .before .before)) (sym (c .before .before .before .before .before .is-zeros .ensures) ∙ c .before .before .before .before .if1 .left) (c .before .before .used .ensures) (c .before .if2 .left) (c .match2 .keys4)
+returns-7 c = named-individual (row-here (c .before .before .before .before .before .before)) (c .before .before .before .before .used .ensures) (c .before .before .before .if3 .left) (c .address-of2 .result) (c .address-of2 .ensures) (c .before .before .match2 .keys3)
+
+returns-8 : tie.Need-returns-8
+returns-8 c = named-empty (row-here (c .before .before .before .before)) (c .before .before .used .ensures) (c .before .if3 .left) (c .match2 .keys4)
 
 pub name-in-spec : {M : Type 1} → statement M
 name-in-spec =
@@ -129,25 +125,25 @@ name-in-spec =
     part-is-zeros-end
     is-zeros-requires
     returns-2
+    shared-slice-read-is-hidden
+    is-hidden-requires
+    returns-3
     sub-used
     part-used-start
     part-used-end
     used-requires
-    returns-3
+    returns-4
     add-head
     add-digits
-    enum-told-2
-    enum-told-3
     sub-address-of
     part-address-of-start
     part-address-of-end
     address-of-requires
-    enum-told-4
     sub-address-of-2
     part-address-of-start-2
     part-address-of-end-2
     address-of-requires-2
-    returns-4
     returns-5
     returns-6
-    returns-7)
+    returns-7
+    returns-8)

@@ -39,14 +39,38 @@ slot-in-requires-3 c κs = search needs
 enum-known-row-4 : tie.Need-enum-known-row-4
 enum-known-row-4 c = search needs
 
-slot-in-requires-4 : tie.Need-slot-in-requires-4
-slot-in-requires-4 c κs = search needs
+member-slot-requires : tie.Need-member-slot-requires
+member-slot-requires c κs = search needs
 
 enum-known-row-5 : tie.Need-enum-known-row-5
 enum-known-row-5 c = search needs
 
-slot-in-requires-5 : tie.Need-slot-in-requires-5
-slot-in-requires-5 c κs = search needs
+member-slot-requires-2 : tie.Need-member-slot-requires-2
+member-slot-requires-2 c κs = search needs
+
+enum-known-row-6 : tie.Need-enum-known-row-6
+enum-known-row-6 c = search needs
+
+add-member-slot : tie.Need-add-member-slot
+add-member-slot c = search needs
+
+member-slot-requires-3 : tie.Need-member-slot-requires-3
+member-slot-requires-3 c κs = search needs
+
+enum-known-row-7 : tie.Need-enum-known-row-7
+enum-known-row-7 c = search needs
+
+add-member-slot-2 : tie.Need-add-member-slot-2
+add-member-slot-2 c = search needs
+
+member-slot-requires-4 : tie.Need-member-slot-requires-4
+member-slot-requires-4 c κs = search needs
+
+enum-known-row-8 : tie.Need-enum-known-row-8
+enum-known-row-8 c = search needs
+
+slot-in-requires-4 : tie.Need-slot-in-requires-4
+slot-in-requires-4 c κs = search needs
 
 enum-told : tie.Need-enum-told
 enum-told c = search needs
@@ -70,13 +94,22 @@ returns-4 c =
     (slot-status m (c .before .before .before .row3 .given .0 .0) (c .slot-in3 .result) (omega arith) (c .slot-in3 .ensures))
 
 returns-5 : tie.Need-returns-5
-returns-5 c = slot-row (c .before .before .before .before .args .limits) (c .slot-in4 .result) (c .before .before .row4 .given .1) (c .slot-in4 .ensures)
+returns-5 c = slot-row (c .before .before .before .before .args .limits) (c .member-slot .result) (c .before .before .row4 .given .1) (c .member-slot .ensures)
 
 returns-6 : tie.Need-returns-6
-returns-6 c = slot-row (c .before .before .before .before .args .limits) (c .slot-in5 .result) (c .before .before .row5 .given .1) (c .slot-in5 .ensures)
+returns-6 c = slot-row (c .before .before .before .before .args .limits) (c .member-slot2 .result) (c .before .before .row5 .given .1) (c .member-slot2 .ensures)
 
 returns-7 : tie.Need-returns-7
-returns-7 c = slot-row (c .before .before .args .limits) Beyond (c .enum-told .given .1) tt
+returns-7 c = slot-row (c .before .before .before .before .args .limits) (c .member-slot3 .result) (c .before .before .row6 .given .1) (c .member-slot3 .ensures)
+
+returns-8 : tie.Need-returns-8
+returns-8 c = slot-row (c .before .before .before .before .args .limits) (c .member-slot4 .result) (c .before .before .row7 .given .1) (c .member-slot4 .ensures)
+
+returns-9 : tie.Need-returns-9
+returns-9 c = slot-row (c .before .before .before .before .args .limits) (c .slot-in4 .result) (c .before .before .row8 .given .1) (c .slot-in4 .ensures)
+
+returns-10 : tie.Need-returns-10
+returns-10 c = slot-row (c .before .before .args .limits) Beyond (c .enum-told .given .1) tt
 
 pub slot-of-spec : {M : Type 1} → statement M
 slot-of-spec =
@@ -93,9 +126,17 @@ slot-of-spec =
     enum-known-row-3
     slot-in-requires-3
     enum-known-row-4
-    slot-in-requires-4
+    member-slot-requires
     enum-known-row-5
-    slot-in-requires-5
+    member-slot-requires-2
+    enum-known-row-6
+    add-member-slot
+    member-slot-requires-3
+    enum-known-row-7
+    add-member-slot-2
+    member-slot-requires-4
+    enum-known-row-8
+    slot-in-requires-4
     enum-told
     returns
     returns-2
@@ -103,4 +144,7 @@ slot-of-spec =
     returns-4
     returns-5
     returns-6
-    returns-7)
+    returns-7
+    returns-8
+    returns-9
+    returns-10)

@@ -10,7 +10,7 @@ returns : tie.Need-returns
 returns c = search needs
 
 returns-2 : tie.Need-returns-2
-returns-2 c = record { found = λ l. type-in-order (c .before .before .before .args .b - 202) (omega arith) ∙ omega arith; none = λ l. absurd (omega arith) }
+returns-2 c = record { found = λ l. type-in-order (c .before .before .before .args .b - 200) (omega arith) ∙ omega arith; none = λ l. absurd (omega arith) }
 
 returns-3 : tie.Need-returns-3
 returns-3 c = record { found = λ l. absurd (omega arith); none = λ l k e. absurd (omega (arith, type-bytes k e (omega arith))) }

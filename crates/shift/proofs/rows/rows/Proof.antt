@@ -7,10 +7,10 @@ use Rattle.shift.proofs.rows.rows.Statement.{statement}
 use Rattle.shift.proofs.rows.rows.Tie as tie
 
 abbrev Inv-loop : tie.InvT-loop
-Inv-loop store none₀ table₀ places₀ t6 none table places = (places ≤ 5) × (table ≡ places + 1)
+Inv-loop store none₀ table₀ places₀ t6 none table places = (places ≤ 8) × (table ≡ places + 1)
 
 abbrev μ-loop : tie.MeasureT-loop
-μ-loop store none₀ table₀ places₀ t6 none table places = 5 - places
+μ-loop store none₀ table₀ places₀ t6 none table places = 8 - places
 
 loop-holds : tie.Need-loop-holds Inv-loop μ-loop
 loop-holds c = (omega arith, omega arith)

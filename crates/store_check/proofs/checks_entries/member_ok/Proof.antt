@@ -1,54 +1,29 @@
-use Rattle.lists.proofs.Kit.{needs, arith}
-use Rattle.tables.proofs.AnswerLaws.{refused, not-said, was-said, turned}
-use Rattle.store_check.proofs.EntryChecks.{member-is}
-use Rattle.slots.proofs.Tables.{slot-wide}
+use Rattle.lists.proofs.Kit.{needs, ap}
+use Rattle.tables.specs.declared.members.Members.the-variants.{OfGroups, OfIndividuals}
+use Rattle.store_check.specs.declared.checks_tables.Table.the-variants.{Members as Of}
+use Rattle.store_check.proofs.TableChecks.{entry-told}
 use Rattle.store_check.proofs.checks_entries.member_ok.Statement.{statement}
 use Rattle.store_check.proofs.checks_entries.member_ok.Tie as tie
 
-sub-address-ok : tie.Need-sub-address-ok
-sub-address-ok c = search needs
+enum-told : tie.Need-enum-told
+enum-told c = search needs
 
-part-address-ok-start : tie.Need-part-address-ok-start
-part-address-ok-start c = search needs
+group-ok-requires : tie.Need-group-ok-requires
+group-ok-requires c κs = search needs
 
-part-address-ok-end : tie.Need-part-address-ok-end
-part-address-ok-end c = search needs
+enum-told-2 : tie.Need-enum-told-2
+enum-told-2 c = search needs
 
-address-ok-requires : tie.Need-address-ok-requires
-address-ok-requires c κs = search needs
+individual-ok-requires : tie.Need-individual-ok-requires
+individual-ok-requires c κs = search needs
 
 returns : tie.Need-returns
-returns c = refused (λ x. not-said (c .before .address-ok .result) (c .before .address-ok .ensures) (c .if1 .taken) (member-is (c .before .before .before .before .args .s .now) (c .before .before .before .before .pre) .1 x .0))
-
-sub-text-ok : tie.Need-sub-text-ok
-sub-text-ok c = search needs
-
-part-text-ok-start : tie.Need-part-text-ok-start
-part-text-ok-start c = search needs
-
-part-text-ok-end : tie.Need-part-text-ok-end
-part-text-ok-end c = search needs
-
-text-ok-requires : tie.Need-text-ok-requires
-text-ok-requires c κs = search needs
+returns c = entry-told (c .group-ok .result) (c .before .before .before .before .args .s .now) (Of (c .before .before .before .before .args .who)) (Of OfGroups) (ap Of (c .before .enum-told .given .1)) (c .group-ok .ensures)
 
 returns-2 : tie.Need-returns-2
-returns-2 c =
-    let t = member-is (c .before .before .before .before .before .before .args .s .now) (c .before .before .before .before .before .before .pre) in
-    let a = was-said (c .before .before .before .address-ok .result) (c .before .before .before .address-ok .ensures) (c .before .before .if1 .left) in
-    turned (c .text-ok .result) (c .text-ok .ensures 16 (slot-wide (c .before .before .before .before .before .before .args .s .now) 3 32 (omega arith))) (λ x. t .0 (a, x)) (λ x. t .1 x .1)
+returns-2 c = entry-told (c .individual-ok .result) (c .before .before .before .before .args .s .now) (Of (c .before .before .before .before .args .who)) (Of OfIndividuals) (ap Of (c .before .enum-told2 .given .1)) (c .individual-ok .ensures)
 
 pub member-ok-spec : {M : Type 1} → statement M
 member-ok-spec =
     tie.close
-    (tie.spec
-    sub-address-ok
-    part-address-ok-start
-    part-address-ok-end
-    address-ok-requires
-    returns
-    sub-text-ok
-    part-text-ok-start
-    part-text-ok-end
-    text-ok-requires
-    returns-2)
+    (tie.spec enum-told group-ok-requires enum-told-2 individual-ok-requires returns returns-2)

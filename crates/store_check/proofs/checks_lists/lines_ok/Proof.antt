@@ -1,10 +1,9 @@
-use Rattle.lists.proofs.Kit.{needs, arith, _-_, sym, subst, length}
-use Rattle.slots.specs.Slots.{Listed}
-use Rattle.tables.specs.Allowed.{LineOk}
-use Rattle.tables.specs.Layout.{line-bytes, line-width}
+use Rattle.lists.proofs.Kit.{needs}
 use Rattle.tables.proofs.AnswerLaws.{refused, not-said, was-said}
-use Rattle.store_check.proofs.CheckLaws.{rest-is}
-use Rattle.store_check.proofs.StoreChecks.{lines-counted, lines-decided}
+use Rattle.store_check.proofs.KeyedChecks.{keyed-counted, keyed-decided, line-tells}
+use Rattle.tables.specs.Layout.{line-key-at, line-key-size}
+use Rattle.tables.specs.Tables.{line-key}
+use Rattle.store_check.specs.declared.checks_tables.Table.the-variants.{Lines}
 use Rattle.store_check.proofs.checks_lists.lines_ok.Statement.{statement}
 use Rattle.store_check.proofs.checks_lists.lines_ok.Tie as tie
 
@@ -12,25 +11,28 @@ counted-ok-requires : tie.Need-counted-ok-requires
 counted-ok-requires c κs = search needs
 
 returns : tie.Need-returns
-returns c = λ n l. refused (λ x. not-said (c .before .counted-ok .result) (c .before .counted-ok .ensures n l) (c .if1 .taken) (lines-counted n (c .before .before .before .args .s .now) x))
+returns c =
+    let a = c .before .before .before .args in
+    λ n l. refused (λ x. not-said (c .before .counted-ok .result) (c .before .counted-ok .ensures n l) (c .if1 .taken) (keyed-counted Lines line-key-at line-key-size line-key line-tells n (a .s .now) x))
 
-sub-lines-distinct : tie.Need-sub-lines-distinct
-sub-lines-distinct c = search needs
+sub-keys-distinct : tie.Need-sub-keys-distinct
+sub-keys-distinct c = search needs
 
-part-lines-distinct-start : tie.Need-part-lines-distinct-start
-part-lines-distinct-start c = search needs
+part-keys-distinct-start : tie.Need-part-keys-distinct-start
+part-keys-distinct-start c = search needs
 
-part-lines-distinct-end : tie.Need-part-lines-distinct-end
-part-lines-distinct-end c = search needs
+part-keys-distinct-end : tie.Need-part-keys-distinct-end
+part-keys-distinct-end c = search needs
 
-lines-distinct-requires : tie.Need-lines-distinct-requires
-lines-distinct-requires c κs = search needs
+keys-distinct-requires : tie.Need-keys-distinct-requires
+keys-distinct-requires c κs = search needs
 
 returns-2 : tie.Need-returns-2
 returns-2 c =
+    let a = c .before .before .before .before .before .args in
     λ n l.
-    lines-decided n (c .before .before .before .before .before .args .s .now) (was-said (c .before .before .before .counted-ok .result) (c .before .before .before .counted-ok .ensures n l) (c .before .before .if1 .left)) (c .lines-distinct .result)
-    (λ k ls x. c .lines-distinct .ensures k ls (subst (Listed LineOk line-width line-bytes k ls) (sym (rest-is (c .before .before .before .before .before .args .s .now) 2 (length (c .before .before .before .before .before .args .s .now) - 2) (omega arith))) x))
+    keyed-decided Lines line-key-at line-key-size line-key line-tells n (a .s .now) (c .keys-distinct .result) (c .keys-distinct .ensures)
+    (was-said (c .before .before .before .counted-ok .result) (c .before .before .before .counted-ok .ensures n l) (c .before .before .if1 .left))
 
 pub lines-ok-spec : {M : Type 1} → statement M
 lines-ok-spec =
@@ -38,8 +40,8 @@ lines-ok-spec =
     (tie.spec
     counted-ok-requires
     returns
-    sub-lines-distinct
-    part-lines-distinct-start
-    part-lines-distinct-end
-    lines-distinct-requires
+    sub-keys-distinct
+    part-keys-distinct-start
+    part-keys-distinct-end
+    keys-distinct-requires
     returns-2)

@@ -1,11 +1,13 @@
-use Rattle.lists.proofs.Kit.{needs, arith, _-_, _≡_, refl, length, true, false, not-true, not-false}
-use Rattle.tables.specs.Apply.{line-of}
-use Rattle.store_lists.proofs.LineLaws.{LinesLeft, lines-start, lines-end, lines-stuck, lines-on, lines-full, lines-applied}
+use Rattle.lists.proofs.Kit.{needs, arith, _-_, _<_, _≡_, refl, length, true, false, not-true, not-false}
+use Rattle.store_lists.proofs.KeyedLaws.{KeyedLeft, keyed-start, keyed-end, keyed-stuck, keyed-on, keyed-full}
+use Rattle.store_lists.proofs.LineLaws.{by-number, no-line, next-line, lines-applied}
 use Rattle.store_lists.proofs.lines.apply_lines.Statement.{statement}
 use Rattle.store_lists.proofs.lines.apply_lines.Tie as tie
 
 abbrev Inv-loop : tie.InvT-loop
-Inv-loop list₀ m operation flags entries coding p₀ i₀ list p i = (length list ≡ length list₀) × LinesLeft operation m flags entries list₀ p i list
+Inv-loop list₀ m operation flags entries coding p₀ i₀ list p i =
+    (length list ≡ length list₀)
+    × (flags .priority < 4 → KeyedLeft (by-number flags (entries .coding)) operation m entries list₀ p i list)
 
 abbrev μ-loop : tie.MeasureT-loop
 μ-loop list₀ m operation flags entries coding p₀ i₀ list p i = entries .count - i
@@ -16,7 +18,7 @@ empty-to-replace-requires c κs = search needs
 loop-holds : tie.Need-loop-holds Inv-loop μ-loop
 loop-holds c =
     let a = c .before .before .before .before .before .before .args in
-    (refl, lines-start (a .operation) (a .m .now) (a .flags) (a .entries) _)
+    (refl, λ low. keyed-start (by-number (a .flags) (a .entries .coding)) (a .operation) (a .m .now) (a .entries) _)
 
 read-contact-requires : tie.Need-read-contact-requires Inv-loop μ-loop
 read-contact-requires c κs = search needs
@@ -36,16 +38,17 @@ returns c =
     let z = c .before .before .before .before .before .before .before .before .empty-to-replace in
     let l = c .before .before .before .before .before .loop in
     lines-applied (a .operation) (a .m .now) (a .flags) (a .entries) (a .list .now) (z .last .0) (l .list) false (z .ensures)
-    (lines-stuck (a .operation) (a .m .now) (a .flags) (a .entries) (z .last .0) (l .p) (l .i) (l .list) (omega arith) (l .inv .1) (c .before .before .read-contact .ensures) (l .list) false (c .enum-told .given .1))
+    (λ low. keyed-stuck (by-number (a .flags) (a .entries .coding)) (a .operation) (a .m .now) (a .entries) (z .last .0) (l .p) (l .i) (l .list) (omega arith) (l .inv .1 low) (l .list) false
+    (no-line (a .flags) (a .entries .coding) (a .m .now) (l .p) (c .before .before .read-contact .ensures) (c .enum-told .given .1)))
 
 line-slot-requires : tie.Need-line-slot-requires Inv-loop μ-loop
 line-slot-requires c κs = search needs
 
-slice-aggregate-step-line : tie.Need-slice-aggregate-step-line Inv-loop μ-loop
-slice-aggregate-step-line c = search needs
+slice-aggregate-step-keyed : tie.Need-slice-aggregate-step-keyed Inv-loop μ-loop
+slice-aggregate-step-keyed c = search needs
 
-step-line-requires : tie.Need-step-line-requires Inv-loop μ-loop
-step-line-requires c κs = search needs
+step-keyed-requires : tie.Need-step-keyed-requires Inv-loop μ-loop
+step-keyed-requires c κs = search needs
 
 same-length-2 : tie.Need-same-length-2 Inv-loop μ-loop
 same-length-2 c = search needs
@@ -56,9 +59,11 @@ returns-2 c =
     let z = c .before .before .before .before .before .before .before .before .before .before .before .before .before .before .before .before .empty-to-replace in
     let l = c .before .before .before .before .before .before .before .before .before .before .before .before .before .loop in
     let x = c .before .before .before .before .before .before .line-slot in
-    let k = c .before .before .before .step-line in
+    let k = c .before .before .before .step-keyed in
     lines-applied (a .operation) (a .m .now) (a .flags) (a .entries) (a .list .now) (z .last .0) (k .last .0) false (z .ensures)
-    (lines-full (a .operation) (a .m .now) (a .flags) (a .entries) (z .last .0) (l .p) (l .i) (l .list) (omega arith) (l .inv .1) (c .before .before .before .before .before .before .before .before .before .before .read-contact .ensures) (λ j. (c .before .before .before .before .before .before .before .before .before .before .before .before .before .before .before .before .before .before .shared-slice-known .given j) .fits) _ _ (c .before .before .before .before .before .before .before .before .here .given .1) (x .result) (x .ensures) (k .last .0) (k .result) (λ e ok is n ls t. k .ensures n ls (line-of (a .flags) e) t ok is) (not-true (k .result) (c .if2 .taken)))
+    (λ low. keyed-full (by-number (a .flags) (a .entries .coding)) (a .operation) (a .m .now) (a .entries) (z .last .0) (l .p) (l .i) (l .list) (omega arith) (l .inv .1 low) _ (x .result)
+    (next-line (a .flags) (a .entries .coding) (a .m .now) (l .p) (c .before .before .before .before .before .before .before .before .before .before .read-contact .ensures) _ _ (c .before .before .before .before .before .before .before .before .here .given .1) (x .result) (x .ensures) low)
+    (k .last .0) (k .result) (k .ensures) (not-true (k .result) (c .if2 .taken)))
 
 add-i : tie.Need-add-i Inv-loop μ-loop
 add-i c = search needs
@@ -72,8 +77,12 @@ loop-again c =
     let z = c .before .before .before .before .before .before .before .before .before .before .before .before .before .before .before .before .empty-to-replace in
     let l = c .before .before .before .before .before .before .before .before .before .before .before .before .before .loop in
     let x = c .before .before .before .before .before .before .line-slot in
-    let k = c .before .before .before .step-line in
-    (search needs, lines-on (a .operation) (a .m .now) (a .flags) (a .entries) (z .last .0) (l .p) (l .i) (l .list) (omega arith) (l .inv .1) (c .before .before .before .before .before .before .before .before .before .before .read-contact .ensures) (λ j. (c .before .before .before .before .before .before .before .before .before .before .before .before .before .before .before .before .before .before .shared-slice-known .given j) .fits) _ _ (c .before .before .before .before .before .before .before .before .here .given .1) (x .result) (x .ensures) (k .last .0) (k .result) (λ e ok is n ls t. k .ensures n ls (line-of (a .flags) e) t ok is) (not-false (k .result) (c .if2 .left)))
+    let k = c .before .before .before .step-keyed in (
+      search needs,
+      λ low. keyed-on (by-number (a .flags) (a .entries .coding)) (a .operation) (a .m .now) (a .entries) (z .last .0) (l .p) (l .i) (l .list) (omega arith) (l .inv .1 low) _ (x .result)
+          (next-line (a .flags) (a .entries .coding) (a .m .now) (l .p) (c .before .before .before .before .before .before .before .before .before .before .read-contact .ensures) _ _ (c .before .before .before .before .before .before .before .before .here .given .1) (x .result) (x .ensures) low)
+          (k .last .0) (k .result) (k .ensures) (not-false (k .result) (c .if2 .left)),
+    )
 
 same-length-3 : tie.Need-same-length-3 Inv-loop μ-loop
 same-length-3 c = search needs
@@ -84,7 +93,7 @@ returns-3 c =
     let z = c .before .before .before .before .before .empty-to-replace in
     let l = c .before .before .loop in
     lines-applied (a .operation) (a .m .now) (a .flags) (a .entries) (a .list .now) (z .last .0) (l .list) true (z .ensures)
-    (lines-end (a .operation) (a .m .now) (a .flags) (a .entries) (z .last .0) (l .p) (l .i) (l .list) (omega arith) (l .inv .1))
+    (λ low. keyed-end (by-number (a .flags) (a .entries .coding)) (a .operation) (a .m .now) (a .entries) (z .last .0) (l .p) (l .i) (l .list) (omega arith) (l .inv .1 low))
 
 pub apply-lines-spec : {M : Type 1} → statement M
 apply-lines-spec =
@@ -100,8 +109,8 @@ apply-lines-spec =
     same-length
     returns
     line-slot-requires
-    slice-aggregate-step-line
-    step-line-requires
+    slice-aggregate-step-keyed
+    step-keyed-requires
     same-length-2
     returns-2
     add-i

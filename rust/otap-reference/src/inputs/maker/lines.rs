@@ -1,4 +1,4 @@
-//! Line contacts of both IDtypes, so that one number often stands for two lines.
+//! Numbers, and line contacts of both IDtypes, so that one number often stands for two lines.
 
 use super::{setting, Keys, Maker, Size, ADD, DELETE, REPLACE};
 use crate::reference::bits::BitWriter;
@@ -20,7 +20,7 @@ fn pool_number(place: usize) -> Vec<u8> {
 }
 
 impl Maker<'_> {
-    fn digits(&mut self, keys: Keys) -> Vec<u8> {
+    pub(super) fn digits(&mut self, keys: Keys) -> Vec<u8> {
         match keys {
             Keys::Known if !self.tables.lines.is_empty() => {
                 let place = self.random.below(self.tables.lines.len());
@@ -56,7 +56,7 @@ impl Maker<'_> {
         keys
     }
 
-    fn number(&mut self, bits: &mut BitWriter, mut digits: Vec<u8>) {
+    pub(super) fn number(&mut self, bits: &mut BitWriter, mut digits: Vec<u8>) {
         if self.slip() {
             match self.random.below(4) {
                 0 => digits.clear(),

@@ -4,10 +4,11 @@ use super::*;
 use crate::layout;
 use crate::programs::{put_writes, take_prints};
 use crate::records::push_record;
+use crate::reference::by_hand::{bytes, number, shown};
 use crate::reference::export::part_bytes;
 use crate::reference::message::request;
-use crate::reference::screen::{row_part, Row, Shown, SCRATCH_ROOM};
-use crate::reference::take::{take, REPLY_ROOM};
+use crate::reference::screen::{Row, Shown};
+use crate::reference::settings::LineFlags;
 use Operation::{Add, Delete, Replace};
 
 /// Example 11 of document 01: adds PABX 2345, no text.
@@ -19,18 +20,6 @@ const DELETE_TELEPHONE: &str = "02 02 00 0E 08 07 08 01 CA 00 09 80 01 23 45 FF 
 const PSTN: bool = false;
 const PABX: bool = true;
 const KEYS: [(bool, &[u8]); 2] = [(PABX, &[2, 3, 4, 5]), (PSTN, &[2, 3, 4, 5])];
-
-fn bytes(hex: &str) -> Vec<u8> {
-    hex.split_whitespace()
-        .map(|word| u8::from_str_radix(word, 16).expect("two hex digits"))
-        .collect()
-}
-
-/// Number and failed ID of a message.
-fn number(set: &mut Set, message: &[u8]) -> (u8, u8) {
-    let answer = take(message, set, &mut [0; REPLY_ROOM]);
-    (answer.number, answer.failed)
-}
 
 /// The set after messages in hex, each of which must be taken.
 fn after(messages: &[&str]) -> Set {
@@ -66,10 +55,6 @@ fn take_settings(set: &mut Set, settings: &[Vec<u8>]) -> (u8, u8) {
     number(set, &request(settings))
 }
 
-fn shown(set: &Set, position: usize) -> Shown {
-    row_part(Row::Line(position), true, set, &mut [0; SCRATCH_ROOM])
-}
-
 #[test]
 fn example_11_stands() {
     let set = after(&[EXTENSION]);
@@ -84,7 +69,7 @@ fn both_lines_and_one_deleted() {
     assert_eq!(keys(&both), KEYS);
     assert_eq!(both.counts(), (2, 0));
     let digits = Shown::Scratch("2345".encode_utf16().collect());
-    assert_eq!((shown(&both, 0), shown(&both, 1)), (digits.clone(), digits));
+    assert_eq!((shown(&both, Row::Line(0)), shown(&both, Row::Line(1))), (digits.clone(), digits));
     assert_eq!(keys(&after(&[EXTENSION, TELEPHONE, DELETE_EXTENSION])), KEYS[1..]);
     assert_eq!(keys(&after(&[EXTENSION, TELEPHONE, DELETE_TELEPHONE])), KEYS[..1]);
     let none = after(&[EXTENSION, TELEPHONE, DELETE_TELEPHONE, DELETE_EXTENSION]);
@@ -113,7 +98,7 @@ fn each_is_overwritten_alone() {
         expected[place].flags = LineFlags { encryption: true, emergency: true, priority: 3, pabx };
         expected[place].text = vec![0x41];
         assert_eq!(set.tables.lines, expected);
-        assert_eq!(shown(&set, place), Shown::Stored(vec![0x41]));
+        assert_eq!(shown(&set, Row::Line(place)), Shown::Stored(vec![0x41]));
     }
 }
 
@@ -178,7 +163,7 @@ fn a_replace_removes_lines_of_both_idtypes() {
         let settings = [lines(Replace, pabx, &[(other, ""), (kept, "a"), (other, "b")])];
         assert_eq!(take_settings(&mut set, &settings), (0, 0));
         assert_eq!(keys(&set), [(pabx, other), (pabx, kept)]);
-        assert_eq!(shown(&set, 0), Shown::Stored(vec![0x62]));
+        assert_eq!(shown(&set, Row::Line(0)), Shown::Stored(vec![0x62]));
         assert_eq!(take_settings(&mut set, &[lines(Replace, pabx, &[])]), (0, 0));
         assert_eq!(set, Set::default());
     }
@@ -190,7 +175,7 @@ fn a_replace_removes_lines_of_both_idtypes() {
 #[test]
 fn both_lines_are_exported() {
     let both = after(&[EXTENSION, TELEPHONE]);
-    let exported = part_bytes(1, &both).expect("the part is one of the seven");
+    let exported = part_bytes(1, &both).expect("the part is one of the ten");
     let adds = "CA 00 09 42 01 23 45 FF 00 00 CA 00 09 40 01 23 45 FF 00 00";
     let written = format!("02 02 00 1D 08 07 08 03 CA 00 04 C0 00 {adds}");
     assert_eq!(exported, bytes(&written));
@@ -209,7 +194,10 @@ fn put_of_both_and_back() {
     }
     assert_eq!(take_prints(&input), "1 0 0\n1 0 0\n");
     let put = put_writes(&input);
-    assert_eq!(take_prints(&put), "1 0 0\n2 0 0\n3 0 0\n4 0 0\n5 0 0\n6 0 0\n7 0 0\n");
+    assert_eq!(
+        take_prints(&put),
+        "1 0 0\n2 0 0\n3 0 0\n4 0 0\n5 0 0\n6 0 0\n7 0 0\n8 0 0\n9 0 0\n10 0 0\n"
+    );
     assert!(put_writes(&put) == put);
     push_record(&mut input, 1, &bytes(DELETE_TELEPHONE));
     let mut one = Vec::new();
@@ -221,10 +209,10 @@ fn put_of_both_and_back() {
 fn both_lines_in_the_store() {
     let mut kept = layout::bytes(&after(&[EXTENSION, TELEPHONE]));
     assert!(layout::is_store(&kept));
-    assert_eq!(kept[7_416..7_424], bytes("00 02 00 01 03 04 05 06"));
-    assert_eq!(kept[7_470..7_476], bytes("00 00 03 04 05 06"));
-    kept[7_419] = PSTN.into();
+    assert_eq!(kept[12_860..12_868], bytes("00 02 00 01 03 04 05 06"));
+    assert_eq!(kept[12_914..12_920], bytes("00 00 03 04 05 06"));
+    kept[12_863] = PSTN.into();
     assert!(!layout::is_store(&kept), "two lines of one IDtype and number");
-    kept[7_471] = PABX.into();
+    kept[12_915] = PABX.into();
     assert!(kept == layout::bytes(&after(&[TELEPHONE, EXTENSION])));
 }

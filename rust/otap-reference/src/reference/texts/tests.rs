@@ -2,10 +2,11 @@
 
 use super::*;
 use crate::layout;
+use crate::reference::by_hand::{bytes, shown};
 use crate::reference::export::part_bytes;
 use crate::reference::message::{query, request_as, Hash};
 use crate::reference::plan::GroupAddress;
-use crate::reference::screen::{row_part, Row, Shown, SCRATCH_ROOM};
+use crate::reference::screen::{Row, Shown};
 use crate::reference::settings::{
     bounds, parse, Fault, GroupSlot, LineEntry, LineFlags, Operation, Setting, TextEntry,
 };
@@ -15,12 +16,6 @@ use Operation::{Add, Delete, Replace};
 
 /// Group slot 0: address 100001 hex, name A1.
 const A1: &str = "02 02 00 0F 08 04 08 01 D1 00 0A 60 00 10 00 01 41 31 00";
-
-fn bytes(hex: &str) -> Vec<u8> {
-    hex.split_whitespace()
-        .map(|word| u8::from_str_radix(word, 16).expect("two hex digits"))
-        .collect()
-}
 
 /// A request under 0100 with one setting in hex.
 fn eight(setting: &str) -> Vec<u8> {
@@ -43,10 +38,6 @@ fn taken(message: &[u8]) -> Set {
     let (number, failed, set) = after(message);
     assert_eq!((number, failed), (0, 0), "{message:02X?}");
     set
-}
-
-fn shown(row: Row, set: &Set) -> Shown {
-    row_part(row, true, set, &mut [0; SCRATCH_ROOM])
 }
 
 fn group(text: &[u16]) -> Setting {
@@ -73,10 +64,10 @@ fn a_group_under_0100() {
     let written = group(&[0x41, 0x31]).write_as(Coding::Eight).expect("both are below 256");
     assert_eq!(request_as(Coding::Eight, &[written]), bytes(A1));
     let set = taken(&bytes(A1));
-    assert_eq!(shown(Row::Group(0), &set), Shown::Stored(vec![0x0041, 0x0031]));
+    assert_eq!(shown(&set, Row::Group(0)), Shown::Stored(vec![0x0041, 0x0031]));
     let kept = &layout::bytes(&set)[6_134..6_144];
     assert_eq!(kept, bytes("80 10 00 01 00 41 00 31 00 00"));
-    let exported = part_bytes(6, &set).expect("the part is one of the seven");
+    let exported = part_bytes(6, &set).expect("the part is one of the ten");
     assert_eq!(exported[..8], bytes("02 02 00 A8 08 07 08 10"));
     assert_eq!(exported[8..22], bytes("D1 00 0D 60 00 10 00 01 00 41 00 31 00 00"));
 }
@@ -88,9 +79,9 @@ fn lengths_of_a_group() {
     };
     let empty = taken(&of(8, 0));
     let digits = "32820900".encode_utf16().collect();
-    assert_eq!(shown(Row::Group(0), &empty), Shown::Scratch(digits));
+    assert_eq!(shown(&empty, Row::Group(0)), Shown::Scratch(digits));
     let longest = taken(&of(24, 16));
-    assert_eq!(shown(Row::Group(0), &longest), Shown::Stored(vec![0x41; 16]));
+    assert_eq!(shown(&longest, Row::Group(0)), Shown::Stored(vec![0x41; 16]));
     assert_eq!(number(&of(25, 17)), (4, 1));
     assert_eq!(number(&of(9, 0)), (4, 1));
     // The end of 0111: its second byte is one too many.
@@ -114,7 +105,7 @@ fn rows_bound_what_the_fields_take() {
             }
         }
     }
-    for kind in [0xCA, 0xCB, 0xCC, 0xCD, 0xCE, 0xCF, 0xD0, 0xFF] {
+    for kind in [0xC8, 0xC9, 0xCA, 0xCB, 0xCC, 0xCD, 0xCE, 0xCF, 0xD0, 0xFF] {
         assert_eq!(bounds(kind, Coding::Eight), bounds(kind, Coding::Unicode), "{kind:02X}");
     }
 }
@@ -142,14 +133,14 @@ fn quick_texts_under_both() {
 #[test]
 fn status_texts_and_lines() {
     let status = taken(&eight("D0 00 0A 40 02 20 FF 00 7F 01 00"));
-    assert_eq!(shown(Row::Status(32), &status), Shown::Stored(vec![0x00FF]));
-    assert_eq!(shown(Row::Status(127), &status), Shown::Stored(vec![0x0001]));
+    assert_eq!(shown(&status, Row::Status(32)), Shown::Stored(vec![0x00FF]));
+    assert_eq!(shown(&status, Row::Status(127)), Shown::Stored(vec![0x0001]));
     let empty = taken(&eight("D0 00 06 40 01 20 00"));
-    assert_eq!(shown(Row::Status(32), &empty), Shown::Stored(Vec::new()));
+    assert_eq!(shown(&empty, Row::Status(32)), Shown::Stored(Vec::new()));
     let lines = taken(&eight("CA 00 0D 42 02 23 45 FF 41 31 00 12 3F 00"));
-    assert_eq!(shown(Row::Line(0), &lines), Shown::Stored(vec![0x0041, 0x0031]));
+    assert_eq!(shown(&lines, Row::Line(0)), Shown::Stored(vec![0x0041, 0x0031]));
     assert_eq!(
-        shown(Row::Line(1), &lines),
+        shown(&lines, Row::Line(1)),
         Shown::Scratch(b"123".iter().map(|&digit| digit.into()).collect())
     );
 }

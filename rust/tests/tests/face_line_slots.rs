@@ -1,0 +1,188 @@
+//! Line slots, and the parts of an export that came with the contact lists: the archive behind the face against the reference, and by hand.
+
+use otap::{Part, Refusal, Slice, Store, Table, EXPORT_ROOM, SCRATCH_ROOM};
+use otap_reference::reference::settings::Operation::Add;
+use otap_tests::pair::Pair;
+use otap_tests::{bytes, group_contacts, hex_request, individual_contacts, raw, request};
+
+/// Adds extension 2345 to slot 3, no text.
+const EXTENSION: &str = "D3 00 09 42 03 23 45 FF 00 00";
+
+fn after(settings: &[&str]) -> Pair {
+    let mut pair = Pair::fresh();
+    assert_eq!(pair.take(&hex_request(settings)), 0, "{settings:?}");
+    pair.compare_exports();
+    pair.compare_rows();
+    pair
+}
+
+fn told(setting: &str) -> (u8, u8) {
+    Pair::fresh().told(&hex_request(&[setting]))
+}
+
+fn shown(pair: &mut Pair, row: u32) -> Result<(Slice, String), Refusal> {
+    let mut scratch = [0; SCRATCH_ROOM];
+    let store = Store::lent(&mut pair.bytes);
+    let row = store.row(Table::LineSlots, row, &mut scratch)?;
+    let units: Vec<u16> = row.units().collect();
+    Ok((row.slice(), String::from_utf16(&units).expect("characters")))
+}
+
+#[test]
+fn slots_by_their_index() {
+    let mut pair = after(&[EXTENSION, "D3 00 09 7C 0F 1F 00 41 00 00"]);
+    assert_eq!(shown(&mut pair, 3), Ok((Slice::Scratch, "2345".into())));
+    assert_eq!(shown(&mut pair, 15), Ok((Slice::Store, "A".into())));
+    for absent in [0, 2, 4, 14, 16] {
+        assert_eq!(shown(&mut pair, absent), Err(Refusal::NoSuchRow));
+    }
+    // Flags, IDtype and digits, each digit one more than itself.
+    assert_eq!(pair.bytes[7_286 + 3 * 52..][..7], [0, 1, 3, 4, 5, 6, 0]);
+    assert_eq!(pair.bytes[7_286 + 15 * 52..][..4], [15, 0, 2, 0]);
+    assert_eq!(pair.bytes[7_286 + 15 * 52 + 20..][..4], bytes("00 41 00 00"));
+    // Overwritten, number and all; then emptied by a delete, whose number is not the slot's.
+    assert_eq!(pair.take(&hex_request(&["D3 00 09 40 03 1F 00 62 00 00"])), 0);
+    assert_eq!(shown(&mut pair, 3), Ok((Slice::Store, "b".into())));
+    let empty = ["D3 00 07 80 03 0F 00 00", "D3 00 07 80 04 0F 00 00"];
+    assert_eq!(pair.take(&hex_request(&empty)), 0);
+    assert_eq!(shown(&mut pair, 3), Err(Refusal::NoSuchRow));
+    assert!(pair.bytes == after(&["D3 00 09 7C 0F 1F 00 41 00 00"]).bytes);
+}
+
+/// One number may stand in every slot, and no add finds them full.
+#[test]
+fn slots_are_never_full() {
+    let all: Vec<String> =
+        (0..16).map(|index| format!("D3 00 07 40 {index:02X} 1F 00 00")).collect();
+    let all: Vec<&str> = all.iter().map(String::as_str).collect();
+    let mut pair = after(&all);
+    assert_eq!(pair.take(&hex_request(&all)), 0);
+    assert!((0..16).all(|row| shown(&mut pair, row) == Ok((Slice::Scratch, "1".into()))));
+}
+
+#[test]
+fn fields_of_line_slots() {
+    for (setting, number) in [
+        ("D3 00 07 C0 03 1F 00 00", 4),    // operation 11
+        ("D3 00 07 00 03 1F 00 00", 4),    // operation 00
+        ("D3 00 07 80 03 0F 00 00", 0),    // a delete, with the number 0
+        ("D3 00 07 80 03 FF 00 00", 4),    // without a number
+        ("D3 00 07 80 03 AF 00 00", 4),    // with no digit
+        ("D3 00 07 40 03 FF 00 00", 4),    // an add without a number
+        ("D3 00 07 40 0F 1F 00 00", 0),    // the last index
+        ("D3 00 07 41 F3 1F 00 00", 0),    // reserved bits
+        ("D3 00 08 40 03 12 F0 00 00", 4), // no fill
+        ("D3 00 06 40 03 1F 00", 4),       // a text of one byte
+        ("D3 00 05 40 03 1F", 4),
+    ] {
+        assert_eq!(told(setting), (number, u8::from(number != 0)), "{setting}");
+    }
+    assert!(after(&["D3 00 09 43 F3 23 45 FF 00 00"]).bytes == after(&[EXTENSION]).bytes);
+}
+
+/// The most is 48: 18 digits and 16 units.
+#[test]
+fn lengths_of_line_slots() {
+    let setting = |digits: usize, units: usize| {
+        let pairs = "11 ".repeat(digits / 2) + ["FF", "1F"][digits % 2];
+        let length = 4 + digits / 2 + 1 + 2 * units + 2;
+        format!("D3 00 {length:02X} 40 0F {pairs}{} 00 00", " 4E 2D".repeat(units))
+    };
+    assert_eq!(bytes(&setting(18, 16))[2], 48);
+    for (digits, units, number) in [
+        (18, 16, 0),
+        (17, 16, 0),
+        (1, 0, 0),
+        (18, 0, 0),
+        (18, 17, 4),
+        (19, 0, 4),
+        (19, 16, 4),
+        (1, 17, 4),
+    ] {
+        assert_eq!(told(&setting(digits, units)).0, number, "{digits} digits, {units} units");
+    }
+    let mut pair = after(&[&setting(18, 0)]);
+    assert_eq!(shown(&mut pair, 15), Ok((Slice::Scratch, "1".repeat(18))));
+}
+
+#[test]
+fn parts_of_a_fresh_store() {
+    let mut pair = Pair::fresh();
+    let mut buffer = [0; EXPORT_ROOM];
+    let store = Store::lent(&mut pair.bytes);
+    let mut part = |part| store.export(part, &mut buffer).expect("a part of a store").to_vec();
+    let groups = bytes("02 02 00 0A 08 07 08 01 C8 00 05 D0 00 00");
+    assert_eq!(part(Part::GroupContacts), groups);
+    let individuals = bytes("02 02 00 09 08 07 08 01 C9 00 04 C0 00");
+    assert_eq!(part(Part::IndividualContacts), individuals);
+    let slots = part(Part::LineSlots);
+    assert_eq!(slots[..8], bytes("02 02 00 84 08 07 08 10"));
+    for (index, setting) in slots[8..].chunks(8).enumerate() {
+        assert_eq!(setting, bytes(&format!("D3 00 07 80 {index:02X} 0F 00 00")));
+    }
+    for absent in [0, 11, 12, 0x100, 0x108, u32::MAX] {
+        assert_eq!(raw::export(absent, store.bytes(), &mut buffer), 16, "part {absent}");
+    }
+}
+
+/// Flags stand once a setting, so that each contact has its own.
+#[test]
+fn parts_of_contacts_and_slots() {
+    let mut pair = after(&[
+        "C8 00 0F 5F C0 02 10 00 01 00 00 FF FF FF 00 00",
+        "C8 00 0C 68 40 01 10 00 02 00 41 00 00",
+        "C9 00 09 6C 01 10 00 01 00 00",
+        "D3 00 0C 5E 01 12 3F 4E 2D 00 41 00 00",
+    ]);
+    let store = Store::lent(&mut pair.bytes);
+    let mut buffer = [0; EXPORT_ROOM];
+    let mut part = |part| store.export(part, &mut buffer).expect("a part of a store")[8..].to_vec();
+    let groups = "C8 00 05 D0 00 00 C8 00 0A 5F C0 01 10 00 01 00 00 \
+        C8 00 0A 5F C0 01 FF FF FF 00 00 C8 00 0C 68 40 01 10 00 02 00 41 00 00";
+    assert_eq!(part(Part::GroupContacts), bytes(groups));
+    let individuals = "C9 00 04 C0 00 C9 00 09 6C 01 10 00 01 00 00";
+    assert_eq!(part(Part::IndividualContacts), bytes(individuals));
+    let slots = "D3 00 07 80 00 0F 00 00 D3 00 0C 5E 01 12 3F 4E 2D 00 41 00 00 \
+        D3 00 07 80 02 0F 00 00";
+    assert_eq!(part(Part::LineSlots)[..29], bytes(slots));
+}
+
+/// All three tables full, of texts and numbers of the greatest length.
+fn full() -> Pair {
+    let mut pair = Pair::fresh();
+    let text = "y".repeat(16);
+    let contacts: Vec<(u32, &str)> = (1..65).map(|place| (0x10_0000 + place, &text[..])).collect();
+    let lists = [group_contacts(Add, 1, &contacts), individual_contacts(Add, &contacts)];
+    for setting in lists {
+        assert_eq!(pair.take(&request(&[setting])), 0);
+    }
+    let (digits, units) = ("99 ".repeat(9), "00 79 ".repeat(16));
+    let slot = |index| bytes(&format!("D3 00 30 4E {index:02X} {digits} FF {units} 00 00"));
+    assert_eq!(pair.take(&request(&(0..16).map(slot).collect::<Vec<_>>())), 0);
+    pair
+}
+
+/// Whatever the other store held, it has the same tables then, background groups too.
+#[test]
+fn full_tables_go_to_another_store() {
+    let mut full = full();
+    for table in [Table::IndividualContacts, Table::LineSlots] {
+        assert_eq!(full.show_into(table.number(), 15, SCRATCH_ROOM), 0);
+    }
+    assert_eq!(full.show_into(Table::GroupContacts.number(), 15, SCRATCH_ROOM), 17);
+    let lengths = [Part::GroupContacts, Part::IndividualContacts, Part::LineSlots].map(|part| {
+        let store = Store::lent(&mut full.bytes);
+        store.export(part, &mut [0; EXPORT_ROOM]).expect("a part of a store").len()
+    });
+    assert_eq!(lengths, [8 + 6 + 64 * 43, 8 + 5 + 64 * 42, 8 + 16 * 49]);
+    for (from, into) in [(&full, &Pair::fresh()), (&Pair::fresh(), &full)] {
+        let (mut bytes, mut other) =
+            (from.bytes.clone(), Pair { bytes: into.bytes.clone(), set: into.set.clone() });
+        let store = Store::lent(&mut bytes);
+        for &part in Part::ALL {
+            let mut buffer = [0; EXPORT_ROOM];
+            assert_eq!(other.take(store.export(part, &mut buffer).expect("a part of a store")), 0);
+        }
+        assert!(other.bytes == from.bytes);
+    }
+}

@@ -1,0 +1,60 @@
+/* What the tests of numbers and of contacts share: an answer that must be, the counts of a store, bytes that are none, a message to a fresh one. */
+#ifndef ANSWERS_H
+#define ANSWERS_H
+
+#include "otap.h"
+#include "messages.h"
+
+#include <stdio.h>
+#include <stdlib.h>
+
+static uint8_t reply[OTAP_REPLY_BYTES], buffer[OTAP_EXPORT_BYTES], scratch[OTAP_SCRATCH_BYTES];
+static Message said;
+
+/* The number in the table, the constant, and what the archive answers. */
+static inline void same(const char *what, uint64_t number, uint64_t constant, uint64_t answer)
+{
+    if (number != constant || number != answer) {
+        fprintf(stderr, "%s: document %lu, header %lu, archive %lu\n", what, (unsigned long)number, (unsigned long)constant,
+                (unsigned long)answer);
+        exit(1);
+    }
+}
+
+/* What a store holds and has free; the packed answer has no other bits. */
+static inline void counts_are(const char *what, const uint8_t *bytes, uint64_t lines, uint64_t channels)
+{
+    uint64_t answer = otap_counts(bytes, OTAP_STORE_BYTES);
+    same(what, channels << 32 | lines << 16, answer, answer);
+    same("number of counts", 0, OTAP_OK, otap_answer_number(answer));
+    same("lines held", lines, otap_counts_lines(answer), answer >> 16 & 0xFFFF);
+    same("channels held", channels, otap_counts_channels(answer), answer >> 32);
+    same("lines free", 32 - lines, OTAP_LINE_ROWS - lines, otap_counts_free_lines(answer));
+    same("channels free", 64 - channels, OTAP_CHANNEL_PLACES - channels, otap_counts_free_channels(answer));
+}
+
+/* Every call refuses these bytes, and this one with both counts 0 and nothing free. */
+static inline void no_store(const char *what, uint8_t *bytes)
+{
+    uint64_t answer = otap_counts(bytes, OTAP_STORE_BYTES);
+    same(what, 11, OTAP_NO_STORE, answer);
+    same("lines and channels of no store", 0, otap_counts_lines(answer), otap_counts_channels(answer));
+    same("free of no store", 0, otap_counts_free_lines(answer), otap_counts_free_channels(answer));
+    same(what, 11, OTAP_NO_STORE, otap_export(1, bytes, OTAP_STORE_BYTES, buffer, sizeof buffer));
+    same(what, 11, OTAP_NO_STORE, otap_row_number(OTAP_GROUPS, 0, bytes, OTAP_STORE_BYTES, scratch, sizeof scratch));
+    write_query(&said, 0);
+    same(what, 11, OTAP_NO_STORE, otap_take(said.bytes, said.length, bytes, OTAP_STORE_BYTES, reply, sizeof reply));
+}
+
+/* What a message to a fresh store comes to; the store afterwards is left in `other`. */
+static inline void told(const char *what, const uint8_t *message, size_t length, uint64_t number, uint64_t failed, uint8_t *other)
+{
+    uint64_t answer;
+    same("start", 0, OTAP_OK, otap_start(other, OTAP_STORE_BYTES));
+    answer = otap_take(message, length, other, OTAP_STORE_BYTES, reply, sizeof reply);
+    same(what, number, number, otap_answer_number(answer));
+    same(what, failed, failed, otap_take_failed(answer));
+    same("coding type of the reply", 0, 0, reply[5]);
+}
+
+#endif
