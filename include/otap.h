@@ -59,8 +59,8 @@ enum { OTAP_LAYOUT = 4 };
  */
 enum {
     OTAP_START_STACK = 256,      /* measured 40 */
-    OTAP_JUDGE_STACK = 26624,    /* @JM@: it has the working copy that otap_commit has */
-    OTAP_COMMIT_STACK = 26624,   /* @CM@: 24,576 of them are the working copy of the store */
+    OTAP_JUDGE_STACK = 26624,    /* 26,372: it has the working copy that otap_commit has */
+    OTAP_COMMIT_STACK = 26624,   /* 26,372: 24,576 of them are the working copy of the store */
     OTAP_EXPORT_STACK = 1024,    /* 832 */
     OTAP_ROW_STACK = 1024,       /* 664 otap_row_number, 744 otap_row_part */
     OTAP_COUNTS_STACK = 1024,    /* 468 */

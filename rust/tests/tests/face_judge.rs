@@ -224,15 +224,18 @@ fn any_reply_buffer() {
     }
 }
 
-/// Messages that are judged, and committed only after others: each commit goes by the store that it then finds.
+/// Messages that are judged, and committed only after others, at times the last first: each commit goes by the store that it then finds.
 #[test]
 fn messages_that_wait() {
     let (mut stood, mut refused, mut made) = (0, 0, 0);
     for seed in 8_100..8_160 {
         let mut inputs = Inputs::new(seed);
         let mut pair = Pair::fresh();
-        for _ in 0..30 {
-            let waiting: Vec<Vec<u8>> = (0..4).map(|_| inputs.message()).collect();
+        for round in 0..30 {
+            let mut waiting: Vec<Vec<u8>> = (0..4).map(|_| inputs.message()).collect();
+            if round % 2 == 1 {
+                waiting.reverse();
+            }
             let judged: Vec<u8> = waiting.iter().map(|message| pair.judge(message)).collect();
             let same = pair.bytes.clone();
             for (message, judged) in waiting.iter().zip(judged) {
@@ -248,5 +251,5 @@ fn messages_that_wait() {
         }
     }
     println!("after others: {stood} taken as judged, {refused} no more, {made} only then");
-    assert!(stood > 500 && refused > 50 && made > 50, "{stood}, {refused}, {made}");
+    assert!(stood > 500 && refused > 30 && made > 30, "{stood}, {refused}, {made}");
 }
