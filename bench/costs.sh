@@ -6,7 +6,7 @@ work=$(mktemp -d) || exit 1
 trap 'rm -rf "$work"' EXIT
 [ -n "$COUNTS" ] || { "$here/count.sh" >"$work/counts" && COUNTS=$work/counts; } || exit 1
 [ -n "$TIMES" ] || { (cd "$here" && cargo run --release --quiet) >"$work/times" && TIMES=$work/times; } || exit 1
-echo "| call | message bytes | ns | to plain | to judged | instructions | plain | judged |"
+echo "| call | message bytes | ns | to plain | to checked | instructions | plain | checked |"
 echo "|---|---|---|---|---|---|---|---|"
 awk -F' *[|] *' '
     $2 == "call" || $2 ~ /^-/ || NF < 8 { next }

@@ -16,11 +16,11 @@ per_call() {
     echo $((($(count "$1" "$2" $MANY) - $(count "$1" "$2" $FEW)) / (MANY - FEW)))
 }
 
-echo "| call | Rattle | plain | judged | to plain | to judged |"
+echo "| call | Rattle | plain | checked | to plain | to checked |"
 echo "|---|---|---|---|---|---|"
 names=${*:-$("$bench" list)}
 for name in $names; do
-    rattle=$(per_call "$name" rattle) plain=$(per_call "$name" plain) judged=$(per_call "$name" judged)
-    awk -v n="$name" -v r="$rattle" -v p="$plain" -v j="$judged" \
-        'BEGIN { printf "| %s | %d | %d | %d | %.2f | %.2f |\n", n, r, p, j, r / p, r / j }'
+    rattle=$(per_call "$name" rattle) plain=$(per_call "$name" plain) checked=$(per_call "$name" checked)
+    awk -v n="$name" -v r="$rattle" -v p="$plain" -v c="$checked" \
+        'BEGIN { printf "| %s | %d | %d | %d | %.2f | %.2f |\n", n, r, p, c, r / p, r / c }'
 done

@@ -1,6 +1,7 @@
 /*
- * A bit of firmware over libotap_handheld.a: keep a store at power-on or start one, take messages, save, start again, draw the rows, write the settings out
- * and into another set. Every answer is checked; the first that is not what it must be ends the program with 1. examples/firmware.out is what it prints.
+ * A bit of firmware over libotap_handheld.a: keep a store at power-on or start one, judge messages and commit them, save, start again, draw the rows, write
+ * the settings out and into another set. Every answer is checked; the first that is not what it must be ends the program with 1. examples/firmware.out is
+ * what it prints.
  * It is one task, so it needs no lock; docs/FIRMWARE.md says where three need one, and how to save so that a power cut loses nothing (banks.c).
  */
 #include "otap.h"
@@ -77,6 +78,7 @@ static uint8_t flash[OTAP_STORE_BYTES];
 static uint8_t store[OTAP_STORE_BYTES];
 static uint8_t other[OTAP_STORE_BYTES];
 static uint8_t reply[OTAP_REPLY_BYTES];
+static uint8_t forecast[OTAP_REPLY_BYTES]; /* the reply of what is only judged */
 static uint8_t request[OTAP_EXPORT_BYTES];
 static uint8_t scratch[OTAP_SCRATCH_BYTES];
 static uint8_t other_scratch[OTAP_SCRATCH_BYTES];
@@ -128,7 +130,7 @@ static void print_text(const uint8_t *text, size_t length)
     }
 }
 
-/* A task of its own would hold the lock of otap_take from here to the last print_text. Each row is asked for once: 0 is a row that is not shown, which
+/* A task of its own would hold the lock of otap_commit from here to the last print_text. Each row is asked for once: 0 is a row that is not shown, which
  * does not end a list, for it may be a background group's. */
 static void draw_table(const char *name, uint32_t table, uint32_t first, uint32_t last)
 {
@@ -194,47 +196,72 @@ static void restart(void)
 static void print_answer(const char *what, uint64_t answer)
 {
     size_t at;
-    printf("%s: number %u, failed ID %u, %s, %s, reply", what, (unsigned)otap_answer_number(answer), (unsigned)otap_take_failed(answer),
-           otap_take_send(answer) ? "send" : "do not send", otap_take_reboot(answer) ? "start again" : "no restart");
-    for (at = 0; at < otap_take_reply_length(answer); at++) {
+    printf("%s: number %u, failed ID %u, %s, %s, reply", what, (unsigned)otap_answer_number(answer), (unsigned)otap_answer_failed(answer),
+           otap_answer_send(answer) ? "send" : "do not send", otap_answer_reboot(answer) ? "start again" : "no restart");
+    for (at = 0; at < otap_answer_length(answer); at++) {
         printf(" %02X", reply[at]);
     }
     printf("\n");
 }
 
-/* What is taken is saved before a reply says so, and before a restart; here printing is sending. */
-static uint64_t take(const char *what, const uint8_t *message, size_t length)
+/* What committing would answer. The store stays as it is, and nothing is sent: the set has nothing of the message yet. */
+static uint64_t judge(const uint8_t *message, size_t length, const uint8_t *bytes)
 {
-    uint64_t answer = otap_take(message, length, store, sizeof store, reply, sizeof reply);
+    return otap_judge(message, length, bytes, OTAP_STORE_BYTES, forecast, sizeof forecast);
+}
+
+/* Judges and commits. The store is the same for both, so both answer alike and write the same reply: always, with a reply buffer of 20 bytes. */
+static uint64_t judge_and_commit(const uint8_t *message, size_t length, uint8_t *bytes)
+{
+    uint64_t judged = judge(message, length, bytes);
+    uint64_t answer = otap_commit(message, length, bytes, OTAP_STORE_BYTES, reply, sizeof reply);
+    must_be("what committing answers", answer, judged);
+    must_be("whether its reply is another", memcmp(forecast, reply, otap_answer_length(answer)) != 0, 0);
+    return answer;
+}
+
+/* What is taken is saved before a reply says so, and before a restart; here printing is sending. */
+static uint64_t commit(const char *what, const uint8_t *message, size_t length)
+{
+    uint64_t answer = judge_and_commit(message, length, store);
     if (otap_answer_number(answer) == OTAP_OK) {
         memcpy(flash, store, sizeof flash);
     }
     print_answer(what, answer);
-    if (otap_take_reboot(answer)) {
+    if (otap_answer_reboot(answer)) {
         restart();
     }
     return answer;
 }
 
+/* A request that comes during a call waits; the user is told what it will come to. */
+static void wait_for_the_call(const char *what, const uint8_t *message, size_t length)
+{
+    uint64_t judged = judge(message, length, store);
+    printf("%s, during a call: it %s be taken; %s then\n", what, otap_answer_number(judged) == OTAP_OK ? "will" : "will not",
+           otap_answer_reboot(judged) ? "the set starts again" : "no restart");
+}
+
 static void add_and_rename(void)
 {
-    uint64_t answer = take("adding", adding, sizeof adding);
+    uint64_t answer = commit("adding", adding, sizeof adding);
     must_be("the number of the adding", otap_answer_number(answer), OTAP_OK);
-    must_be("its send", (uint64_t)otap_take_send(answer), 1);
-    must_be("its reboot", (uint64_t)otap_take_reboot(answer), 0);
-    must_be("its reply length", otap_take_reply_length(answer), 14);
+    must_be("its send", (uint64_t)otap_answer_send(answer), 1);
+    must_be("its reboot", (uint64_t)otap_answer_reboot(answer), 0);
+    must_be("its reply length", otap_answer_length(answer), 14);
+    wait_for_the_call("renaming", renaming, sizeof renaming);
     draw("rows after the adding");
-    answer = take("renaming", renaming, sizeof renaming);
+    answer = commit("renaming", renaming, sizeof renaming);
     must_be("the number of the renaming", otap_answer_number(answer), OTAP_OK);
-    must_be("its send", (uint64_t)otap_take_send(answer), 0);
-    must_be("its reboot", (uint64_t)otap_take_reboot(answer), 1);
+    must_be("its send", (uint64_t)otap_answer_send(answer), 0);
+    must_be("its reboot", (uint64_t)otap_answer_reboot(answer), 1);
     draw("rows after the renaming");
 }
 
 /* The background group is held, and exported below; its row is absent, and that of the group behind it is its own. */
 static void add_contacts(void)
 {
-    uint64_t answer = take("contacts", contacts, sizeof contacts);
+    uint64_t answer = commit("contacts", contacts, sizeof contacts);
     must_be("the number of the contacts", otap_answer_number(answer), OTAP_OK);
     must_be("a background group's row", otap_row_number(OTAP_GROUP_CONTACTS, 0, store, sizeof store, scratch, sizeof scratch), OTAP_NO_ROW);
     must_be("a member group's row", otap_row_number(OTAP_GROUP_CONTACTS, 1, store, sizeof store, scratch, sizeof scratch), OTAP_OK);
@@ -245,9 +272,9 @@ static void try_refused(void)
 {
     uint64_t answer;
     memcpy(other, store, sizeof store);
-    answer = take("refused", refused, sizeof refused);
+    answer = commit("refused", refused, sizeof refused);
     must_be("the number of the refused message", otap_answer_number(answer), OTAP_BAD_FIELD);
-    must_be("its failed ID", otap_take_failed(answer), 2);
+    must_be("its failed ID", otap_answer_failed(answer), 2);
     must_be("whether the store changed", memcmp(other, store, sizeof store) != 0, 0);
     printf("the store is as it was, byte for byte\n");
 }
@@ -260,7 +287,7 @@ static void export_to_other(void)
         uint64_t written = otap_export(part, store, sizeof store, request, sizeof request);
         uint64_t answer;
         must_be("the number of an export", otap_answer_number(written), OTAP_OK);
-        answer = otap_take(request, otap_export_length(written), other, sizeof other, reply, sizeof reply);
+        answer = judge_and_commit(request, otap_export_length(written), other);
         must_be("the number of an exported request", otap_answer_number(answer), OTAP_OK);
         printf("part %u: %u bytes, taken by the other store\n", (unsigned)part, (unsigned)otap_export_length(written));
     }

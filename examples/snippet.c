@@ -7,12 +7,15 @@ void read_saved(uint8_t *bytes, size_t length);
 void write_saved(const uint8_t *bytes, size_t length);
 void send_reply(const uint8_t *bytes, size_t length);
 void restart_set(void);
+void keep_message(const uint8_t *message, size_t length); /* until the call ends: then on_message gets what was kept, in the order that it came in */
+void show_waiting(int taken, int restart);                /* to the user: whether it would be taken, and whether the set would start again */
 void draw_row(uint32_t row, const uint8_t *units, size_t length);
 void draw_room(uint32_t lines, uint32_t channels);
 void lock_store(void);
 void unlock_store(void);
 
-static uint8_t store[OTAP_STORE_BYTES], copy[OTAP_STORE_BYTES], reply[OTAP_REPLY_BYTES], scratch[OTAP_SCRATCH_BYTES];
+static uint8_t store[OTAP_STORE_BYTES], copy[OTAP_STORE_BYTES], scratch[OTAP_SCRATCH_BYTES];
+static uint8_t reply[OTAP_REPLY_BYTES], forecast[OTAP_REPLY_BYTES];
 
 /* Before the tasks start: keeps what was saved if it is a store, and starts one only where it is none (answer 0: the user may want to know). */
 int power_on(void)
@@ -33,18 +36,32 @@ void save_store(void)
     write_saved(copy, sizeof copy);
 }
 
-/* The radio task: takes one message, whole or not at all. What is taken is saved before a reply says so, and before a restart. */
+/* The radio task, during a call: judges a message, which changes nothing, and lets it wait. The reply is not sent: the set has nothing of it yet. */
+void on_message_in_call(const uint8_t *message, size_t length)
+{
+    uint64_t answer;
+    lock_store();
+    answer = otap_judge(message, length, store, sizeof store, forecast, sizeof forecast);
+    unlock_store();
+    if (otap_answer_length(answer) == 0) /* 10 to 14: nothing that could be answered, now or later */
+        return;
+    keep_message(message, length);
+    show_waiting(otap_answer_number(answer) == OTAP_OK, otap_answer_reboot(answer));
+}
+
+/* The radio task otherwise, and for what has waited: commits one message, whole or not at all; it is judged again, for the store may be another by now.
+ * What is taken is saved before a reply says so, and before a restart. */
 void on_message(const uint8_t *message, size_t length)
 {
     uint64_t answer;
     lock_store();
-    answer = otap_take(message, length, store, sizeof store, reply, sizeof reply);
+    answer = otap_commit(message, length, store, sizeof store, reply, sizeof reply);
     unlock_store();
     if (otap_answer_number(answer) == OTAP_OK)
         save_store();
-    if (otap_take_send(answer))
-        send_reply(reply, otap_take_reply_length(answer));
-    if (otap_take_reboot(answer))
+    if (otap_answer_send(answer))
+        send_reply(reply, otap_answer_length(answer));
+    if (otap_answer_reboot(answer))
         restart_set();
 }
 

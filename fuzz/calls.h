@@ -1,6 +1,7 @@
 /*
  * Each call of the archive, made twice on buffers of their own, and what has to hold of it whatever was lent. No second implementation: what is checked
- * is the ladder of refusals by size, what may change, the bits that must be 0, the form of replies and exports, and where a row's part may lie.
+ * is the ladder of refusals by size, what may change, the bits that must be 0, the form of replies and exports, and where a row's part may lie; and that
+ * judging says what committing then does.
  */
 #ifndef CALLS_H
 #define CALLS_H
@@ -26,10 +27,10 @@ static void check_reply(const uint8_t *reply, uint64_t answer)
 {
     static const uint8_t lengths[] = {10, 14, 20};
     uint32_t number = otap_answer_number(answer);
-    size_t length = otap_take_reply_length(answer);
+    size_t length = otap_answer_length(answer);
     must(reply[0] == 2 && reply[1] == 2 && reply[2] == 0 && reply[3] == length - 4, "a reply's head");
     must(reply[4] == 8 && reply[5] == 0 && reply[6] == 9, "a reply's kind");
-    must(reply[7] == number && reply[8] == otap_take_failed(answer), "a reply says the answer");
+    must(reply[7] == number && reply[8] == otap_answer_failed(answer), "a reply says the answer");
     must(reply[9] <= 2 && length == lengths[reply[9]], "a reply's hash code and length");
     must(number == 0 || number == 5 || reply[9] == 0, "1 to 4 carry no hash");
 }
@@ -37,57 +38,109 @@ static void check_reply(const uint8_t *reply, uint64_t answer)
 static void check_answer(uint64_t answer)
 {
     uint32_t number = otap_answer_number(answer);
-    must((answer & 0xFFFFFFFF00FC0000u) == 0, "bits of take that must be 0");
-    must(number <= 5 || (number >= 10 && number <= 14), "a number of take");
+    must((answer & 0xFFFFFFFF00FC0000u) == 0, "bits of an answer that must be 0");
+    must(number <= 5 || (number >= 10 && number <= 14), "a number of a message");
     must(number < 10 || answer == number, "10 to 14: nothing but the number");
-    must((number >= 10) == (otap_take_reply_length(answer) == 0), "a reply exactly for 0 to 5");
-    must(number == 0 || number >= 10 || otap_take_send(answer), "1 to 5 are sent");
-    must(number == 0 || !otap_take_reboot(answer), "only what is taken reboots");
-    must((number >= 2 && number <= 4) || otap_take_failed(answer) == 0, "failed ID 0 but for 2 to 4");
-    must((number != 2 && number != 3) || otap_take_failed(answer) != 0, "2 and 3 name a setting");
+    must((number >= 10) == (otap_answer_length(answer) == 0), "a reply exactly for 0 to 5");
+    must(number == 0 || number >= 10 || otap_answer_send(answer), "1 to 5 are sent");
+    must(number == 0 || !otap_answer_reboot(answer), "only what is taken reboots");
+    must((number >= 2 && number <= 4) || otap_answer_failed(answer) == 0, "failed ID 0 but for 2 to 4");
+    must((number != 2 && number != 3) || otap_answer_failed(answer) != 0, "2 and 3 name a setting");
 }
 
 /* The first refusal that sizes alone say; 0 if none. */
-static uint32_t take_refusal(size_t message_length, size_t store_length, size_t reply_length)
+static uint32_t refusal_by_size(size_t message_length, size_t store_length, size_t reply_length)
 {
     return reply_length < OTAP_REPLY_BYTES ? OTAP_SHORT_REPLY : store_length != OTAP_STORE_BYTES ? OTAP_NO_STORE
          : message_length < 7 || message_length > OTAP_MESSAGE_BYTES ? OTAP_MESSAGE_LENGTH : OTAP_OK;
 }
 
-/* A message on these bytes; the store afterwards is left in `after`. */
-static uint64_t take_once(const uint8_t *message, size_t message_length, const uint8_t *store, size_t store_length,
-                          size_t reply_length, int guarded, uint8_t *after)
+/* What has to hold of the answer to a message, and of the reply buffer after it, judged or committed. */
+static void check_message(const uint8_t *message, size_t message_length, const Lent *reply, const uint8_t *held, uint64_t answer)
 {
-    Lent m = lend(message, message_length, guarded), s = lend(store, store_length, guarded), r = lend(stale(), reply_length, guarded);
-    uint64_t answer = otap_take(m.bytes, m.length, s.bytes, s.length, r.bytes, r.length);
-    size_t wrote = otap_take_reply_length(answer);
+    size_t wrote = otap_answer_length(answer);
     int query = message_length > 6 && (message[6] & 7) == 5;
-    must(same_bytes(m.bytes, message, message_length), "the message stays");
-    must((otap_answer_number(answer) == OTAP_OK && !query) || same_bytes(s.bytes, store, store_length), "only a taken request changes the store");
-    must(wrote <= reply_length && same_bytes(r.bytes + wrote, stale() + wrote, reply_length - wrote), "bytes past the reply stay");
+    must(wrote <= reply->length && same_bytes(reply->bytes + wrote, held + wrote, reply->length - wrote), "bytes past the reply stay");
     check_answer(answer);
     must(otap_answer_number(answer) != OTAP_NO_MATCH || query, "5 only of a query");
     if (wrote > 0) {
-        check_reply(r.bytes, answer);
+        check_reply(reply->bytes, answer);
     }
-    memcpy(after, s.bytes, store_length);
+}
+
+/* A message judged on these bytes: the store stays. Its reply is left in `said`; the buffer held other bytes than that of committing. */
+static uint64_t judge_once(const uint8_t *message, size_t message_length, const uint8_t *store, size_t store_length,
+                           size_t reply_length, int guarded, uint8_t *said)
+{
+    const uint8_t *held = stale() + OTAP_EXPORT_BYTES / 2;
+    Lent m = lend(message, message_length, guarded), s = lend(store, store_length, guarded), r = lend(held, reply_length, guarded);
+    uint64_t answer = otap_judge(m.bytes, m.length, s.bytes, s.length, r.bytes, r.length);
+    must(same_bytes(m.bytes, message, message_length), "the message stays");
+    must(same_bytes(s.bytes, store, store_length), "judging leaves the store");
+    check_message(message, message_length, &r, held, answer);
+    memcpy(said, r.bytes, otap_answer_length(answer));
     give_back(&m);
     give_back(&s);
     give_back(&r);
     return answer;
 }
 
-static uint64_t take_twice(const uint8_t *message, size_t message_length, const uint8_t *store, size_t store_length,
-                           size_t reply_length, uint8_t *after)
+/* A message committed to these bytes; the store afterwards is left in `after`, and the reply in `said`. */
+static uint64_t commit_once(const uint8_t *message, size_t message_length, const uint8_t *store, size_t store_length,
+                            size_t reply_length, int guarded, uint8_t *after, uint8_t *said)
+{
+    Lent m = lend(message, message_length, guarded), s = lend(store, store_length, guarded), r = lend(stale(), reply_length, guarded);
+    uint64_t answer = otap_commit(m.bytes, m.length, s.bytes, s.length, r.bytes, r.length);
+    int query = message_length > 6 && (message[6] & 7) == 5;
+    must(same_bytes(m.bytes, message, message_length), "the message stays");
+    must((otap_answer_number(answer) == OTAP_OK && !query) || same_bytes(s.bytes, store, store_length), "only a taken request changes the store");
+    check_message(message, message_length, &r, stale(), answer);
+    memcpy(after, s.bytes, store_length);
+    memcpy(said, r.bytes, otap_answer_length(answer));
+    give_back(&m);
+    give_back(&s);
+    give_back(&r);
+    return answer;
+}
+
+/* Judged, then committed to the same bytes: the same answer, and the same reply. */
+static uint64_t commit_judged(const uint8_t *message, size_t message_length, const uint8_t *store, size_t store_length,
+                              size_t reply_length, int guarded, uint8_t *after)
+{
+    uint8_t forecast[OTAP_REPLY_BYTES], said[OTAP_REPLY_BYTES];
+    uint64_t judged = judge_once(message, message_length, store, store_length, reply_length, guarded, forecast);
+    uint64_t answer = commit_once(message, message_length, store, store_length, reply_length, guarded, after, said);
+    must(judged == answer, "what was judged is committed to the same store");
+    must(same_bytes(forecast, said, otap_answer_length(answer)), "judging writes the reply that committing writes");
+    return answer;
+}
+
+static uint64_t commit_twice(const uint8_t *message, size_t message_length, const uint8_t *store, size_t store_length,
+                             size_t reply_length, uint8_t *after)
 {
     static uint8_t again[OTAP_STORE_BYTES + 64];
-    uint32_t refusal = take_refusal(message_length, store_length, reply_length);
-    uint64_t answer = take_once(message, message_length, store, store_length, reply_length, 0, after);
-    must(answer == take_once(message, message_length, store, store_length, reply_length, 1, again), "the same answer twice");
+    uint32_t refusal = refusal_by_size(message_length, store_length, reply_length);
+    uint64_t answer = commit_judged(message, message_length, store, store_length, reply_length, 0, after);
+    must(answer == commit_judged(message, message_length, store, store_length, reply_length, 1, again), "the same answer twice");
     must(same_bytes(after, again, store_length), "the same store twice");
     must(refusal == OTAP_OK || answer == refusal || (refusal == OTAP_MESSAGE_LENGTH && answer == OTAP_NO_STORE), "refusals by size, in order");
     must(refusal != OTAP_OK || (answer != OTAP_SHORT_REPLY && answer != OTAP_MESSAGE_LENGTH), "no refusal by size");
     return answer;
+}
+
+/* A message that was judged, and waits while another is committed: it is then committed as if it were judged for that store, and not as it was. */
+static void commit_late(const uint8_t *late, size_t late_length, const uint8_t *message, size_t message_length, const uint8_t *store)
+{
+    static uint8_t between[OTAP_STORE_BYTES], after[OTAP_STORE_BYTES], again[OTAP_STORE_BYTES];
+    uint8_t said[OTAP_REPLY_BYTES], forecast[OTAP_REPLY_BYTES];
+    uint64_t answer;
+    judge_once(late, late_length, store, OTAP_STORE_BYTES, OTAP_REPLY_BYTES, 0, forecast);
+    commit_once(message, message_length, store, OTAP_STORE_BYTES, OTAP_REPLY_BYTES, 0, between, said);
+    answer = commit_once(late, late_length, between, OTAP_STORE_BYTES, OTAP_REPLY_BYTES, 0, after, said);
+    must(answer == judge_once(late, late_length, between, OTAP_STORE_BYTES, OTAP_REPLY_BYTES, 0, forecast), "what has waited is judged again");
+    must(same_bytes(said, forecast, otap_answer_length(answer)), "what has waited gets the reply of now");
+    commit_once(late, late_length, between, OTAP_STORE_BYTES, OTAP_REPLY_BYTES, 0, again, said);
+    must(same_bytes(after, again, OTAP_STORE_BYTES), "what has waited changes the store of now");
 }
 
 /* An export; what it wrote is left in `request`. */

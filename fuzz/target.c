@@ -1,6 +1,7 @@
 /*
  * The entry of a fuzzer over the C functions. An input is records, each a byte that chooses the call and the sizes, then what the call needs; one store
- * goes from record to record. After each message the store is still a store, and at the end it is written out into a fresh one that becomes the same.
+ * goes from record to record. Each message is judged and then committed, and the one before it once more after it. After each the store is still a store,
+ * and at the end it is written out into a fresh one that becomes the same.
  */
 #include "rows.h"
 
@@ -12,6 +13,10 @@ typedef struct {
 } Input;
 
 static uint8_t store[OTAP_STORE_BYTES + 64], after[OTAP_STORE_BYTES + 64], other[OTAP_STORE_BYTES + 64];
+
+/* The message before, which is judged once more and waits while the next is committed; none at the start of an input. */
+static uint8_t waiting[OTAP_MESSAGE_BYTES + 64];
+static size_t waiting_length;
 
 /* What the archive came to, since a fuzzer cannot see its branches: numbers by failed ID, and how many slots of each table are in use. */
 #if defined(__clang__) && defined(__linux__)
@@ -63,7 +68,7 @@ static size_t chosen_store(unsigned choice)
 
 static void note(uint64_t answer)
 {
-    unsigned failed = otap_take_failed(answer), table;
+    unsigned failed = otap_answer_failed(answer), table;
     reached[otap_answer_number(answer) * 32 + (failed < 31 ? failed : 31)] = 1;
     reached[1024 + store[12731] % 65] = 1; /* channels, which have no row */
     for (table = 1; table <= OTAP_TABLES; table++) {
@@ -75,10 +80,15 @@ static void note(uint64_t answer)
     }
 }
 
-static void take_message(const uint8_t *message, size_t length, unsigned choice)
+static void commit_message(const uint8_t *message, size_t length, unsigned choice)
 {
     size_t store_length = chosen_store(choice);
-    uint64_t answer = take_twice(message, length, store, store_length, chosen_size(choice, OTAP_REPLY_BYTES), after);
+    uint64_t answer = commit_twice(message, length, store, store_length, chosen_size(choice, OTAP_REPLY_BYTES), after);
+    if (waiting_length > 0) {
+        commit_late(waiting, waiting_length, message, length, store);
+    }
+    memcpy(waiting, message, length);
+    waiting_length = length;
     must(store_length != OTAP_STORE_BYTES || otap_answer_number(answer) != OTAP_NO_STORE, "a store is known as one");
     if (otap_answer_number(answer) == OTAP_OK) {
         memcpy(store, after, OTAP_STORE_BYTES);
@@ -88,12 +98,12 @@ static void take_message(const uint8_t *message, size_t length, unsigned choice)
     note(answer);
 }
 
-static void take_raw(Input *input, unsigned choice)
+static void commit_raw(Input *input, unsigned choice)
 {
     static uint8_t message[OTAP_MESSAGE_BYTES + 64];
     size_t length = next_byte(input);
     length = (length + 256 * next_byte(input)) % (OTAP_MESSAGE_BYTES + 2);
-    take_message(message, next_bytes(input, length, message), choice);
+    commit_message(message, next_bytes(input, length, message), choice);
 }
 
 /* One setting with a true DataLength, so that inputs get past it to the fields. */
@@ -108,7 +118,7 @@ static size_t build_setting(Input *input, uint8_t *to)
     return length + 3;
 }
 
-static void take_built(Input *input, unsigned choice)
+static void commit_built(Input *input, unsigned choice)
 {
     static uint8_t message[OTAP_MESSAGE_BYTES + 64] = {2, 2, 0, 0, 8, 7, 8};
     unsigned chosen = next_byte(input), settings = 1 + chosen % 12, each;
@@ -120,7 +130,7 @@ static void take_built(Input *input, unsigned choice)
     }
     message[2] = (uint8_t)((length - 4) >> 8);
     message[3] = (uint8_t)(length - 4);
-    take_message(message, length, choice);
+    commit_message(message, length, choice);
 }
 
 static void ask_row(Input *input, unsigned choice)
@@ -142,7 +152,7 @@ static void ask_export(Input *input, unsigned choice)
     must(store_length != OTAP_STORE_BYTES || otap_answer_number(answer) != OTAP_NO_STORE, "a store is known as one");
 }
 
-/* The ten parts of a store, taken by a fresh one, make it the same but for the kept hash: the first 11 bytes. */
+/* The ten parts of a store, committed to a fresh one, make it the same but for the kept hash: the first 11 bytes. */
 static void restore_it(void)
 {
     static uint8_t request[OTAP_EXPORT_BYTES], again[OTAP_EXPORT_BYTES];
@@ -152,7 +162,7 @@ static void restore_it(void)
         uint64_t written = export_once(part, store, OTAP_STORE_BYTES, OTAP_EXPORT_BYTES, 0, request), answer;
         size_t length = otap_export_length(written);
         must(otap_answer_number(written) == OTAP_OK, "a store can be exported");
-        answer = take_once(request, length, other, OTAP_STORE_BYTES, OTAP_REPLY_BYTES, 1, after);
+        answer = commit_judged(request, length, other, OTAP_STORE_BYTES, OTAP_REPLY_BYTES, 1, after);
         must(otap_answer_number(answer) == OTAP_OK, "an export is taken");
         memcpy(other, after, OTAP_STORE_BYTES);
         must(written == export_once(part, other, OTAP_STORE_BYTES, OTAP_EXPORT_BYTES, 1, again), "the other store's export is as long");
@@ -170,7 +180,7 @@ static int known_by_all(void)
     static uint8_t request[OTAP_EXPORT_BYTES];
     int known = row_twice(OTAP_GROUPS, 0, store, OTAP_STORE_BYTES, OTAP_SCRATCH_BYTES) != OTAP_NO_STORE;
     must(known == (otap_answer_number(export_twice(2, store, OTAP_STORE_BYTES, OTAP_EXPORT_BYTES, request)) == OTAP_OK), "export knows a store");
-    must(known == (take_twice(query, sizeof query, store, OTAP_STORE_BYTES, OTAP_REPLY_BYTES, after) != OTAP_NO_STORE), "take knows a store");
+    must(known == (commit_twice(query, sizeof query, store, OTAP_STORE_BYTES, OTAP_REPLY_BYTES, after) != OTAP_NO_STORE), "judging and committing know a store");
     must(known == (counts_twice(store, OTAP_STORE_BYTES) != OTAP_NO_STORE), "counts know a store");
     return known;
 }
@@ -294,8 +304,8 @@ static void one_record(Input *input)
 {
     unsigned choice = next_byte(input);
     switch (choice & 7) {
-    case 0: case 1: take_raw(input, choice); break;
-    case 2: case 3: take_built(input, choice); break;
+    case 0: case 1: commit_raw(input, choice); break;
+    case 2: case 3: commit_built(input, choice); break;
     case 4: ask_row(input, choice); ask_counts(choice); break;
     case 5: ask_export(input, choice); ask_counts(choice); break;
     case 6: (choice & 8 ? poke_count : choice & 16 ? poke_entry : poke)(input); break;
@@ -309,6 +319,7 @@ int LLVMFuzzerTestOneInput(const uint8_t *data, size_t size)
     unsigned records;
     input.bytes = data;
     input.left = size;
+    waiting_length = 0;
     memset(store, 0xEE, sizeof store);
     must(otap_start(store, OTAP_STORE_BYTES) == OTAP_OK, "any bytes can be started");
     for (records = 0; records < MOST_RECORDS && input.left > 0; records++) {

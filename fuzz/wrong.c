@@ -7,12 +7,14 @@
 #define WRONG 0
 #endif
 
-uint64_t __real_otap_take(const uint8_t *, uint64_t, uint8_t *, uint64_t, uint8_t *, uint64_t);
+uint64_t __real_otap_judge(const uint8_t *, uint64_t, const uint8_t *, uint64_t, uint8_t *, uint64_t);
+uint64_t __real_otap_commit(const uint8_t *, uint64_t, uint8_t *, uint64_t, uint8_t *, uint64_t);
 uint64_t __real_otap_export(uint32_t, const uint8_t *, uint64_t, uint8_t *, uint64_t);
 uint32_t __real_otap_row_number(uint32_t, uint32_t, const uint8_t *, uint64_t, const uint8_t *, uint64_t);
 uint64_t __real_otap_row_part(uint32_t, uint32_t, const uint8_t *, uint64_t, uint8_t *, uint64_t);
 uint64_t __real_otap_counts(const uint8_t *, uint64_t);
-uint64_t __wrap_otap_take(const uint8_t *, uint64_t, uint8_t *, uint64_t, uint8_t *, uint64_t);
+uint64_t __wrap_otap_judge(const uint8_t *, uint64_t, const uint8_t *, uint64_t, uint8_t *, uint64_t);
+uint64_t __wrap_otap_commit(const uint8_t *, uint64_t, uint8_t *, uint64_t, uint8_t *, uint64_t);
 uint64_t __wrap_otap_export(uint32_t, const uint8_t *, uint64_t, uint8_t *, uint64_t);
 uint32_t __wrap_otap_row_number(uint32_t, uint32_t, const uint8_t *, uint64_t, const uint8_t *, uint64_t);
 uint64_t __wrap_otap_row_part(uint32_t, uint32_t, const uint8_t *, uint64_t, uint8_t *, uint64_t);
@@ -85,14 +87,73 @@ static const uint8_t *all_shown(const uint8_t *store)
     return other;
 }
 
-uint64_t __wrap_otap_take(const uint8_t *message, uint64_t message_length, uint8_t *store, uint64_t store_length, uint8_t *reply,
-                          uint64_t reply_length)
+/* The last message that was judged good, what was said of it, and the store that it would leave. */
+static struct {
+    uint8_t message[OTAP_MESSAGE_BYTES], reply[OTAP_REPLY_BYTES], after[OTAP_STORE_BYTES];
+    uint64_t length, answer;
+} verdict;
+
+static void remember(const uint8_t *message, uint64_t message_length, const uint8_t *store, uint64_t answer)
+{
+    verdict.length = 0;
+    if (otap_answer_number(answer) == OTAP_OK) {
+        memcpy(verdict.message, message, message_length);
+        memcpy(verdict.after, store, sizeof verdict.after);
+        verdict.answer = __real_otap_commit(message, message_length, verdict.after, sizeof verdict.after, verdict.reply, sizeof verdict.reply);
+        verdict.length = message_length;
+    }
+}
+
+/* A judged message's verdict is done without a look at the store. */
+static uint64_t trust(uint8_t *store, uint8_t *reply)
+{
+    memcpy(store, verdict.after, sizeof verdict.after);
+    memcpy(reply, verdict.reply, otap_answer_length(verdict.answer));
+    return verdict.answer;
+}
+
+/* The reply with the hash that the store keeps, if that is not shorter. */
+static uint64_t with_kept_hash(const uint8_t *store, uint8_t *reply, uint64_t answer)
+{
+    static const uint8_t sizes[] = {0, 4, 10};
+    size_t size = sizes[store[0]];
+    if (10 + size < otap_answer_length(answer)) {
+        return answer;
+    }
+    memcpy(reply + 10, store + 1, size);
+    reply[9] = store[0];
+    reply[3] = (uint8_t)(6 + size);
+    return (answer & 0xFFFFFFu) | (uint64_t)(10 + size) << 24;
+}
+
+uint64_t __wrap_otap_judge(const uint8_t *message, uint64_t message_length, const uint8_t *store, uint64_t store_length, uint8_t *reply,
+                           uint64_t reply_length)
+{
+    uint64_t answer = __real_otap_judge(message, message_length, store, store_length, reply, reply_length);
+    if (WRONG == 22 && otap_answer_number(answer) == OTAP_OK) {
+        ((uint8_t *)(uintptr_t)store)[0] ^= 1; /* judging changes a byte of the store */
+    }
+    if (WRONG == 23) {
+        remember(message, message_length, store, answer);
+    }
+    if (WRONG == 24 && otap_answer_number(answer) == OTAP_OK) {
+        return with_kept_hash(store, reply, answer); /* the hash kept, and not the request's own */
+    }
+    return answer;
+}
+
+uint64_t __wrap_otap_commit(const uint8_t *message, uint64_t message_length, uint8_t *store, uint64_t store_length, uint8_t *reply,
+                            uint64_t reply_length)
 {
     static uint8_t before[OTAP_STORE_BYTES];
     uint64_t answer;
     uint32_t number;
+    if (WRONG == 23 && store_length == OTAP_STORE_BYTES && reply_length >= OTAP_REPLY_BYTES && message_length > 0 && message_length == verdict.length
+        && memcmp(message, verdict.message, message_length) == 0) {
+        return trust(store, reply); /* committing trusts an earlier verdict */
+    }
     memcpy(before, store, store_length < sizeof before ? store_length : sizeof before);
-    answer = __real_otap_take(message, message_length, store, store_length, reply, reply_length);
+    answer = __real_otap_commit(message, message_length, store, store_length, reply, reply_length);
     number = otap_answer_number(answer);
     if (WRONG == 1 && number == OTAP_BAD_FIELD) {
         store[6138] = (uint8_t)(store[6138] + 1); /* the setting before the fault was applied */

@@ -11,7 +11,7 @@
  *    that is what every archive takes; a size_t widens by itself.
  *  - The buffers of one call do not overlap. This is not checked.
  *  - While one task is in a call, no other task writes its buffers or reads those that the call may change. See "Screens".
- *  - The stack has room: OTAP_TAKE_STACK and its like, below. otap_take works on a copy of the store there.
+ *  - The stack has room: OTAP_COMMIT_STACK and its like, below. otap_judge and otap_commit work on a copy of the store there.
  *  - memcpy and memset are there to link with (on Cortex-M __aeabi_memcpy and __aeabi_memclr, which come with every C library for Arm); the archive
  *    needs nothing else.
  *
@@ -19,10 +19,16 @@
  * docs/FIRMWARE.md says how firmware calls this: tasks and their lock, power-on, saving a store so that a power cut loses nothing, and updates.
  *
  * Screens. A row's part is not a copy: it is a place in the store, or in the scratch. It is good until the store or the scratch is next written: by
- * otap_take and otap_start (the store), by otap_row_part (the scratch), or by anything else. A screen task that draws a list while another task takes a
- * message can draw one row's name beside another row's number. So either draw while holding the lock under which otap_take is called, or, under that
+ * otap_commit and otap_start (the store), by otap_row_part (the scratch), or by anything else. A screen task that draws a list while another task commits
+ * a message can draw one row's name beside another row's number. So either draw while holding the lock under which otap_commit is called, or, under that
  * lock, ask for the rows and copy their bytes out (at most OTAP_ROW_BYTES each), then draw the copies. Copy all rows that are drawn together under one
  * hold of the lock: rows asked for in two holds can be of two lists. Asking twice without a lock does not help.
+ *
+ * Judging. A message is taken in two steps. otap_judge says what it would come to, otap_commit does it. So a request that comes during a call is judged
+ * then, for the user to know whether it will be taken and whether the set will start again, and committed after the call. What judging promises: a
+ * message that was judged with 0, and is committed to the same store with a reply buffer of OTAP_REPLY_BYTES bytes, is taken, always. otap_commit is
+ * handed no verdict and judges again, since the store may have changed in between: a message that was judged good can be refused then, and one that was
+ * judged to have no room can have some. otap_judge reads the store, so it is called under the same lock as otap_commit; it changes no byte of it.
  */
 #ifndef OTAP_H
 #define OTAP_H
@@ -53,7 +59,8 @@ enum { OTAP_LAYOUT = 4 };
  */
 enum {
     OTAP_START_STACK = 256,      /* measured 40 */
-    OTAP_TAKE_STACK = 26624,     /* 26,220: 24,576 of them are the working copy of the store */
+    OTAP_JUDGE_STACK = 26624,    /* 26,372: it has the working copy that otap_commit has */
+    OTAP_COMMIT_STACK = 26624,   /* 26,372: 24,576 of them are the working copy of the store */
     OTAP_EXPORT_STACK = 1024,    /* 832 */
     OTAP_ROW_STACK = 1024,       /* 664 otap_row_number, 744 otap_row_part */
     OTAP_COUNTS_STACK = 1024,    /* 468 */
@@ -62,7 +69,7 @@ enum {
 
 /* The numbers. */
 enum {
-    OTAP_OK = 0,               /* taken, or the query matches; otherwise: done */
+    OTAP_OK = 0,               /* taken, or the query matches (of otap_judge: it would be, or matches); otherwise: done */
     OTAP_BAD_VERSION = 1,      /* OTAPVer is not 1 */
     OTAP_NO_ROOM = 2,          /* a setting needs a place in a full table */
     OTAP_UNKNOWN_TYPE = 3,     /* a setting's type is not among the thirteen */
@@ -129,7 +136,22 @@ enum {
 uint32_t otap_start(uint8_t *store, uint64_t store_length);
 
 /*
- * Takes one message, a request or a result query, whole or not at all.
+ * Judges one message, a request or a result query: the answer that otap_commit would give with the same three buffers, number, failed ID, send, reboot
+ * and reply length, and the same reply in the reply buffer. So the reply to a good request carries the request's own hash already. No byte of the store
+ * changes. The numbers, and the order in which they are looked for, are those of otap_commit:
+ *   0         a request would be taken, or a result query matches: the reply is written
+ *   1 to 5    it would be refused, or the query does not match: the reply is written
+ *   10 to 14  no byte of any buffer is touched; failed ID 0, no send, no reboot, reply length 0
+ * The reply is not to be sent for a message that is still to be committed: with result 0 it says that the set has the settings. Keep the message, and send
+ * what otap_commit writes. See "Judging" above.
+ * Unpack with otap_answer_number, otap_answer_failed, otap_answer_send, otap_answer_reboot, otap_answer_length.
+ */
+uint64_t otap_judge(const uint8_t *message, uint64_t message_length,
+                    const uint8_t *store, uint64_t store_length,
+                    uint8_t *reply, uint64_t reply_length);
+
+/*
+ * Commits one message, a request or a result query: takes it whole or not at all. It judges the message itself, whether that was judged before or not.
  *   0         a request was taken: the store has all its settings, and the reply is written;
  *             or a result query matches: the store stays, and the reply is written
  *   1 to 5    refused, or the query does not match: the store stays, and the reply is written
@@ -146,14 +168,14 @@ uint32_t otap_start(uint8_t *store, uint64_t store_length);
  * more address is 2. Slots go by their index and are never full. The same address may stand among the contacts and in slots, of groups and of
  * individuals; the same number among the line contacts and in line slots. A setting changes its own table and no other.
  * A reply has 10, 14 or 20 bytes; bytes of the reply buffer past them stay. It is written for 0 to 5 also where send is no.
- * Unpack with otap_answer_number, otap_take_failed, otap_take_send, otap_take_reboot, otap_take_reply_length.
+ * Unpack with otap_answer_number, otap_answer_failed, otap_answer_send, otap_answer_reboot, otap_answer_length.
  */
-uint64_t otap_take(const uint8_t *message, uint64_t message_length,
-                   uint8_t *store, uint64_t store_length,
-                   uint8_t *reply, uint64_t reply_length);
+uint64_t otap_commit(const uint8_t *message, uint64_t message_length,
+                     uint8_t *store, uint64_t store_length,
+                     uint8_t *reply, uint64_t reply_length);
 
 /*
- * Writes a part of the store as a request at the buffer's start. The ten parts, taken by any other started set, give it the same tables,
+ * Writes a part of the store as a request at the buffer's start. The ten parts, committed to any other started set, give it the same tables,
  * background groups too. Its coding type is 0111, whatever the texts came in.
  *   0   the request is written; bytes of the buffer past its length stay
  *   15  buffer_length is under OTAP_EXPORT_BYTES; no byte is touched, length 0
@@ -220,32 +242,32 @@ uint64_t otap_channel_of_transmit(uint32_t frequency); /* 0: the channel that se
 
 /* Unpacking. */
 
-/* The number of an answer of otap_take, otap_export, otap_counts or a conversion; not of otap_row_part, which has none. */
+/* The number of an answer of otap_judge, otap_commit, otap_export, otap_counts or a conversion; not of otap_row_part, which has none. */
 static inline uint32_t otap_answer_number(uint64_t answer)
 {
     return (uint32_t)(answer & 0xFFu);
 }
 
-/* The place, from 1, of the first setting at fault; 0 if it is none of them. */
-static inline uint32_t otap_take_failed(uint64_t answer)
+/* Of an answer of otap_judge or otap_commit: the place, from 1, of the first setting at fault; 0 if it is none of them. */
+static inline uint32_t otap_answer_failed(uint64_t answer)
 {
     return (uint32_t)((answer >> 8) & 0xFFu);
 }
 
-/* 1 if the reply is to be sent, else 0. */
-static inline int otap_take_send(uint64_t answer)
+/* 1 if the reply is to be sent, once the message is committed, else 0. */
+static inline int otap_answer_send(uint64_t answer)
 {
     return (int)((answer >> 16) & 1u);
 }
 
-/* 1 if the set is to start again, else 0. */
-static inline int otap_take_reboot(uint64_t answer)
+/* 1 if the set is to start again, once the message is committed, else 0. */
+static inline int otap_answer_reboot(uint64_t answer)
 {
     return (int)((answer >> 17) & 1u);
 }
 
 /* How many bytes of the reply buffer are the reply. */
-static inline size_t otap_take_reply_length(uint64_t answer)
+static inline size_t otap_answer_length(uint64_t answer)
 {
     return (size_t)((answer >> 24) & 0xFFu);
 }

@@ -3,6 +3,7 @@
 #define ANSWERS_H
 
 #include "otap.h"
+#include "judged.h"
 #include "messages.h"
 
 #include <stdio.h>
@@ -43,7 +44,7 @@ static inline void no_store(const char *what, uint8_t *bytes)
     same(what, 11, OTAP_NO_STORE, otap_export(1, bytes, OTAP_STORE_BYTES, buffer, sizeof buffer));
     same(what, 11, OTAP_NO_STORE, otap_row_number(OTAP_GROUPS, 0, bytes, OTAP_STORE_BYTES, scratch, sizeof scratch));
     write_query(&said, 0);
-    same(what, 11, OTAP_NO_STORE, otap_take(said.bytes, said.length, bytes, OTAP_STORE_BYTES, reply, sizeof reply));
+    same(what, 11, OTAP_NO_STORE, judge_and_commit(said.bytes, said.length, bytes, OTAP_STORE_BYTES, reply, sizeof reply));
 }
 
 /* What a message to a fresh store comes to; the store afterwards is left in `other`. */
@@ -51,9 +52,9 @@ static inline void told(const char *what, const uint8_t *message, size_t length,
 {
     uint64_t answer;
     same("start", 0, OTAP_OK, otap_start(other, OTAP_STORE_BYTES));
-    answer = otap_take(message, length, other, OTAP_STORE_BYTES, reply, sizeof reply);
+    answer = judge_and_commit(message, length, other, OTAP_STORE_BYTES, reply, sizeof reply);
     same(what, number, number, otap_answer_number(answer));
-    same(what, failed, failed, otap_take_failed(answer));
+    same(what, failed, failed, otap_answer_failed(answer));
     same("coding type of the reply", 0, 0, reply[5]);
 }
 

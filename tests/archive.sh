@@ -20,7 +20,7 @@ cat > "$work/kit/bin/rt" << 'END'
 [ "$1" != version ] || { echo "${VERSION:-rattle-kit-5b logic 064da1ca440f63e7}"; exit; }
 mkdir -p target/staticlib && touch target/staticlib/libotap_handheld.a module.bc
 case $RT in
-    unproved) echo "fn take: no proof: of what it ensures"; exit 1 ;;
+    unproved) echo "fn commit: no proof: of what it ensures"; exit 1 ;;
     silent) ;;
     *) "$RATTLE_HOME/on/$(uname -m)/toolchain/bin/clang" module.bc ;;
 esac
@@ -41,7 +41,7 @@ module() {
     cat > "$work/module.ll" << END
 target datalayout = "e-m:e-i64:64-i128:128"
 target triple = "x86_64-unknown-linux-gnu"
-define noundef i64 @otap_take(ptr noundef %a0, i64 noundef %a1) #0 {
+define noundef i64 @otap_commit(ptr noundef %a0, i64 noundef %a1) #0 {
   %r0 = getelementptr i8, ptr %a0, i64 4
   $1
   ret i64 %a1
@@ -74,7 +74,7 @@ path=$work/kit/bin:$PATH
 export RT=whole
 ends 0 "^target/archive/cortex-m4/libotap_handheld.a$" cortex-m4
 ends 2 "no such target: cortex-m9; there are: x86_64-linux" cortex-m9
-RT=unproved ends 1 "otap_handheld is not proved, so nothing is written: fn take: no proof" cortex-m4
+RT=unproved ends 1 "otap_handheld is not proved, so nothing is written: fn commit: no proof" cortex-m4
 RT=silent ends 1 "compiled 0 modules" cortex-m4
 RATTLE_HOME=$work ends 2 "no clang at" cortex-m4
 while read -r line; do

@@ -4,6 +4,7 @@
  * whole. Ends with 1 at the first that does not.
  */
 #include "banks.h"
+#include "judged.h"
 #include "messages.h"
 
 #include <setjmp.h>
@@ -127,13 +128,13 @@ void flash_read(unsigned bank, size_t at, uint8_t *bytes, size_t length)
     memcpy(bytes, flash[bank] + at, length);
 }
 
-static uint32_t take(const Message *message)
+static uint32_t commit(const Message *message)
 {
-    uint8_t reply[OTAP_REPLY_BYTES];
-    return otap_answer_number(otap_take(message->bytes, message->length, tables, sizeof tables, reply, sizeof reply));
+    static uint8_t reply[OTAP_REPLY_BYTES];
+    return otap_answer_number(judge_and_commit(message->bytes, message->length, tables, sizeof tables, reply, sizeof reply));
 }
 
-/* Takes messages until the tables are others; a set without tables gets full ones. */
+/* Commits messages until the tables are others; a set without tables gets full ones. */
 static void change_tables(void)
 {
     static unsigned turn;
@@ -142,11 +143,11 @@ static void change_tables(void)
     memcpy(before, tables, sizeof before);
     for (each = 0; each < FILLING_MESSAGES && same(before, fresh); each++) {
         write_filling(&message, each, 0);
-        must(take(&message) == OTAP_OK, "a filling message was refused");
+        must(commit(&message) == OTAP_OK, "a filling message was refused");
     }
     while (same(before, tables)) {
         write_message(&message, turn % 13 < 9 ? turn % 13 : turn % 13 + 2, turn / 13);
-        must(take(&message) <= OTAP_NO_ROOM, "a message was refused, and not for room");
+        must(commit(&message) <= OTAP_NO_ROOM, "a message was refused, and not for room");
         turn++;
     }
     memcpy(after, tables, sizeof after);

@@ -34,7 +34,7 @@ enum { LONGEST = 32768 };
 static Lent message, store, buffer;
 static unsigned long calls, seen[256];
 static uint8_t filled[OTAP_STORE_BYTES + 1];
-static uint8_t copy_of_store[LONGEST], copy_of_buffer[LONGEST];
+static uint8_t copy_of_store[LONGEST], copy_of_buffer[LONGEST], forecast[LONGEST];
 
 /* After each call. */
 static void nothing_outside(void)
@@ -59,7 +59,8 @@ static int buffer_stays(size_t from)
     return memcmp(copy_of_buffer + from, buffer.bytes + from, buffer.length - from) == 0;
 }
 
-static uint32_t expected_of_take(void)
+/* Of a message, by the sizes of what is lent: the same of judging and committing. */
+static uint32_t expected_by_size(void)
 {
     if (buffer.length < OTAP_REPLY_BYTES) {
         return OTAP_SHORT_REPLY;
@@ -70,47 +71,93 @@ static uint32_t expected_of_take(void)
     return message.length < 7 || message.length > OTAP_MESSAGE_BYTES ? OTAP_MESSAGE_LENGTH : OTAP_OK;
 }
 
-/* What changes nothing does not write either, not even what was there: the same call again, on bytes that cannot be written. */
-static void take_again(uint64_t answer)
+/* The numbers that a message can get, and what they leave of the reply buffer. */
+static void answered(uint64_t answer)
 {
-    current = "otap_take that is refused";
+    uint32_t expected = expected_by_size();
+    must(expected == OTAP_OK ? otap_answer_number(answer) < OTAP_SHORT_REPLY || otap_answer_number(answer) > OTAP_MESSAGE_LENGTH
+                                   || otap_answer_number(answer) == OTAP_NO_STORE
+                             : answer == expected, "number");
+    must(buffer_stays(otap_answer_length(answer)), "bytes past the reply changed");
+}
+
+static uint64_t call_judge(void)
+{
+    uint64_t answer = otap_judge(message.bytes, message.length, store.bytes, store.length, buffer.bytes, buffer.length);
+    nothing_outside();
+    return answer;
+}
+
+/* Judged on a store that cannot be written; what leaves the reply buffer, again on one that cannot be written either. The buffer is left in `forecast`. */
+static uint64_t judge(void)
+{
+    uint64_t answer;
+    current = "otap_judge";
+    remember();
+    answer = call_judge();
+    answered(answer);
+    memcpy(forecast, buffer.bytes, buffer.length);
+    if (otap_answer_number(answer) >= OTAP_SHORT_REPLY) {
+        seal(&buffer);
+        calls++;
+        must(answer == call_judge(), "another answer");
+    }
+    return answer;
+}
+
+static uint64_t call_commit(void)
+{
+    uint64_t answer = otap_commit(message.bytes, message.length, store.bytes, store.length, buffer.bytes, buffer.length);
+    nothing_outside();
+    return answer;
+}
+
+/* What changes nothing does not write either, not even what was there: the same call again, on bytes that cannot be written. */
+static void commit_again(uint64_t answer)
+{
+    current = "otap_commit that is refused";
     seal(&store);
     if (otap_answer_number(answer) >= OTAP_SHORT_REPLY) {
         seal(&buffer);
     }
     calls++;
-    must(answer == otap_take(message.bytes, message.length, store.bytes, store.length, buffer.bytes, buffer.length), "another answer");
-    nothing_outside();
-    current = "otap_take";
+    must(answer == call_commit(), "another answer");
 }
 
-/* One call, with the buffers as they are lent. */
-static uint64_t take(void)
+static uint64_t commit(void)
 {
-    uint32_t expected = expected_of_take();
     uint64_t answer;
+    current = "otap_commit";
     remember();
-    answer = otap_take(message.bytes, message.length, store.bytes, store.length, buffer.bytes, buffer.length);
-    nothing_outside();
-    must(expected == OTAP_OK ? otap_answer_number(answer) < OTAP_SHORT_REPLY || otap_answer_number(answer) > OTAP_MESSAGE_LENGTH
-                                   || otap_answer_number(answer) == OTAP_NO_STORE
-                             : answer == expected, "number");
+    answer = call_commit();
+    answered(answer);
     must(otap_answer_number(answer) == OTAP_OK || store_stays(), "a refusal changed the store");
-    must(buffer_stays(otap_take_reply_length(answer)), "bytes past the reply changed");
     seen[otap_answer_number(answer)]++;
     if (otap_answer_number(answer) != OTAP_OK) {
-        take_again(answer);
+        commit_again(answer);
     }
     return answer;
 }
 
-static void take_at(int at_end, const Message *said, size_t store_length, size_t reply_length)
+/* A message to these bytes, judged and then committed: the same answer, and the same bytes in the reply buffer. */
+static uint64_t commit_to(int at_end, const Message *said, const uint8_t *bytes, size_t store_length, size_t reply_length)
 {
-    current = "otap_take";
+    uint64_t judged, answer;
     lend(&message, at_end, said->bytes, said->length, 0);
-    lend(&store, at_end, filled, store_length, 1);
+    lend(&store, at_end, bytes, store_length, 0);
     lend(&buffer, at_end, filled, reply_length, 1);
-    take();
+    judged = judge();
+    lend(&store, at_end, bytes, store_length, 1);
+    lend(&buffer, at_end, filled, reply_length, 1);
+    answer = commit();
+    must(judged == answer, "another answer than judging");
+    must(memcmp(forecast, buffer.bytes, reply_length) == 0, "another reply than judging");
+    return answer;
+}
+
+static void commit_at(int at_end, const Message *said, size_t store_length, size_t reply_length)
+{
+    commit_to(at_end, said, filled, store_length, reply_length);
 }
 
 static void start_sizes(void)
@@ -164,7 +211,7 @@ static int sizes_of(unsigned turn, size_t least, size_t *store_length, size_t *o
     return (int)(turn % 2);
 }
 
-static void take_sizes(void)
+static void commit_sizes(void)
 {
     static Message said;
     unsigned turn, kind;
@@ -173,25 +220,25 @@ static void take_sizes(void)
             size_t store_length, reply_length;
             int at_end = sizes_of(turn, OTAP_REPLY_BYTES, &store_length, &reply_length);
             write_message(&said, kind, turn);
-            take_at(at_end, &said, store_length, reply_length);
+            commit_at(at_end, &said, store_length, reply_length);
         }
     }
 }
 
 /* Message lengths at the edges, of a request that would fill them. */
-static void take_message_sizes(void)
+static void commit_message_sizes(void)
 {
     static const size_t sizes[] = {0, 1, 6, 7, 8, OTAP_MESSAGE_BYTES - 1, OTAP_MESSAGE_BYTES, OTAP_MESSAGE_BYTES + 1};
     static Message said;
     size_t each;
     for (each = 0; each < 16; each++) {
         write_long(&said, sizes[each / 2]);
-        take_at((int)(each % 2), &said, OTAP_STORE_BYTES, OTAP_REPLY_BYTES);
+        commit_at((int)(each % 2), &said, OTAP_STORE_BYTES, OTAP_REPLY_BYTES);
     }
 }
 
 /* Every cut of every kind of message, so that each reader stands before the end at each of its bytes. */
-static void take_cuts(void)
+static void commit_cuts(void)
 {
     static Message said;
     unsigned kind;
@@ -200,29 +247,29 @@ static void take_cuts(void)
         write_message(&said, kind, 1);
         for (length = said.length; length-- > 0;) {
             said.length = length;
-            take_at(1, &said, OTAP_STORE_BYTES, OTAP_REPLY_BYTES);
+            commit_at(1, &said, OTAP_STORE_BYTES, OTAP_REPLY_BYTES);
         }
     }
 }
 
-static void take_damaged(unsigned turns)
+static void commit_damaged(unsigned turns)
 {
     static Message said;
     unsigned turn;
     for (turn = 0; turn < turns; turn++) {
         write_message(&said, random_below(MESSAGE_KINDS), turn);
         damage(said.bytes, said.length, 1 + random_below(4));
-        take_at((int)(turn % 2), &said, OTAP_STORE_BYTES, OTAP_REPLY_BYTES + turn % 3);
+        commit_at((int)(turn % 2), &said, OTAP_STORE_BYTES, OTAP_REPLY_BYTES + turn % 3);
     }
 }
 
-static void take_random(unsigned turns)
+static void commit_random(unsigned turns)
 {
     static Message said;
     unsigned turn;
     for (turn = 0; turn < turns; turn++) {
         write_random(&said);
-        take_at((int)(turn % 2), &said, OTAP_STORE_BYTES, OTAP_REPLY_BYTES);
+        commit_at((int)(turn % 2), &said, OTAP_STORE_BYTES, OTAP_REPLY_BYTES);
     }
 }
 
@@ -313,12 +360,8 @@ static void damaged_stores(unsigned turns)
         export_at((int)(turn % 2), 1 + turn % OTAP_EXPORT_PARTS, bytes, sizeof bytes, OTAP_EXPORT_BYTES);
         row_at((int)(turn % 2), 1 + turn % OTAP_TABLES, random_below(OTAP_STATUS_LAST + 1), bytes, sizeof bytes, OTAP_SCRATCH_BYTES);
         counts_at((int)(turn % 2), bytes, sizeof bytes);
-        current = "otap_take";
         write_message(&said, turn % MESSAGE_KINDS, turn);
-        lend(&message, (int)(turn % 2), said.bytes, said.length, 0);
-        lend(&store, (int)(turn % 2), bytes, sizeof bytes, 1);
-        lend(&buffer, (int)(turn % 2), filled, OTAP_REPLY_BYTES, 1);
-        take();
+        commit_to((int)(turn % 2), &said, bytes, sizeof bytes, OTAP_REPLY_BYTES);
     }
 }
 
@@ -334,10 +377,7 @@ static void fill(unsigned vary)
             continue;
         }
         write_filling(&said, each, vary);
-        lend(&message, 1, said.bytes, said.length, 0);
-        lend(&store, 1, filled, OTAP_STORE_BYTES, 1);
-        lend(&buffer, 1, filled, OTAP_REPLY_BYTES, 1);
-        must(otap_answer_number(take()) == OTAP_OK, "a filling message was refused");
+        must(otap_answer_number(commit_to(1, &said, filled, OTAP_STORE_BYTES, OTAP_REPLY_BYTES)) == OTAP_OK, "a filling message was refused");
         memcpy(filled, store.bytes, OTAP_STORE_BYTES);
     }
 }
@@ -383,11 +423,11 @@ int main(int count, char **words)
     }
     start_sizes();
     counts_sizes();
-    take_sizes();
-    take_message_sizes();
-    take_cuts();
-    take_damaged(2000 * TIMES);
-    take_random(1000 * TIMES);
+    commit_sizes();
+    commit_message_sizes();
+    commit_cuts();
+    commit_damaged(2000 * TIMES);
+    commit_random(1000 * TIMES);
     export_sizes();
     row_sizes();
     row_all();

@@ -34,7 +34,7 @@ static void keys_of_lines(uint8_t *other)
     for (each = 0; each < sizeof steps / sizeof steps[0]; each++) {
         uint64_t answer;
         write_lines(steps[each].operation, steps[each].pabx, steps[each].first, steps[each].count);
-        answer = otap_take(said.bytes, said.length, other, OTAP_STORE_BYTES, reply, sizeof reply);
+        answer = judge_and_commit(said.bytes, said.length, other, OTAP_STORE_BYTES, reply, sizeof reply);
         same("a line by its key", steps[each].number, steps[each].number, otap_answer_number(answer));
         counts_are("lines by their keys", other, steps[each].lines, 0);
     }
@@ -50,7 +50,7 @@ static void both_lines(void)
     told("example 11", line, sizeof line, OTAP_OK, 0, one);
     memcpy(both, one, sizeof both);
     line[11] = 0x40;
-    same("the telephone", 0, OTAP_OK, otap_answer_number(otap_take(line, sizeof line, both, sizeof both, reply, sizeof reply)));
+    same("the telephone", 0, OTAP_OK, otap_answer_number(judge_and_commit(line, sizeof line, both, sizeof both, reply, sizeof reply)));
     counts_are("both lines", both, 2, 0);
     for (at = 0; at < 2; at++) {
         same("its number", 1 | (uint64_t)8 << 32, 1 | (uint64_t)8 << 32, otap_row_part(OTAP_LINES, at, both, sizeof both, scratch, sizeof scratch));
@@ -62,7 +62,7 @@ static void both_lines(void)
     no_store("the same with other flags", both);
     both[12914] = both[12915] = 0;
     line[11] = 0x80;
-    same("deleted", 0, OTAP_OK, otap_answer_number(otap_take(line, sizeof line, both, sizeof both, reply, sizeof reply)));
+    same("deleted", 0, OTAP_OK, otap_answer_number(judge_and_commit(line, sizeof line, both, sizeof both, reply, sizeof reply)));
     same("the extension stays", 0, 0, (uint64_t)(memcmp(one, both, sizeof one) != 0));
 }
 
@@ -143,7 +143,7 @@ static void keys_of_contacts(uint8_t *other, unsigned type, size_t region)
         uint64_t answer;
         size_t last = region + 2 + 36u * (steps[each].held - (steps[each].held > 0));
         write_contacts(type, steps[each].operation, steps[each].first, steps[each].count);
-        answer = otap_take(said.bytes, said.length, other, OTAP_STORE_BYTES, reply, sizeof reply);
+        answer = judge_and_commit(said.bytes, said.length, other, OTAP_STORE_BYTES, reply, sizeof reply);
         same("a contact by its address", steps[each].number, steps[each].number, otap_answer_number(answer));
         same("contacts held", steps[each].held, other[region] * 256u + other[region + 1], steps[each].held);
         same("the last one's address", steps[each].last, other[last + 3], steps[each].last);
@@ -210,10 +210,10 @@ static void line_slots(uint8_t *other)
     same("its number", 1 | (uint64_t)8 << 32, 1 | (uint64_t)8 << 32, otap_row_part(OTAP_LINE_SLOTS, 3, other, OTAP_STORE_BYTES, scratch, sizeof scratch));
     same("flags and IDtype", 1, 1, other[7286 + 3 * 52] * 256u + other[7286 + 3 * 52 + 1]);
     write_fields(0xD3, again, sizeof again);
-    same("overwritten", 0, OTAP_OK, otap_answer_number(otap_take(said.bytes, said.length, other, OTAP_STORE_BYTES, reply, sizeof reply)));
+    same("overwritten", 0, OTAP_OK, otap_answer_number(judge_and_commit(said.bytes, said.length, other, OTAP_STORE_BYTES, reply, sizeof reply)));
     same("flags and IDtype", 0x0F00, 0x0F00, other[7286 + 3 * 52] * 256u + other[7286 + 3 * 52 + 1]);
     write_fields(0xD3, gone, sizeof gone);
-    same("deleted", 0, OTAP_OK, otap_answer_number(otap_take(said.bytes, said.length, other, OTAP_STORE_BYTES, reply, sizeof reply)));
+    same("deleted", 0, OTAP_OK, otap_answer_number(judge_and_commit(said.bytes, said.length, other, OTAP_STORE_BYTES, reply, sizeof reply)));
     same("no row", 17, OTAP_NO_ROW, row(OTAP_LINE_SLOTS, 3, other));
     open_request(&said, OTAP_SLOT_ROWS);
     for (slot = 0; slot < OTAP_SLOT_ROWS; slot++) {
@@ -239,11 +239,11 @@ static void parts(uint8_t *other)
     same("its last delete", 0, 0, (uint64_t)(memcmp(buffer + 8 + 15 * 8, "\xD3\0\x07\x80\x0F\x0F\0\0", 8) != 0));
     for (part = 7; part < 10; part++) {
         write_filling(&said, part, 0);
-        same("filled", 0, OTAP_OK, otap_answer_number(otap_take(said.bytes, said.length, other, OTAP_STORE_BYTES, reply, sizeof reply)));
+        same("filled", 0, OTAP_OK, otap_answer_number(judge_and_commit(said.bytes, said.length, other, OTAP_STORE_BYTES, reply, sizeof reply)));
     }
     for (part = 8; part <= 10; part++) {
         uint64_t length = otap_export_length(otap_export(part, fresh, sizeof fresh, buffer, sizeof buffer));
-        same("taken", 0, OTAP_OK, otap_answer_number(otap_take(buffer, length, other, OTAP_STORE_BYTES, reply, sizeof reply)));
+        same("taken", 0, OTAP_OK, otap_answer_number(judge_and_commit(buffer, length, other, OTAP_STORE_BYTES, reply, sizeof reply)));
     }
     same("the same tables", 0, 0, (uint64_t)(memcmp(other, fresh, sizeof fresh) != 0));
 }

@@ -3,9 +3,9 @@
 
 static uint8_t store[OTAP_STORE_BYTES + 1];
 
-static uint64_t take(void)
+static uint64_t commit(void)
 {
-    return otap_take(said.bytes, said.length, store, OTAP_STORE_BYTES, reply, sizeof reply);
+    return judge_and_commit(said.bytes, said.length, store, OTAP_STORE_BYTES, reply, sizeof reply);
 }
 
 static void fill(void)
@@ -14,7 +14,7 @@ static void fill(void)
     same("start", 0, OTAP_OK, otap_start(store, OTAP_STORE_BYTES));
     for (each = 0; each < FILLING_MESSAGES; each++) {
         write_filling(&said, each, 0);
-        same("taken", 0, OTAP_OK, otap_answer_number(take()));
+        same("taken", 0, OTAP_OK, otap_answer_number(commit()));
     }
 }
 
@@ -23,41 +23,41 @@ static void replied(void)
 {
     write_message(&said, 0, 0);
     said.bytes[6] = 0x10;
-    same("version", 1, OTAP_BAD_VERSION, otap_answer_number(take()));
+    same("version", 1, OTAP_BAD_VERSION, otap_answer_number(commit()));
     write_message(&said, 9, 0);
-    same("room", 2, OTAP_NO_ROOM, otap_answer_number(take()));
-    same("room, packed", 0x0A010102, take(), 0x0A010102);
+    same("room", 2, OTAP_NO_ROOM, otap_answer_number(commit()));
+    same("room, packed", 0x0A010102, commit(), 0x0A010102);
     write_message(&said, 0, 0);
     said.bytes[8] = 0xD4;
-    same("type", 3, OTAP_UNKNOWN_TYPE, otap_answer_number(take()));
+    same("type", 3, OTAP_UNKNOWN_TYPE, otap_answer_number(commit()));
     said.bytes[8] = 0xCB;
-    same("field", 4, OTAP_BAD_FIELD, otap_answer_number(take()));
+    same("field", 4, OTAP_BAD_FIELD, otap_answer_number(commit()));
     write_query(&said, 1);
-    same("query", 5, OTAP_NO_MATCH, otap_answer_number(take()));
-    same("query, packed", 0x14010005, take(), 0x14010005);
+    same("query", 5, OTAP_NO_MATCH, otap_answer_number(commit()));
+    same("query, packed", 0x14010005, commit(), 0x14010005);
     write_query(&said, 2);
-    same("query that matches", 0, OTAP_OK, otap_answer_number(take()));
+    same("query that matches", 0, OTAP_OK, otap_answer_number(commit()));
 }
 
 /* 10 to 14: the number is the whole answer. */
 static void untouched(void)
 {
     write_message(&said, 0, 0);
-    same("reply", 10, OTAP_SHORT_REPLY, otap_take(said.bytes, said.length, store, OTAP_STORE_BYTES, reply, OTAP_REPLY_BYTES - 1));
-    same("store", 11, OTAP_NO_STORE, otap_take(said.bytes, said.length, store, OTAP_STORE_BYTES - 1, reply, OTAP_REPLY_BYTES));
+    same("reply", 10, OTAP_SHORT_REPLY, judge_and_commit(said.bytes, said.length, store, OTAP_STORE_BYTES, reply, OTAP_REPLY_BYTES - 1));
+    same("store", 11, OTAP_NO_STORE, judge_and_commit(said.bytes, said.length, store, OTAP_STORE_BYTES - 1, reply, OTAP_REPLY_BYTES));
     same("store", 11, OTAP_NO_STORE, otap_start(store, OTAP_STORE_BYTES + 1));
     same("a store's size of layout 3", 11, OTAP_NO_STORE, otap_start(store, 12288));
     said.length = 6;
-    same("short message", 12, OTAP_MESSAGE_LENGTH, take());
+    same("short message", 12, OTAP_MESSAGE_LENGTH, commit());
     said.length = OTAP_MESSAGE_BYTES + 1;
-    same("long message", 12, OTAP_MESSAGE_LENGTH, take());
+    same("long message", 12, OTAP_MESSAGE_LENGTH, commit());
     said.length = OTAP_MESSAGE_BYTES;
-    same("longest message", 4, OTAP_BAD_FIELD, otap_answer_number(take()));
+    same("longest message", 4, OTAP_BAD_FIELD, otap_answer_number(commit()));
     said.bytes[0] = 3;
-    same("carrier", 13, OTAP_BAD_CARRIER, take());
+    same("carrier", 13, OTAP_BAD_CARRIER, commit());
     said.bytes[0] = 2;
     said.bytes[6] = 0x09;
-    same("reply as a message", 14, OTAP_OTHER_MESSAGE, take());
+    same("reply as a message", 14, OTAP_OTHER_MESSAGE, commit());
 }
 
 static void exported(void)
@@ -185,7 +185,7 @@ static void counted(void)
     for (vary = 0; vary < 23; vary++) {
         for (each = 0; each <= 4; each += 4) {
             write_filling(&said, each, vary);
-            same("taken", 0, OTAP_OK, otap_answer_number(otap_take(said.bytes, said.length, other, sizeof other, reply, sizeof reply)));
+            same("taken", 0, OTAP_OK, otap_answer_number(judge_and_commit(said.bytes, said.length, other, sizeof other, reply, sizeof reply)));
         }
         counts_are("counts of a store", other, 32 - vary, 64 - vary);
     }

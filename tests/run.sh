@@ -75,6 +75,7 @@ EDITS
 need_archive
 step "snippet at work" build_and_run snippet_test "$sanitizers"
 step "numbers and constants" build_and_run numbers "$sanitizers"
+step "judging and committing" build_and_run judging "$sanitizers"
 step "contacts and slots" build_and_run contacts "$sanitizers"
 step "bounds of the lent bytes" build_and_run bounds -O1 && show
 step "bounds can fail" sees_outside

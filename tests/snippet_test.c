@@ -8,6 +8,8 @@
 static uint8_t flash[OTAP_STORE_BYTES];
 static char called[64];
 static int held, contacts; /* the lock; whether it is the contacts that are drawn */
+static Message waiting;    /* for the end of a call */
+static int told;           /* what the user was told of it: 1 taken, 2 and a restart, else 0 */
 static uint32_t free_channels = OTAP_CHANNEL_PLACES, last_row;
 static Message message;
 
@@ -57,6 +59,21 @@ void send_reply(const uint8_t *bytes, size_t length)
 void restart_set(void)
 {
     note('R');
+}
+
+void keep_message(const uint8_t *bytes, size_t length)
+{
+    note('k');
+    memcpy(waiting.bytes, bytes, length);
+    waiting.length = length;
+}
+
+void show_waiting(int taken, int restart)
+{
+    note('w');
+    must(!held, "the user is told without the lock");
+    must(taken || !restart, "a restart of what is not taken");
+    told = taken + restart;
 }
 
 void draw_row(uint32_t row, const uint8_t *units, size_t length)
@@ -127,6 +144,31 @@ static void takes(void)
     must_call("()()s", "a request without a last item");
 }
 
+/* During a call nothing is changed, saved or sent; after it, what has waited is committed. FF with its reboot and reply bits. */
+static void waits(void)
+{
+    static uint8_t before[OTAP_STORE_BYTES];
+    memcpy(before, store, sizeof before);
+    open_request(&message, 2);
+    put_slot(&message, 0xD1, 1, 4, 1);
+    put_last(&message);
+    on_message_in_call(message.bytes, message.length);
+    must_call("()kw", "a request during a call");
+    must(told == 2, "it would be taken, and the set would start again");
+    must(memcmp(before, store, sizeof store) == 0 && memcmp(before, flash, sizeof flash) == 0, "a message that waits changes nothing");
+    on_message(waiting.bytes, waiting.length);
+    must_call("()()srR", "the same after the call");
+    must(memcmp(before, store, sizeof store) != 0, "it is committed");
+    message.bytes[7] = 1;
+    on_message_in_call(message.bytes, message.length);
+    must_call("()kw", "a request with bytes left over during a call");
+    must(told == 0, "it would not be taken");
+    on_message(waiting.bytes, waiting.length);
+    must_call("()r", "it is refused after the call");
+    on_message_in_call(message.bytes, 6);
+    must_call("()", "six bytes during a call");
+}
+
 /* Attributes 10, 01 and 11: the second is a background group and is not drawn, and the third is drawn in its own row. */
 static void draws_contacts(void)
 {
@@ -172,10 +214,11 @@ int main(void)
     draw_groups();
     must_call("()", "no row of a fresh store is drawn");
     takes();
+    waits();
     draw_groups();
     must_call("(ddddddddddddddd)", "fifteen of sixteen rows are drawn, slot 3 was deleted");
     draws_contacts();
     draws_the_menu();
-    printf("the snippet keeps, saves, answers, starts again and draws\n");
+    printf("the snippet keeps, judges, saves, answers, starts again and draws\n");
     return 0;
 }

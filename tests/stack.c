@@ -1,6 +1,7 @@
 /* How deep each call goes into the stack: each runs on a stack of its own that was painted before, on a full store and on every kind of message. */
 #define _XOPEN_SOURCE 700
 #include "otap.h"
+#include "judged.h"
 #include "messages.h"
 
 #include <stdio.h>
@@ -13,12 +14,13 @@ enum { STACK = 256 * 1024 };
 enum { STACK = 32 * 1024 };
 #endif
 
-enum { PAINT = 0xA5, CALLS = 7 };
+enum { PAINT = 0xA5, CALLS = 8 };
 
 /* The header's ceiling for each; it has what was measured beside them, and docs/TESTING.md too. */
-static const unsigned long most[CALLS] = {OTAP_START_STACK, OTAP_TAKE_STACK, OTAP_EXPORT_STACK, OTAP_ROW_STACK, OTAP_ROW_STACK, OTAP_COUNTS_STACK,
-                                             OTAP_CONVERSION_STACK};
-static const char *const names[CALLS] = {"otap_start", "otap_take", "otap_export", "otap_row_number", "otap_row_part", "otap_counts", "a conversion"};
+static const unsigned long most[CALLS] = {OTAP_START_STACK, OTAP_JUDGE_STACK, OTAP_COMMIT_STACK, OTAP_EXPORT_STACK, OTAP_ROW_STACK, OTAP_ROW_STACK,
+                                          OTAP_COUNTS_STACK, OTAP_CONVERSION_STACK};
+static const char *const names[CALLS] = {"otap_start", "otap_judge", "otap_commit", "otap_export", "otap_row_number", "otap_row_part", "otap_counts",
+                                         "a conversion"};
 
 static uint8_t stack[STACK], store[OTAP_STORE_BYTES], filled[OTAP_STORE_BYTES];
 static uint8_t buffer[OTAP_EXPORT_BYTES];
@@ -37,12 +39,13 @@ static void call(void)
     uint32_t table = 1 + turn % OTAP_TABLES, row = turn / OTAP_TABLES % (OTAP_STATUS_LAST + 1);
     switch (which) {
     case 0: answer = otap_start(store, sizeof store); break;
-    case 1: answer = otap_take(message.bytes, message.length, store, sizeof store, buffer, sizeof buffer); break;
-    case 2: answer = otap_export(1 + turn % OTAP_EXPORT_PARTS, store, sizeof store, buffer, sizeof buffer); break;
-    case 3: answer = otap_row_number(table, row, store, sizeof store, buffer, sizeof buffer); break;
-    case 4: answer = otap_row_part(table, row, store, sizeof store, buffer, sizeof buffer); break;
-    case 5: answer = otap_counts(store, sizeof store); break;
-    case 6: convert(turn); break;
+    case 1: answer = otap_judge(message.bytes, message.length, store, sizeof store, buffer, sizeof buffer); break;
+    case 2: answer = otap_commit(message.bytes, message.length, store, sizeof store, buffer, sizeof buffer); break;
+    case 3: answer = otap_export(1 + turn % OTAP_EXPORT_PARTS, store, sizeof store, buffer, sizeof buffer); break;
+    case 4: answer = otap_row_number(table, row, store, sizeof store, buffer, sizeof buffer); break;
+    case 5: answer = otap_row_part(table, row, store, sizeof store, buffer, sizeof buffer); break;
+    case 6: answer = otap_counts(store, sizeof store); break;
+    case 7: convert(turn); break;
     default: break; /* nothing, for what the switch of stacks itself takes */
     }
 }
@@ -99,7 +102,7 @@ static void fill(void)
     otap_start(filled, sizeof filled);
     for (each = 0; each < FILLING_MESSAGES; each++) {
         write_filling(&message, each, 0);
-        if (otap_take(message.bytes, message.length, filled, sizeof filled, buffer, sizeof buffer) % 256 != OTAP_OK) {
+        if (otap_answer_number(judge_and_commit(message.bytes, message.length, filled, sizeof filled, buffer, sizeof buffer)) != OTAP_OK) {
             fprintf(stderr, "a filling message was refused\n");
             exit(1);
         }

@@ -1,4 +1,5 @@
-// tests/wasm.mjs: the module for wasm32 in node: no imports; the stored inputs of the programs `take` and `put` come to their stored outputs.
+// tests/wasm.mjs: the module for wasm32 in node: no imports; the stored inputs of the programs `take` and `put`, judged and committed, come to their
+// stored outputs.
 import { readFileSync } from "node:fs";
 import { fileURLToPath } from "node:url";
 
@@ -19,9 +20,19 @@ exports.memory.grow(Math.max(0, Math.ceil((end - exports.memory.buffer.byteLengt
 const memory = new Uint8Array(exports.memory.buffer);
 const lent = (name, length = sizes[name]) => [at[name], BigInt(length)];
 
+// As the programs do: judges, and commits where that comes to 0. Judging leaves the store, and committing then says and writes the same.
 function take(message) {
     memory.set(message, at.message);
-    return exports.otap_take(...lent("message", message.length), ...lent("store"), ...lent("reply"));
+    const call = (name) => exports[name](...lent("message", message.length), ...lent("store"), ...lent("reply"));
+    const copy = (name) => Buffer.from(memory.subarray(at[name], at[name] + sizes[name]));
+    const before = copy("store");
+    const judged = call("otap_judge");
+    same("the store that was judged", copy("store"), before);
+    if ((judged & 0xffn) !== 0n) return judged;
+    const reply = copy("reply");
+    if (call("otap_commit") !== judged) throw new Error("another answer than judging");
+    same("the reply", copy("reply"), reply);
+    return judged;
 }
 
 // Records: length and kind, two bytes each, low byte first, then the message; a cut one is the last.
@@ -55,7 +66,7 @@ function putWrites() {
 }
 
 function same(what, got, wanted) {
-    if (!got.equals(wanted)) throw new Error(`${what}: not the stored output`);
+    if (!got.equals(wanted)) throw new Error(`${what}: not the bytes that it must be`);
 }
 
 const stored = (program, part) => readFileSync(`${root}/crates/${program}/${part}`);
@@ -66,4 +77,4 @@ start();
 takePrints(stored("put", "stdin"));
 same("put", putWrites(), stored("put", "stdout"));
 if (exports.otap_transmit(640) !== 3560000n << 8n) throw new Error("transmit");
-console.log("no imports; take and put as stored");
+console.log("no imports; take and put, judged and committed, as stored");

@@ -2,7 +2,7 @@
 
 use crate::conversions;
 use crate::messages;
-use crate::sides::{Call, Judging, Plain, Rattle, Side};
+use crate::sides::{Call, Checked, Plain, Rattle, Side};
 use otap::{Part, Table};
 
 pub struct Case {
@@ -42,14 +42,21 @@ const ROWS: [(&str, Table, u32); 14] = [
     ("line-slot-number", Table::LineSlots, 14),
 ];
 
+/// Judged beside committed: a long request and a short one; a query too.
+const JUDGED: [&str; 2] = ["lines", "last-item"];
+
 pub fn all() -> Vec<Case> {
     let case = |name: String, call, number| Case { name, call, number };
     let mut cases = Vec::new();
     for (kind, message) in messages::of_each_kind() {
-        cases.push(case(format!("take-{kind}"), Call::Take(message), 0));
+        if JUDGED.contains(&kind) {
+            cases.push(case(format!("judge-{kind}"), Call::Judge(message.clone()), 0));
+        }
+        cases.push(case(format!("commit-{kind}"), Call::Commit(message), 0));
     }
-    cases.push(case("take-refused".into(), Call::Take(messages::refused()), 4));
-    cases.push(case("take-query".into(), Call::Take(messages::matching_query()), 0));
+    cases.push(case("commit-refused".into(), Call::Commit(messages::refused()), 4));
+    cases.push(case("judge-query".into(), Call::Judge(messages::matching_query()), 0));
+    cases.push(case("commit-query".into(), Call::Commit(messages::matching_query()), 0));
     for (&part, name) in Part::ALL.iter().zip(PARTS) {
         cases.push(case(format!("export-{name}"), Call::Export(part), 0));
     }
@@ -66,7 +73,7 @@ pub fn all() -> Vec<Case> {
 /// A full store, after the case's own call has been made once where it changes anything.
 pub fn ready<S: Side + Clone + PartialEq>(mut side: S, case: &Case) -> S {
     for message in messages::filling() {
-        assert_eq!(side.call(&Call::Take(message)), 0);
+        assert_eq!(side.call(&Call::Commit(message)), 0);
     }
     assert_eq!(side.call(&case.call), case.number, "{}", case.name);
     let once = side.clone();
@@ -83,6 +90,6 @@ pub fn plain(case: &Case) -> Plain {
     ready(Plain::fresh(), case)
 }
 
-pub fn judging(case: &Case) -> Judging {
-    Judging::of(plain(case))
+pub fn checked(case: &Case) -> Checked {
+    Checked::of(plain(case))
 }

@@ -32,7 +32,7 @@ pub fn table() {
 fn stores() -> Vec<(&'static str, Vec<u8>)> {
     let mut full = Rattle::fresh();
     for message in messages::filling() {
-        assert_eq!(full.call(&Call::Take(message)), 0);
+        assert_eq!(full.call(&Call::Commit(message)), 0);
     }
     let changed = |change: fn(&mut [u8])| {
         let mut bytes = full.bytes.clone();
@@ -40,7 +40,7 @@ fn stores() -> Vec<(&'static str, Vec<u8>)> {
         bytes
     };
     let mut fewer = full.clone();
-    assert_eq!(fewer.call(&Call::Take(messages::without_contacts())), 0);
+    assert_eq!(fewer.call(&Call::Commit(messages::without_contacts())), 0);
     vec![
         ("full: 64 group contacts, 64 individual contacts and 32 lines", full.bytes.clone()),
         ("full, but for both lists of contacts", fewer.bytes),

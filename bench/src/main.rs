@@ -1,5 +1,5 @@
 //! `bench`: times as a table. `bench stack`: stack depths. `bench check`: the store's check in parts. `bench list`: the names.
-//! `bench one NAME rattle|plain|judged N`: one call N times, for counting instructions.
+//! `bench one NAME rattle|plain|checked N`: one call N times, for counting instructions.
 
 mod cases;
 mod check;

@@ -1,6 +1,6 @@
 //! Requests of at most 4,096 bytes, each full of one kind of setting.
 //!
-//! Taken twice, each leaves what it left the first time, so that every repetition starts from the same store.
+//! Committed twice, each leaves what it left the first time, so that every repetition starts from the same store.
 
 use otap_reference::reference::message::{query, request, request_as, Hash, LONGEST};
 use otap_reference::reference::plan::{GroupAddress, IndividualAddress};

@@ -20,7 +20,7 @@ pub fn run() -> ExitCode {
 }
 
 fn usage() -> ExitCode {
-    eprintln!("usage: bench [stack | check | list | one NAME rattle|plain|judged N]");
+    eprintln!("usage: bench [stack | check | list | one NAME rattle|plain|checked N]");
     ExitCode::FAILURE
 }
 
@@ -32,7 +32,7 @@ fn one(name: &str, side: &str, calls: &str) -> ExitCode {
     match side {
         "rattle" => repeat(cases::rattle(&case), &case, calls),
         "plain" => repeat(cases::plain(&case), &case, calls),
-        "judged" => repeat(cases::judging(&case), &case, calls),
+        "checked" => repeat(cases::checked(&case), &case, calls),
         _ => return usage(),
     }
     ExitCode::SUCCESS

@@ -3,16 +3,17 @@
 use crate::conversions;
 use otap::{Part, Store, Table, EXPORT_ROOM, REPLY_ROOM, SCRATCH_ROOM, STORE_SIZE};
 use otap_reference::layout;
+use otap_reference::reference::commit::{commit, judge};
 use otap_reference::reference::export::export;
 use otap_reference::reference::menu::counts;
 use otap_reference::reference::screen::{row_part, Row};
 use otap_reference::reference::tables::Set;
-use otap_reference::reference::take::take;
 use std::hint::black_box;
 
 #[derive(Clone)]
 pub enum Call {
-    Take(Vec<u8>),
+    Judge(Vec<u8>),
+    Commit(Vec<u8>),
     Export(Part),
     Row(Table, u32),
     Counts,
@@ -40,7 +41,7 @@ pub struct Plain {
 
 /// The reference behind a plain check of a store's bytes, as firmware that trusts no flash would have it.
 #[derive(Clone, PartialEq)]
-pub struct Judging {
+pub struct Checked {
     plain: Plain,
     bytes: Vec<u8>,
 }
@@ -59,15 +60,15 @@ impl Plain {
     }
 }
 
-impl Judging {
+impl Checked {
     /// The bytes are those of the set, and stay: every call leaves what it found.
-    pub fn of(plain: Plain) -> Judging {
+    pub fn of(plain: Plain) -> Checked {
         let bytes = layout::bytes(&plain.set);
-        Judging { plain, bytes }
+        Checked { plain, bytes }
     }
 }
 
-impl Side for Judging {
+impl Side for Checked {
     fn call(&mut self, call: &Call) -> u8 {
         // A conversion has no store.
         if matches!(call, Call::Convert(_)) || layout::is_store(black_box(&self.bytes)) {
@@ -82,8 +83,11 @@ impl Side for Rattle {
     fn call(&mut self, call: &Call) -> u8 {
         let mut store = Store::lent(&mut self.bytes);
         match call {
-            Call::Take(message) => {
-                store.take(black_box(message), &mut self.buffer[..REPLY_ROOM]).number()
+            Call::Judge(message) => {
+                store.judge(black_box(message), &mut self.buffer[..REPLY_ROOM]).number()
+            }
+            Call::Commit(message) => {
+                store.commit(black_box(message), &mut self.buffer[..REPLY_ROOM]).number()
             }
             Call::Export(part) => {
                 let exported = store.export(black_box(*part), &mut self.buffer);
@@ -108,8 +112,11 @@ impl Side for Rattle {
 impl Side for Plain {
     fn call(&mut self, call: &Call) -> u8 {
         match call {
-            Call::Take(message) => {
-                take(black_box(message), &mut self.set, &mut self.buffer[..REPLY_ROOM]).number
+            Call::Judge(message) => {
+                judge(black_box(message), &self.set, &mut self.buffer[..REPLY_ROOM]).number
+            }
+            Call::Commit(message) => {
+                commit(black_box(message), &mut self.set, &mut self.buffer[..REPLY_ROOM]).number
             }
             Call::Export(part) => {
                 export(black_box(*part).number() as u8, true, &self.set, &mut self.buffer).number

@@ -26,8 +26,10 @@ pub fn table() {
         let mut inputs = Inputs::new(seed);
         let mut rattle = Rattle::fresh();
         for _ in 0..100 {
-            let call = Call::Take(inputs.message());
-            note("take", depth(|| seen(rattle.call(&call))));
+            let message = inputs.message();
+            for call in [Call::Judge(message.clone()), Call::Commit(message)] {
+                note(call_name(&call), depth(|| seen(rattle.call(&call))));
+            }
         }
     }
     let mut bytes = vec![1; STORE_SIZE];
@@ -42,7 +44,8 @@ pub fn table() {
 
 fn call_name(call: &Call) -> &'static str {
     match call {
-        Call::Take(_) => "take",
+        Call::Judge(_) => "judge",
+        Call::Commit(_) => "commit",
         Call::Export(_) => "export",
         Call::Row(..) => "row",
         Call::Counts => "counts",

@@ -10,7 +10,7 @@ const BATCH: Duration = Duration::from_micros(300);
 
 pub fn table() {
     println!("Rattle: the verified archive through the face. Plain: the reference in rust/otap-reference, as it is.");
-    println!("Judged: the same behind a plain check of the store's 24,576 bytes, which Rattle makes in every call too.");
+    println!("Checked: the same behind a plain check of the store's 24,576 bytes, which Rattle makes in every call too.");
     println!(
         "All on a full store, warm, {BATCHES} batches of about {} us in turn, median.",
         BATCH.as_micros()
@@ -20,30 +20,30 @@ pub fn table() {
     println!("The 32 line numbers differ only in their last two digits and the addresses of 64 contacts in their last byte, the worst for finding one.");
     println!("Plain finds a channel by search.");
     println!();
-    println!("| call | message | Rattle ns | plain ns | judged ns | to plain | to judged |");
+    println!("| call | message | Rattle ns | plain ns | checked ns | to plain | to checked |");
     println!("|---|---|---|---|---|---|---|");
     for case in cases::all() {
-        let [rattle, plain, judged] = compare(&case);
-        let (to_plain, to_judged) = (ratio(&rattle, &plain), ratio(&rattle, &judged));
-        let [rattle, plain, judged] = [rattle, plain, judged].map(median);
+        let [rattle, plain, checked] = compare(&case);
+        let (to_plain, to_checked) = (ratio(&rattle, &plain), ratio(&rattle, &checked));
+        let [rattle, plain, checked] = [rattle, plain, checked].map(median);
         let length = message_length(&case).map_or(String::new(), |length| length.to_string());
         let name = &case.name;
-        println!("| {name} | {length} | {rattle:.0} | {plain:.0} | {judged:.0} | {to_plain:.2} | {to_judged:.2} |");
+        println!("| {name} | {length} | {rattle:.0} | {plain:.0} | {checked:.0} | {to_plain:.2} | {to_checked:.2} |");
     }
 }
 
 fn message_length(case: &Case) -> Option<usize> {
     match &case.call {
-        Call::Take(message) => Some(message.len()),
+        Call::Judge(message) | Call::Commit(message) => Some(message.len()),
         _ => None,
     }
 }
 
 /// The batches' times of each side, neighbours in time at the same place.
 fn compare(case: &Case) -> [Vec<f64>; 3] {
-    let (mut rattle, mut plain, mut judging) =
-        (cases::rattle(case), cases::plain(case), cases::judging(case));
-    let sides: [&mut dyn Side; 3] = [&mut rattle, &mut plain, &mut judging];
+    let (mut rattle, mut plain, mut checked) =
+        (cases::rattle(case), cases::plain(case), cases::checked(case));
+    let sides: [&mut dyn Side; 3] = [&mut rattle, &mut plain, &mut checked];
     let mut sides = sides.map(|side| (calls_in_a_batch(side, case), side, Vec::new()));
     for _ in 0..BATCHES {
         for (calls, side, times) in &mut sides {

@@ -15,9 +15,14 @@ static Message said;
 static uint32_t which, row;
 static volatile uint64_t answer;
 
-static void take(void)
+static void judge(void)
 {
-    answer = otap_take(said.bytes, said.length, store, sizeof store, buffer, sizeof buffer);
+    answer = otap_judge(said.bytes, said.length, store, sizeof store, buffer, sizeof buffer);
+}
+
+static void commit(void)
+{
+    answer = otap_commit(said.bytes, said.length, store, sizeof store, buffer, sizeof buffer);
 }
 
 static void export_part(void)
@@ -73,15 +78,15 @@ static void fill(void)
     start();
     for (each = 0; each < FILLING_MESSAGES; each++) {
         write_filling(&said, each, 0);
-        take();
+        commit();
     }
 }
 
 int main(void)
 {
-    static const char *const takes[] = {"take, 32 lines", "take, 63 quick texts", "take, a quick text", "take, 96 status texts", "take, 64 channels",
-                                        "take, 16 groups", "take, 16 individuals", "take, 64 group contacts", "take, 64 individual contacts",
-                                        "take, 16 line slots", "take, key, home, system code and last item"};
+    static const char *const commits[] = {"commit, 32 lines", "commit, 63 quick texts", "commit, a quick text", "commit, 96 status texts",
+                                          "commit, 64 channels", "commit, 16 groups", "commit, 16 individuals", "commit, 64 group contacts",
+                                          "commit, 64 individual contacts", "commit, 16 line slots", "commit, key, home, system code and last item"};
     static const char *const parts[] = {"export, lines", "export, key, home and system code", "export, quick texts", "export, channels",
                                         "export, status texts", "export, groups", "export, individuals", "export, group contacts",
                                         "export, individual contacts", "export, line slots"};
@@ -92,14 +97,18 @@ int main(void)
     fill();
     for (each = 0; each < FILLING_MESSAGES; each++) {
         write_filling(&said, each, 0);
-        count(takes[each], take);
+        count(commits[each], commit);
     }
     write_message(&said, 9, 0);
-    count("take, refused: a 33rd line", take);
+    count("commit, refused: a 33rd line", commit);
+    count("judge, refused: a 33rd line", judge);
     write_message(&said, 15, 0);
-    count("take, refused: a 65th group contact", take);
+    count("commit, refused: a 65th group contact", commit);
     write_query(&said, 2);
-    count("take, a query", take);
+    count("commit, a query", commit);
+    count("judge, a query", judge);
+    write_filling(&said, 0, 0);
+    count("judge, 32 lines", judge);
     for (each = 0; each < OTAP_EXPORT_PARTS; each++) {
         which = each + 1;
         count(parts[each], export_part);

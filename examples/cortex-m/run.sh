@@ -67,6 +67,7 @@ for each in cortex-m4 cortex-m4f cortex-m33 cortex-m33f; do
     on $each
     step "$each: firmware" prints
     step "$each: numbers and constants" bare "" tests/numbers.c
+    step "$each: judging and committing" bare "" tests/judging.c
     step "$each: contacts and slots" bare "" tests/contacts.c
 done
 for each in cortex-m4 cortex-m33; do

@@ -5,25 +5,64 @@ use super::building::put_message;
 use super::printing::line;
 use slots::bytes::copy;
 use slots::bytes::same;
+use station::answers::Answer;
+use station::answers::number;
+use station::handheld::commit;
+use station::handheld::judge;
 use station::handheld::start;
-use station::handheld::take;
 use tables::limits::HANDHELD_SIZE;
 
-// A message to this store, with this reply buffer and as many bytes to keep the store of before in.
-fn answer_beside(what: &[u8], bytes: &[u8], store: &mut [u8], reply: &mut [u8], before: &mut [u8]) {
+// What is done with a message: one of the calls, or both.
+pub enum Call {
+    Judge,
+    Commit,
+    Take,
+}
+
+// Judges a message, and commits it where it is good: what committing answers then, and what judging does where it is not.
+fn take(message: &[u8], store: &mut [u8], reply: &mut [u8]) -> Answer {
+    let answer = judge(message, store, reply);
+    if number(answer) != 0 {
+        return answer;
+    }
+    commit(message, store, reply)
+}
+
+fn answer_of(call: Call, bytes: &[u8], store: &mut [u8], reply: &mut [u8]) -> Answer {
+    match call {
+        Call::Judge => judge(bytes, store, reply),
+        Call::Commit => commit(bytes, store, reply),
+        Call::Take => take(bytes, store, reply),
+    }
+}
+
+// A call with this store and this reply buffer, and as many bytes to keep the store of before in.
+fn call_beside(
+    call: Call,
+    what: &[u8],
+    bytes: &[u8],
+    store: &mut [u8],
+    reply: &mut [u8],
+    before: &mut [u8],
+) {
     copy(before, store);
-    let answer = take(bytes, store, reply);
+    let answer = answer_of(call, bytes, store, reply);
     line(what, answer, same(before, store), reply);
 }
 
-// A message to this store, of at most 24,576 bytes, with this reply buffer.
-pub fn answer_into(what: &[u8], bytes: &[u8], store: &mut [u8], reply: &mut [u8]) {
+// A call with this store, which has at most the bytes of a store, and this reply buffer.
+pub fn call_into(call: Call, what: &[u8], bytes: &[u8], store: &mut [u8], reply: &mut [u8]) {
     let size = store.len();
     if HANDHELD_SIZE < size {
         return;
     }
     let mut before = [0u8; HANDHELD_SIZE];
-    answer_beside(what, bytes, store, reply, &mut before[0..size]);
+    call_beside(call, what, bytes, store, reply, &mut before[0..size]);
+}
+
+// A message to this store, with this reply buffer.
+pub fn answer_into(what: &[u8], bytes: &[u8], store: &mut [u8], reply: &mut [u8]) {
+    call_into(Call::Take, what, bytes, store, reply);
 }
 
 // A message to this store, with a reply buffer of 20 bytes.

@@ -2,6 +2,7 @@
 use tables::limits::HANDHELD_SIZE;
 
 mod carrier_cases;
+mod judge_cases;
 mod last_cases;
 mod plan_cases;
 mod setting_cases;
@@ -12,4 +13,5 @@ fn main() {
     carrier_cases::run(&mut store);
     setting_cases::run(&mut store);
     last_cases::run(&mut store);
+    judge_cases::run(&mut store);
 }

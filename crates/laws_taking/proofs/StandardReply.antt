@@ -1,4 +1,4 @@
--- Demand 2's "the reply is the standard's", over the contract of take: for every message, store and reply buffer. Assumes nothing.
+-- Demand 2's "the reply is the standard's", over the contract of commit: for every message, store and reply buffer. Assumes nothing.
 use Rattle.lists.proofs.Kit.{ℕ, _+_, _≤_, _<_, _≡_, refl, ap, subst⁻¹, inl, inr, ⊎-elim, Bool, true, false, List, _++_, arith, length, take, drop, take-at}
 use Rattle.lists.specs.Ladder.{Answers}
 use Rattle.writing.specs.declared.Coding.{Coding}

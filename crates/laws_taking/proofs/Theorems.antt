@@ -1,4 +1,4 @@
--- Demands 1 to 3 for taking a message, over the contract of take: for every message, store and reply buffer. Assumes nothing.
+-- Demands 1 to 3 for taking a message, over the contract of commit: for every message, store and reply buffer. Assumes nothing.
 use Rattle.lists.proofs.Kit.{ℕ, _-_, _≤_, _≡_, refl, sym, ap, _∙_, subst, subst₂, subst⁻¹, _≢_, _⊎_, inl, inr, ⊎-elim, _↔_, Bool, true, false, List, [], _++_, append-nil, nil≢cons, arith, length, midOf}
 use Rattle.lists.specs.Bytes.{Bytes}
 use Rattle.lists.specs.Ladder.{Answers}
@@ -7,7 +7,7 @@ use Rattle.writing.specs.Carrier.{Counted}
 use Rattle.writing.specs.Fields.{bitsOf, Shows}
 use Rattle.writing.specs.Ranges.{text-limits, InRange}
 use Rattle.writing.specs.Settings.{Setting, Hash}
-use Rattle.writing.specs.Writing.{WrittenAs, request-head}
+use Rattle.writing.specs.Writing.{WrittenAll, WrittenAs, request-head}
 use Rattle.read_carrier.proofs.CarrierLaws.{carries-one}
 use Rattle.read_carrier.proofs.MessageOne.{coding-one, counted-one}
 use Rattle.read_carrier.proofs.KindLaws.{request-bytes, opens-no-query}
@@ -39,7 +39,7 @@ module _ (c : Coding) (lim : Limits) (t : Tables) {n : ℕ} {bs : List ℕ} {o :
   says = judged-says Setting Tables (WrittenIn c) (InRange text-limits) (apply lim) Known (one-writing c) (type-first c)
 
   -- with which number
-  numbered : Judged c lim n t bs o → RefusedWith Setting Tables (WrittenIn c) (InRange text-limits) (apply lim) Known (one-writing c) (type-first c) o
+  pub numbered : Judged c lim n t bs o → RefusedWith Setting Tables (WrittenIn c) (InRange text-limits) (apply lim) Known (one-writing c) (type-first c) o
   numbered = refused-number Setting Tables (WrittenIn c) (InRange text-limits) (apply lim) Known (one-writing c) (type-first c)
 
 -- ---- how a message ends
@@ -111,6 +111,17 @@ module _ (lim : Limits) (message store reply : List ℕ) where
 written-counted : {c : Coding} {l : List Setting} {d : List ℕ} (w : WrittenAs c l d) → Counted (length l) (w .settings) d
 written-counted w = record { head = w .head; parts = w .parts; says = w .counted; some-setting = w .some-setting }
 
+-- and back: as many settings as are counted, written as what follows ParamSum
+pub counted-written : {c : Coding} {l : List Setting} {count : ℕ} {settings w d : List ℕ} → Counted count settings d → length l ≡ count → settings ≡ w → WrittenAll c l w → WrittenAs c l d
+counted-written {w = w} k n e y = record {
+  some-setting = subst (λ (i : ℕ). 1 ≤ i) (sym n) (k .some-setting);
+  head = k .head;
+  settings = w;
+  parts = k .parts ∙ ap (λ (i : List ℕ). k .head ++ i) e;
+  counted = subst (λ (i : ℕ). Shows (request-head i) (bitsOf (k .head))) (sym n) (k .says);
+  written = y;
+}
+
 module _ (c : Coding) (lim : Limits) (message store reply : List ℕ) (b : Bytes message) (t : Tables) (d : List ℕ) (p : Passes c lim message store reply t d) where
   -- what such a request comes to: it is not counted, or its settings are judged from the tables of the store
   data Comes (x : AfterTaking) : Type 0 where
@@ -180,22 +191,10 @@ module _ (c : Coding) (lim : Limits) (message store reply : List ℕ) (b : Bytes
             → (l : List Setting) × (u : Tables) × WrittenAs c l d × InTurn lim (length l) (forget t) l u
         by n (not-counted never e) = absurd (omega (arith, n, ap (λ (y : AfterTaking). y .answer .number) e))
         by n (judged counts bytes (refused number failed) j e) = absurd (omega (arith, n, ap (λ (y : AfterTaking). y .answer .number) e, numbered c lim (forget t) j .0))
-        by n (judged {settings = settings} counts bytes (kept l u) j e) =
+        by n (judged counts bytes (kept l u) j e) =
             let (q, r) = says c lim (forget t) j in
             let (w, k, y, z) = run-written c lim r in
-            let s : settings ≡ w = k ∙ append-nil w in (
-              l,
-              u,
-              record {
-                some-setting = subst (λ (i : ℕ). 1 ≤ i) (sym q) (counts .some-setting);
-                head = counts .head;
-                settings = w;
-                parts = counts .parts ∙ ap (λ (i : List ℕ). counts .head ++ i) s;
-                counted = subst (λ (i : ℕ). Shows (request-head i) (bitsOf (counts .head))) (sym q) (counts .says);
-                written = y;
-              },
-              subst (λ (i : ℕ). InTurn lim i (forget t) l u) (sym q) z,
-            )
+            (l, u, counted-written counts q (k ∙ append-nil w) y, subst (λ (i : ℕ). InTurn lim i (forget t) l u) (sym q) z)
 
     -- HASH KEPT: "After each taken request the hash kept is that request's own; with code 0 or no FF, none"
     pub hash-kept : (l : List Setting) (u : Tables) → InTurn lim (length l) (forget t) l u → u .hash ≡ last-item l .hash

@@ -1,10 +1,11 @@
 // Stores and messages.
-use packing::messages::pack_take;
+use packing::messages::pack_answer;
 use packing::messages::start_number;
+use station::handheld::commit;
+use station::handheld::judge;
 use station::handheld::start;
-use station::handheld::take;
 ghost use Rattle.tables.specs.Limits.{handheld};
-ghost use Rattle.packing.specs.Packing.{Starts, Takes};
+ghost use Rattle.packing.specs.Packing.{Starts, Judgements, Commits};
 
 // 0: the bytes are a fresh store. 11: they are not 24,576, and stay.
 #[no_mangle]
@@ -15,11 +16,20 @@ pub extern "C" fn otap_start(store: &mut [u8]) -> u32
     start_number(did)
 }
 
-// Number, failed ID, send, reboot and reply length.
+// Number, failed ID, send, reboot and reply length: what committing the message to this store would answer, with the reply that it would write. The store stays.
 #[no_mangle]
-pub extern "C" fn otap_take(message: &[u8], store: &mut [u8], reply: &mut [u8]) -> u64
-    ensures { λ r. ⌜ Takes handheld (now (message .entry)) (now (store .entry)) (now (reply .entry)) (now (store .exit)) (now (reply .exit)) r ⌝ }
+pub extern "C" fn otap_judge(message: &[u8], store: &[u8], reply: &mut [u8]) -> u64
+    ensures { λ r. ⌜ Judgements handheld (now (message .entry)) (now (store .entry)) (now (reply .entry)) (now (reply .exit)) r ⌝ }
 {
-    let answer = take(message, store, reply);
-    pack_take(answer)
+    let answer = judge(message, store, reply);
+    pack_answer(answer)
+}
+
+// The same of a message that is committed: it is judged again, and a good request changes the store.
+#[no_mangle]
+pub extern "C" fn otap_commit(message: &[u8], store: &mut [u8], reply: &mut [u8]) -> u64
+    ensures { λ r. ⌜ Commits handheld (now (message .entry)) (now (store .entry)) (now (reply .entry)) (now (store .exit)) (now (reply .exit)) r ⌝ }
+{
+    let answer = commit(message, store, reply);
+    pack_answer(answer)
 }

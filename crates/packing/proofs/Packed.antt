@@ -33,7 +33,7 @@ value-refused n h = record { number = h; value = omega arith; bits = omega arith
 pub starts-packed : (lim : Limits) (before after : List ℕ) (a : Started) (r : ℕ) → r ≡ started a → Answers (starting lim before) (begins a after) → Starts lim before after r
 starts-packed lim before after a r e x = subst (λ (n : ℕ). Starts lim before after n) (sym e) x
 
--- ---- taking
+-- ---- judging and committing
 
 -- the number alone, where nothing was touched
 pub packed-refusal : (a : Station) (x : Refusal) (r : ℕ) → a ≡ Untouched x → r ≡ refusal-number x → r < 256 → Packs (said a) r

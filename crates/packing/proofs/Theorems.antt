@@ -1,5 +1,5 @@
 -- What firmware may rely on: two answers that a contract allows are equal, and the bits of an answer give its values back. Assumes nothing.
-use Rattle.lists.proofs.Kit.{ℕ, _/_, _%_, _≤_, _≡_, sym, ap, _∙_, List, arith}
+use Rattle.lists.proofs.Kit.{ℕ, _/_, _%_, _≤_, _≡_, refl, sym, ap, _∙_, List, arith}
 use Rattle.plan.specs.Answers.{Answer}
 use Rattle.plan.proofs.AnswerLaws.{One, determined as value-determined}
 use Rattle.writing.specs.Writing.{bit}
@@ -17,7 +17,7 @@ use Rattle.screen.specs.Screen.{RowPart, of-store, of-scratch, AfterRow as Row}
 use Rattle.screen.proofs.Determined.{shown-determined, number-one}
 use Rattle.menu.specs.Menu.{Told as ToldCounts}
 use Rattle.menu.proofs.Theorems.{counts-one}
-use Rattle.packing.specs.Packing.{Starts, packed, Packs, Takes, packed-export, PacksExport, Exports, packed-counts, PacksCounts, Counts, AnswersNumber, packed-part, start-of, length-of, PacksPart, AnswersPart, packed-value, PacksValue, Converts}
+use Rattle.packing.specs.Packing.{Starts, packed, Packs, Judgements, Commits, packed-export, PacksExport, Exports, packed-counts, PacksCounts, Counts, AnswersNumber, packed-part, start-of, length-of, PacksPart, AnswersPart, packed-value, PacksValue, Converts}
 
 -- ---- one answer
 
@@ -26,14 +26,30 @@ pub starts-determined : (lim : Limits) (s t u : List ℕ) (r q : ℕ) → Starts
 starts-determined lim s t u r q x y =
     let e = begun-determined lim s _ _ x y in (ap (λ (a : Begun). a .number) e, ap (λ (a : Begun). a .store) e)
 
--- TAKING: one number, one store and one reply afterwards
-pub takes-determined : (lim : Limits) (message store reply s t u v : List ℕ) (r q : ℕ) → Takes lim message store reply s t r → Takes lim message store reply u v q → (r ≡ q) × (s ≡ u) × (t ≡ v)
-takes-determined lim message store reply s t u v r q x y =
+-- COMMITTING: one number, one store and one reply afterwards
+pub commits-determined : (lim : Limits) (message store reply s t u v : List ℕ) (r q : ℕ) → Commits lim message store reply s t r → Commits lim message store reply u v q → (r ≡ q) × (s ≡ u) × (t ≡ v)
+commits-determined lim message store reply s t u v r q x y =
     let e = outcome-determined lim message store reply _ _ (x .allowed) (y .allowed) in (
       x .packs .bits ∙ ap (λ (a : AfterTaking). packed (a .answer)) e ∙ sym (y .packs .bits),
       ap (λ (a : AfterTaking). a .store) e,
       ap (λ (a : AfterTaking). a .reply) e,
     )
+
+-- JUDGING: one number and one reply afterwards
+pub judgements-determined : (lim : Limits) (message store reply s t : List ℕ) (r q : ℕ) → Judgements lim message store reply s r → Judgements lim message store reply t q → (r ≡ q) × (s ≡ t)
+judgements-determined lim message store reply s t r q x y =
+    let i = x .allowed in
+    let j = y .allowed in
+    let e = outcome-determined lim message store reply _ _ (i .allowed) (j .allowed) in (
+      x .packs .bits ∙ ap packed (i .says ∙ ap (λ (a : AfterTaking). a .answer) e ∙ sym (j .says)) ∙ sym (y .packs .bits),
+      i .writes ∙ ap (λ (a : AfterTaking). a .reply) e ∙ sym (j .writes),
+    )
+
+-- and those of committing
+pub judged-as-committed : (lim : Limits) (message store reply t u v : List ℕ) (r q : ℕ) → Judgements lim message store reply t r → Commits lim message store reply u v q → (r ≡ q) × (t ≡ v)
+judged-as-committed lim message store reply t u v r q x y =
+    judgements-determined lim message store reply t v r q x
+    (record { answer = y .answer; allowed = record { after = _; allowed = y .allowed; says = refl; writes = refl }; packs = y .packs })
 
 -- EXPORTING: one number, and one buffer afterwards
 pub exports-determined : (lim : Limits) (part : ℕ) (store buffer s t : List ℕ) (r q : ℕ) → Exports lim part store buffer s r → Exports lim part store buffer t q → (r ≡ q) × (s ≡ t)
@@ -67,10 +83,10 @@ converts-determined Has one refusal x r q a b =
 
 -- ---- the values of an answer
 
--- TAKING: shifts and masks give the values back, and no other bit is set
-pub take-unpacked : (s : Said) (r : ℕ) → Packs s r
+-- JUDGING AND COMMITTING: shifts and masks give the values back, and no other bit is set
+pub answer-unpacked : (s : Said) (r : ℕ) → Packs s r
     → (r % 256 ≡ s .number) × (r / 256 % 256 ≡ s .failed) × (r / 65536 % 2 ≡ bit (s .send)) × (r / 131072 % 2 ≡ bit (s .reboot)) × (r / 262144 % 64 ≡ 0) × (r / 16777216 ≡ s .reply-length)
-take-unpacked s r p =
+answer-unpacked s r p =
     let i : bit (s .send) ≤ 1 = bit-small (s .send) in
     let j : bit (s .reboot) ≤ 1 = bit-small (s .reboot) in
     let n = p .number in

@@ -9,6 +9,7 @@ use Rattle.tables.specs.declared.limits.Limits.{Limits}
 use Rattle.tables.specs.Layout.{Roomy}
 use Rattle.tables.specs.Store.{starting}
 use Rattle.station.specs.Answers.{Said}
+use Rattle.station.specs.Judging.{Judges}
 use Rattle.station.specs.Taking.{taken}
 use Rattle.export.specs.Exportable.{Exportable}
 use Rattle.export.specs.Exporting.{Told, exporting}
@@ -31,7 +32,7 @@ pub record Packable (lim : Limits) : Type 0 where
 abbrev pub Starts : (lim : Limits) (before after : List ℕ) (r : ℕ) → Type 0
 Starts lim before after r = Answers (starting lim before) (record { number = r; store = after })
 
--- ---- taking
+-- ---- judging and committing
 
 -- bits 0-7 number, 8-15 failed ID, 16 send, 17 reboot, 24-31 reply length
 abbrev pub packed : Said → ℕ
@@ -44,8 +45,14 @@ pub record Packs (s : Said) (r : ℕ) : Type 0 where
   pub reply-length : s .reply-length < 256
   pub bits : r ≡ packed s
 
--- an outcome that the contract of taking allows, with its answer packed
-pub record Takes (lim : Limits) (message store reply store-after reply-after : List ℕ) (r : ℕ) : Type 0 where
+-- an answer and a reply that the contract of judging allows, the answer packed
+pub record Judgements (lim : Limits) (message store reply reply-after : List ℕ) (r : ℕ) : Type 0 where
+  pub answer : Said
+  pub allowed : Judges lim message store reply answer reply-after
+  pub packs : Packs answer r
+
+-- an outcome that the contract of committing allows, with its answer packed
+pub record Commits (lim : Limits) (message store reply store-after reply-after : List ℕ) (r : ℕ) : Type 0 where
   pub answer : Said
   pub allowed : Answers (taken lim message store reply) (record { answer = answer; store = store-after; reply = reply-after })
   pub packs : Packs answer r

@@ -1,4 +1,4 @@
-// What starting a store and taking a message answer.
+// What starting a store, and judging or committing a message, answer.
 use super::bits::bit_of;
 use station::answers::Answer;
 use station::answers::refusal_number;
@@ -19,7 +19,7 @@ pub fn start_number(did: Started) -> u32
 }
 
 // Bits 0 to 7 number, 8 to 15 failed ID, 16 send, 17 reboot, 24 to 31 reply length.
-pub fn pack_take(answer: Answer) -> u64
+pub fn pack_answer(answer: Answer) -> u64
     ensures { λ r. ⌜ Packs (said answer) r ⌝ }
 {
     match answer {

@@ -5,9 +5,18 @@ use export::parts::PARTS;
 use libc::STDOUT_FILENO;
 use records::Record;
 use records::read_record;
+use station::answers::number;
+use station::handheld::commit;
+use station::handheld::judge;
 use station::handheld::start;
-use station::handheld::take;
 use tables::limits::HANDHELD_SIZE;
+
+// Judges a message, and commits it where it is good.
+fn take(message: &[u8], store: &mut [u8], reply: &mut [u8]) {
+    if number(judge(message, store, reply)) == 0 {
+        commit(message, store, reply);
+    }
+}
 
 // Takes the next record: is there another?
 fn take_record(buffer: &mut [u8], store: &mut [u8], reply: &mut [u8]) -> bool {

@@ -2,7 +2,7 @@
 use export::exporting::export_in;
 use export::parts::Export;
 use export::parts::PARTS;
-use station::take::take_for;
+use station::commit::commit_for;
 use store_check::checks::is_store;
 use tables::limits::HANDHELD;
 use tables::limits::HANDHELD_SIZE;
@@ -21,7 +21,7 @@ pub enum Restored {
     Buffer,
 }
 
-// Exports a part of one set and has the other take it.
+// Exports a part of one set and commits it to the other.
 fn move_part(
     part: u32,
     from: &[u8],
@@ -37,7 +37,7 @@ fn move_part(
     let Export::Written(length) = written else {
         return;
     };
-    take_for(&buffer[0..length], to, reply, limits, work);
+    commit_for(&buffer[0..length], to, reply, limits, work);
 }
 
 // All parts in order.

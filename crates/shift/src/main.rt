@@ -13,14 +13,25 @@ use room::room;
 use rows::rows;
 use station::answers::Answer;
 use station::answers::Refusal;
+use station::answers::number;
+use station::handheld::commit;
+use station::handheld::judge;
 use station::handheld::start;
-use station::handheld::take;
 use tables::limits::HANDHELD_SIZE;
 
 // What the set shows: rows, and the menu's line.
 fn show(store: &[u8]) {
     rows(store);
     room(store);
+}
+
+// Judges a message, and commits it where it is good: what committing answers then, and what judging does where it is not.
+fn take(message: &[u8], store: &mut [u8], reply: &mut [u8]) -> Answer {
+    let answer = judge(message, store, reply);
+    if number(answer) != 0 {
+        return answer;
+    }
+    commit(message, store, reply)
 }
 
 // Takes a message and prints its line; what is shown after it.

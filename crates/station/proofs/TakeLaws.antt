@@ -1,5 +1,5 @@
 -- A message handled step by step comes to what the contract of taking says. Assumes nothing.
-use Rattle.lists.proofs.Kit.{ℕ, _≤_, _<_, _≡_, refl, sym, ap, ap₂, _∙_, subst, _⊎_, inl, inr, List, Bool, true, false, arith, midOf, putMid, mid-len, length, drop}
+use Rattle.lists.proofs.Kit.{ℕ, _≤_, _≡_, refl, sym, ap, ap₂, _∙_, subst, subst₂, _⊎_, inl, inr, List, Bool, true, false, arith, midOf, putMid, mid-len, length, drop}
 use Rattle.lists.specs.Ladder.{Ladder, rung, foot, Answers}
 use Rattle.writing.specs.declared.Coding.{Coding}
 use Rattle.writing.specs.declared.LastFlags.{LastFlags}
@@ -17,15 +17,20 @@ use Rattle.read_fields.specs.declared.hashes.HashPlace.{HashPlace}
 use Rattle.tables.specs.declared.limits.Limits.{Limits}
 use Rattle.tables.specs.Allowed.{HashOk}
 use Rattle.tables.specs.Layout.{Roomy, layout, hash-bytes, used-size, hash-size}
-use Rattle.tables.specs.Store.{StoreOf, Holds, Works, Saved}
+use Rattle.tables.specs.Store.{StoreOf, Holds, Works}
 use Rattle.tables.specs.Tables.{Tables, no-hash}
 use Rattle.tables.proofs.AllowedLaws.{forget-allowed}
 use Rattle.tables.proofs.Frames.{hash-get, hash-put}
 use Rattle.tables.proofs.LayoutLaws.{layout-length}
 use Rattle.station.specs.declared.answers.Answer.{Answer}
-use Rattle.station.specs.declared.answers.Answer.the-variants.{Replied}
+use Rattle.station.specs.declared.answers.Answer.the-variants.{Untouched, Replied}
+use Rattle.station.specs.declared.judge.Verdict.{Verdict}
+use Rattle.station.specs.declared.judge.Verdict.the-variants.{Untouched as NothingTouched, Answered, Taken as IsTaken}
+use Rattle.requests.specs.declared.run.Run.{Run}
 use Rattle.requests.specs.declared.run.Run.the-variants.{Good, Fault as RunFault}
-use Rattle.station.specs.Handling.{TurnedDown, Queried}
+use Rattle.station.specs.Answers.{said}
+use Rattle.station.specs.Handling.{Queried, RequestJudged, Accepted, Weighed, answer-of, VerdictIs, Keeps}
+use Rattle.station.specs.Judging.{Judges}
 use Rattle.requests.specs.Judge.{Outcome, kept, refused}
 use Rattle.station.specs.Queries.{SameAs, HashSame}
 use Rattle.station.specs.Replies.{ReplyWritten}
@@ -57,7 +62,7 @@ module _ (message : List ℕ) (place : HashPlace) (store reply after : List ℕ)
   -- the query matches exactly where the hash is the one kept
   pub queried : (k : Bool) → HashSame message place (midOf 0 hash-size store) k → ((k ≡ true) × (result ≡ Taken)) ⊎ ((k ≡ false) × (result ≡ NoMatch))
       → number ≡ result-number result → ReplyWritten number 0 (midOf 0 hash-size store) reply after n
-      → Queried message place store reply after (Replied (record { result = result; failed = 0; send = true; reboot = false; length = n }))
+      → Queried message place store reply after (record { result = result; failed = 0; send = true; reboot = false; length = n })
   queried k same which numbered w lim t (ok, is) (size, h, q, code, stands) = (h, q, by which)
     where
       kept-bytes : midOf 0 hash-size store ≡ hash-bytes (t .hash)
@@ -87,29 +92,17 @@ forgotten lim t w y room (ok, is) e =
     let l : length w ≡ lim .size = ap length is ∙ layout-length lim t room ok in
     (forget-allowed lim t ok, ap₂ (putMid 0 hash-size) is (e (mid-len 0 11 w (omega arith))) ∙ hash-put lim t ok no-hash)
 
-module _ (c : Coding) (lim : Limits) (message : List ℕ) (count at : ℕ) (store reply : List ℕ) (s : StoreOf lim store) (t : Tables) (w v : List ℕ) (h : Works lim (forget t) w) where
-  -- what the settings from a place on come to
-  abbrev Settled : AfterTaking → Type 0
-  Settled a = (o : Outcome Setting Tables) × Judged c lim count (forget t) (drop at message) o × (a ≡ settled lim message store reply o)
+-- the settings were run on a copy of the store with no hash kept
+pub request-judged : (c : Coding) (lim : Limits) (message : List ℕ) (count at : ℕ) (store w v : List ℕ) (run : Run)
+    → Roomy lim → ((t : Tables) → Holds lim t store → Works lim (forget t) w) → RunIs c lim count message at w v run → RequestJudged c lim message count at store v run
+request-judged c lim message count at store w v (Good f) room h r = λ t k. r (forget t) room (h t k)
+request-judged c lim message count at store w v (RunFault result failed) room h r = λ t k. r (forget t) room (h t k)
 
-  -- a fault turns it down
-  pub request-refused : (result : Result) (failed : ℕ) (after : List ℕ) (a : Answer) → RunIs c lim count message at w v (RunFault result failed)
-      → TurnedDown result failed reply after a → Settled (leaves a store after)
-  request-refused result failed after a r d = (refused (result-number result) failed, r (forget t) (s .roomy) h, d lim message store)
-
-  -- all good: the copy is saved, and the reply carries the hash that is kept now
-  pub request-taken : (f : LastFlags) (n : ℕ) (store-after after : List ℕ) → RunIs c lim count message at w v (Good f)
-      → Saved lim v store store-after → ReplyWritten 0 0 (midOf 0 hash-size store-after) reply after n
-      → Settled (leaves (Replied (record { result = Taken; failed = 0; send = f .reply; reboot = f .reboot; length = n })) store-after after)
-  request-taken f n store-after after r d x =
-      let z = r (forget t) (s .roomy) h in
-      let (ok, e) = d (s .size) (z .tables) (s .roomy) (z .holds) in
-      let b : midOf 0 hash-size store-after ≡ hash-bytes (z .tables .hash) = ap (midOf 0 hash-size) e ∙ hash-get lim (z .tables) ok in (
-        kept (z .settings) (z .tables),
-        z .judged,
-        replied lim message store reply Taken 0 0 (f .reply) (f .reboot) (z .tables .hash) store-after (midOf 0 hash-size store-after) after n refl (ok .hash) b x
-            ∙ ap₂ (λ (g : LastFlags) (q : List ℕ). replies lim message store reply 0 0 (g .reply) (g .reboot) (z .tables .hash) q) (z .flags) e,
-      )
+-- the reply to a good one
+pub accepted : (f : LastFlags) (n : ℕ) (hash reply after : List ℕ) → ReplyWritten 0 0 hash reply after n
+    → Accepted f hash reply after (record { result = Taken; failed = 0; send = f .reply; reboot = f .reboot; length = n })
+accepted f n hash reply after x lim message store store-after h ok e =
+    replied lim message store reply Taken 0 0 (f .reply) (f .reboot) h store-after hash after n refl ok e x
 
 -- ---- a message
 
@@ -178,3 +171,43 @@ module _ (lim : Limits) (message store reply : List ℕ) (x : AfterTaking) (big 
       let a = s .store in
       let h : Holds lim (a .tables) store = (a .allowed, a .bytes-are) in
       by-kind (a .tables) h k is (f (a .tables) h)
+
+-- ---- a verdict
+
+module _ (lim : Limits) (message store reply after work : List ℕ) where
+  -- REQUEST VERDICT: a fault turns the request down, and of a good one the working copy has the tables that the store becomes
+  pub request-verdict : (c : Coding) (count at : ℕ) → 20 ≤ length reply → StoreOf lim store → MessageIs (lim .message) message (Request count at c)
+      → (run : Run) (v : Verdict) → RequestJudged c lim message count at store work run → Weighed run (midOf 0 hash-size work) reply after v → VerdictIs lim message store reply after work v
+  request-verdict c count at big s is (Good f) (IsTaken r) j w =
+      let a = s .store in
+      let h : Holds lim (a .tables) store = (a .allowed, a .bytes-are) in
+      let z = j (a .tables) h in
+      let (ok, is-laid) = z .holds in
+      let b : midOf 0 hash-size work ≡ hash-bytes (z .tables .hash) = ap (midOf 0 hash-size) is-laid ∙ hash-get lim (z .tables) ok in
+      let e : leaves (Replied r) (layout lim (z .tables)) after ≡ settled lim message store reply (kept (z .settings) (z .tables))
+      = w lim message store (layout lim (z .tables)) (z .tables .hash) (ok .hash) b
+      ∙ ap (λ (g : LastFlags). replies lim message store reply 0 0 (g .reply) (g .reboot) (z .tables .hash) (layout lim (z .tables))) (z .flags) in
+      (s .size, s .roomy, z .tables, z .holds, by-kind lim message store reply _ big s (a .tables) h (Request count at c) is (kept (z .settings) (z .tables), z .judged, e))
+  request-verdict c count at big s is (RunFault result failed) (Answered r) j w =
+      handled lim message store reply _ big s (Request count at c) is (λ t h. (refused (result-number result) failed, j t h, w lim message store))
+  request-verdict c count at big s is (Good f) (Answered r) j w = absurd w
+  request-verdict c count at big s is (Good f) (NothingTouched r) j w = absurd w
+  request-verdict c count at big s is (RunFault result failed) (IsTaken r) j w = absurd w
+  request-verdict c count at big s is (RunFault result failed) (NothingTouched r) j w = absurd w
+
+  -- JUDGED: the answer and the reply of a verdict are those of an outcome that taking allows
+  pub judged : (v : Verdict) (a : Answer) → VerdictIs lim message store reply after work v → a ≡ answer-of v → Judges lim message store reply (said a) after
+  judged (NothingTouched r) a d e = record { after = leaves (Untouched r) store after; allowed = d; says = ap said e; writes = refl }
+  judged (Answered r) a d e = record { after = leaves (Replied r) store after; allowed = d; says = ap said e; writes = refl }
+  judged (IsTaken r) a d e = record { after = leaves (Replied r) (layout lim (d .2)) after; allowed = d .4; says = ap said e; writes = refl }
+
+  -- an outcome with this answer and store
+  abbrev Left : Answer → List ℕ → Type 0
+  Left a store-after = Answers (taken lim message store reply) (leaves a store-after after)
+
+  -- COMMITTED: with what committing makes of the store, they are such an outcome
+  pub committed : (v : Verdict) (a : Answer) (store-after : List ℕ) → VerdictIs lim message store reply after work v → Keeps v lim work store store-after → a ≡ answer-of v
+      → Answers (taken lim message store reply) (leaves a store-after after)
+  committed (NothingTouched r) a store-after d k e = subst₂ Left (sym e) (sym k) d
+  committed (Answered r) a store-after d k e = subst₂ Left (sym e) (sym k) d
+  committed (IsTaken r) a store-after (size, room, u, w, d) k e = subst₂ Left (sym e) (sym (k size u room w .1)) d

@@ -1,4 +1,4 @@
-// What taking a message answers.
+// What judging and committing a message answer.
 use super::replies::result_number;
 use writing::Result;
 ghost use mathlib.Core.Path.{_≡_};

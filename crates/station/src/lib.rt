@@ -1,6 +1,7 @@
-// Takes requests, answers result queries and writes the replies.
+// Judges and commits messages: takes requests, answers result queries and writes the replies.
 pub mod answers;
+pub mod commit;
 pub mod handheld;
+mod judge;
 mod queries;
 pub mod replies;
-pub mod take;

@@ -2,10 +2,12 @@
 use libc::STDOUT_FILENO;
 use records::Record;
 use records::read_record;
+use station::answers::Answer;
 use station::answers::failed_id;
 use station::answers::number;
+use station::handheld::commit;
+use station::handheld::judge;
 use station::handheld::start;
-use station::handheld::take;
 use tables::limits::HANDHELD_SIZE;
 
 fn space() {
@@ -19,6 +21,15 @@ fn line(kind: u16, number: u8, failed: u8) {
     space();
     io::print_decimal(STDOUT_FILENO, failed as u64);
     io::write_all(STDOUT_FILENO, b"\n");
+}
+
+// Judges a message, and commits it where it is good: what committing answers then, and what judging does where it is not.
+fn take(message: &[u8], store: &mut [u8], reply: &mut [u8]) -> Answer {
+    let answer = judge(message, store, reply);
+    if number(answer) != 0 {
+        return answer;
+    }
+    commit(message, store, reply)
 }
 
 // Takes the next record: is there another?

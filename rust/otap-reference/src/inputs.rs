@@ -9,10 +9,10 @@ pub mod random;
 pub mod requests;
 pub mod sweep;
 
+use crate::reference::commit::{judge_and_commit, REPLY_ROOM};
 use crate::reference::export::{part_bytes, PARTS};
 use crate::reference::message::{first_byte, Hash, LONGEST, QUERY, SHORTEST};
 use crate::reference::tables::Set;
-use crate::reference::take::{take, REPLY_ROOM};
 use draft::{restate, Draft};
 use maker::pool_hash;
 use random::Random;
@@ -51,7 +51,7 @@ impl Inputs {
             _ => self.exported(),
         };
         message.truncate(LONGEST_INPUT);
-        take(&message, &mut self.set, &mut [0; REPLY_ROOM]);
+        judge_and_commit(&message, &mut self.set, &mut [0; REPLY_ROOM]);
         message
     }
 

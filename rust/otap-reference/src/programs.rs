@@ -1,9 +1,9 @@
-//! What document 01's programs `take` and `put` must write for an input.
+//! What document 01's programs `take` and `put` must write for an input; they judge each message, and commit it where that comes to 0.
 
 use crate::records::{push_record, Record, Records};
+use crate::reference::commit::{judge_and_commit, REPLY_ROOM};
 use crate::reference::export::{part_bytes, PARTS};
 use crate::reference::tables::Set;
-use crate::reference::take::{take, REPLY_ROOM};
 use std::fmt::Write;
 
 /// A line for each record: kind, number, failed ID; or `cut`.
@@ -14,7 +14,7 @@ pub fn take_prints(input: &[u8]) -> String {
         match record {
             Record::Cut => out.push_str("cut\n"),
             Record::Whole { kind, message } => {
-                let answer = take(message, &mut set, &mut [0; REPLY_ROOM]);
+                let answer = judge_and_commit(message, &mut set, &mut [0; REPLY_ROOM]);
                 writeln!(out, "{kind} {} {}", answer.number, answer.failed)
                     .expect("a string takes every line");
             }
@@ -28,7 +28,7 @@ pub fn put_writes(input: &[u8]) -> Vec<u8> {
     let mut set = Set::default();
     for record in Records::new(input) {
         if let Record::Whole { message, .. } = record {
-            take(message, &mut set, &mut [0; REPLY_ROOM]);
+            judge_and_commit(message, &mut set, &mut [0; REPLY_ROOM]);
         }
     }
     let mut out = Vec::new();

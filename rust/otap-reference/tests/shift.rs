@@ -1,9 +1,9 @@
 //! The stored test of the program `shift`: its input is what the binary `shift` writes, and its output what the reference shows of it.
 
 use otap_reference::records::{Record, Records};
+use otap_reference::reference::commit::{judge_and_commit, Answer, REPLY_ROOM};
 use otap_reference::reference::screen::{row_part, Row, Shown, SCRATCH_ROOM};
 use otap_reference::reference::tables::{Set, MOST_CHANNELS, MOST_LINES};
-use otap_reference::reference::take::{take, Answer, REPLY_ROOM};
 use std::fs::read;
 use std::process::Command;
 
@@ -97,7 +97,7 @@ fn shift_prints(input: &[u8]) -> String {
             panic!("the stored shift has whole records")
         };
         let mut reply = [0; REPLY_ROOM];
-        let answer = take(message, &mut set, &mut reply);
+        let answer = judge_and_commit(message, &mut set, &mut reply);
         let told = message_lines(&answer, message[6] & 7 == 5, &reply);
         out.push_str(&format!("\nMessage {}: {told}{}{}", place + 1, rows(&set), room(&set)));
     }

@@ -74,7 +74,7 @@ impl fmt::Display for Refusal {
 
 impl core::error::Error for Refusal {}
 
-/// What a message came to.
+/// What a message came to, or, where it was only judged, what it would come to.
 #[derive(Clone, Copy, Debug, PartialEq, Eq)]
 pub enum Outcome {
     /// 0: the request was taken, or the query matches the hash kept.
@@ -120,16 +120,18 @@ impl Outcome {
     }
 }
 
-/// The answer to a message. Only a request that came to [`Outcome::Taken`] changed the store.
+/// The answer to a message. [`Store::judge`](crate::Store::judge) gives the one that committing would give, and the same reply.
+///
+/// Only a request that was committed, and came to [`Outcome::Taken`], changed the store.
 #[derive(Clone, Copy, Debug, PartialEq, Eq)]
 pub struct Answer<'r> {
     /// What the message came to.
     pub outcome: Outcome,
     /// The first setting at fault, counted from 1; 0 where none is named.
     pub failed_id: u8,
-    /// Whether the reply is to be sent.
+    /// Whether the reply is to be sent, once the message is committed.
     pub send: bool,
-    /// Whether the set is to be started again.
+    /// Whether the set is to be started again, once the message is committed.
     pub reboot: bool,
     /// The reply, at the start of the buffer lent; empty where nothing was touched.
     pub reply: &'r [u8],

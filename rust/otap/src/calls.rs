@@ -6,7 +6,15 @@
 
 unsafe extern "C" {
     fn otap_start(store: *mut u8, store_length: u64) -> u32;
-    fn otap_take(
+    fn otap_judge(
+        message: *const u8,
+        message_length: u64,
+        store: *const u8,
+        store_length: u64,
+        reply: *mut u8,
+        reply_length: u64,
+    ) -> u64;
+    fn otap_commit(
         message: *const u8,
         message_length: u64,
         store: *mut u8,
@@ -58,10 +66,16 @@ pub fn start(store: &mut [u8]) -> u32 {
     unsafe { otap_start(store.as_mut_ptr(), length(store)) }
 }
 
-pub fn take(message: &[u8], store: &mut [u8], reply: &mut [u8]) -> u64 {
+pub fn judge(message: &[u8], store: &[u8], reply: &mut [u8]) -> u64 {
+    let (m, s, r) = (message.as_ptr(), store.as_ptr(), reply.as_mut_ptr());
+    // SAFETY: the slices are live for the call, and the store and the message, only read, do not overlap the reply.
+    unsafe { otap_judge(m, length(message), s, length(store), r, length(reply)) }
+}
+
+pub fn commit(message: &[u8], store: &mut [u8], reply: &mut [u8]) -> u64 {
     let (m, s, r) = (message.as_ptr(), store.as_mut_ptr(), reply.as_mut_ptr());
     // SAFETY: the slices are live for the call, and no borrow overlaps one that may be written.
-    unsafe { otap_take(m, length(message), s, length(store), r, length(reply)) }
+    unsafe { otap_commit(m, length(message), s, length(store), r, length(reply)) }
 }
 
 pub fn export(part: u32, store: &[u8], buffer: &mut [u8]) -> u64 {

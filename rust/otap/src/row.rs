@@ -19,7 +19,7 @@ pub const CONTACT_ROWS: u32 = 64;
 /// // Adds three group contacts, each by a setting C8: a response group A, a background group B, a member group C.
 /// let message = *b"\x02\x02\0\x25\x08\x04\x08\x03\
 ///     \xC8\0\x0A\x60\0\x01\x10\0\x01A\0\xC8\0\x0A\x50\0\x01\x10\0\x02B\0\xC8\0\x0A\x70\0\x01\x10\0\x03C\0";
-/// assert_eq!(store.take(&message, &mut [0; REPLY_ROOM]).outcome, Outcome::Taken);
+/// assert_eq!(store.commit(&message, &mut [0; REPLY_ROOM]).outcome, Outcome::Taken);
 /// let mut drawn = [None; CONTACT_ROWS as usize];
 /// for (row, place) in (0..).zip(&mut drawn) {
 ///     match store.row(Table::GroupContacts, row, &mut scratch) {

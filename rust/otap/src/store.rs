@@ -44,7 +44,7 @@ pub enum Part {
 }
 
 impl Part {
-    /// Each of them; taken in this order they give any other set the same tables.
+    /// Each of them; committed in this order they give any other set the same tables.
     pub const ALL: &'static [Part] = &[
         Part::Lines,
         Part::KeyHomeSystem,
@@ -127,7 +127,59 @@ impl<'s> Store<'s> {
         self.bytes
     }
 
-    /// Takes one message, whole or not at all, and writes the reply to the start of the buffer.
+    /// Judges one message: the answer that [`Store::commit`] would give, with the reply that it would write; the store stays.
+    ///
+    /// A request that comes during a call is judged then, so that the user knows whether it will be taken and
+    /// whether the set will start again, and committed after the call. The reply is not sent before that:
+    /// with result 0 it says that the set has the settings. It carries the request's own hash already.
+    ///
+    /// ```
+    /// # fn main() -> Result<(), otap::Refusal> {
+    /// use otap::{Outcome, Store, REPLY_ROOM, STORE_SIZE};
+    /// let mut bytes = [0; STORE_SIZE];
+    /// let mut store = Store::start(&mut bytes)?;
+    /// // Home numbers NZI 15, NP 806; then a last item: start again, reply, hash 12 34 56 78.
+    /// let message = *b"\x02\x02\0\x12\x08\x07\x08\x02\xCD\0\x05\x07\xE4\xC0\xFF\0\x07\xC1\x12\x34\x56\x78";
+    /// // The call goes on: the user is told, and nothing changes.
+    /// let mut forecast = [0; REPLY_ROOM];
+    /// let judged = store.judge(&message, &mut forecast);
+    /// assert_eq!((judged.outcome, judged.reboot), (Outcome::Taken, true));
+    /// // The call has ended, and the store is the same: what was judged good is taken, with that reply.
+    /// let mut reply = [0; REPLY_ROOM];
+    /// let answer = store.commit(&message, &mut reply);
+    /// assert_eq!(answer, judged);
+    /// assert_eq!(answer.reply[9..], [1, 0x12, 0x34, 0x56, 0x78]);
+    /// # Ok(())
+    /// # }
+    /// ```
+    ///
+    /// What was judged is promised for the same store only. Here another request came between, and took the room.
+    ///
+    /// ```
+    /// # fn main() -> Result<(), otap::Refusal> {
+    /// # use otap::{Outcome, Store, REPLY_ROOM, STORE_SIZE};
+    /// # let mut bytes = [0; STORE_SIZE];
+    /// # let mut reply = [0; REPLY_ROOM];
+    /// # let mut store = Store::start(&mut bytes)?;
+    /// // Adds channel 241; and replaces the channels by 64 of them, which is all that there is room for.
+    /// let one = *b"\x02\x02\0\0\x08\x07\x08\x01\xCE\0\x06\x40\x01\x0F\x1F";
+    /// let mut others = b"\x02\x02\0\0\x08\x07\x08\x01\xCE\0\x64\xC0\x40".to_vec();
+    /// others.extend(b"\x0F\x10\xF1".repeat(32));
+    /// assert_eq!(store.judge(&one, &mut reply).outcome, Outcome::Taken);
+    /// assert_eq!(store.commit(&others, &mut reply).outcome, Outcome::Taken);
+    /// let answer = store.commit(&one, &mut reply);
+    /// assert_eq!((answer.outcome, answer.number(), answer.failed_id), (Outcome::NoRoom, 2, 1));
+    /// # Ok(())
+    /// # }
+    /// ```
+    pub fn judge<'r>(&self, message: &[u8], reply: &'r mut [u8]) -> Answer<'r> {
+        let packed = calls::judge(message, self.bytes, reply);
+        Answer::unpack(packed, reply)
+    }
+
+    /// Commits one message: takes it whole or not at all, and writes the reply to the start of the buffer.
+    ///
+    /// It judges the message itself, whether that was judged before or not: the store may have changed since.
     ///
     /// A request's texts are eight-bit characters, coding type 0100, or 16-bit Unicode, 0111; the store
     /// keeps 16-bit units of both. Another coding type is a bad field, failed ID 0.
@@ -143,14 +195,14 @@ impl<'s> Store<'s> {
     /// // Replaces the scan channels by 241 and 640.
     /// let message = [2, 2, 0, 12, 8, 7, 8, 1, 0xCE, 0, 7, 0xC0, 2, 0x0F, 0x12, 0x80];
     /// let mut buffer = [0; otap::REPLY_ROOM];
-    /// let answer = store.take(&message, &mut buffer);
+    /// let answer = store.commit(&message, &mut buffer);
     /// assert_eq!((answer.outcome, answer.send, answer.reboot), (otap::Outcome::Taken, false, false));
     /// assert_eq!(answer.reply, [2, 2, 0, 6, 8, 0, 9, 0, 0, 0]);
     /// # Ok(())
     /// # }
     /// ```
-    pub fn take<'r>(&mut self, message: &[u8], reply: &'r mut [u8]) -> Answer<'r> {
-        let packed = calls::take(message, self.bytes, reply);
+    pub fn commit<'r>(&mut self, message: &[u8], reply: &'r mut [u8]) -> Answer<'r> {
+        let packed = calls::commit(message, self.bytes, reply);
         Answer::unpack(packed, reply)
     }
 
@@ -164,7 +216,7 @@ impl<'s> Store<'s> {
     /// let mut to = Store::start(&mut other)?;
     /// for part in Part::ALL {
     ///     let request = from.export(*part, &mut buffer)?;
-    ///     assert_eq!(to.take(request, &mut [0; REPLY_ROOM]).outcome, Outcome::Taken);
+    ///     assert_eq!(to.commit(request, &mut [0; REPLY_ROOM]).outcome, Outcome::Taken);
     /// }
     /// assert_eq!(from.bytes(), to.bytes());
     /// # Ok(())
@@ -184,7 +236,7 @@ impl<'s> Store<'s> {
     ///
     /// A row borrows the store. Dispatch renames a group in the middle of a shift, while an
     /// officer picks the row by its name and presses PTT: here the screen is done with the old
-    /// name before the store takes the new one, and asks again for what it then draws.
+    /// name before the new one is committed, and asks again for what it then draws.
     ///
     /// ```
     /// # use otap::{Outcome, Store, Table, REPLY_ROOM, SCRATCH_ROOM, STORE_SIZE};
@@ -194,18 +246,18 @@ impl<'s> Store<'s> {
     /// const RENAME: [u8; 22] = *b"\x02\x02\0\x12\x08\x07\x08\x01\xD1\0\x0D\x60\0\x10\0\x01\0B\02\0\0";
     /// let (mut bytes, mut reply, mut scratch) = ([0; STORE_SIZE], [0; REPLY_ROOM], [0; SCRATCH_ROOM]);
     /// let mut store = Store::start(&mut bytes)?;
-    /// assert_eq!(store.take(&NAME, &mut reply).outcome, Outcome::Taken);
+    /// assert_eq!(store.commit(&NAME, &mut reply).outcome, Outcome::Taken);
     /// let row = store.row(Table::Groups, 0, &mut scratch)?;
     /// assert_eq!(row.bytes(), b"\0A\01");
-    /// assert_eq!(store.take(&RENAME, &mut reply).outcome, Outcome::Taken);
+    /// assert_eq!(store.commit(&RENAME, &mut reply).outcome, Outcome::Taken);
     /// let row = store.row(Table::Groups, 0, &mut scratch)?;
     /// assert_eq!(row.bytes(), b"\0B\02");
     /// # Ok(())
     /// # }
     /// ```
     ///
-    /// The accident does not compile: a row that is still held while the store takes a message,
-    /// so that the screen would read bytes that are another name by then.
+    /// The accident does not compile: a row that is still held while a message is committed,
+    /// so that the screen would read bytes that are another name by then. Judging one only reads.
     ///
     /// ```compile_fail,E0502
     /// # use otap::{Outcome, Store, Table, REPLY_ROOM, SCRATCH_ROOM, STORE_SIZE};
@@ -214,9 +266,9 @@ impl<'s> Store<'s> {
     /// # const RENAME: [u8; 22] = *b"\x02\x02\0\x12\x08\x07\x08\x01\xD1\0\x0D\x60\0\x10\0\x01\0B\02\0\0";
     /// # let (mut bytes, mut reply, mut scratch) = ([0; STORE_SIZE], [0; REPLY_ROOM], [0; SCRATCH_ROOM]);
     /// # let mut store = Store::start(&mut bytes)?;
-    /// # assert_eq!(store.take(&NAME, &mut reply).outcome, Outcome::Taken);
+    /// # assert_eq!(store.commit(&NAME, &mut reply).outcome, Outcome::Taken);
     /// let row = store.row(Table::Groups, 0, &mut scratch)?;
-    /// assert_eq!(store.take(&RENAME, &mut reply).outcome, Outcome::Taken);
+    /// assert_eq!(store.commit(&RENAME, &mut reply).outcome, Outcome::Taken);
     /// assert_eq!(row.bytes(), b"\0A\01");
     /// # Ok(())
     /// # }
@@ -268,7 +320,7 @@ impl<'s> Store<'s> {
     /// assert_eq!(store.counts(), Ok(Counts { lines: 0, channels: 0 }));
     /// // Replaces the scan channels by 241 and 640.
     /// let message = [2, 2, 0, 12, 8, 7, 8, 1, 0xCE, 0, 7, 0xC0, 2, 0x0F, 0x12, 0x80];
-    /// store.take(&message, &mut [0; REPLY_ROOM]);
+    /// store.commit(&message, &mut [0; REPLY_ROOM]);
     /// let counts = store.counts()?;
     /// assert_eq!((counts.channels, counts.free_channels(), counts.free_lines()), (2, 62, 32));
     /// # Ok(())

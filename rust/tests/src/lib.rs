@@ -4,13 +4,13 @@
 pub mod pair;
 pub mod raw;
 
+use otap_reference::reference::commit::{judge_and_commit, REPLY_ROOM};
 use otap_reference::reference::message;
 use otap_reference::reference::plan::{GroupAddress, IndividualAddress};
 use otap_reference::reference::settings::{
     ContactEntry, GroupFlags, IndividualFlags, LineEntry, LineFlags, Operation, Setting, TextEntry,
 };
 use otap_reference::reference::tables::Set;
-use otap_reference::reference::take::{take, REPLY_ROOM};
 
 pub fn bytes(hex: &str) -> Vec<u8> {
     hex.split_whitespace()
@@ -34,7 +34,7 @@ pub fn number_of(message: &[u8]) -> (u8, u8) {
 }
 
 pub fn number_in(message: &[u8], set: &mut Set) -> (u8, u8) {
-    let answer = take(message, set, &mut [0; REPLY_ROOM]);
+    let answer = judge_and_commit(message, set, &mut [0; REPLY_ROOM]);
     (answer.number, answer.failed)
 }
 

@@ -3,11 +3,11 @@
 use crate::raw;
 use otap::{Part, Refusal, Row, Slice, Store, Table, STORE_SIZE};
 use otap_reference::layout;
+use otap_reference::reference::commit::{commit_from, judge_from, Answer};
 use otap_reference::reference::export::{export, Exported};
 use otap_reference::reference::menu::{self, counts};
 use otap_reference::reference::screen::{self, row_number, row_part, Shown};
 use otap_reference::reference::tables::Set;
-use otap_reference::reference::take::take_from;
 
 pub struct Pair {
     pub bytes: Vec<u8>,
@@ -21,39 +21,62 @@ impl Pair {
         Pair { bytes, set: Set::default() }
     }
 
-    pub fn take(&mut self, message: &[u8]) -> u8 {
-        self.take_into(message, otap::REPLY_ROOM)
+    pub fn judge(&mut self, message: &[u8]) -> u8 {
+        self.judge_into(message, otap::REPLY_ROOM)
+    }
+
+    pub fn commit(&mut self, message: &[u8]) -> u8 {
+        self.commit_into(message, otap::REPLY_ROOM)
     }
 
     /// Number and failed ID.
     pub fn told(&mut self, message: &[u8]) -> (u8, u8) {
-        let mut bytes = self.bytes.clone();
-        let failed = Store::lent(&mut bytes).take(message, &mut [0; otap::REPLY_ROOM]).failed_id;
-        (self.take(message), failed)
+        let (judged, _) = self.judge_over(message, &patterned(otap::REPLY_ROOM));
+        (self.commit(message), judged.failed)
     }
 
-    /// Both take the message: the same answer, reply buffer and change or stay.
-    pub fn take_into(&mut self, message: &[u8], room: usize) -> u8 {
+    /// Both judge the message: the same answer and reply, and the store stays.
+    pub fn judge_into(&mut self, message: &[u8], room: usize) -> u8 {
+        let mut expected = patterned(room);
+        let is_store = self.bytes.len() == STORE_SIZE;
+        let wanted = judge_from(message, is_store, &self.set, &mut expected);
+        let (said, reply) = self.judge_over(message, &patterned(room));
+        assert_eq!(said, wanted, "{message:02X?}");
+        assert_eq!(reply, expected[..wanted.length], "{message:02X?}");
+        said.number
+    }
+
+    /// Answer and reply of judging with a buffer that held these bytes: those behind the reply stay, and so does the store.
+    pub fn judge_over(&mut self, message: &[u8], held: &[u8]) -> (Answer, Vec<u8>) {
+        let before = self.bytes.clone();
+        let mut buffer = held.to_vec();
+        let judged = said(&Store::lent(&mut self.bytes).judge(message, &mut buffer));
+        assert!(self.bytes == before, "judging {message:02X?} changes the store");
+        let (reply, rest) = buffer.split_at(judged.length);
+        assert!(rest == &held[judged.length..], "behind the reply to {message:02X?}");
+        (judged, reply.to_vec())
+    }
+
+    /// The message is judged first, by both and over other bytes. Then both commit it: the same answer again, the same reply, and change or stay.
+    pub fn commit_into(&mut self, message: &[u8], room: usize) -> u8 {
+        self.judge_into(message, room);
+        let judged = self.judge_over(message, &inverted(room));
         let (bytes, set) = (self.bytes.clone(), self.set.clone());
         let (mut reply, mut expected) = (patterned(room), patterned(room));
-        let answer = Store::lent(&mut self.bytes).take(message, &mut reply);
+        let answer = said(&Store::lent(&mut self.bytes).commit(message, &mut reply));
+        assert_eq!((answer, &reply[..answer.length]), (judged.0, &judged.1[..]), "{message:02X?}");
         let is_store = bytes.len() == STORE_SIZE;
-        let wanted = take_from(message, is_store, &mut self.set, &mut expected);
-        let number = answer.number();
-        let said = (number, answer.failed_id, answer.send, answer.reboot, answer.reply.len());
-        let want = (wanted.number, wanted.failed, wanted.send, wanted.reboot, wanted.length);
-        assert_eq!(said, want, "{message:02X?}");
-        assert_eq!(answer.reply, &expected[..wanted.length]);
+        assert_eq!(answer, commit_from(message, is_store, &mut self.set, &mut expected));
         assert!(reply == expected, "the whole reply buffer after {message:02X?}");
         // Equal contents are equal bytes, so that one stays exactly where the other does.
         assert_eq!(self.bytes == bytes, self.set == set, "{message:02X?}");
-        assert!(number == 0 || self.bytes == bytes, "refused, so the store stays");
+        assert!(answer.number == 0 || self.bytes == bytes, "refused, so the store stays");
         assert!(
             !is_store || self.bytes == layout::bytes(&self.set),
             "the store's bytes after {message:02X?}"
         );
         self.count();
-        number
+        answer.number
     }
 
     pub fn export_into(&mut self, part: u32, room: usize) -> u8 {
@@ -133,6 +156,32 @@ impl Pair {
     }
 }
 
+/// Judges and commits by the face alone, where there is no set beside the store: the same answer and reply, and only committing changes it.
+pub fn commit_judged<'r>(
+    store: &mut Store,
+    message: &[u8],
+    reply: &'r mut [u8],
+) -> otap::Answer<'r> {
+    let before = store.bytes().to_vec();
+    let mut forecast = inverted(reply.len());
+    let judged = store.judge(message, &mut forecast);
+    assert!(store.bytes() == before, "judging {message:02X?} changes the store");
+    let answer = store.commit(message, reply);
+    assert_eq!(answer, judged, "{message:02X?}");
+    answer
+}
+
+/// What the face answered, as the reference has it.
+fn said(answer: &otap::Answer) -> Answer {
+    Answer {
+        number: answer.number(),
+        failed: answer.failed_id,
+        send: answer.send,
+        reboot: answer.reboot,
+        length: answer.reply.len(),
+    }
+}
+
 /// Number and length, by the face where it has a name for the part.
 fn exported(part: u32, bytes: &mut [u8], buffer: &mut [u8]) -> (u8, usize) {
     let Some(named) = Part::from_number(part) else {
@@ -207,4 +256,9 @@ pub fn number_of<T>(answer: &Result<T, Refusal>) -> u8 {
 /// Bytes that no call would write by chance.
 pub fn patterned(length: usize) -> Vec<u8> {
     (0..length).map(|place| (place * 7 % 251) as u8 ^ 0xA5).collect()
+}
+
+/// As many other bytes: each differs from that of `patterned`.
+pub fn inverted(length: usize) -> Vec<u8> {
+    patterned(length).iter().map(|byte| !byte).collect()
 }

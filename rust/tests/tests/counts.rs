@@ -1,11 +1,11 @@
 //! The generator reaches every number a message can come to, and every table's edge.
 
 use otap_reference::inputs::{Inputs, LONGEST_INPUT};
+use otap_reference::reference::commit::{judge_and_commit, REPLY_ROOM};
 use otap_reference::reference::message::{first_byte, LONGEST, REQUEST};
 use otap_reference::reference::numbers::BAD_FIELD;
 use otap_reference::reference::settings::{GroupSlot, BACKGROUND};
 use otap_reference::reference::tables::{Line, Set};
-use otap_reference::reference::take::{take, REPLY_ROOM};
 use otap_reference::reference::texts::Text;
 use std::collections::BTreeMap;
 
@@ -21,7 +21,7 @@ fn every_number_comes_often() {
         let mut inputs = Inputs::new(seed);
         let mut set = Set::default();
         for _ in 0..MESSAGES {
-            let answer = take(&inputs.message(), &mut set, &mut [0; REPLY_ROOM]);
+            let answer = judge_and_commit(&inputs.message(), &mut set, &mut [0; REPLY_ROOM]);
             *counts.entry(answer.number).or_default() += 1;
             *later_places.entry((answer.number, answer.failed.min(2))).or_insert(0) += 1;
         }
@@ -44,7 +44,7 @@ fn tables_fill_and_messages_grow_long() {
         let mut set = Set::default();
         for _ in 0..MESSAGES {
             let message = inputs.message();
-            let answer = take(&message, &mut set, &mut [0; REPLY_ROOM]);
+            let answer = judge_and_commit(&message, &mut set, &mut [0; REPLY_ROOM]);
             assert!(message.len() <= LONGEST_INPUT);
             longest += usize::from(message.len() == LONGEST && answer.number == 0);
             over += usize::from(message.len() > LONGEST);
@@ -68,7 +68,7 @@ fn contacts_and_line_slots_come_often() {
         for _ in 0..MESSAGES {
             let slots_before = set.tables.line_slots.clone();
             let before = set.tables.group_contacts.clone();
-            take(&inputs.message(), &mut set, &mut [0; REPLY_ROOM]);
+            judge_and_commit(&inputs.message(), &mut set, &mut [0; REPLY_ROOM]);
             let after = &set.tables.group_contacts;
             let moved = !after.is_empty() && before.last() == after.last();
             full[0] += usize::from(after.len() == 64);
@@ -95,7 +95,7 @@ fn numbers_of_both_idtypes_come_often() {
         let mut set = Set::default();
         for _ in 0..MESSAGES {
             let before = set.tables.lines.clone();
-            take(&inputs.message(), &mut set, &mut [0; REPLY_ROOM]);
+            judge_and_commit(&inputs.message(), &mut set, &mut [0; REPLY_ROOM]);
             let after = &set.tables.lines;
             full += usize::from(after.len() == 32 && !of_both_idtypes(after).is_empty());
             for [pstn, pabx] in of_both_idtypes(&before) {
@@ -131,7 +131,7 @@ fn every_coding_type_comes_often() {
         for _ in 0..MESSAGES {
             let message = inputs.message();
             let before = names(&set);
-            let answer = take(&message, &mut set, &mut [0; REPLY_ROOM]);
+            let answer = judge_and_commit(&message, &mut set, &mut [0; REPLY_ROOM]);
             if answer.length == 0 || message[6] != first_byte(REQUEST) {
                 continue;
             }

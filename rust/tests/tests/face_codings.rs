@@ -16,10 +16,9 @@ const WIDE: &str = "02 02 00 12 08 07 08 01 D1 00 0D 60 00 10 00 01 00 41 00 31 
 /// Outcome and failed ID of a message to a fresh store; the reference says the same.
 fn outcome(message: &[u8]) -> (Outcome, u8) {
     let mut pair = Pair::fresh();
-    let mut bytes = pair.bytes.clone();
-    pair.take(message);
     let mut reply = [0; REPLY_ROOM];
-    let answer = Store::lent(&mut bytes).take(message, &mut reply);
+    let answer = Store::lent(&mut pair.bytes).judge(message, &mut reply);
+    pair.commit(message);
     (answer.outcome, answer.failed_id)
 }
 
@@ -35,7 +34,7 @@ const NONE_READ: (Outcome, u8) = (Outcome::BadField, 0);
 /// What a row shows, and of which slice, after a message that is taken.
 fn shown(message: &[u8], table: Table, row: u32) -> (Slice, Vec<u8>) {
     let mut pair = Pair::fresh();
-    assert_eq!(pair.take(message), 0);
+    assert_eq!(pair.commit(message), 0);
     let mut scratch = [0; SCRATCH_ROOM];
     let store = Store::lent(&mut pair.bytes);
     let row = store.row(table, row, &mut scratch).expect("the row is there");
@@ -49,7 +48,7 @@ fn one_name_both_ways() {
         assert_eq!(row, (Slice::Store, bytes("00 41 00 31")));
     }
     let (mut one, mut two) = (Pair::fresh(), Pair::fresh());
-    assert_eq!((one.take(&bytes(NARROW)), two.take(&bytes(WIDE))), (0, 0));
+    assert_eq!((one.commit(&bytes(NARROW)), two.commit(&bytes(WIDE))), (0, 0));
     assert!(one.bytes == two.bytes, "the same names leave the same store");
     one.compare_exports();
     assert_eq!(one.compare_rows(), 1);
@@ -172,11 +171,11 @@ fn messages_under_the_other_coding_type() {
         let mut pair = Pair::fresh();
         for _ in 0..60 {
             let message = inputs.message();
-            let number = pair.take(&message);
+            let number = pair.commit(&message);
             if (7..=LONGEST).contains(&message.len()) {
                 let mut other = message.clone();
                 other[5] ^= 0b0011;
-                misread += usize::from(pair.take(&other) == 4 && number == 0);
+                misread += usize::from(pair.commit(&other) == 4 && number == 0);
             }
         }
         pair.compare_exports();

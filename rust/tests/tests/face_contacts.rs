@@ -12,7 +12,7 @@ const BACKGROUND: &str = "C8 00 0C 50 00 01 10 00 01 00 41 00 00";
 /// A store that took these settings in hex in one request, as the reference did; the rows and exports of both are compared.
 fn after(settings: &[&str]) -> Pair {
     let mut pair = Pair::fresh();
-    assert_eq!(pair.take(&hex_request(settings)), 0, "{settings:?}");
+    assert_eq!(pair.commit(&hex_request(settings)), 0, "{settings:?}");
     pair.compare_exports();
     pair.compare_rows();
     pair
@@ -93,16 +93,16 @@ fn a_background_group_between_two_others() {
         group_contacts(Add, 1, &[(0x10_0002, "b")]),
         group_contacts(Add, 3, &[(0x10_0003, "")]),
     ];
-    assert_eq!(pair.take(&request(&three)), 0);
+    assert_eq!(pair.commit(&request(&three)), 0);
     let rows = |pair: &mut Pair| [0, 1, 2, 3].map(|row| shown(pair, Table::GroupContacts, row));
     assert_eq!(rows(&mut pair), [stored("a"), NO_ROW, number("32820902"), NO_ROW]);
     pair.compare_exports();
     let named = group_contacts(Add, 3, &[(0x10_0002, "c")]);
-    assert_eq!(pair.take(&request(&[named])), 0);
+    assert_eq!(pair.commit(&request(&[named])), 0);
     assert_eq!(rows(&mut pair), [stored("a"), stored("c"), number("32820902"), NO_ROW]);
     let hidden = group_contacts(Add, 1, &[(0x10_0001, "a")]);
     let gone = group_contacts(Delete, 2, &[(0x10_0002, "")]);
-    assert_eq!(pair.take(&request(&[hidden, gone])), 0);
+    assert_eq!(pair.commit(&request(&[hidden, gone])), 0);
     assert_eq!(rows(&mut pair), [NO_ROW, number("32820902"), NO_ROW, NO_ROW]);
 }
 
@@ -180,7 +180,7 @@ fn flags_and_text_are_overwritten_in_their_place() {
     assert_eq!((pair.bytes[8_120], pair.bytes[8_156]), (0xFF, 0xFF));
     assert_eq!((pair.bytes[10_426], pair.bytes[10_462]), (0x0F, 0x0F));
     let again = ["C8 00 0A 60 00 01 10 00 01 00 00", "C9 00 09 40 01 10 00 01 00 00"];
-    assert_eq!(pair.take(&hex_request(&again)), 0);
+    assert_eq!(pair.commit(&hex_request(&again)), 0);
     assert_eq!(pair.bytes[8_118..8_126], bytes("00 02 80 10 00 01 00 00"));
     assert_eq!(pair.bytes[8_156..8_162], bytes("FF 10 00 02 00 62"));
     assert_eq!(pair.bytes[10_424..10_432], bytes("00 02 00 10 00 01 00 00"));
@@ -194,22 +194,22 @@ fn flags_and_text_are_overwritten_in_their_place() {
 fn a_delete_closes_the_gap_and_a_replace_empties_first() {
     for (contacts, table, first) in LISTS {
         let mut pair = Pair::fresh();
-        assert_eq!(pair.take(&request(&[contacts(Add, &numbered(0..5))])), 0);
+        assert_eq!(pair.commit(&request(&[contacts(Add, &numbered(0..5))])), 0);
         // An absent address does nothing, and a text does not count.
         let gone = [(0x10_0003, "x"), (0x20_0002, ""), (0x10_0003, "")];
-        assert_eq!(pair.take(&request(&[contacts(Delete, &gone)])), 0);
+        assert_eq!(pair.commit(&request(&[contacts(Delete, &gone)])), 0);
         assert_eq!(kept(&pair, first), [1, 2, 4, 5]);
         assert_eq!(shown(&mut pair, table, 4), NO_ROW);
-        assert_eq!(pair.take(&request(&[contacts(Add, &numbered(2..3))])), 0);
+        assert_eq!(pair.commit(&request(&[contacts(Add, &numbered(2..3))])), 0);
         assert_eq!(kept(&pair, first), [1, 2, 4, 5, 3]);
         let new = [(0x10_0009, "a"), (0x10_0003, "b"), (0x10_0009, "c")];
-        assert_eq!(pair.take(&request(&[contacts(Replace, &new)])), 0);
+        assert_eq!(pair.commit(&request(&[contacts(Replace, &new)])), 0);
         assert_eq!(kept(&pair, first), [9, 3]);
         assert_eq!(shown(&mut pair, table, 0), stored("c"));
         pair.compare_exports();
-        assert_eq!(pair.take(&request(&[contacts(Delete, &[])])), 0);
+        assert_eq!(pair.commit(&request(&[contacts(Delete, &[])])), 0);
         assert_eq!(kept(&pair, first), [9, 3]);
-        assert_eq!(pair.take(&request(&[contacts(Replace, &[])])), 0);
+        assert_eq!(pair.commit(&request(&[contacts(Replace, &[])])), 0);
         assert!(pair.bytes == Pair::fresh().bytes);
     }
 }
@@ -254,7 +254,7 @@ fn bytes_of_contacts() {
     for (contacts, _, first) in LISTS {
         let mut pair = Pair::fresh();
         let two = [(0x10_0001, "a"), (0x10_0002, "b")];
-        assert_eq!(pair.take(&request(&[contacts(Add, &two)])), 0);
+        assert_eq!(pair.commit(&request(&[contacts(Add, &two)])), 0);
         let at = |changes: &[(usize, u8)]| {
             let mut poked = pair.bytes.clone();
             changes.iter().for_each(|&(place, byte)| poked[place] = byte);
@@ -302,7 +302,7 @@ fn tables_are_independent() {
     ];
     for (place, delete) in deletes.iter().enumerate() {
         let mut pair = after(&adds);
-        assert_eq!(pair.take(&hex_request(&[delete])), 0);
+        assert_eq!(pair.commit(&hex_request(&[delete])), 0);
         let mut others = adds.to_vec();
         others.remove(place);
         assert!(pair.bytes == after(&others).bytes, "{delete}");

@@ -8,7 +8,7 @@ use otap_tests::{channels, lines, lines_add, request};
 
 /// The number of a request, and the counts after it.
 fn after(pair: &mut Pair, settings: &[Vec<u8>]) -> (u8, usize, usize) {
-    let number = pair.take(&request(settings));
+    let number = pair.commit(&request(settings));
     let counts = Store::lent(&mut pair.bytes).counts().expect("a store stays a store");
     (number, counts.lines, counts.channels)
 }
@@ -22,7 +22,7 @@ fn lines_of(operation: Operation, numbers: std::ops::Range<u8>) -> Vec<u8> {
     lines(operation, &keys.iter().map(|key| &key[..]).collect::<Vec<_>>())
 }
 
-/// `Pair::take` compares the counts with the reference's after each message.
+/// `Pair::commit` compares the counts with the reference's after each message.
 #[test]
 fn counts_of_many_stores() {
     let (mut full_lines, mut full_channels) = (0, 0);
@@ -30,7 +30,7 @@ fn counts_of_many_stores() {
         let mut inputs = Inputs::new(seed);
         let mut pair = Pair::fresh();
         for _ in 0..60 {
-            pair.take(&inputs.message());
+            pair.commit(&inputs.message());
             let counts = Store::open(&mut pair.bytes).and_then(|store| store.counts());
             let counts = counts.expect("a store stays a store");
             full_lines += usize::from(counts.free_lines() == 0);

@@ -2,7 +2,7 @@
 
 use otap::{Outcome, Part, Store, EXPORT_ROOM, REPLY_ROOM};
 use otap_reference::inputs::Inputs;
-use otap_tests::pair::Pair;
+use otap_tests::pair::{commit_judged, Pair};
 
 #[test]
 fn every_part_of_many_stores() {
@@ -10,7 +10,7 @@ fn every_part_of_many_stores() {
         let mut inputs = Inputs::new(seed);
         let mut pair = Pair::fresh();
         for _ in 0..60 {
-            pair.take(&inputs.message());
+            pair.commit(&inputs.message());
             pair.compare_exports();
         }
     }
@@ -24,13 +24,13 @@ fn the_ten_parts_give_the_same_tables() {
         let mut inputs = Inputs::new(seed);
         let mut pair = Pair::fresh();
         for _ in 0..40 {
-            pair.take(&inputs.message());
+            pair.commit(&inputs.message());
         }
         for &part in Part::ALL {
             let mut buffer = [0; EXPORT_ROOM];
             let store = Store::lent(&mut pair.bytes);
             let message = store.export(part, &mut buffer).expect("a part of a store");
-            assert_eq!(other.take(message), 0);
+            assert_eq!(other.commit(message), 0);
         }
         assert_eq!(other.set.tables, pair.set.tables);
         other.compare_exports();
@@ -46,8 +46,8 @@ fn a_fresh_store_exports_to_itself() {
     for &part in Part::ALL {
         let mut store = Store::lent(&mut pair.bytes);
         let message = store.export(part, &mut buffer).expect("a part of a store");
-        let answer = store.take(message, &mut [0; REPLY_ROOM]).outcome;
-        assert_eq!(answer, Outcome::Taken);
+        let outcome = commit_judged(&mut store, message, &mut [0; REPLY_ROOM]).outcome;
+        assert_eq!(outcome, Outcome::Taken);
     }
     assert!(pair.bytes == fresh);
 }

@@ -10,7 +10,7 @@ const EXTENSION: &str = "D3 00 09 42 03 23 45 FF 00 00";
 
 fn after(settings: &[&str]) -> Pair {
     let mut pair = Pair::fresh();
-    assert_eq!(pair.take(&hex_request(settings)), 0, "{settings:?}");
+    assert_eq!(pair.commit(&hex_request(settings)), 0, "{settings:?}");
     pair.compare_exports();
     pair.compare_rows();
     pair
@@ -41,10 +41,10 @@ fn slots_by_their_index() {
     assert_eq!(pair.bytes[7_286 + 15 * 52..][..4], [15, 0, 2, 0]);
     assert_eq!(pair.bytes[7_286 + 15 * 52 + 20..][..4], bytes("00 41 00 00"));
     // Overwritten, number and all; then emptied by a delete, whose number is not the slot's.
-    assert_eq!(pair.take(&hex_request(&["D3 00 09 40 03 1F 00 62 00 00"])), 0);
+    assert_eq!(pair.commit(&hex_request(&["D3 00 09 40 03 1F 00 62 00 00"])), 0);
     assert_eq!(shown(&mut pair, 3), Ok((Slice::Store, "b".into())));
     let empty = ["D3 00 07 80 03 0F 00 00", "D3 00 07 80 04 0F 00 00"];
-    assert_eq!(pair.take(&hex_request(&empty)), 0);
+    assert_eq!(pair.commit(&hex_request(&empty)), 0);
     assert_eq!(shown(&mut pair, 3), Err(Refusal::NoSuchRow));
     assert!(pair.bytes == after(&["D3 00 09 7C 0F 1F 00 41 00 00"]).bytes);
 }
@@ -56,7 +56,7 @@ fn slots_are_never_full() {
         (0..16).map(|index| format!("D3 00 07 40 {index:02X} 1F 00 00")).collect();
     let all: Vec<&str> = all.iter().map(String::as_str).collect();
     let mut pair = after(&all);
-    assert_eq!(pair.take(&hex_request(&all)), 0);
+    assert_eq!(pair.commit(&hex_request(&all)), 0);
     assert!((0..16).all(|row| shown(&mut pair, row) == Ok((Slice::Scratch, "1".into()))));
 }
 
@@ -154,11 +154,11 @@ fn full() -> Pair {
     let contacts: Vec<(u32, &str)> = (1..65).map(|place| (0x10_0000 + place, &text[..])).collect();
     let lists = [group_contacts(Add, 1, &contacts), individual_contacts(Add, &contacts)];
     for setting in lists {
-        assert_eq!(pair.take(&request(&[setting])), 0);
+        assert_eq!(pair.commit(&request(&[setting])), 0);
     }
     let (digits, units) = ("99 ".repeat(9), "00 79 ".repeat(16));
     let slot = |index| bytes(&format!("D3 00 30 4E {index:02X} {digits} FF {units} 00 00"));
-    assert_eq!(pair.take(&request(&(0..16).map(slot).collect::<Vec<_>>())), 0);
+    assert_eq!(pair.commit(&request(&(0..16).map(slot).collect::<Vec<_>>())), 0);
     pair
 }
 
@@ -181,7 +181,10 @@ fn full_tables_go_to_another_store() {
         let store = Store::lent(&mut bytes);
         for &part in Part::ALL {
             let mut buffer = [0; EXPORT_ROOM];
-            assert_eq!(other.take(store.export(part, &mut buffer).expect("a part of a store")), 0);
+            assert_eq!(
+                other.commit(store.export(part, &mut buffer).expect("a part of a store")),
+                0
+            );
         }
         assert!(other.bytes == from.bytes);
     }

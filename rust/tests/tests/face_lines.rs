@@ -16,7 +16,7 @@ const DELETE_TELEPHONE: &str = "02 02 00 0E 08 07 08 01 CA 00 09 80 01 23 45 FF 
 fn after(messages: &[&str]) -> Pair {
     let mut pair = Pair::fresh();
     for message in messages {
-        assert_eq!(pair.take(&bytes(message)), 0, "{message}");
+        assert_eq!(pair.commit(&bytes(message)), 0, "{message}");
     }
     pair.compare_exports();
     pair.compare_rows();
@@ -31,7 +31,7 @@ fn numbered(pabx: bool, operation: Operation, numbers: std::ops::Range<u8>) -> V
 
 /// The number of a request with these settings, and how many lines there are after it.
 fn told(pair: &mut Pair, settings: &[Vec<u8>]) -> (u8, usize) {
-    let number = pair.take(&request(settings));
+    let number = pair.commit(&request(settings));
     (number, Store::lent(&mut pair.bytes).counts().expect("a store stays a store").lines)
 }
 
@@ -142,7 +142,7 @@ fn both_are_exported_and_taken() {
         let store = Store::lent(&mut both.bytes);
         let part = store.export(Part::Lines, &mut buffer).expect("a part of a store");
         assert_eq!(part[8..16], bytes("CA 00 04 C0 00 CA 00 09"));
-        assert_eq!(other.take(part), 0);
+        assert_eq!(other.commit(part), 0);
         assert!(other.bytes == both.bytes);
     }
 }

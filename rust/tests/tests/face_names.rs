@@ -2,6 +2,7 @@
 
 use otap::{Outcome, Part, Refusal, Store, Table};
 use otap::{EXPORT_ROOM, REPLY_ROOM, SCRATCH_ROOM, STORE_SIZE};
+use otap_tests::pair::commit_judged;
 use otap_tests::raw;
 
 /// Home numbers NZI 15, NP 806.
@@ -26,7 +27,7 @@ fn outcome(message: &[u8]) -> (Outcome, u8) {
     let mut bytes = vec![0; STORE_SIZE];
     let mut store = Store::start(&mut bytes).expect("the size is right");
     let mut reply = [0; REPLY_ROOM];
-    let answer = store.take(message, &mut reply);
+    let answer = commit_judged(&mut store, message, &mut reply);
     assert_eq!(answer.number(), answer.outcome.number());
     (answer.outcome, answer.number())
 }
@@ -49,9 +50,9 @@ fn outcomes_without_a_reply() {
     assert_eq!(outcome(&changed(6, 9)), refused(Refusal::WrongMessageType, 14));
     let mut bytes = vec![0; STORE_SIZE];
     let mut store = Store::lent(&mut bytes);
-    let short = store.take(&HOME, &mut [0; REPLY_ROOM - 1]).outcome;
+    let short = commit_judged(&mut store, &HOME, &mut [0; REPLY_ROOM - 1]).outcome;
     assert_eq!((short, short.number()), refused(Refusal::ReplyShort, 10));
-    let zeros = store.take(&HOME, &mut [0; REPLY_ROOM]).outcome;
+    let zeros = commit_judged(&mut store, &HOME, &mut [0; REPLY_ROOM]).outcome;
     assert_eq!((zeros, zeros.number()), refused(Refusal::NotAStore, 11));
 }
 
@@ -107,7 +108,8 @@ fn tables_and_parts() {
         &[0xD3, 0, 10, 0x40, 0, 0x12, 0x3F, 0, b'l', 0, 0],
     ];
     let message = [&[2, 2, 0, 0, 8, 7, 8, 8], &settings.concat()[..]].concat();
-    assert_eq!(store.take(&message, &mut [0; REPLY_ROOM]).outcome, Outcome::Taken);
+    let outcome = commit_judged(&mut store, &message, &mut [0; REPLY_ROOM]).outcome;
+    assert_eq!(outcome, Outcome::Taken);
     let rows = [
         (Table::Lines, 0, b'L'),
         (Table::QuickTexts, 0, b'Q'),

@@ -11,7 +11,7 @@ fn every_row_of_many_stores() {
         let mut inputs = Inputs::new(seed);
         let mut pair = Pair::fresh();
         for place in 0..60 {
-            pair.take(&inputs.message());
+            pair.commit(&inputs.message());
             if place % 6 == 5 {
                 shown += pair.compare_rows();
             }
@@ -45,7 +45,7 @@ fn numbers_of_rows_without_a_text() {
         "C9 00 0E 40 02 FF 7D C8 00 00 FF 7D C9 00 00",
         "D3 00 10 42 0F 87 65 43 21 09 87 65 43 21 FF 00 00",
     ]);
-    assert_eq!(pair.take(&message), 0);
+    assert_eq!(pair.commit(&message), 0);
     assert_eq!(pair.compare_rows(), 10);
     let mut scratch = [0; SCRATCH_ROOM];
     let store = Store::lent(&mut pair.bytes);

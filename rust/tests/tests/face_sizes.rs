@@ -22,7 +22,8 @@ const SIZES: [usize; 9] = [
 
 fn call(pair: &mut Pair, call: &Call) -> u8 {
     match call {
-        Call::Take { message, room } => pair.take_into(message, *room),
+        Call::Judge { message, room } => pair.judge_into(message, *room),
+        Call::Commit { message, room } => pair.commit_into(message, *room),
         Call::Export { part, room } => pair.export_into(*part, *room),
         Call::Row { table, row, room } => pair.show_into(*table, *row, *room),
         Call::Counts => pair.count(),
@@ -75,7 +76,7 @@ fn a_store_of_another_size_is_none() {
     for size in SIZES {
         let mut pair = Pair::fresh();
         pair.bytes.resize(size, 0);
-        assert_eq!(pair.take(&otap_tests::hex_request(&["CD 00 05 07 E4 C0"])), 11);
+        assert_eq!(pair.commit(&otap_tests::hex_request(&["CD 00 05 07 E4 C0"])), 11);
         assert_eq!(pair.export_into(1, EXPORT_ROOM), 11);
         assert_eq!(pair.show_into(1, 0, SCRATCH_ROOM), 11);
         assert_eq!(pair.count(), 11);
@@ -91,7 +92,7 @@ fn short_buffers_come_first() {
             let mut pair = Pair::fresh();
             pair.bytes.resize(size, 0);
             for room in 0..REPLY_ROOM {
-                assert_eq!(pair.take_into(message, room), 10);
+                assert_eq!(pair.commit_into(message, room), 10);
             }
             for room in (0..EXPORT_ROOM).step_by(97).chain([EXPORT_ROOM - 1]) {
                 assert_eq!(pair.export_into(u32::MAX, room), 15);

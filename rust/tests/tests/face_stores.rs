@@ -7,13 +7,14 @@ use otap_reference::inputs::Inputs;
 use otap_reference::layout;
 use otap_reference::reference::message::{query, request, Hash};
 use otap_reference::reference::settings::{LastItem, Setting};
-use otap_tests::pair::{number_of, patterned, Pair};
+use otap_tests::pair::{commit_judged, number_of, patterned, Pair};
 
 /// The numbers of every kind of call on these bytes, which must agree on whether they are a store.
 fn is_store(bytes: &mut [u8]) -> bool {
     let before = bytes.to_vec();
     let mut store = Store::lent(bytes);
-    let taken = store.take(&query(&Hash::Nothing), &mut [0; REPLY_ROOM]).number();
+    let asked = query(&Hash::Nothing);
+    let taken = commit_judged(&mut store, &asked, &mut [0; REPLY_ROOM]).number();
     let export = |part: &Part| number_of(&store.export(*part, &mut [0; EXPORT_ROOM]));
     let exports: Vec<u8> = Part::ALL.iter().map(export).collect();
     let shown = number_of(&store.row(Table::Lines, 40, &mut [0; SCRATCH_ROOM]));
@@ -29,9 +30,9 @@ fn is_store(bytes: &mut [u8]) -> bool {
 }
 
 /// The hash kept, as the reply to a query without one carries it.
-fn kept_hash(store: &mut Store) -> Hash {
+fn kept_hash(store: &Store) -> Hash {
     let mut buffer = [0; REPLY_ROOM];
-    let answer = store.take(&query(&Hash::Nothing), &mut buffer);
+    let answer = store.judge(&query(&Hash::Nothing), &mut buffer);
     let value = &answer.reply[10..];
     match answer.reply[9] {
         0 => Hash::Nothing,
@@ -40,19 +41,21 @@ fn kept_hash(store: &mut Store) -> Hash {
     }
 }
 
-/// The only bytes with the same contents: a fresh store that takes the exported parts and keeps the same hash.
+/// The only bytes with the same contents: a fresh store to which the exported parts and the same hash are committed.
 fn made_again(bytes: &mut [u8]) -> Vec<u8> {
-    let mut store = Store::lent(bytes);
+    let store = Store::lent(bytes);
     let mut again = patterned(STORE_SIZE);
     let mut other = Store::start(&mut again).expect("the size is right");
     for &part in Part::ALL {
         let mut buffer = [0; EXPORT_ROOM];
         let message = store.export(part, &mut buffer).expect("a part of a store");
-        assert_eq!(other.take(message, &mut [0; REPLY_ROOM]).outcome, Outcome::Taken);
+        let outcome = commit_judged(&mut other, message, &mut [0; REPLY_ROOM]).outcome;
+        assert_eq!(outcome, Outcome::Taken);
     }
-    let last = LastItem { reboot: false, reply: false, hash: kept_hash(&mut store) };
+    let last = LastItem { reboot: false, reply: false, hash: kept_hash(&store) };
     let message = request(&[Setting::Last(last).write()]);
-    assert_eq!(other.take(&message, &mut [0; REPLY_ROOM]).outcome, Outcome::Taken);
+    let outcome = commit_judged(&mut other, &message, &mut [0; REPLY_ROOM]).outcome;
+    assert_eq!(outcome, Outcome::Taken);
     again
 }
 
@@ -60,7 +63,7 @@ fn grown(seed: u64, messages: usize) -> Pair {
     let mut inputs = Inputs::new(seed);
     let mut pair = Pair::fresh();
     for _ in 0..messages {
-        pair.take(&inputs.message());
+        pair.commit(&inputs.message());
     }
     pair
 }

@@ -2,6 +2,7 @@
 
 use otap_reference::inputs::random::Random;
 use otap_reference::inputs::Inputs;
+use otap_reference::reference::commit::{commit, judge, judge_and_commit, REPLY_ROOM};
 use otap_reference::reference::export::{export, part_bytes, Exported, EXPORT_ROOM, PARTS};
 use otap_reference::reference::message::{request_as, LONGEST};
 use otap_reference::reference::numbers::*;
@@ -9,7 +10,6 @@ use otap_reference::reference::plan::*;
 use otap_reference::reference::screen::{row_number, row_part, Row, Shown, SCRATCH_ROOM};
 use otap_reference::reference::settings::{parse, Operation, Setting};
 use otap_reference::reference::tables::Set;
-use otap_reference::reference::take::{take, REPLY_ROOM};
 use otap_reference::reference::texts::Coding;
 use otap_tests::{number_in, request, taken, units};
 use std::collections::HashSet;
@@ -77,13 +77,13 @@ fn for_each_state(seeds: u64, messages: usize, mut check: impl FnMut(&Set)) {
         let mut inputs = Inputs::new(seed);
         let mut set = Set::default();
         for _ in 0..messages {
-            take(&inputs.message(), &mut set, &mut [0; REPLY_ROOM]);
+            judge_and_commit(&inputs.message(), &mut set, &mut [0; REPLY_ROOM]);
             check(&set);
         }
     }
 }
 
-fn take_exports(from: &Set, into: &mut Set) {
+fn commit_exports(from: &Set, into: &mut Set) {
     for part in 1..=PARTS {
         let message = part_bytes(part, from).unwrap();
         assert!(message.len() <= LONGEST);
@@ -95,10 +95,10 @@ fn take_exports(from: &Set, into: &mut Set) {
 fn the_ten_exports_give_the_same_tables() {
     let mut other = Set::default();
     for_each_state(30, 100, |set| {
-        take_exports(set, &mut other);
+        commit_exports(set, &mut other);
         assert_eq!(other.tables, set.tables);
         let mut fresh = Set::default();
-        take_exports(set, &mut fresh);
+        commit_exports(set, &mut fresh);
         assert_eq!(fresh.tables, set.tables);
     });
 }
@@ -117,7 +117,7 @@ fn a_full_set_is_exported_whole() {
     let part = part_bytes(3, &set).unwrap();
     assert_eq!((part.len(), part[7]), (8 + 4 + 63 * 49 + 4 + 49, 2));
     let mut other = Set::default();
-    take_exports(&set, &mut other);
+    commit_exports(&set, &mut other);
     assert_eq!(other.tables, set.tables);
 }
 
@@ -278,12 +278,34 @@ fn only_a_taken_request_changes_the_set() {
             let message = inputs.message();
             let fill = random.bits(8) as u8;
             let mut reply = [fill; 30];
-            let answer = take(&message, &mut set, &mut reply);
+            let answer = commit(&message, &mut set, &mut reply);
             if answer.number != TAKEN {
                 assert_eq!(set, before);
             }
             assert!(reply[answer.length..].iter().all(|&byte| byte == fill));
             assert_eq!(answer.length > 0, answer.number <= NO_MATCH);
+        }
+    }
+}
+
+/// A message that was judged is committed with the same answer and reply, whatever both reply buffers hold and however long they are, from 20 bytes on.
+#[test]
+fn any_reply_buffer() {
+    let mut random = Random::new(6);
+    for seed in 100..120 {
+        let mut inputs = Inputs::new(seed);
+        let mut set = Set::default();
+        for _ in 0..100 {
+            let message = inputs.message();
+            let mut buffer = || [random.bytes_up_to(30), vec![0xEE; REPLY_ROOM]].concat();
+            let (mut forecast, mut reply) = (buffer(), buffer());
+            let held = [forecast.clone(), reply.clone()];
+            let judged = judge(&message, &set, &mut forecast);
+            assert_eq!(commit(&message, &mut set, &mut reply), judged, "{message:02X?}");
+            assert_eq!(forecast[..judged.length], reply[..judged.length], "{message:02X?}");
+            for (held, buffer) in held.iter().zip([&forecast, &reply]) {
+                assert_eq!(buffer[judged.length..], held[judged.length..], "{message:02X?}");
+            }
         }
     }
 }

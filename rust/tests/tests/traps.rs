@@ -1,10 +1,12 @@
 //! Document 01's traps and the readings, each as the smallest message that falls into it.
 
+use otap_reference::reference::commit::{
+    commit_from, judge_and_commit, judge_from, Answer, REPLY_ROOM,
+};
 use otap_reference::reference::message::{query, Hash, LONGEST};
 use otap_reference::reference::numbers::*;
 use otap_reference::reference::settings::Operation::{Add, Delete, Replace};
 use otap_reference::reference::tables::Set;
-use otap_reference::reference::take::{take, take_from, Answer, REPLY_ROOM};
 use otap_tests::*;
 
 const HOME: &str = "CD 00 05 00 00 00";
@@ -74,8 +76,10 @@ fn the_order_of_refusals() {
     let mut set = Set::default();
     let good = hex_request(&[HOME]);
     let nothing = |number| Answer { number, ..Answer::default() };
-    assert_eq!(take_from(&[], false, &mut set, &mut [0; REPLY_ROOM - 1]), nothing(REPLY_SHORT));
-    assert_eq!(take_from(&[], false, &mut set, &mut [0; REPLY_ROOM]), nothing(NOT_A_STORE));
+    for (room, number) in [(REPLY_ROOM - 1, REPLY_SHORT), (REPLY_ROOM, NOT_A_STORE)] {
+        assert_eq!(judge_from(&[], false, &set, &mut vec![0; room]), nothing(number));
+        assert_eq!(commit_from(&[], false, &mut set, &mut vec![0; room]), nothing(number));
+    }
     for (length, number) in [(6, MESSAGE_LENGTH), (7, WRONG_CARRIER)] {
         assert_eq!(number_of(&good[..length]), (number, 0));
     }
@@ -94,7 +98,7 @@ fn refusals_without_reply_write_nothing() {
     let mut reply = [0xEE; REPLY_ROOM];
     let mut set = Set::default();
     for message in ["02 02", "02 02 00 00 09 07 08", "02 02 00 00 08 07 0A"] {
-        let answer = take(&bytes(message), &mut set, &mut reply);
+        let answer = judge_and_commit(&bytes(message), &mut set, &mut reply);
         assert_eq!((answer.length, answer.send), (0, false));
         assert_eq!(reply, [0xEE; REPLY_ROOM]);
     }
@@ -260,14 +264,14 @@ fn replies_carry_the_hash_kept() {
     let mut set = Set::default();
     let mut reply = [0; REPLY_ROOM];
     let last = hex_request(&["FF 00 0D C2 01 02 03 04 05 06 07 08 09 0A"]);
-    let answer = take(&last, &mut set, &mut reply);
+    let answer = judge_and_commit(&last, &mut set, &mut reply);
     assert_eq!(answer, Answer { number: 0, failed: 0, send: true, reboot: true, length: 20 });
     let hash = "02 01 02 03 04 05 06 07 08 09 0A";
     assert_eq!(reply, bytes(&format!("02 02 00 10 08 00 09 00 00 {hash}"))[..]);
-    let answer = take(&query(&Hash::Crc([0; 4])), &mut set, &mut reply);
+    let answer = judge_and_commit(&query(&Hash::Crc([0; 4])), &mut set, &mut reply);
     assert_eq!(answer, Answer { number: 5, failed: 0, send: true, reboot: false, length: 20 });
     assert_eq!(reply, bytes(&format!("02 02 00 10 08 00 09 05 00 {hash}"))[..]);
-    let answer = take(&hex_request(&["D4"]), &mut set, &mut reply);
+    let answer = judge_and_commit(&hex_request(&["D4"]), &mut set, &mut reply);
     assert_eq!(answer, Answer { number: 3, failed: 1, send: true, reboot: false, length: 10 });
     assert_eq!(reply[..10], bytes("02 02 00 06 08 00 09 03 01 00"));
 }

@@ -1,11 +1,11 @@
 //! Document 01's worked examples 1 to 12, document 02's with both lines, and the input of the program `take`.
 
 use otap_reference::records::{Record, Records};
+use otap_reference::reference::commit::{judge_and_commit, Answer};
 use otap_reference::reference::numbers::*;
 use otap_reference::reference::plan::*;
 use otap_reference::reference::settings::{parse, Fault, HomeNumbers, Setting};
 use otap_reference::reference::tables::{Line, Set};
-use otap_reference::reference::take::{take, Answer};
 use otap_reference::reference::texts::Coding;
 use otap_tests::{bytes, lines_add, number_of, request, taken};
 
@@ -69,7 +69,7 @@ fn example_10_replaces_the_channels() {
     let mut set = Set::default();
     let mut reply = [0xEE; 24];
     let message = bytes("02 02 00 0C 08 07 08 01 CE 00 07 C0 02 0F 12 80");
-    let answer = take(&message, &mut set, &mut reply);
+    let answer = judge_and_commit(&message, &mut set, &mut reply);
     assert_eq!(answer, Answer { number: 0, failed: 0, send: false, reboot: false, length: 10 });
     assert_eq!(set.tables.channels, [241, 640]);
     assert_eq!(reply[..10], bytes("02 02 00 06 08 00 09 00 00 00"));

@@ -2,9 +2,9 @@
 
 use super::random::Random;
 use super::Inputs;
+use crate::reference::commit::REPLY_ROOM;
 use crate::reference::export::{EXPORT_ROOM, PARTS};
 use crate::reference::screen::SCRATCH_ROOM;
-use crate::reference::take::REPLY_ROOM;
 
 /// For each table of the screen, the first row to ask for and how many.
 const ROWS: [(u32, usize); 8] =
@@ -13,7 +13,8 @@ const ROWS: [(u32, usize); 8] =
 /// A call and the room of the buffer that it writes to, if there is one.
 #[derive(Clone, Debug, PartialEq, Eq)]
 pub enum Call {
-    Take { message: Vec<u8>, room: usize },
+    Judge { message: Vec<u8>, room: usize },
+    Commit { message: Vec<u8>, room: usize },
     Export { part: u32, room: usize },
     Row { table: u32, row: u32, room: usize },
     Counts,
@@ -22,16 +23,19 @@ pub enum Call {
 pub struct Calls {
     random: Random,
     inputs: Inputs,
+    /// The message that was judged last, until it is committed.
+    waiting: Option<Vec<u8>>,
 }
 
 impl Calls {
     pub fn new(seed: u64) -> Self {
-        Calls { random: Random::new(!seed), inputs: Inputs::new(seed) }
+        Calls { random: Random::new(!seed), inputs: Inputs::new(seed), waiting: None }
     }
 
     pub fn call(&mut self) -> Call {
         match self.random.below(16) {
-            0..=4 => Call::Take { message: self.inputs.message(), room: self.room(REPLY_ROOM) },
+            0..=1 => Call::Judge { message: self.judged(), room: self.room(REPLY_ROOM) },
+            2..=4 => Call::Commit { message: self.committed(), room: self.room(REPLY_ROOM) },
             5..=9 => Call::Export { part: self.part(), room: self.room(EXPORT_ROOM) },
             10..=14 => {
                 let (table, row) = self.row();
@@ -39,6 +43,18 @@ impl Calls {
             }
             _ => Call::Counts,
         }
+    }
+
+    fn judged(&mut self) -> Vec<u8> {
+        let message = self.inputs.message();
+        self.waiting = Some(message.clone());
+        message
+    }
+
+    /// The message that waits, or first another one.
+    fn committed(&mut self) -> Vec<u8> {
+        let waited = if self.random.percent(50) { self.waiting.take() } else { None };
+        waited.unwrap_or_else(|| self.inputs.message())
     }
 
     /// The right size of a store, or now and then another.

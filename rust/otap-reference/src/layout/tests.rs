@@ -7,9 +7,9 @@ use crate::inputs::pokes::{
 };
 use crate::inputs::random::Random;
 use crate::inputs::Inputs;
+use crate::reference::commit::{judge_and_commit, REPLY_ROOM};
 use crate::reference::plan::{GroupAddress, IndividualAddress};
 use crate::reference::settings::{GroupFlags, IndividualFlags, LineFlags};
-use crate::reference::take::{take, REPLY_ROOM};
 
 /// A set with so many group contacts, individual contacts, channels and lines; no two of a list have one key.
 fn held([groups, individuals, channels, lines]: [u16; 4]) -> Set {
@@ -225,7 +225,7 @@ fn poked_stores() {
         let mut inputs = Inputs::new(seed);
         let mut set = Set::default();
         for _ in 0..15 {
-            take(&inputs.message(), &mut set, &mut [0; REPLY_ROOM]);
+            judge_and_commit(&inputs.message(), &mut set, &mut [0; REPLY_ROOM]);
             let bytes = bytes(&set);
             assert!(is_store(&bytes), "seed {seed}");
             let mut poked = bytes.clone();

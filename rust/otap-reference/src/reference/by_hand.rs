@@ -1,9 +1,9 @@
 //! What the cases worked by hand share.
 
+use super::commit::{commit, judge, REPLY_ROOM};
 use super::message::request;
 use super::screen::{row_part, Row, Shown, SCRATCH_ROOM};
 use super::tables::Set;
-use super::take::{take, REPLY_ROOM};
 
 pub fn bytes(hex: &str) -> Vec<u8> {
     hex.split_whitespace()
@@ -11,9 +11,12 @@ pub fn bytes(hex: &str) -> Vec<u8> {
         .collect()
 }
 
-/// Number and failed ID of a message.
+/// Number and failed ID of a message, judged and then committed: both say the same, and write the same reply.
 pub fn number(set: &mut Set, message: &[u8]) -> (u8, u8) {
-    let answer = take(message, set, &mut [0; REPLY_ROOM]);
+    let (mut forecast, mut reply) = ([0; REPLY_ROOM], [0; REPLY_ROOM]);
+    let judged = judge(message, set, &mut forecast);
+    let answer = commit(message, set, &mut reply);
+    assert_eq!((judged, forecast), (answer, reply), "{message:02X?}");
     (answer.number, answer.failed)
 }
 

@@ -36,9 +36,9 @@ impl Set {
 #[cfg(test)]
 mod tests {
     use super::*;
+    use crate::reference::by_hand::number;
     use crate::reference::message::request;
     use crate::reference::settings::{LineEntry, LineFlags, Operation, Setting};
-    use crate::reference::take::{take, REPLY_ROOM};
 
     fn lines(operation: Operation, numbers: std::ops::Range<u8>) -> Setting {
         let entry = |number| LineEntry { digits: vec![number / 10, number % 10], text: Vec::new() };
@@ -52,9 +52,9 @@ mod tests {
 
     /// The number of a request with one setting, and the counts after it.
     fn after(set: &mut Set, setting: Setting) -> (u8, usize, usize) {
-        let answer = take(&request(&[setting.write()]), set, &mut [0; REPLY_ROOM]);
+        let (number, _) = number(set, &request(&[setting.write()]));
         let (lines, channels) = set.counts();
-        (answer.number, lines, channels)
+        (number, lines, channels)
     }
 
     #[test]

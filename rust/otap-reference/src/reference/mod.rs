@@ -3,6 +3,7 @@
 pub mod bits;
 #[cfg(test)]
 mod by_hand;
+pub mod commit;
 pub mod export;
 pub mod menu;
 pub mod message;
@@ -11,6 +12,5 @@ pub mod plan;
 pub mod screen;
 pub mod settings;
 pub mod tables;
-pub mod take;
 pub mod texts;
 pub mod writing;

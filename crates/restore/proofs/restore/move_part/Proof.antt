@@ -26,21 +26,21 @@ returns c =
     not-moved (a .limits) (a .part) (a .from .now) (a .to .now) (a .buffer .now) (k .last .1 .1 .0) (a .reply .now) (a .to .now) (a .reply .now) (a .work .now) (c .enum-told .given .0 .0)
     (subst (λ (r : Export). Exportable (a .limits) → Answers (exporting (a .limits) (a .part) (a .from .now) (a .buffer .now)) (record { answer = told r; buffer = k .last .1 .1 .0 })) (c .enum-told .given .1) (k .ensures .1))
 
-sub-take-for : tie.Need-sub-take-for
-sub-take-for c = search needs
+sub-commit-for : tie.Need-sub-commit-for
+sub-commit-for c = search needs
 
-part-take-for-start : tie.Need-part-take-for-start
-part-take-for-start c = search needs
+part-commit-for-start : tie.Need-part-commit-for-start
+part-commit-for-start c = search needs
 
-part-take-for-end : tie.Need-part-take-for-end
-part-take-for-end c =
+part-commit-for-end : tie.Need-part-commit-for-end
+part-commit-for-end c =
     let k = c .before .before .before .before .before .before .export-in in
     let w = c .before .before .written .given in
     let h : w .0 .0 ≤ length (k .last .1 .1 .0) = subst (λ (r : Export). told r .request-length ≤ length (k .last .1 .1 .0)) (w .1) (k .ensures .0) in
     search needs
 
-take-for-requires : tie.Need-take-for-requires
-take-for-requires c κs = search needs
+commit-for-requires : tie.Need-commit-for-requires
+commit-for-requires c κs = search needs
 
 same-length-2 : tie.Need-same-length-2
 same-length-2 c = search needs
@@ -59,7 +59,7 @@ returns-2 c =
     let a = c .before .before .before .before .before .before .before .before .before .before .before .before .before .before .before .before .before .before .before .before .before .before .before .before .args in
     let k = c .before .before .before .before .before .before .before .before .before .before .before .before .before .before .before .before .before .export-in in
     let w = c .before .before .before .before .before .before .before .before .before .before .before .before .before .written .given in
-    let z = c .before .before .before .before .before .before .take-for in
+    let z = c .before .before .before .before .before .before .commit-for in
     moved (a .limits) (a .part) (a .from .now) (a .to .now) (a .buffer .now) (k .last .1 .1 .0) (a .reply .now) _ _ (a .work .now) _ (w .0 .0) (z .result) (subst (λ (r : Export). Exportable (a .limits) → Answers (exporting (a .limits) (a .part) (a .from .now) (a .buffer .now)) (record { answer = told r; buffer = k .last .1 .1 .0 })) (w .1) (k .ensures .1)) refl (z .ensures)
 
 pub move-part-spec : {M : Type 1} → statement M
@@ -71,10 +71,10 @@ move-part-spec =
     enum-told
     same-length
     returns
-    sub-take-for
-    part-take-for-start
-    part-take-for-end
-    take-for-requires
+    sub-commit-for
+    part-commit-for-start
+    part-commit-for-end
+    commit-for-requires
     same-length-2
     same-length-3
     same-length-4

@@ -2,7 +2,8 @@
 
 use super::*;
 use crate::layout;
-use crate::reference::by_hand::{bytes, shown};
+use crate::reference::by_hand::{self, bytes, shown};
+use crate::reference::commit::{judge, REPLY_ROOM};
 use crate::reference::export::part_bytes;
 use crate::reference::message::{query, request_as, Hash};
 use crate::reference::plan::GroupAddress;
@@ -11,7 +12,6 @@ use crate::reference::settings::{
     bounds, parse, Fault, GroupSlot, LineEntry, LineFlags, Operation, Setting, TextEntry,
 };
 use crate::reference::tables::Set;
-use crate::reference::take::{take, REPLY_ROOM};
 use Operation::{Add, Delete, Replace};
 
 /// Group slot 0: address 100001 hex, name A1.
@@ -25,8 +25,8 @@ fn eight(setting: &str) -> Vec<u8> {
 /// Number, failed ID and the set after a message to a fresh one.
 fn after(message: &[u8]) -> (u8, u8, Set) {
     let mut set = Set::default();
-    let answer = take(message, &mut set, &mut [0; REPLY_ROOM]);
-    (answer.number, answer.failed, set)
+    let (number, failed) = by_hand::number(&mut set, message);
+    (number, failed, set)
 }
 
 fn number(message: &[u8]) -> (u8, u8) {
@@ -210,7 +210,7 @@ fn queries_and_replies_have_their_own() {
         assert_eq!(number(&message), (5, 0), "{coding:08b}");
     }
     let mut reply = [0xEE; REPLY_ROOM];
-    take(&bytes(A1), &mut Set::default(), &mut reply);
+    judge(&bytes(A1), &Set::default(), &mut reply);
     assert_eq!(reply[..10], bytes("02 02 00 06 08 00 09 00 00 00"));
 }
 

@@ -1,7 +1,7 @@
 use Rattle.lists.proofs.Kit.{needs, arith, inl, inr, ⊎-elim}
 use Rattle.station.proofs.TakeLaws.{queried}
-use Rattle.station.proofs.take.answer_query.Statement.{statement}
-use Rattle.station.proofs.take.answer_query.Tie as tie
+use Rattle.station.proofs.judge.answer_query.Statement.{statement}
+use Rattle.station.proofs.judge.answer_query.Tie as tie
 
 sub-same-hash : tie.Need-sub-same-hash
 sub-same-hash c = search needs

@@ -1,4 +1,4 @@
-//! Taking messages: the archive behind the face against the reference.
+//! Messages judged and committed: the archive behind the face against the reference.
 
 use otap_reference::inputs::sweep::{sweep, BASES};
 use otap_reference::inputs::Inputs;
@@ -16,7 +16,7 @@ fn sequences_of_messages() {
         let mut inputs = Inputs::new(seed);
         let mut pair = Pair::fresh();
         for place in 0..MESSAGES {
-            let number = pair.take_into(&inputs.message(), otap::REPLY_ROOM + place % 30);
+            let number = pair.commit_into(&inputs.message(), otap::REPLY_ROOM + place % 30);
             *counts.entry(number).or_default() += 1;
         }
         pair.compare_exports();
@@ -34,7 +34,7 @@ fn changes_of_one_byte() {
     for base in BASES {
         let mut pair = Pair::fresh();
         for message in sweep(base) {
-            pair.take(&message);
+            pair.commit(&message);
         }
         pair.compare_exports();
     }
@@ -53,10 +53,10 @@ fn long_messages_cut_anywhere() {
         message[2..4].fill(0);
         let mut pair = Pair::fresh();
         for length in (0..message.len()).step_by(61) {
-            pair.take(&message[..length]);
+            pair.commit(&message[..length]);
             cuts += 1;
         }
-        pair.take(&message);
+        pair.commit(&message);
         pair.compare_exports();
     }
     assert!(cuts > 500, "{cuts} cuts");
@@ -69,9 +69,9 @@ fn the_longest_message_and_one_more() {
     let mut message = otap_tests::hex_request(&["CD 00 05 07 E4 C0"]);
     message[2..4].fill(0);
     message.resize(LONGEST, 0);
-    assert_eq!(pair.take(&message), 4);
+    assert_eq!(pair.commit(&message), 4);
     message.push(0);
-    assert_eq!(pair.take(&message), 12);
+    assert_eq!(pair.commit(&message), 12);
     message.resize(100_000, 0);
-    assert_eq!(pair.take(&message), 12);
+    assert_eq!(pair.commit(&message), 12);
 }

@@ -1,8 +1,8 @@
 use Rattle.lists.proofs.Kit.{needs, arith, refl, true, false}
 use Rattle.tables.specs.Tables.{no-hash}
 use Rattle.station.proofs.TakeLaws.{no-hash-ok, replied}
-use Rattle.station.proofs.take.turn_down.Statement.{statement}
-use Rattle.station.proofs.take.turn_down.Tie as tie
+use Rattle.station.proofs.judge.turn_down.Statement.{statement}
+use Rattle.station.proofs.judge.turn_down.Tie as tie
 
 slice-aggregate-write-reply : tie.Need-slice-aggregate-write-reply
 slice-aggregate-write-reply c = search needs

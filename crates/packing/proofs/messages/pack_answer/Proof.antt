@@ -1,7 +1,7 @@
 use Rattle.lists.proofs.Kit.{needs, arith}
 use Rattle.packing.proofs.Packed.{packed-refusal, packed-reply}
-use Rattle.packing.proofs.messages.pack_take.Statement.{statement}
-use Rattle.packing.proofs.messages.pack_take.Tie as tie
+use Rattle.packing.proofs.messages.pack_answer.Statement.{statement}
+use Rattle.packing.proofs.messages.pack_answer.Tie as tie
 
 enum-known-answer : tie.Need-enum-known-answer
 enum-known-answer c = search needs
@@ -67,8 +67,8 @@ returns-2 c =
     let n = c .before .before .before .before .result-number in
     packed-reply _ (a .0 .0) (n .result) _ _ (a .1) (n .ensures) (c .before .before .bit-of .ensures .0) (c .before .bit-of2 .ensures .0) (omega arith) (c .struct-known2 .given .1 .0 .fits) (c .struct-known2 .given .1 .1 .1 .1 .0 .fits)
 
-pub pack-take-spec : {M : Type 1} → statement M
-pack-take-spec =
+pub pack-answer-spec : {M : Type 1} → statement M
+pack-answer-spec =
     tie.close
     (tie.spec
     enum-known-answer

@@ -1,10 +1,13 @@
-//! Taking one message: the order of judgement, the answer and the reply.
+//! Judging and committing one message (document 02, A6): the order of judgement, the answer and the reply.
 
 use super::message::{self, asked, open, Hash, Opened};
 use super::numbers::*;
 use super::settings::{parse, Fault, LastItem, Setting};
 use super::tables::{NoRoom, Set};
 use super::texts::Coding;
+
+#[cfg(test)]
+mod tests;
 
 pub const REPLY_ROOM: usize = 20;
 
@@ -31,18 +34,38 @@ impl Verdict {
     }
 }
 
-/// Takes a message into a set whose store has the right size.
-pub fn take(message: &[u8], set: &mut Set, reply: &mut [u8]) -> Answer {
-    take_from(message, true, set, reply)
+/// Says what committing would answer and writes the reply that it would write; the set stays.
+pub fn judge(message: &[u8], set: &Set, reply: &mut [u8]) -> Answer {
+    judge_from(message, true, set, reply)
 }
 
-/// As `take`; `is_store` says whether the other side's bytes were a store at all.
-pub fn take_from(message: &[u8], is_store: bool, set: &mut Set, reply: &mut [u8]) -> Answer {
+/// Takes a message into a set whose store has the right size. It judges anew: the set may have changed since it was judged.
+pub fn commit(message: &[u8], set: &mut Set, reply: &mut [u8]) -> Answer {
+    commit_from(message, true, set, reply)
+}
+
+/// What the programs do: judge, and commit where that comes to 0. The answer and the reply are those of the last of the two.
+pub fn judge_and_commit(message: &[u8], set: &mut Set, reply: &mut [u8]) -> Answer {
+    let judged = judge(message, set, reply);
+    if judged.number == TAKEN {
+        commit(message, set, reply)
+    } else {
+        judged
+    }
+}
+
+/// As `judge`; `is_store` says whether the other side's bytes were a store at all. Whatever committing does, it does to a copy.
+pub fn judge_from(message: &[u8], is_store: bool, set: &Set, reply: &mut [u8]) -> Answer {
+    commit_from(message, is_store, &mut set.clone(), reply)
+}
+
+/// As `commit`; `is_store` as there.
+pub fn commit_from(message: &[u8], is_store: bool, set: &mut Set, reply: &mut [u8]) -> Answer {
     let opened = match admit(message, is_store, reply.len()) {
         Ok(opened) => opened,
         Err(number) => return Answer { number, ..Answer::default() },
     };
-    let verdict = judge(&opened, set);
+    let verdict = settle(&opened, set);
     let hash = match verdict.number {
         WRONG_VERSION..=BAD_FIELD => Hash::Nothing,
         _ => set.hash.clone(),
@@ -76,7 +99,8 @@ fn admit(message: &[u8], is_store: bool, reply_room: usize) -> Result<Opened<'_>
     }
 }
 
-fn judge(opened: &Opened, set: &mut Set) -> Verdict {
+/// What a message comes to; a request that is taken changes the set.
+fn settle(opened: &Opened, set: &mut Set) -> Verdict {
     if opened.version != message::VERSION {
         return Verdict::refused(WRONG_VERSION, 0);
     }
