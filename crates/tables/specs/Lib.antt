@@ -6,6 +6,7 @@ pub mod Limits
 pub mod LineHeads
 pub mod MemberKinds
 pub mod Members
+pub mod Order
 pub mod Owns
 pub mod Store
 pub mod Tables

@@ -1,0 +1,5 @@
+// An order of slots by their keys, kept beside them; and lists with their count that keep it.
+pub mod changes;
+pub mod entries;
+pub mod keys;
+pub mod orders;
