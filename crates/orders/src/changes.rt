@@ -9,14 +9,7 @@ use counted_lists::counts::count;
 ghost use Rattle.orders.specs.OrderedLists.{OrderedPut, OrderedDrop};
 
 // Puts an entry in place of the one with its key, and the order stays; or at the end, where there is room, and it is put into the order.
-pub fn put_ordered(
-    part: &mut [u8],
-    w: usize,
-    o: usize,
-    k: usize,
-    n: usize,
-    slot: &[u8],
-) -> bool
+pub fn put_ordered(part: &mut [u8], w: usize, o: usize, k: usize, n: usize, slot: &[u8]) -> bool
     ensures { λ r. ⌜ OrderedPut w o k n (now (slot .entry)) (now (part .entry)) (now (part .exit)) r ⌝ }
 {
     if part.len() < n {

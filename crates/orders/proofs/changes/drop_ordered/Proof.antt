@@ -1,27 +1,17 @@
-use borrow.Author.Needs.{needs}
-use Prim.Native.Nat.{ℕ, zero, suc, _≤_, _<_, _-_, _+_, _*_, _/_, _%_}
-use mathlib.Core.Path.{_≡_, refl, sym, ap, _∙_}
-use mathlib.Core.Bool.{Bool, true, false, cond}
-use mathlib.Core.List.{List, [], _∷_, _++_}
-use native.Mathlib.Omega.{arith}
-use lib.ListN.{length, getD, drop, take, set, replicate}
+-- `orders::changes::drop_ordered` meets its contract. Assumes nothing.
+use Rattle.lists.proofs.Kit.{needs, arith, refl}
+use Rattle.orders.proofs.ListLaws.{undropped, ordered-kept, ordered-dropped}
 use Rattle.orders.proofs.changes.drop_ordered.Statement.{statement}
 use Rattle.orders.proofs.changes.drop_ordered.Tie as tie
-use Rattle.orders.proofs.changes.drop_ordered.Reads as reads
-use Rattle.orders.proofs.changes.drop_ordered.Lts as lts
-use Rattle.counted_lists.proofs.changes.drop_keyed.Reads as drop-keyed-reads
-use Rattle.counted_lists.proofs.counts.count.Reads as count-reads
-use Rattle.orders.proofs.orders.drop_order.Reads as drop-order-reads
-use Rattle.orders.proofs.orders.find.Reads as find-reads
 
 returns : tie.Need-returns
-returns c = ?
+returns c = let a = c .before .before .before .args in undropped (a .w) (a .o) (a .n) (a .key .now) (a .part .now) (omega arith)
 
 sub-base : tie.Need-sub-base
 sub-base c = search needs
 
 returns-2 : tie.Need-returns-2
-returns-2 c = ?
+returns-2 c = let a = c .before .before .before .before .args in undropped (a .w) (a .o) (a .n) (a .key .now) (a .part .now) (omega arith)
 
 sub-count : tie.Need-sub-count
 sub-count c = search needs
@@ -57,7 +47,11 @@ same-length : tie.Need-same-length
 same-length c = search needs
 
 returns-3 : tie.Need-returns-3
-returns-3 c = ?
+returns-3 c =
+    let a = c .before .before .before .before .before .before .before .before .before .before .before .before .args in
+    let h = c .before .before .before .before .before .count in
+    let f = c .before .before .find in
+    ordered-kept (a .w) (a .o) (a .n) (a .key .now) (a .part .now) _ (h .result) refl (h .ensures) (f .result) (f .ensures) (c .enum-told .given .1)
 
 sub-drop-keyed : tie.Need-sub-drop-keyed
 sub-drop-keyed c = search needs
@@ -87,7 +81,13 @@ same-length-2 : tie.Need-same-length-2
 same-length-2 c = search needs
 
 returns-4 : tie.Need-returns-4
-returns-4 c = ?
+returns-4 c =
+    let a = c .before .before .before .before .before .before .before .before .before .before .before .before .before .before .before .before .before .before .before .before .before .args in
+    let h = c .before .before .before .before .before .before .before .before .before .before .before .before .before .before .count in
+    let f = c .before .before .before .before .before .before .before .before .before .before .before .find in
+    let y = c .before .before .before .before .before .before .drop-keyed in
+    let d = c .before .before .drop-order in
+    ordered-dropped (a .w) (a .o) (a .n) (a .key .now) (a .part .now) _ (h .result) refl (h .ensures) (f .result) (f .ensures) _ (y .last .0) (d .last .0) (c .before .before .before .before .before .before .before .before .before .found .given .1) (y .ensures) (d .ensures)
 
 pub drop-ordered-spec : {M : Type 1} → statement M
 drop-ordered-spec =

@@ -1,26 +1,17 @@
-use borrow.Author.Needs.{needs}
-use Prim.Native.Nat.{ℕ, zero, suc, _≤_, _<_, _-_, _+_, _*_, _/_, _%_}
-use mathlib.Core.Path.{_≡_, refl, sym, ap, _∙_}
-use mathlib.Core.Bool.{Bool, true, false, cond}
-use mathlib.Core.List.{List, [], _∷_, _++_}
-use native.Mathlib.Omega.{arith}
-use lib.ListN.{length, getD, drop, take, set, replicate}
+-- `orders::changes::put_ordered` meets its contract. Assumes nothing.
+use Rattle.lists.proofs.Kit.{needs, arith, refl, not-true, not-false}
+use Rattle.orders.proofs.ListLaws.{ordered-not, ordered-full, ordered-over, ordered-behind}
 use Rattle.orders.proofs.changes.put_ordered.Statement.{statement}
 use Rattle.orders.proofs.changes.put_ordered.Tie as tie
-use Rattle.orders.proofs.changes.put_ordered.Reads as reads
-use Rattle.orders.proofs.changes.put_ordered.Lts as lts
-use Rattle.counted_lists.proofs.changes.put_keyed.Reads as put-keyed-reads
-use Rattle.counted_lists.proofs.counts.count.Reads as count-reads
-use Rattle.orders.proofs.orders.insert_order.Reads as insert-order-reads
 
 returns : tie.Need-returns
-returns c = ?
+returns c = let a = c .before .before .before .args in ordered-not (a .w) (a .o) (a .k) (a .n) (a .slot .now) (a .part .now) (omega arith)
 
 sub-base : tie.Need-sub-base
 sub-base c = search needs
 
 returns-2 : tie.Need-returns-2
-returns-2 c = ?
+returns-2 c = let a = c .before .before .before .before .args in ordered-not (a .w) (a .o) (a .k) (a .n) (a .slot .now) (a .part .now) (omega arith)
 
 sub-count : tie.Need-sub-count
 sub-count c = search needs
@@ -50,7 +41,10 @@ same-length : tie.Need-same-length
 same-length c = search needs
 
 returns-3 : tie.Need-returns-3
-returns-3 c = ?
+returns-3 c =
+    let a = c .before .before .before .before .before .before .before .before .before .before .before .before .args in
+    let y = c .before .before .before .put-keyed in
+    ordered-full (a .w) (a .o) (a .k) (a .n) (a .slot .now) (a .part .now) _ refl (y .last .0) (y .result) (y .ensures) (not-true (y .result) (c .if3 .taken))
 
 sub-count-2 : tie.Need-sub-count-2
 sub-count-2 c = search needs
@@ -80,13 +74,24 @@ same-length-2 : tie.Need-same-length-2
 same-length-2 c = search needs
 
 returns-4 : tie.Need-returns-4
-returns-4 c = ?
+returns-4 c =
+    let a = c .before .before .before .before .before .before .before .before .before .before .before .before .before .before .before .before .before .before .before .before .args in
+    let y = c .before .before .before .before .before .before .before .before .before .before .before .put-keyed in
+    let h = c .before .before .before .before .before .before .before .before .before .before .before .before .before .count in
+    let m = c .before .before .before .before .before .count2 in
+    let i = c .before .before .insert-order in
+    ordered-behind (a .w) (a .o) (a .k) (a .n) (a .slot .now) (a .part .now) _ refl (y .last .0) (y .result) (y .ensures) (not-false (y .result) (c .before .before .before .before .before .before .before .before .if3 .left)) (h .result) (m .result) (h .ensures) (m .ensures) (c .before .before .before .before .if4 .taken) (i .last .0) (i .ensures)
 
 same-length-3 : tie.Need-same-length-3
 same-length-3 c = search needs
 
 returns-5 : tie.Need-returns-5
-returns-5 c = ?
+returns-5 c =
+    let a = c .before .before .before .before .before .before .before .before .before .before .before .before .before .before .before .before .args in
+    let y = c .before .before .before .before .before .before .before .put-keyed in
+    let h = c .before .before .before .before .before .before .before .before .before .count in
+    let m = c .before .count2 in
+    ordered-over (a .w) (a .o) (a .k) (a .n) (a .slot .now) (a .part .now) _ refl (y .last .0) (y .result) (y .ensures) (not-false (y .result) (c .before .before .before .before .if3 .left)) (h .result) (m .result) (h .ensures) (m .ensures) (c .if4 .left)
 
 pub put-ordered-spec : {M : Type 1} → statement M
 put-ordered-spec =
