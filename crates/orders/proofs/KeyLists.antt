@@ -106,7 +106,7 @@ module _ {A : Type 0} (key : A → List ℕ) where
   none-has x (a ∷ es) u zero h e = u .0 e
   none-has x (a ∷ es) u (suc p) h e = none-has x es (u .1) p (le-of-suc-le-suc h) e
 
-  all-none : (x : List ℕ) (es : List A) → ((p : ℕ) → p < length es → key-in (map key es) p ≡ x → ⊥) → All (λ a. key a ≡ x → ⊥) es
+  pub all-none : (x : List ℕ) (es : List A) → ((p : ℕ) → p < length es → key-in (map key es) p ≡ x → ⊥) → All (λ a. key a ≡ x → ⊥) es
   all-none x [] h = tt
   all-none x (a ∷ es) h = (h 0 (omega arith), all-none x es (λ p l. h (suc p) (omega arith)))
 

@@ -1,5 +1,6 @@
 -- Lists with the order of their keys behind them: what is read of them, and what putting a slot in and taking one out leave. Assumes nothing.
 use Rattle.lists.proofs.Kit.{_≡_, refl, sym, ap, ap₂, _∙_, subst, _↔_, Bool, true, false, cond, true≢false, List, [], _∷_, _++_, map, append-nil, Option, none, some, Option·some-injective, Option·none-ne-some, ℕ, zero, suc, _+_, _*_, _-_, _≤_, _<_, not-suc-le-zero, le-of-suc-le-suc, arith, lt-ltb, ltb-true, ltb-false, putMid, midOf, ltb, length, take, drop, replicate, length-append, length-drop, length-take, drop-of-length-le, replicate-append-replicate, take-append-drop, take-at, drop-at, take-all}
+use Rattle.lists.proofs.Seqs.{getD-map}
 use Rattle.slots.specs.Slots.{pad, u16, same?, hit, unless, indexOf, putAt}
 use Rattle.slots.proofs.Pads.{pad-length, pad-nil}
 use Rattle.slots.proofs.Runs.{same-are, same-refl}
@@ -10,10 +11,10 @@ use Rattle.counted_lists.proofs.KeyedLists.{put-distinct, unless-distinct}
 use Rattle.counted_lists.proofs.ListLaws.{tried-room, tried-full}
 use Rattle.orders.specs.Orders.{order, key-in}
 use Rattle.orders.specs.OrderParts.{order-bytes, Shaped, InOrder, Finds, Inserted, Dropped}
-use Rattle.orders.specs.OrderedLists.{slot-key, OrderedList, OrderedPut, OrderedDrop}
+use Rattle.orders.specs.OrderedLists.{slot-key, OrderedList, OrderedPut, OrderedDrop, EntryFound}
 use Rattle.orders.specs.declared.orders.Found.{Found}
 use Rattle.orders.specs.declared.orders.Found.the-variants.{At, Nothing}
-use Rattle.orders.proofs.KeyLists.{apart-distinct, distinct-apart, unless-none, unless-one, keys-overwritten}
+use Rattle.orders.proofs.KeyLists.{all-none, apart-distinct, distinct-apart, unless-none, unless-one, keys-overwritten}
 use Rattle.orders.proofs.Joins.{row, row-long, part-shaped, part-in-order, in-order-part, part-found, part-none, part-inserted, part-dropped}
 
 -- ---- a counted list with bytes behind it
@@ -309,3 +310,20 @@ module _ (w o n : ℕ) (key s : List ℕ) (base held : ℕ) (is : base ≡ lengt
         bytes = ap (λ (z : List ℕ). putMid 2 (length z - 2) z t) b ∙ places-written w n (unless (hit o key) xs) y (behind w o (length key) n xs s g) c _ refl t ∙ ap (λ (v : List ℕ). u16 (length (unless (hit o key) xs)) ++ v) h
             ∙ ap₂ (λ (u v : List ℕ). u ++ v) (sym (c .bytes)) (ap (λ (z : List (List ℕ)). order-bytes n (order (map (slot-key o (length key)) z))) (sym one));
       }
+
+-- ---- a lookup
+
+pub unfound : (w o n : ℕ) (key s : List ℕ) → length s < n + 2 → EntryFound w o n key s Nothing
+unfound w o n key s h xs g = absurd (omega (arith, ordered-length w o (length key) n xs s g))
+
+-- what was found among the places is an entry, or none has the key
+pub entry-found : (w o n : ℕ) (key s : List ℕ) (base held : ℕ) → base ≡ length s - n → Told (midOf 0 (base - 0) s) held → (fd : Found)
+    → (Shaped w o (length key) n (midOf 2 (length s - 2) s) → InOrder w o (length key) n held (midOf 2 (length s - 2) s) → Finds w o (length key) held (midOf 2 (length s - 2) s) key fd)
+    → EntryFound w o n key s fd
+entry-found w o n key s base held is was (At p) q xs g =
+    let m : held ≡ length xs = was .says w n xs (list-counted w o (length key) n xs s g base is) in
+    let (i, j) = ordered-found w o (length key) n xs s g key held m p q in
+    (i, sym (getD-map (slot-key o (length key)) xs p [] [] i) ∙ j)
+entry-found w o n key s base held is was Nothing q xs g =
+    let m : held ≡ length xs = was .says w n xs (list-counted w o (length key) n xs s g base is) in
+    all-none (slot-key o (length key)) key xs (ordered-none w o (length key) n xs s g key held m q)

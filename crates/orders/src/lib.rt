@@ -3,3 +3,4 @@ pub mod changes;
 pub mod entries;
 pub mod keys;
 pub mod orders;
+pub mod search;
