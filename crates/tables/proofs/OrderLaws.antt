@@ -102,9 +102,9 @@ order-are-bytes n ls few ok d =
 module _ (n : ℕ) (ls : List Line) where
   -- LINES-MADE: lines with keys of their own, as the layout has them
   pub lines-made : length ls ≤ n → n ≤ 255 → All LineOk ls → Distinct line-key ls → LineList n ls (ordered n ls)
-  lines-made few small ok d = (
-    ok,
-    record {
+  lines-made few small ok d = record {
+    each = ok;
+    counted = record {
       inside = omega arith;
       small = small;
       distinct = keys-distinct ls ok d;
@@ -112,15 +112,15 @@ module _ (n : ℕ) (ls : List Line) where
       counted = entries-made LineOk line-width line-bytes n ls (counted line-width line-bytes n ls) (places line-width line-bytes (front n ls)) (omega arith) (omega arith) (line-code .long)
           (record { few = few; each = ok; bytes = refl }) refl .counted;
       bytes = ap (λ (ps : List ℕ). counted line-width line-bytes n ls ++ order-bytes n ps) (sym (sorting-kept ls ok));
-    },
-  )
+    };
+  }
 
   -- LINES-ARE: bytes that are their list are those of the layout
   pub lines-are : (s : List ℕ) → LineList n ls s → s ≡ ordered n ls
-  lines-are s (ok, g) =
-      g .bytes
-      ∙ ap₂ (λ (x ps : List ℕ). x ++ order-bytes n ps) (entries-bytes LineOk line-width line-bytes n ls (g .list) (record { each = ok; counted = g .counted })) (sorting-kept ls ok)
+  lines-are s g =
+      g .counted .bytes
+      ∙ ap₂ (λ (x ps : List ℕ). x ++ order-bytes n ps) (entries-bytes LineOk line-width line-bytes n ls (g .counted .list) (record { each = g .each; counted = g .counted .counted })) (sorting-kept ls (g .each))
 
   -- LINES-DISTINCT: and no two of the lines have one key
   pub lines-distinct : (s : List ℕ) → LineList n ls s → Distinct line-key ls
-  lines-distinct s (ok, g) = distinct-keys ls ok (g .distinct)
+  lines-distinct s g = distinct-keys ls (g .each) (g .counted .distinct)
