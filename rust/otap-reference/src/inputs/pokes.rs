@@ -3,7 +3,7 @@
 use super::random::Random;
 use crate::layout::{
     CHANNEL, CHANNELS_AT, COUNT, GROUP_CONTACTS_AT, INDIVIDUAL_CONTACTS_AT, LINE, LINES_AT,
-    LINE_SLOTS_AT, MEMBER,
+    LINE_KEY, LINE_SLOTS_AT, MEMBER, ORDER_AT, SPARE_AT,
 };
 use crate::reference::tables::{MOST_CHANNELS, MOST_CONTACTS, MOST_LINES, SLOTS};
 
@@ -61,7 +61,8 @@ pub fn poke_count(random: &mut Random, bytes: &mut [u8]) {
     region.set_count(bytes, poked);
 }
 
-/// Copies the first entry of a store's list to its end, at times with another key, or takes the last one away; half of the time its count follows.
+/// Copies the first entry of a store's list to its end, at times with another key, or takes the last one away; half of the time its count follows,
+/// and of lines mostly their order.
 pub fn poke_list(random: &mut Random, bytes: &mut [u8]) {
     let region = random.pick(&REGIONS);
     let count = usize::from(region.count(bytes));
@@ -80,6 +81,20 @@ pub fn poke_list(random: &mut Random, bytes: &mut [u8]) {
     };
     if random.percent(50) {
         region.set_count(bytes, longer as u16);
+    }
+    if region == LINES && random.percent(80) {
+        order_lines(bytes);
+    }
+}
+
+/// Gives the lines that a store counts the order of their keys.
+pub fn order_lines(bytes: &mut [u8]) {
+    let key = |&place: &usize| &bytes[LINES.slot(place)..][LINE_KEY];
+    let mut places: Vec<usize> = (0..usize::from(LINES.count(bytes)).min(MOST_LINES)).collect();
+    places.sort_by(|one, other| key(one).cmp(key(other)));
+    bytes[ORDER_AT..SPARE_AT].fill(0);
+    for (byte, place) in bytes[ORDER_AT..].iter_mut().zip(places) {
+        *byte = place as u8 + 1;
     }
 }
 
