@@ -1,4 +1,4 @@
-//! Stores with a poked count, with a list that changed beside its count, or with a poked line slot.
+//! Stores with a poked count, with a list that changed beside its count, with a poked order of lines, or with a poked line slot.
 
 use super::random::Random;
 use crate::layout::{
@@ -95,6 +95,30 @@ pub fn order_lines(bytes: &mut [u8]) {
     bytes[ORDER_AT..SPARE_AT].fill(0);
     for (byte, place) in bytes[ORDER_AT..].iter_mut().zip(places) {
         *byte = place as u8 + 1;
+    }
+}
+
+/// Gives a store's lines another order, or at times the one that they have; also bytes that are none.
+pub fn poke_order(random: &mut Random, bytes: &mut [u8]) {
+    let count = usize::from(LINES.count(bytes)).min(MOST_LINES);
+    let order = &mut bytes[ORDER_AT..SPARE_AT];
+    let (place, other) = (random.below(count.max(1)), random.below(count.max(1)));
+    let behind = count.min(MOST_LINES - 1);
+    match random.below(12) {
+        0 => order.swap(place, other),
+        1 => order.swap(place, (place + 1) % count.max(1)),
+        2 => order[place] = 0,
+        3 => order[place] = order[other],
+        // The next place, which is empty, the last one, and none.
+        4 => order[place] = random.pick(&[count + 1, MOST_LINES, MOST_LINES + 1, 255]) as u8,
+        // One too many, and other bytes behind.
+        5 => order[behind] = random.pick(&[1, count, count + 1]) as u8,
+        6 => order[random.within(behind..=MOST_LINES - 1)] = random.bits(8) as u8,
+        7 => order[..count].reverse(),
+        8 => (0..count).for_each(|place| order[place] = place as u8 + 1),
+        9 => order[..count].iter_mut().for_each(|name| *name = name.wrapping_sub(1)),
+        10 => order[place..].rotate_right(1),
+        _ => order[random.below(MOST_LINES)] ^= 1 << random.below(8),
     }
 }
 

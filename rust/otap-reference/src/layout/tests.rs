@@ -3,7 +3,7 @@
 
 use super::*;
 use crate::inputs::pokes::{
-    order_lines, poke_count, poke_line_slot, poke_list, Region, GROUP_CONTACTS,
+    order_lines, poke_count, poke_line_slot, poke_list, poke_order, Region, GROUP_CONTACTS,
     INDIVIDUAL_CONTACTS, LINES, REGIONS,
 };
 use crate::inputs::random::Random;
@@ -227,7 +227,7 @@ fn lines_differ_in_their_key() {
     assert!(changed(19, 0), "a shorter number");
 }
 
-/// What messages make is a store; with another count it is none, and with another list only where that has its count and order.
+/// What messages make is a store; with another count or order it is none, and with another list only where that has its count and order.
 #[test]
 fn poked_stores() {
     let mut random = Random::new(11);
@@ -245,6 +245,9 @@ fn poked_stores() {
             poked.copy_from_slice(&bytes);
             order_lines(&mut poked);
             assert!(poked == bytes, "seed {seed}: the order is the one that the lines have");
+            poke_order(&mut random, &mut poked);
+            assert_eq!(is_store(&poked), poked == bytes, "seed {seed}");
+            poked.copy_from_slice(&bytes);
             poke_list(&mut random, &mut poked);
             *if is_store(&poked) { &mut stores } else { &mut refused } += 1;
             poked.copy_from_slice(&bytes);

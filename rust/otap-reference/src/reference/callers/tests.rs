@@ -1,8 +1,12 @@
 //! Request A7 by hand: the order after each operation on line contacts, and who is found.
 
 use super::*;
+use crate::inputs::callers::Caller;
+use crate::inputs::Inputs;
 use crate::reference::by_hand::{number_of, scratch, shown, stored, taken};
+use crate::reference::commit::{judge_and_commit, REPLY_ROOM};
 use crate::reference::screen::Row;
+use crate::reference::tables::MOST_LINES;
 
 const PSTN: u32 = 0;
 const PABX: u32 = 1;
@@ -213,4 +217,60 @@ fn line_slots_are_not_looked_up() {
     assert_eq!(number_of(&mut set, &[FOUR[1]]), (0, 0));
     assert_eq!((row(&set, PSTN, "3"), row(&set, PABX, "2345")), (None, Some(0)));
     assert_eq!(order_of(&set), [0]);
+}
+
+/// By the words of the request: the IDtype, then the first digit that differs, and where there is none the shorter one first.
+fn before(one: &Line, other: &Line) -> bool {
+    if one.flags.pabx != other.flags.pabx {
+        return other.flags.pabx;
+    }
+    let mut digits = one.digits.iter().zip(&other.digits);
+    let differ = digits.find(|(one, other)| one != other);
+    differ.map_or(one.digits.len() < other.digits.len(), |(one, other)| one < other)
+}
+
+/// Every position once, and each line before the next.
+fn assert_ordered(lines: &[Line]) {
+    let order = order(lines);
+    let mut positions = order.clone();
+    positions.sort_unstable();
+    assert!(positions.into_iter().eq(0..lines.len()));
+    assert!(order.is_sorted_by(|&one, &next| before(&lines[one], &lines[next])));
+}
+
+/// Where the order has the key, halving it each time: what it is kept for.
+fn by_order(lines: &[Line], id_type: u32, digits: &[u8]) -> Option<u32> {
+    let order = order(lines);
+    let key = (id_type == PABX, digits);
+    let place = order.binary_search_by(|&position| lines[position].key().cmp(&key)).ok()?;
+    (id_type <= PABX).then_some(order[place] as u32)
+}
+
+#[test]
+fn callers_of_many_sets() {
+    let (mut found, mut absent, mut refused, mut full) = (0, 0, 0, 0);
+    for seed in 0..50 {
+        let mut inputs = Inputs::new(seed);
+        let mut set = Set::default();
+        for _ in 0..30 {
+            judge_and_commit(&inputs.message(), &mut set, &mut [0; REPLY_ROOM]);
+            let lines = &set.tables.lines;
+            assert_ordered(lines);
+            full += usize::from(lines.len() == MOST_LINES);
+            for _ in 0..10 {
+                let Caller { id_type, digits } = inputs.caller();
+                let Ok(row) = line_of(id_type, &digits, true, &set) else {
+                    assert!(
+                        digits.is_empty() || digits.len() > 18 || digits.iter().any(|&d| d > 9)
+                    );
+                    refused += 1;
+                    continue;
+                };
+                assert_eq!(row, by_order(lines, id_type, &digits), "{id_type} {digits:?}");
+                *if row.is_some() { &mut found } else { &mut absent } += 1;
+            }
+        }
+    }
+    println!("{found} found, {absent} absent, {refused} refused; {full} full");
+    assert!(found > 3_000 && absent > 3_000 && refused > 1_000 && full > 100);
 }
