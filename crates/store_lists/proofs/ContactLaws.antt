@@ -60,9 +60,8 @@ bytes-made OfGroups x = refl
 bytes-made OfIndividuals x = refl
 
 -- contacts under a coding make members with these flags, which are kept by their address
-pub by-address : (w : Members) → FlagsIn w → Coding → ByKey (Addressed (AddressIn w)) (MemberIn w) member-width address-at address-size
+pub by-address : (w : Members) → FlagsIn w → Coding → ByKey (Addressed (AddressIn w)) (MemberIn w) (Counted member-width) member-width address-at address-size
 by-address w f c = record {
-  Is = Counted member-width;
   cleared = counted-none member-width;
   form = addressed (number-of w) c;
   ends = addressed-ends (number-of w) (address-ends (number-of w) (one-number w)) c;

@@ -63,8 +63,7 @@ module _ {A : Type 0} (Is : ℕ → List (List ℕ) → List ℕ → Type 0) (P 
 
 -- entries of a setting, and a list that is kept by a key, which is k bytes at o of slots of w bytes: which bytes are such a list, how an entry is written, and
 -- what it makes
-pub record ByKey (E A : Type 0) (w o k : ℕ) : Type 1 where
-  pub Is : ℕ → List (List ℕ) → List ℕ → Type 0
+pub record ByKey (E A : Type 0) (Is : ℕ → List (List ℕ) → List ℕ → Type 0) (w o k : ℕ) : Type 1 where
   pub cleared : (n : ℕ) (xs : List (List ℕ)) (s : List ℕ) → Is n xs s → Is n [] (replicate (length s) 0)
   pub form : E → List Field
   pub ends : Ends form
@@ -78,10 +77,10 @@ pub record ByKey (E A : Type 0) (w o k : ℕ) : Type 1 where
   pub same : A → A → Bool
   pub decides : (a b : A) → Ok a → Ok b → same? (key b) (key a) ≡ same a b
 
-module _ {E A : Type 0} {w o k : ℕ} (B : ByKey E A w o k) where
+module _ {E A : Type 0} {Is : ℕ → List (List ℕ) → List ℕ → Type 0} {w o k : ℕ} (B : ByKey E A Is w o k) where
   -- the list as bytes, and what an operation with one entry makes of it
   abbrev pub TableOf : ℕ → List A → List ℕ → Type 0
-  TableOf n = EntriesOf (B .Is n) (B .Ok) (B .bytes)
+  TableOf n = EntriesOf (Is n) (B .Ok) (B .bytes)
 
   abbrev pub step-of : ℕ → Operation → E → List A → Option (List A)
   step-of n op e = keyed-step (B .same) n op (B .made e)
@@ -119,11 +118,11 @@ module _ {E A : Type 0} {w o k : ℕ} (B : ByKey E A w o k) where
       keyed-stuck u r never n ls es l e q = absurd (applying-stuck (g n) (omega arith) never es ls e q l)
 
       -- one does, and the step with its slot answered r and left u
-      module _ (q : ℕ) (x : List ℕ) (next : Next m at q x) (u : List ℕ) (r : Bool) (stepped : KeyedStepped (B .Is) op w o k x t u r) where
+      module _ (q : ℕ) (x : List ℕ) (next : Next m at q x) (u : List ℕ) (r : Bool) (stepped : KeyedStepped Is op w o k x t u r) where
         turn : (n : ℕ) (ls : List A) → TableOf n ls t → Tried (TableOf n) (step-of n op (next .entry) ls) u r
         turn n ls l =
-            entries-stepped (B .Is) (B .Ok) w (B .bytes) o k (B .key) (B .keyed) (B .same) (B .decides) n ls t l (B .made (next .entry)) (next .ok) u r op
-            (subst (λ (y : List ℕ). KeyedStepped (B .Is) op w o k y t u r) (next .slot) stepped)
+            entries-stepped Is (B .Ok) w (B .bytes) o k (B .key) (B .keyed) (B .same) (B .decides) n ls t l (B .made (next .entry)) (next .ok) u r op
+            (subst (λ (y : List ℕ). KeyedStepped Is op w o k y t u r) (next .slot) stepped)
 
         -- it had room
         pub keyed-on : r ≡ true → KeyedLeft q (i + 1) u

@@ -1,5 +1,5 @@
 -- Laws of the table of line contacts: a line's slot, and what its loop is told of. Assumes nothing.
-use Rattle.lists.proofs.Kit.{_≡_, refl, sym, ap, _∙_, subst, Bool, true, true≢false, List, _++_, ℕ, _+_, _*_, _-_, _/_, _≤_, _<_, arith, midOf, length, take, drop, replicate, length-take, length-drop}
+use Rattle.lists.proofs.Kit.{_≡_, refl, sym, ap, _∙_, subst, Bool, true, true≢false, List, _++_, ℕ, _<_, arith, midOf, length, take, drop, replicate, length-take, length-drop}
 use Rattle.slots.specs.Slots.{hit, unless}
 use Rattle.counted_lists.specs.Counted.{put-keyed, Tried}
 use Rattle.counted_lists.proofs.ListLaws.{tried-room}
@@ -23,7 +23,7 @@ use Rattle.read_fields.specs.Places.{FieldsAt}
 use Rattle.tables.specs.Allowed.{LineOk}
 use Rattle.tables.specs.Apply.{start-from, has-key, line-of}
 use Rattle.tables.specs.Changing.{SlotFilled}
-use Rattle.tables.specs.Layout.{text-bytes, count-size, line-bytes, line-key-at, line-key-size, line-width}
+use Rattle.tables.specs.Layout.{text-bytes, line-bytes, line-key-at, line-key-size, line-width}
 use Rattle.tables.specs.LineHeads.{LineHead}
 use Rattle.tables.specs.Tables.{Line, line-key}
 use Rattle.tables.proofs.EntryCodes.{key-of, line-keyed, keys-same}
@@ -38,13 +38,6 @@ slot-made m f p h r head fill e is range low =
     ∙ ap (λ (l : List ℕ). l ++ text-bytes 16 (e .text)) (head .bytes low (e .number) (is .middle) (is .number))
 
 -- ---- one step
-
--- n places have this many bytes, so this many bytes have n places
-places-of : (n : ℕ) → (n * line-width + count-size + n - count-size) / 53 ≡ n
-places-of n = omega arith
-
-pub places-are : (size r : ℕ) → count-size ≤ size → r ≡ (size - count-size) / 53 → LinePlaces size r
-places-are size r h e n l = e ∙ ap (λ (i : ℕ). (i - count-size) / 53) l ∙ places-of n
 
 module _ (x s t : List ℕ) (m : ℕ) (places : LinePlaces (length s) m) where
   -- a region of lines has m places
@@ -77,9 +70,8 @@ module _ (x s t : List ℕ) (m : ℕ) (places : LinePlaces (length s) m) where
 -- ---- the loop
 
 -- line contacts under a coding make lines with these flags, which are kept by IDtype and digits
-pub by-number : LineFlags → Coding → ByKey Contact Line line-width line-key-at line-key-size
+pub by-number : LineFlags → Coding → ByKey Contact Line LineSlots line-width line-key-at line-key-size
 by-number f c = record {
-  Is = LineSlots;
   cleared = ordered-fresh line-width line-key-at line-key-size;
   form = contact c;
   ends = contact-ends c;
