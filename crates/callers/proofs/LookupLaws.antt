@@ -1,6 +1,7 @@
 -- Looking a caller up: the bytes of a key, and what the entry found among the slots says of the lines. Assumes nothing.
-use Rattle.lists.proofs.Kit.{ℕ, zero, suc, _+_, _-_, _≤_, _<_, _≡_, refl, sym, ap, ap₂, _∙_, subst, Bool, true, false, List, [], _∷_, _++_, map, map-append, head-eq-of-cons-eq, tail-eq-of-cons-eq, none, some, not-suc-le-zero, le-of-suc-le-suc, add-one, arith, midOf, length, take, drop, getD, set, length-map, take-suc, length-take-le, take-all}
+use Rattle.lists.proofs.Kit.{ℕ, zero, suc, _+_, _-_, _≤_, _<_, _≡_, refl, sym, ap, ap₂, _∙_, subst, Bool, true, false, List, [], _∷_, _++_, map, map-append, head-eq-of-cons-eq, tail-eq-of-cons-eq, Option, none, some, inr, not-suc-le-zero, le-of-suc-le-suc, add-one, arith, midOf, length, take, drop, getD, set, length-map, take-suc, length-take-le, take-all}
 use Rattle.lists.specs.Every.{All}
+use Rattle.lists.specs.Ladder.{Answers}
 use Rattle.lists.proofs.Every.{all-any}
 use Rattle.slots.specs.Slots.{pad, putAt}
 use Rattle.slots.proofs.Tables.{put-end}
@@ -15,12 +16,13 @@ use Rattle.writing.specs.Writing.{bit}
 use Rattle.tables.specs.declared.limits.Limits.{Limits}
 use Rattle.tables.specs.Allowed.{LineOk}
 use Rattle.tables.specs.Layout.{Roomy, digit-bytes, layout, line-bytes, line-width, line-key-at, line-key-size, lines-at, lines-size}
-use Rattle.tables.specs.Store.{Holds}
+use Rattle.tables.specs.Store.{StoreOf, Holds}
 use Rattle.tables.specs.Tables.{Line, Tables}
 use Rattle.tables.proofs.EntryCodes.{key-of, line-keyed}
 use Rattle.tables.proofs.Frames.{lines-ordered}
-use Rattle.tables.proofs.TextCodes.{digits-one}
-use Rattle.callers.specs.Callers.{Calls, ByNumber, LineFound}
+use Rattle.tables.proofs.TextCodes.{digits-length, digits-one}
+use Rattle.callers.specs.declared.lookup.Caller.the-variants.{Row, NoRow}
+use Rattle.callers.specs.Callers.{told, Calls, ByNumber, looking-up, LineFound}
 
 -- ---- the key
 
@@ -98,3 +100,28 @@ found-line lim room store key k e r f t h long =
     let s : midOf (lines-at lim) (lines-size lim) (layout lim t) ≡ midOf (lines-at lim) k store = ap₂ (λ (i : ℕ) (x : List ℕ). midOf (lines-at lim) i x) (sym e) (sym (h .1)) in
     f (map line-bytes (t .lines)) (subst (λ (i : ℕ). OrderedList line-width line-key-at i (lim .lines) (map line-bytes (t .lines)) (midOf (lines-at lim) k store)) (sym long)
     (subst (OrderedList line-width line-key-at line-key-size (lim .lines) (map line-bytes (t .lines))) s g))
+
+-- ---- the answer
+
+module _ (lim : Limits) (idtype : ℕ) (digits store : List ℕ) (s : StoreOf lim store) (n : InNumber digits) where
+  -- a store and a number: what its tables say is answered
+  pub looked-up : (r : Option ℕ) → ByNumber (s .store .tables) idtype digits r → Answers (looking-up lim idtype digits store) (record { number = 0; row = r })
+  looked-up r p = inr (λ m. m s, inr (λ m. m n, (s .store .tables, (s .store .allowed, s .store .bytes-are), refl, p)))
+
+  module _ (key : List ℕ) (is : key ≡ idtype ∷ digit-bytes digits) (fd : Found) (f : LineFound lim store key fd) where
+    long : length key ≡ line-key-size
+    long = ap length is ∙ ap suc (digits-length digits)
+
+    -- what the search found
+    has : Has line-key-at key (map line-bytes (s .store .tables .lines)) fd
+    has = f (s .store .tables) (s .store .allowed, s .store .bytes-are) long
+
+    -- the line at p
+    pub answered-row : (p : ℕ) → fd ≡ At p → Answers (looking-up lim idtype digits store) (told (Row p))
+    answered-row p e =
+        looked-up (some p) (line-there idtype digits n key is long (s .store .tables) (s .store .allowed .lines .1) p (subst (Has line-key-at key (map line-bytes (s .store .tables .lines))) e has))
+
+    -- no line
+    pub answered-none : fd ≡ Nothing → Answers (looking-up lim idtype digits store) (told NoRow)
+    answered-none e =
+        looked-up none (no-line idtype digits n key is long (s .store .tables) (s .store .allowed .lines .1) (subst (Has line-key-at key (map line-bytes (s .store .tables .lines))) e has))
