@@ -1,3 +1,4 @@
+pub mod Callers
 pub mod ContactSent
 pub mod Contacts
 pub mod Joins
