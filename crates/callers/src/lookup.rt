@@ -2,6 +2,7 @@
 use orders::orders::Found;
 use orders::search::find_entry;
 use store_check::checks::is_store;
+use store_check::checks_entries::at_most;
 use tables::limits::Limits;
 use tables::places::CHANNEL_SLOT;
 use tables::places::CHANNELS;
@@ -13,9 +14,7 @@ ghost use mathlib.Core.Path.{_≡_};
 ghost use mathlib.Core.Bool.{true};
 ghost use mathlib.Core.Logic.{_↔_};
 ghost use mathlib.Core.List.{_∷_};
-ghost use Prim.Native.Nat.{_≤_};
 ghost use lib.ListN.{length};
-ghost use Rattle.lists.specs.Every.{All};
 ghost use Rattle.lists.specs.Ladder.{Answers};
 ghost use Rattle.writing.specs.Ranges.{InNumber};
 ghost use Rattle.tables.specs.Layout.{Roomy, digit-bytes};
@@ -28,20 +27,6 @@ pub enum Caller {
     NotANumber,
 }
 
-// Whether no digit is above 9.
-fn at_most_nine(digits: &[u8]) -> bool
-    ensures { λ r. ⌜ (r ≡ true) ↔ All (λ d. d ≤ 9) (now (digits .entry)) ⌝ }
-{
-    let mut i = 0;
-    while i < digits.len() {
-        if 9 < digits[i] {
-            return false;
-        }
-        i += 1;
-    }
-    true
-}
-
 // Whether the digits are a number: 1 to 18 of them.
 fn is_number(digits: &[u8]) -> bool
     ensures { λ r. ⌜ (r ≡ true) ↔ InNumber (now (digits .entry)) ⌝ }
@@ -52,16 +37,16 @@ fn is_number(digits: &[u8]) -> bool
     if 18 < digits.len() {
         return false;
     }
-    at_most_nine(digits)
+    at_most(digits, 9)
 }
 
 // The key of a line with these: its IDtype, then each digit one more than itself, and zeros behind the last.
-fn key_of(id_type: u8, digits: &[u8]) -> [u8; KEY_BYTES]
+fn key_of(idtype: u8, digits: &[u8]) -> [u8; KEY_BYTES]
     requires { ⌜ InNumber (now digits) ⌝ }
-    ensures { λ r. ⌜ r ≡ id_type ∷ digit-bytes (now (digits .entry)) ⌝ }
+    ensures { λ r. ⌜ r ≡ idtype ∷ digit-bytes (now (digits .entry)) ⌝ }
 {
     let mut key = [0u8; KEY_BYTES];
-    key[0] = id_type;
+    key[0] = idtype;
     let mut i = 0;
     while i < digits.len() {
         key[i + 1] = digits[i] + 1;
@@ -81,8 +66,8 @@ fn find_line(store: &[u8], limits: Limits, key: &[u8]) -> Found
 }
 
 // The row of the line that has an IDtype and digits, in a store of a set with these limits.
-pub fn line_of_in(id_type: u32, digits: &[u8], store: &[u8], limits: Limits) -> Caller
-    ensures { λ r. ⌜ Answers (looking-up limits id_type (now (digits .entry)) (now (store .entry))) (told r) ⌝ }
+pub fn line_of_in(idtype: u32, digits: &[u8], store: &[u8], limits: Limits) -> Caller
+    ensures { λ r. ⌜ Answers (looking-up limits idtype (now (digits .entry)) (now (store .entry))) (told r) ⌝ }
 {
     if !is_store(store, limits) {
         return Caller::NotAStore;
@@ -90,10 +75,10 @@ pub fn line_of_in(id_type: u32, digits: &[u8], store: &[u8], limits: Limits) -> 
     if !is_number(digits) {
         return Caller::NotANumber;
     }
-    if 1 < id_type {
+    if 1 < idtype {
         return Caller::NoRow;
     }
-    let key = key_of(id_type as u8, digits);
+    let key = key_of(idtype as u8, digits);
     let found = find_line(store, limits, &key);
     match found {
         Found::At(row) => Caller::Row(row),
