@@ -1,5 +1,5 @@
 -- Callers and the screen: a caller has a row exactly if a line was last sent with its IDtype and digits, and the name shown is that line's. Assumes nothing.
-use Rattle.lists.proofs.Kit.{ℕ, _≤_, _≡_, refl, sym, ap, _∙_, subst, _≢_, _↔_, _⊎_, inl, inr, List, [], _∷_, map, cons≢nil, Option, none, some, Option·some-injective, Option·none-ne-some, length, getD}
+use Rattle.lists.proofs.Kit.{ℕ, _≤_, _≡_, refl, sym, ap, _∙_, subst, _≢_, _↔_, inl, inr, List, [], _∷_, map, cons≢nil, Option, none, some, Option·none-ne-some, length, getD}
 use denote.Ref.{RefT}
 use Rattle.lists.specs.Ladder.{Answers}
 use Rattle.writing.specs.Ranges.{InNumber}
@@ -18,45 +18,23 @@ use Rattle.screen.specs.Rows.{Caption, line, line-row, of, ascii, units, unit-b
 use Rattle.screen.specs.Screen.{RowBytes, PartGiven}
 use Rattle.screen.proofs.AnswerLaws.{one-tables}
 use Rattle.callers.specs.Callers.{Told, Calls, ByNumber, looking-up}
+use Rattle.callers.proofs.Theorems.{caller-found}
 use Rattle.laws_screen.specs.ByKey.{found, to-line}
 use Rattle.laws_screen.specs.Reached.{Reached, InOrder, all-of, LastSent}
 use Rattle.laws_screen.proofs.Joins.{reached-tables, whole-part, named-bytes, row-name}
-use Rattle.laws_screen.proofs.KeyLaws.{all-at, found-there, found-place, found-has}
+use Rattle.laws_screen.proofs.KeyLaws.{found-there, found-place, found-has}
 use Rattle.laws_screen.proofs.LineSent.{line-sees}
 use Rattle.laws_screen.proofs.Sent.{sent-exactly}
 
--- ---- what the call answers of a store of these tables
+-- ---- what the screen shows in a caller's row
 
--- a number that is none is refused, with no row; any other is looked up in the tables
-abbrev Heard : Tables → ℕ → Number → Told → Type 0
-Heard t idtype digits a = ((InNumber digits → ⊥) × (a .row ≡ none)) ⊎ ((a .number ≡ 0) × ByNumber t idtype digits (a .row))
-
-module _ (lim : Limits) (t : Tables) (store : List ℕ) (roomy : Roomy lim) (holds : Holds lim t store) (idtype : ℕ) (digits : Number) (a : Told) (x : Answers (looking-up lim idtype digits store) a) where
-  heard : Heard t idtype digits a
-  heard = by x
-    where
-      by : Answers (looking-up lim idtype digits store) a → Heard t idtype digits a
-      by (inl (never, e)) = absurd (never (holds-store lim t store roomy holds))
-      by (inr (_, inl (n, e))) = inl (n, ap (λ (y : Told). y .row) e)
-      by (inr (_, inr (_, (u, h, z, r)))) = inr (z, subst (λ (v : Tables). ByNumber v idtype digits (a .row)) (one-tables lim store u t h holds) r)
-
-  -- CALLER ANSWERED: a number of 1 to 18 digits is answered 0, with the row of these tables that has it, or that none has
-  pub caller-answered : InNumber digits → (a .number ≡ 0) × ByNumber t idtype digits (a .row)
-  caller-answered d = by heard
-    where
-      by : Heard t idtype digits a → (a .number ≡ 0) × ByNumber t idtype digits (a .row)
-      by (inl (n, e)) = absurd (n d)
-      by (inr r) = r
-
-  -- CALLER FOUND: a row that is answered is that of a line with this IDtype and these digits
-  pub caller-found : (n : ℕ) → a .row ≡ some n → ByNumber t idtype digits (some n)
-  caller-found n e = by heard
-    where
-      by : Heard t idtype digits a → ByNumber t idtype digits (some n)
-      by (inl (_, k)) = absurd (Option·none-ne-some n (sym k ∙ e))
-      by (inr (_, r)) = subst (ByNumber t idtype digits) e r
-
--- ---- what the screen shows in that row
+-- a row that is answered is that of a line of these tables with the caller's IDtype and digits
+row-line : (lim : Limits) (t : Tables) (store : List ℕ) → Holds lim t store → (idtype : ℕ) (digits : Number) (a : Told) → Answers (looking-up lim idtype digits store) a → (n : ℕ) → a .row ≡ some n
+    → (l : Line) × (getD (map some (t .lines)) n none ≡ some l) × Calls idtype digits l
+row-line lim t store h idtype digits a (inl (_, e)) n r = absurd (Option·none-ne-some n (sym (ap (λ (y : Told). y .row) e) ∙ r))
+row-line lim t store h idtype digits a (inr (_, inl (_, e))) n r = absurd (Option·none-ne-some n (sym (ap (λ (y : Told). y .row) e) ∙ r))
+row-line lim t store h idtype digits a (inr (_, inr (_, (u, k, _, p)))) n r =
+    subst (λ (v : Tables). ByNumber v idtype digits (some n)) (one-tables lim store u t k h) (subst (ByNumber u idtype digits) r p)
 
 -- bytes that show a line with an empty text are those of its digits
 digit-bytes-shown : (us : Text) (ds : Number) (bytes : List ℕ) → us ≡ [] → RowBytes (some (line us ds)) bytes → bytes ≡ unit-bytes (map ascii ds)
@@ -68,7 +46,7 @@ pub caller-shown : (lim : Limits) (t : Tables) (store scratch : RefT (List ℕ))
     → (idtype : ℕ) (digits : Number) (a : Told) → Answers (looking-up lim idtype digits (store .now)) a → (n : ℕ) → a .row ≡ some n → (r : RefT (List ℕ)) → PartGiven lim store scratch (LineRow n) r
     → (l : Line) × Calls idtype digits l × (getD (map some (t .lines)) n none ≡ some l) × (l .text ≢ [] → r .now ≡ unit-bytes (l .text)) × (l .text ≡ [] → r .now ≡ unit-bytes (map ascii digits))
 caller-shown lim t store scratch roomy h big idtype digits a x n e r p =
-    let (l, is, calls) = caller-found lim t (store .now) roomy h idtype digits a x n e in
+    let (l, is, calls) = row-line lim t (store .now) h idtype digits a x n e in
     let shown = subst (λ (c : Option Caption). RowBytes c (r .now)) (ap (of line-row) is) (whole-part lim store scratch (LineRow n) r t (holds-store lim t (store .now) roomy h) h big p) in
     (l, calls, is, λ full. named-bytes (line-row l) (r .now) full shown, λ empty. digit-bytes-shown (l .text) (l .number) (r .now) empty shown ∙ ap (λ ds. unit-bytes (map ascii ds)) (calls .1))
 
@@ -92,8 +70,7 @@ module _ (lim : Limits) (log : List (List Setting)) (store : List ℕ) (x : Reac
     -- the line of a caller's row is found under the caller's key
     row-held : (n : ℕ) → a .row ≡ some n → (l : Line) × (getD (map some (t .lines)) n none ≡ some l) × (found (has-key k) (t .lines) ≡ some l)
     row-held n e =
-        let (s, h) = reached-tables lim log store x t o in
-        let (l, is, (b, d)) = caller-found lim t store (s .roomy) h (bit (k .pabx)) (k .number) a y n e in
+        let (l, is, (b, d)) = row-line lim t store (reached-tables lim log store x t o .1) (bit (k .pabx)) (k .number) a y n e in
         let q : l .flags .pabx ≡ k .pabx = bit-one (l .flags .pabx) (k .pabx) b in
         let same : line-key l ≡ k = (λ i. record { pabx = q i; number = d i }) in
         (l, is, subst (λ (j : LineKey). found (has-key j) (t .lines) ≡ some l) same (held n l is))
@@ -107,18 +84,13 @@ module _ (lim : Limits) (log : List (List Setting)) (store : List ℕ) (x : Reac
       pub caller-known : ((n : ℕ) × (a .row ≡ some n)) ↔ ((z : Line) × LastSent (to-line k) (all-of log) z)
       caller-known = (
         λ (n, e). let (l, is, f) = row-held n e in (l, line-sent lim log t o k l .0 f),
-        λ (z, s). by z (line-sent lim log t o k z .1 s) (a .row) refl,
+        λ (z, s).
+            let (b, h) = reached-tables lim log store x t o in
+            let f = line-sent lim log t o k z .1 s in
+            let (i, is) = found-place (has-key k) z (t .lines) f in
+            let same : line-key z ≡ k = key-is-both k z .0 (found-has (has-key k) z (t .lines) f) in
+            (i, caller-found lim (bit (k .pabx)) (k .number) store t (b .roomy) h d a y i .1 (z, is, (ap (λ (j : LineKey). bit (j .pabx)) same, ap (λ (j : LineKey). j .number) same))),
       )
-        where
-          by : (z : Line) → found (has-key k) (t .lines) ≡ some z → (r : Option ℕ) → a .row ≡ r → (n : ℕ) × (a .row ≡ some n)
-          by z f (some n) e = (n, e)
-          by z f none e =
-              let (s, h) = reached-tables lim log store x t o in
-              let (_, r) = caller-answered lim t store (s .roomy) h (bit (k .pabx)) (k .number) a y d in
-              let (i, is) = found-place (has-key k) z (t .lines) f in
-              let same : line-key z ≡ k = key-is-both k z .0 (found-has (has-key k) z (t .lines) f) in
-              absurd (all-at (λ l. Calls (bit (k .pabx)) (k .number) l → ⊥) (t .lines) (subst (ByNumber t (bit (k .pabx)) (k .number)) e r) i z is
-              (ap (λ (j : LineKey). bit (j .pabx)) same, ap (λ (j : LineKey). j .number) same))
 
       -- CALLER UNKNOWN: and no row has its number exactly if none was
       pub caller-unknown : (a .row ≡ none) ↔ ((z : Line) → LastSent (to-line k) (all-of log) z → ⊥)

@@ -15,7 +15,7 @@ use Rattle.tables.specs.Tables.{Tables}
 use Rattle.tables.proofs.ContactSentences.{has-number, key-is-number}
 use Rattle.tables.proofs.Owns.{others-stay}
 use Rattle.tables.proofs.RoomSentences.{came}
-use Rattle.requests.specs.Requests.{forget, or-else}
+use Rattle.requests.specs.Requests.{or-else}
 use Rattle.laws_screen.specs.ByKey.{found, under-key, to-group-contact, to-individual-contact, to-contact}
 use Rattle.laws_screen.proofs.KeyLaws.{looks-by, key-left}
 use Rattle.laws_screen.proofs.Sent.{Sees}

@@ -156,7 +156,7 @@ module _ {A : Type 0} (same : A → A → Bool) (has : A → Bool) (looks : Look
 -- ---- where it stands
 
 -- what all entries have, the one at a place has
-pub all-at : {A : Type 0} (P : A → Type 0) (ls : List A) → All P ls → (i : ℕ) (x : A) → getD (map some ls) i none ≡ some x → P x
+all-at : {A : Type 0} (P : A → Type 0) (ls : List A) → All P ls → (i : ℕ) (x : A) → getD (map some ls) i none ≡ some x → P x
 all-at P [] h i x e = absurd (Option·none-ne-some x e)
 all-at P (y ∷ ys) h zero x e = subst P (Option·some-injective y x e) (h .0)
 all-at P (y ∷ ys) h (suc i) x e = all-at P ys (h .1) i x e
