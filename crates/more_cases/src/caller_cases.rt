@@ -8,15 +8,29 @@ use case_lines::taking::requests;
 // Where the order of a hand-held's lines stands.
 const ORDER: usize = 14526;
 
-// The first five bytes of the order.
-fn order(store: &[u8]) {
-    text(b"  order:");
-    let mut i = ORDER;
-    while i < ORDER + 5 && i < store.len() {
+const SHOWN: usize = ORDER + 5;
+
+fn wide(b: u8) -> u32 {
+    b as u32
+}
+
+// Bytes as numbers, with a space before each.
+fn each(bytes: &[u8]) {
+    let mut i = 0;
+    while i < bytes.len() {
         text(b" ");
-        decimal(store[i] as u32);
+        decimal(wide(bytes[i]));
         i += 1;
     }
+}
+
+// The first five bytes of the order.
+fn order(store: &[u8]) {
+    if store.len() < SHOWN {
+        return;
+    }
+    text(b"  order");
+    each(&store[ORDER..SHOWN]);
     text(b"\n");
 }
 
@@ -29,12 +43,8 @@ fn after(case: &[u8], store: &mut [u8]) {
 fn number(idtype: u32, digits: &[u8]) {
     text(b"  IDtype ");
     decimal(idtype);
-    text(b", number ");
-    let mut i = 0;
-    while i < digits.len() {
-        decimal(digits[i] as u32);
-        i += 1;
-    }
+    text(b", number");
+    each(digits);
 }
 
 // The answer's line.
