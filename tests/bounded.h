@@ -180,6 +180,23 @@ static void counts_at(int at_end, const uint8_t *bytes, size_t store_length)
     must(otap_counts_lines(answer) <= OTAP_LINE_ROWS && otap_counts_channels(answer) <= OTAP_CHANNEL_PLACES, "more than there is room for");
 }
 
+/* The digits are lent where messages are. A refusal, and a number that no line has, come without a row. */
+static void line_of_at(int at_end, uint32_t id_type, const uint8_t *digits, size_t length, const uint8_t *bytes, size_t store_length)
+{
+    uint64_t answer;
+    uint32_t number;
+    current = "otap_line_of";
+    lend(&message, at_end, digits, length, 0);
+    lend(&store, at_end, bytes, store_length, 0);
+    calls++;
+    answer = otap_line_of(id_type, message.bytes, length, store.bytes, store_length);
+    nothing_outside();
+    number = otap_answer_number(answer);
+    must(store_length == OTAP_STORE_BYTES ? number != OTAP_NO_STORE || bytes != filled : number == OTAP_NO_STORE, "number");
+    must(number == OTAP_NO_STORE || number == OTAP_BAD_NUMBER || (number == OTAP_OK && length >= 1 && length <= OTAP_DIGITS), "number");
+    must(otap_line_found(answer) ? otap_line_row(answer) < OTAP_LINE_ROWS : answer == number, "a row that there is not");
+}
+
 static void export_at(int at_end, uint32_t part, const uint8_t *bytes, size_t store_length, size_t length)
 {
     uint32_t expected = length < OTAP_EXPORT_BYTES ? OTAP_SHORT_BUFFER : store_length != OTAP_STORE_BYTES ? OTAP_NO_STORE

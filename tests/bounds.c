@@ -5,6 +5,7 @@
  */
 #define _DEFAULT_SOURCE
 #include "bounded.h"
+#include "lines.h"
 
 static void commit_at(int at_end, const Message *said, size_t store_length, size_t reply_length)
 {
@@ -26,6 +27,34 @@ static void counts_sizes(void)
     size_t each;
     for (each = 0; each < 10; each++) {
         counts_at((int)(each % 2), filled, sizes[each / 2]);
+    }
+}
+
+/* Numbers of every length up to far too many digits, the first line's own among them. */
+static void line_of_sizes(void)
+{
+    static const size_t sizes[] = {0, 1, OTAP_STORE_BYTES - 1, OTAP_STORE_BYTES, OTAP_STORE_BYTES + 1};
+    uint8_t digits[2 * OTAP_DIGITS] = {0};
+    size_t each, length;
+    Key first = key_of(filled, 0);
+    memcpy(digits, first.digits, first.length);
+    for (each = 0; each < 10; each++) {
+        for (length = 0; length <= sizeof digits; length++) {
+            line_of_at((int)(each % 2), first.id_type, digits, length, filled, sizes[each / 2]);
+        }
+    }
+}
+
+/* Each line's number, with its own IDtype and with others; the places that have no line come without digits. */
+static void line_of_all(void)
+{
+    uint32_t row, id_type;
+    for (row = 0; row < OTAP_LINE_ROWS; row++) {
+        Key key = key_of(filled, row);
+        for (id_type = 0; id_type < 3; id_type++) {
+            line_of_at((int)(row % 2), id_type, key.digits, key.length, filled, OTAP_STORE_BYTES);
+        }
+        line_of_at((int)(row % 2), 0xFFFFFFFFu, key.digits, key.length, filled, OTAP_STORE_BYTES);
     }
 }
 
@@ -142,6 +171,7 @@ static void damaged_stores(unsigned turns)
 {
     static uint8_t bytes[OTAP_STORE_BYTES];
     static Message said;
+    Key called;
     unsigned turn;
     for (turn = 0; turn < turns; turn++) {
         memcpy(bytes, filled, sizeof bytes);
@@ -149,6 +179,8 @@ static void damaged_stores(unsigned turns)
         export_at((int)(turn % 2), 1 + turn % OTAP_EXPORT_PARTS, bytes, sizeof bytes, OTAP_EXPORT_BYTES);
         row_at((int)(turn % 2), 1 + turn % OTAP_TABLES, random_below(OTAP_STATUS_LAST + 1), bytes, sizeof bytes, OTAP_SCRATCH_BYTES);
         counts_at((int)(turn % 2), bytes, sizeof bytes);
+        called = key_of(filled, turn % OTAP_LINE_ROWS);
+        line_of_at((int)(turn % 2), called.id_type, called.digits, called.length, bytes, sizeof bytes);
         write_message(&said, turn % MESSAGE_KINDS, turn);
         commit_to((int)(turn % 2), &said, bytes, sizeof bytes, OTAP_REPLY_BYTES);
     }
@@ -180,6 +212,8 @@ static void every_length(void)
         fill(vary);
         row_all();
         counts_sizes();
+        line_of_sizes();
+        line_of_all();
         for (part = 1; part <= 2 * OTAP_EXPORT_PARTS; part++) {
             export_at((int)(part % 2), (part + 1) / 2, filled, OTAP_STORE_BYTES, OTAP_EXPORT_BYTES);
         }
@@ -212,6 +246,7 @@ int main(int count, char **words)
     }
     start_sizes();
     counts_sizes();
+    line_of_sizes();
     commit_sizes();
     commit_message_sizes();
     commit_cuts();
