@@ -67,7 +67,7 @@ enum {
     OTAP_EXPORT_STACK = 1024,    /* 832 */
     OTAP_ROW_STACK = 1024,       /* 664 otap_row_number, 744 otap_row_part */
     OTAP_COUNTS_STACK = 1024,    /* 468 */
-    OTAP_LINE_OF_STACK = 1024,   /* not measured yet */
+    OTAP_LINE_OF_STACK = 1024,   /* 464, on AArch64 alone so far */
     OTAP_CONVERSION_STACK = 256  /* 64 */
 };
 
