@@ -7,7 +7,7 @@ use Rattle.slots.specs.Slots.{flat, pad, slot, places, front, u16, same?, hit, 
 use Rattle.slots.proofs.Codes.{Code, array-one}
 use Rattle.slots.proofs.Numbers.{u16-one}
 use Rattle.slots.proofs.Tables.{put-all, unless-all}
-use Rattle.counted_lists.specs.Counted.{put-last, put-keyed, Counted, CountedOf, Tried, Added, KeyedPut, KeyDropped, Told}
+use Rattle.counted_lists.specs.Counted.{put-last, put-keyed, Counted, EntriesOf, CountedOf, Tried, Added, Told}
 use Rattle.counted_lists.proofs.CountLaws.{counted-none, counted-split, slots-long}
 
 -- ---- lists that a function makes
@@ -72,59 +72,56 @@ pub record Keyed {A : Type 0} (w : ℕ) (f : A → List ℕ) (o m : ℕ) (key : 
   pub key-long : (a : A) → length (key a) ≡ m
   pub stands : (a : A) → take m (drop o (f a)) ≡ key a
 
-module _ {A : Type 0} (P : A → Type 0) (w : ℕ) (f : A → List ℕ) (n : ℕ) where
+module _ {A : Type 0} (Is : List (List ℕ) → List ℕ → Type 0) (P : A → Type 0) (f : A → List ℕ) where
   -- what was answered of slots is answered of entries
-  tried-map : (after : Option (List A)) (t : List ℕ) (r : Bool) → ((ls : List A) → after ≡ some ls → All P ls) → Tried (Counted w n) (made f after) t r → Tried (CountedOf P w f n) after t r
+  tried-map : (after : Option (List A)) (t : List ℕ) (r : Bool) → ((ls : List A) → after ≡ some ls → All P ls) → Tried Is (made f after) t r → Tried (EntriesOf Is P f) after t r
   tried-map none t r q h = record { room = λ e. let (xs, d, i) = h .room e in absurd (some-none xs (sym d)); full = λ _. refl }
   tried-map (some ls) t r q h =
       record {
-        room = λ e. let (xs, d, i) = h .room e in (ls, refl, record { each = q ls refl; counted = subst (λ (l : List (List ℕ)). Counted w n l t) (sym (some-one (map f ls) xs d)) i });
+        room = λ e. let (xs, d, i) = h .room e in (ls, refl, record { each = q ls refl; counted = subst (λ (l : List (List ℕ)). Is l t) (sym (some-one (map f ls) xs d)) i });
         full = λ e. absurd (some-none (map f ls) (h .full e));
       }
 
-  module _ (ls : List A) (s : List ℕ) (c : CountedOf P w f n ls s) where
-    -- the count is that of the entries
-    pub entries-count : (r : ℕ) → Told s r → r ≡ length ls
-    entries-count r h = h .says w n (map f ls) (c .counted) ∙ length-map ls f
+  -- the slots of entries were changed by a key
+  module _ (w o m : ℕ) (key : A → List ℕ) (d : Keyed w f o m key) (e : A → Bool) (ls : List A) (each : All P ls) where
+    -- a slot has a key where its entry has it
+    hits : (k : List ℕ) → length k ≡ m → ((a : A) → P a → same? (key a) k ≡ e a) → All (λ a. hit o k (f a) ≡ e a) ls
+    hits k l same = all-turn P (λ a. hit o k (f a) ≡ e a) (λ a p. ap (λ (i : ℕ). same? (take i (drop o (f a))) k) l ∙ ap (λ (x : List ℕ). same? x k) (d .stands a) ∙ same a p) ls each
 
-    -- as many zeros have no entry
-    pub entries-none : CountedOf P w f n [] (replicate (length s) 0)
-    entries-none = record { each = tt; counted = counted-none w n (map f ls) s (c .counted) }
-
-    -- an entry is added at the end
-    pub entries-add : (a : A) (t : List ℕ) (r : Bool) → P a → length (f a) ≡ w → Added w (f a) s t r → Tried (CountedOf P w f n) (put-last n a ls) t r
-    entries-add a t r p long h =
-        tried-map (put-last n a ls) t r (all (ltb (length ls) n))
-        (subst (λ (after : Option (List (List ℕ))). Tried (Counted w n) after t r) (last-map f n a ls) (h .tried long n (map f ls) (c .counted)))
+    -- an entry is put by its key
+    pub entries-put : (n : ℕ) (a : A) (t : List ℕ) (r : Bool) → P a → ((b : A) → P b → same? (key b) (key a) ≡ e b)
+        → Tried Is (put-keyed (hit o (take m (drop o (f a)))) n (f a) (map f ls)) t r → Tried (EntriesOf Is P f) (put-keyed e n a ls) t r
+    entries-put n a t r p same h =
+        tried-map (put-keyed e n a ls) t r (all (ltb (indexOf e ls) n))
+        (subst (λ (after : Option (List (List ℕ))). Tried Is after t r)
+        (ap (λ (k : List ℕ). put-keyed (hit o k) n (f a) (map f ls)) (d .stands a) ∙ keyed-map f (hit o (key a)) e n a ls (hits (key a) (d .key-long a) same)) h)
       where
-        all : (b : Bool) (ks : List A) → cond b (some (ls ++ (a ∷ []))) none ≡ some ks → All P ks
-        all true ks e = subst (All P) (some-one (ls ++ (a ∷ [])) ks e) (all-append P ls (a ∷ []) (c .each) (p, tt))
-        all false ks e = absurd (some-none ks (sym e))
+        all : (b : Bool) (ks : List A) → cond b (some (putAt (indexOf e ls) a ls)) none ≡ some ks → All P ks
+        all true ks q = subst (All P) (some-one (putAt (indexOf e ls) a ls) ks q) (put-all P (indexOf e ls) a ls p each)
+        all false ks q = absurd (some-none ks (sym q))
 
-    module _ (o m : ℕ) (key : A → List ℕ) (d : Keyed w f o m key) (e : A → Bool) where
-      -- a slot has a key where its entry has it
-      hits : (k : List ℕ) → length k ≡ m → ((a : A) → P a → same? (key a) k ≡ e a) → All (λ a. hit o k (f a) ≡ e a) ls
-      hits k l same = all-turn P (λ a. hit o k (f a) ≡ e a) (λ a p. ap (λ (i : ℕ). same? (take i (drop o (f a))) k) l ∙ ap (λ (x : List ℕ). same? x k) (d .stands a) ∙ same a p) ls (c .each)
+    -- the entries with a key are taken out
+    pub entries-drop : (k t : List ℕ) → length k ≡ m → ((a : A) → P a → same? (key a) k ≡ e a) → Is (unless (hit o k) (map f ls)) t → EntriesOf Is P f (unless e ls) t
+    entries-drop k t l same h = record { each = unless-all P e ls each; counted = subst (λ (xs : List (List ℕ)). Is xs t) (unless-map f (hit o k) e ls (hits k l same)) h }
 
-      -- an entry is put by its key
-      pub entries-put : (a : A) (t : List ℕ) (r : Bool) → P a → ((b : A) → P b → same? (key b) (key a) ≡ e b) → KeyedPut w o m (f a) s t r → Tried (CountedOf P w f n) (put-keyed e n a ls) t r
-      entries-put a t r p same h =
-          tried-map (put-keyed e n a ls) t r (all (ltb (indexOf e ls) n))
-          (subst (λ (after : Option (List (List ℕ))). Tried (Counted w n) after t r)
-          (ap (λ (k : List ℕ). put-keyed (hit o k) n (f a) (map f ls)) (d .stands a) ∙ keyed-map f (hit o (key a)) e n a ls (hits (key a) (d .key-long a) same))
-          (h .tried (d .long a) (d .inside) n (map f ls) (c .counted)))
-        where
-          all : (b : Bool) (ks : List A) → cond b (some (putAt (indexOf e ls) a ls)) none ≡ some ks → All P ks
-          all true ks q = subst (All P) (some-one (putAt (indexOf e ls) a ls) ks q) (put-all P (indexOf e ls) a ls p (c .each))
-          all false ks q = absurd (some-none ks (sym q))
+module _ {A : Type 0} (P : A → Type 0) (w : ℕ) (f : A → List ℕ) (n : ℕ) (ls : List A) (s : List ℕ) (c : CountedOf P w f n ls s) where
+  -- the count is that of the entries
+  pub entries-count : (r : ℕ) → Told s r → r ≡ length ls
+  entries-count r h = h .says w n (map f ls) (c .counted) ∙ length-map ls f
 
-      -- the entries with a key are taken out
-      pub entries-drop : (k t : List ℕ) → length k ≡ m → ((a : A) → P a → same? (key a) k ≡ e a) → KeyDropped w o k s t → CountedOf P w f n (unless e ls) t
-      entries-drop k t l same h =
-          record {
-            each = unless-all P e ls (c .each);
-            counted = subst (λ (xs : List (List ℕ)). Counted w n xs t) (unless-map f (hit o k) e ls (hits k l same)) (h (omega (arith, d .inside)) n (map f ls) (c .counted));
-          }
+  -- as many zeros have no entry
+  pub entries-none : CountedOf P w f n [] (replicate (length s) 0)
+  entries-none = record { each = tt; counted = counted-none w n (map f ls) s (c .counted) }
+
+  -- an entry is added at the end
+  pub entries-add : (a : A) (t : List ℕ) (r : Bool) → P a → length (f a) ≡ w → Added w (f a) s t r → Tried (CountedOf P w f n) (put-last n a ls) t r
+  entries-add a t r p long h =
+      tried-map (Counted w n) P f (put-last n a ls) t r (all (ltb (length ls) n))
+      (subst (λ (after : Option (List (List ℕ))). Tried (Counted w n) after t r) (last-map f n a ls) (h .tried long n (map f ls) (c .counted)))
+    where
+      all : (b : Bool) (ks : List A) → cond b (some (ls ++ (a ∷ []))) none ≡ some ks → All P ks
+      all true ks e = subst (All P) (some-one (ls ++ (a ∷ [])) ks e) (all-append P ls (a ∷ []) (c .each) (p, tt))
+      all false ks e = absurd (some-none ks (sym e))
 
 -- ---- the bytes
 

@@ -39,10 +39,14 @@ pub record Counted (w n : ℕ) (xs : List (List ℕ)) (s : List ℕ) : Type 0 wh
   pub each : Slots w xs
   pub bytes : s ≡ u16 (length xs) ++ flat (pad (replicate w 0) n xs)
 
--- the same for entries that have P and whose bytes are f
-pub record CountedOf {A : Type 0} (P : A → Type 0) (w : ℕ) (f : A → List ℕ) (n : ℕ) (ls : List A) (s : List ℕ) : Type 0 where
+-- entries that have P, and whose bytes f are the slots of a list
+pub record EntriesOf {A : Type 0} (Is : List (List ℕ) → List ℕ → Type 0) (P : A → Type 0) (f : A → List ℕ) (ls : List A) (s : List ℕ) : Type 0 where
   pub each : All P ls
-  pub counted : Counted w n (map f ls) s
+  pub counted : Is (map f ls) s
+
+-- s is the count of these entries, and their places
+abbrev pub CountedOf : {A : Type 0} → (A → Type 0) → ℕ → (A → List ℕ) → ℕ → List A → List ℕ → Type 0
+CountedOf P w f n = EntriesOf (Counted w n) P f
 
 -- what trying to change a list answers: its bytes are those of the list afterwards, or there was no room
 pub record Tried {T : Type 0} (Is : T → List ℕ → Type 0) (after : Option T) (bytes : List ℕ) (r : Bool) : Type 0 where

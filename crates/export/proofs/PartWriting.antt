@@ -7,7 +7,7 @@ use Rattle.writing.specs.Ranges.{InChannel}
 use Rattle.writing.specs.Settings.{Setting, unicode16}
 use Rattle.tables.specs.declared.limits.Limits.{Limits}
 use Rattle.tables.specs.Allowed.{LineOk}
-use Rattle.tables.specs.Layout.{count-size, lines-size, layout, line-bytes, groups-at, individuals-at, line-slots-at, line-slots-size, line-width, lines-at, channels-at, member-size, member-width, quick-at, quick-size, status-at, status-size}
+use Rattle.tables.specs.Layout.{count-size, layout, line-bytes, groups-at, individuals-at, line-slots-at, line-slots-size, line-width, lines-at, channels-at, member-size, member-width, quick-at, quick-size, status-at, status-size}
 use Rattle.tables.specs.Limits.{contact-places}
 use Rattle.tables.specs.Members.{member-ok, member-bytes, contacts-in, contacts-at}
 use Rattle.tables.specs.Store.{Holds}
@@ -127,10 +127,10 @@ module _ (lim : Limits) (t : Tables) (s : List ℕ) (h : Holds lim t s) where
 
 -- where a part starts and ends
 abbrev starts : Limits → Part → ℕ
-starts lim = part-from (lines-at lim) (lines-at lim + lines-size lim)
+starts lim = part-from (lines-at lim) (lines-at lim + (count-size + lim .lines * line-width))
 
 abbrev ends : Limits → Part → ℕ
-ends lim = part-to (lines-at lim) (lines-at lim + lines-size lim)
+ends lim = part-to (lines-at lim) (lines-at lim + (count-size + lim .lines * line-width))
 
 module _ (lim : Limits) (store s u : List ℕ) (r : Settings) (x : Exportable lim) (big : lim .message ≤ length s) where
   -- what was written of what a part holds are the part's settings, where they fit

@@ -33,31 +33,31 @@ abbrev pub FoundAs : ℕ → FoundPart → Type 0
 FoundAs n (Is p) = part-at n ≡ some p
 FoundAs n NoneSuch = part-at n ≡ none
 
--- where a part's slots stand in a store whose lines' region starts and ends here, behind a list's count: from this byte on
-abbrev pub part-from : (lines spare : ℕ) → Part → ℕ
-part-from lines spare Lines = lines + count-size
-part-from lines spare Fixed = key-at
-part-from lines spare QuickTexts = quick-at
-part-from lines spare Channels = channels-at + count-size
-part-from lines spare StatusTexts = status-at
-part-from lines spare Groups = groups-at
-part-from lines spare Individuals = individuals-at
-part-from lines spare GroupContacts = group-contacts-at + count-size
-part-from lines spare IndividualContacts = individual-contacts-at + count-size
-part-from lines spare LineSlots = line-slots-at
+-- where a part's slots stand in a store whose lines' region and whose order of the lines start here, behind a list's count: from this byte on
+abbrev pub part-from : (lines order : ℕ) → Part → ℕ
+part-from lines order Lines = lines + count-size
+part-from lines order Fixed = key-at
+part-from lines order QuickTexts = quick-at
+part-from lines order Channels = channels-at + count-size
+part-from lines order StatusTexts = status-at
+part-from lines order Groups = groups-at
+part-from lines order Individuals = individuals-at
+part-from lines order GroupContacts = group-contacts-at + count-size
+part-from lines order IndividualContacts = individual-contacts-at + count-size
+part-from lines order LineSlots = line-slots-at
 
 -- up to this one
-abbrev pub part-to : (lines spare : ℕ) → Part → ℕ
-part-to lines spare Lines = spare
-part-to lines spare Fixed = quick-at
-part-to lines spare QuickTexts = status-at
-part-to lines spare Channels = lines
-part-to lines spare StatusTexts = groups-at
-part-to lines spare Groups = individuals-at
-part-to lines spare Individuals = line-slots-at
-part-to lines spare GroupContacts = individual-contacts-at
-part-to lines spare IndividualContacts = channels-at
-part-to lines spare LineSlots = group-contacts-at
+abbrev pub part-to : (lines order : ℕ) → Part → ℕ
+part-to lines order Lines = order
+part-to lines order Fixed = quick-at
+part-to lines order QuickTexts = status-at
+part-to lines order Channels = lines
+part-to lines order StatusTexts = groups-at
+part-to lines order Groups = individuals-at
+part-to lines order Individuals = line-slots-at
+part-to lines order GroupContacts = individual-contacts-at
+part-to lines order IndividualContacts = channels-at
+part-to lines order LineSlots = group-contacts-at
 
 -- the settings of what a part's bytes hold were written behind a request's head
 abbrev pub WritesPart : Part → (held before after : List ℕ) → Settings → Type 0

@@ -80,15 +80,15 @@ fn part_of(number: u32) -> FoundPart
     FoundPart::Is(which)
 }
 
-// Where a part's slots stand in a store whose lines' region starts and ends here, behind a list's count: from this byte up to that one. docs/STORE.md.
+// Where a part's slots stand in a store whose lines' region and whose order of the lines start here, behind a list's count: from this byte up to that one. docs/STORE.md.
 pub(crate) struct Span(usize, usize);
 
-fn span_of(part: Part, lines: usize, spare: usize) -> Span
-    requires { ⌜ (channels-at + count-size ≤ lines) × (lines + count-size ≤ spare) ⌝ }
-    ensures { λ r. ⌜ (r .0 ≡ part-from lines spare part) × (r .1 ≡ part-to lines spare part) × (r .0 ≤ r .1) × (r .1 ≤ spare) ⌝ }
+fn span_of(part: Part, lines: usize, order: usize) -> Span
+    requires { ⌜ (channels-at + count-size ≤ lines) × (lines + count-size ≤ order) ⌝ }
+    ensures { λ r. ⌜ (r .0 ≡ part-from lines order part) × (r .1 ≡ part-to lines order part) × (r .0 ≤ r .1) × (r .1 ≤ order) ⌝ }
 {
     match part {
-        Part::Lines => Span(lines + COUNT, spare),
+        Part::Lines => Span(lines + COUNT, order),
         Part::Fixed => Span(KEY, QUICK),
         Part::QuickTexts => Span(QUICK, STATUS),
         Part::Channels => Span(CHANNELS + COUNT, lines),
@@ -125,8 +125,8 @@ fn write_part(buffer: &mut [u8], part: Part, store: &[u8], limits: Limits) -> Se
     ensures { λ r. ⌜ (Exportable limits → PartWritten limits part (now (store .entry)) (now (buffer .entry)) (now (buffer .exit)) r) ⌝ }
 {
     let lines = CHANNELS + (COUNT + limits.channels * CHANNEL_SLOT);
-    let spare = lines + (COUNT + limits.lines * LINE_SLOT);
-    let span = span_of(part, lines, spare);
+    let order = lines + (COUNT + limits.lines * LINE_SLOT);
+    let span = span_of(part, lines, order);
     let start = span.0;
     let end = span.1;
     write_held(buffer, part, &store[start..end])

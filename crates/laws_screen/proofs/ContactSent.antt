@@ -1,5 +1,5 @@
 -- Group and individual contacts: what stands under an address is what the last setting for it sent. Assumes nothing.
-use Rattle.lists.proofs.Kit.{ℕ, _≡_, refl, sym, ap, _∙_, List, map, none, some, eqb-true, eq-eqb, eqb}
+use Rattle.lists.proofs.Kit.{_≡_, refl, sym, ap, _∙_, List, map, some}
 use Rattle.writing.specs.declared.Kind.the-variants.{GroupContacts, IndividualContacts}
 use Rattle.writing.specs.declared.Operation.{Operation}
 use Rattle.writing.specs.Settings.{Setting, Addressed, group-contacts, individual-contacts, lines, key, quick-texts, home, channels, system, status-texts, group, individual, line-slot, last}
@@ -12,25 +12,20 @@ use Rattle.tables.specs.MemberKinds.{FlagsIn, AddressIn, MemberIn, number-of, c
 use Rattle.tables.specs.Members.{contacts-in}
 use Rattle.tables.specs.Owns.{put-own}
 use Rattle.tables.specs.Tables.{Tables}
+use Rattle.tables.proofs.ContactSentences.{has-number, key-is-number}
 use Rattle.tables.proofs.Owns.{others-stay}
 use Rattle.tables.proofs.RoomSentences.{came}
-use Rattle.requests.specs.Requests.{forget, or-else}
+use Rattle.requests.specs.Requests.{or-else}
 use Rattle.laws_screen.specs.ByKey.{found, under-key, to-group-contact, to-individual-contact, to-contact}
-use Rattle.laws_screen.proofs.KeyLaws.{Looks, key-left}
+use Rattle.laws_screen.proofs.KeyLaws.{looks-by, key-left}
 use Rattle.laws_screen.proofs.Sent.{Sees}
-
--- the tests of contacts go by one key
-address-looks : (w : Members) (a : AddressIn w) → Looks (λ x. has-address w (x .address)) (has-address w a)
-address-looks w a = record {
-  alike = λ x y e. ap (λ (n : ℕ). eqb n (number-of w a)) (eqb-true (number-of w (y .address)) (number-of w (x .address)) e);
-  one = λ x y h k. eq-eqb (number-of w (y .address)) (number-of w (x .address)) (eqb-true (number-of w (y .address)) (number-of w a) k ∙ sym (eqb-true (number-of w (x .address)) (number-of w a) h));
-}
 
 -- what a setting of contacts leaves under an address
 contacts-left : (w : Members) (a : AddressIn w) (o : Operation) (f : FlagsIn w) (es : List (Addressed (AddressIn w))) (xs ys : List (MemberIn w))
     → contacts-after w contact-places o f es xs ≡ some ys
     → found (has-address w a) ys ≡ or-else (under-key (has-address w a) o (map (contact-of f) es)) (found (has-address w a) xs)
-contacts-left w a o f es xs ys e = key-left (λ x. has-address w (x .address)) (has-address w a) (address-looks w a) (contact-of f) contact-places o es xs ys e
+contacts-left w a o f es xs ys e =
+    key-left (λ x. has-address w (x .address)) (has-address w a) (looks-by (contact-key w) (has-number w) (key-is-number w) (number-of w a)) (contact-of f) contact-places o es xs ys e
 
 group-contact-step : (lim : Limits) (a : AddressIn OfGroups) (s : Setting) (t u : Tables) → apply lim s t ≡ some u
     → found (has-address OfGroups a) (u .group-contacts) ≡ or-else (to-group-contact a s) (found (has-address OfGroups a) (t .group-contacts))

@@ -1,5 +1,5 @@
 -- Contacts and the screen: the name beside an address is the one last sent with it, and a background group has no row. Assumes nothing.
-use Rattle.lists.proofs.Kit.{ℕ, _≤_, _<_, _≡_, refl, sym, ap, _∙_, _≢_, _↔_, Bool, List, [], map, Option, none, some, Option·some-injective, eqb-true, eq-eqb, eqb, length, getD}
+use Rattle.lists.proofs.Kit.{ℕ, _≤_, _<_, _≡_, refl, sym, ap, _∙_, _≢_, _↔_, Bool, List, [], map, Option, none, some, Option·some-injective, length, getD}
 use denote.Ref.{RefT}
 use Rattle.lists.specs.Ladder.{Answers}
 use Rattle.writing.specs.Settings.{Setting}
@@ -10,8 +10,9 @@ use Rattle.tables.specs.declared.members.Members.the-variants.{OfGroups, OfIndi
 use Rattle.tables.specs.Allowed.{Allowed}
 use Rattle.tables.specs.Apply.{and-then, has-address}
 use Rattle.tables.specs.Limits.{slot-places}
-use Rattle.tables.specs.MemberKinds.{AddressIn, MemberIn, number-of, contact-key}
+use Rattle.tables.specs.MemberKinds.{AddressIn, MemberIn, contact-key}
 use Rattle.tables.specs.Tables.{Tables, GroupMember, fresh}
+use Rattle.tables.proofs.ContactSentences.{key-is-number}
 use Rattle.screen.specs.declared.rows.Row.{Row}
 use Rattle.screen.specs.declared.rows.Row.the-variants.{Group, GroupContact}
 use Rattle.screen.specs.Rows.{Caption, individual-row, caption, of, text-of, unit-bytes}
@@ -57,8 +58,7 @@ module _ (lim : Limits) (log : List (List Setting)) (store : List ℕ) (x : Reac
   -- what stands at a position is found under its address
   held : (y : MemberIn w) → getD (map some (contacts-in w t)) n none ≡ some y → found (has-address w (y .address)) (contacts-in w t) ≡ some y
   held y e =
-      found-there (contact-key w) (has-address w (y .address)) y (λ z. (λ h. eqb-true (contact-key w z) (contact-key w y) h, λ h. eq-eqb (contact-key w z) (contact-key w y) h))
-      (contacts-in w t) (one-address lim t (reached-tables lim log store x t o .1 .0) w) n e
+      found-there (contact-key w) (has-address w (y .address)) y (key-is-number w (contact-key w y)) (contacts-in w t) (one-address lim t (reached-tables lim log store x t o .1 .0) w) n e
 
   -- CONTACT HELD: the contact at a position is the one that was last sent with its address
   pub contact-held : (y : MemberIn w) → getD (map some (contacts-in w t)) n none ≡ some y → LastSent (to-contact w (y .address)) (all-of log) y

@@ -55,11 +55,16 @@ module _ (lim : Limits) (log : List (List Setting)) (store : List ℕ) (r : Reac
   pub joined-counts : (a : Told) → Answers (counting lim store) a → a ≡ counts-of t
   joined-counts a x = counts-are lim store t a (reached-tables .0 .roomy) (reached-tables .1) x
 
--- JOINED PART: the same of the part that the call gives
+-- WHOLE PART: the part that the call gives of a store of these tables is the row's text or number, and empty for an absent row
+pub whole-part : (lim : Limits) (store scratch : RefT (List ℕ)) (row : Row) (r : RefT (List ℕ)) (t : Tables) → StoreOf lim (store .now) → Holds lim t (store .now) → 36 ≤ length (scratch .now)
+    → PartGiven lim store scratch row r → RowBytes (caption t row) (r .now)
+whole-part lim store scratch row r t s h big g =
+    subst (RowBytes (caption t row)) (sym (g .bytes)) (whole-text lim (store .now) row (scratch .now) (g .after) (g .allowed) t s h big)
+
+-- JOINED PART: so it is of the tables after the settings taken, in order
 pub joined-part : (lim : Limits) (log : List (List Setting)) (store scratch : RefT (List ℕ)) (row : Row) (r : RefT (List ℕ)) (t : Tables) → Reached lim log (store .now) → InOrder lim fresh log t → 36 ≤ length (scratch .now)
     → PartGiven lim store scratch row r → RowBytes (caption t row) (r .now)
-joined-part lim log store scratch row r t x o big g =
-    subst (RowBytes (caption t row)) (sym (g .bytes)) (joined lim log (store .now) x t o (scratch .now) row (g .after) big (g .allowed))
+joined-part lim log store scratch row r t x o = let (s, h) = reached-tables lim log (store .now) x t o in whole-part lim store scratch row r t s h
 
 -- ---- a row's name
 
@@ -74,12 +79,14 @@ shown-name (line us ds) d n s = name-bytes _ us d n s
 shown-name (group us a) d n s = name-bytes _ us d n s
 shown-name (individual us a) d n s = name-bytes _ us d n s
 
+pub named-bytes : (c : Caption) (bytes : List ℕ) → text-of c ≢ [] → RowBytes (some c) bytes → bytes ≡ unit-bytes (text-of c)
+named-bytes c bytes n (d, shown, is) = is ∙ ap unit-bytes (shown-name c d n shown)
+
 -- ROW NAME: the part of a row whose text is not empty is that text
 pub row-name : (lim : Limits) (log : List (List Setting)) (store scratch : RefT (List ℕ)) (row : Row) (r : RefT (List ℕ)) (t : Tables) → Reached lim log (store .now) → InOrder lim fresh log t → 36 ≤ length (scratch .now)
     → PartGiven lim store scratch row r → (c : Caption) → caption t row ≡ some c → text-of c ≢ [] → r .now ≡ unit-bytes (text-of c)
 row-name lim log store scratch row r t x o big p c e n =
-    let (d, shown, bytes) = subst (λ (k : Option Caption). RowBytes k (r .now)) e (joined-part lim log store scratch row r t x o big p) in
-    bytes ∙ ap unit-bytes (shown-name c d n shown)
+    named-bytes c (r .now) n (subst (λ (k : Option Caption). RowBytes k (r .now)) e (joined-part lim log store scratch row r t x o big p))
 
 -- what is shown of a group is its text and its address
 pub group-shows : (g : GroupMember) (c : Caption) → group-row g ≡ some c → c ≡ group (g .text) (g .address)

@@ -48,6 +48,20 @@ pub record Looks {A : Type 0} (same : A → A → Bool) (has : A → Bool) : Typ
   pub alike : (a x : A) → same a x ≡ true → has x ≡ has a
   pub one : (a x : A) → has a ≡ true → has x ≡ true → same a x ≡ true
 
+module _ {A K : Type 0} (key : A → K) (has : K → A → Bool) (decides : (k : K) (a : A) → (has k a ≡ true) ↔ (key a ≡ k)) where
+  -- so it is where a test says which entries have a key
+  pub looks-by : (k : K) → Looks (λ a. has (key a)) (has k)
+  looks-by k = record {
+    alike = λ a x e. go a x (decides (key a) x .0 e) (has k x) (has k a) refl refl;
+    one = λ a x h j. decides (key a) x .1 (decides k x .0 j ∙ sym (decides k a .0 h));
+  }
+    where
+      go : (a x : A) → key x ≡ key a → (b c : Bool) → has k x ≡ b → has k a ≡ c → b ≡ c
+      go a x e true true h j = refl
+      go a x e true false h j = absurd (true≢false (sym (decides k a .1 (sym e ∙ decides k x .0 h)) ∙ j))
+      go a x e false true h j = absurd (true≢false (sym (decides k x .1 (e ∙ decides k a .0 j)) ∙ h))
+      go a x e false false h j = refl
+
 module _ {A : Type 0} (same : A → A → Bool) (has : A → Bool) (looks : Looks same has) where
   -- an entry that is put is found under its own key, and changes nothing under another
   put-found : (a : A) (ls : List A) → found has (putAt (indexOf (same a) ls) a ls) ≡ cond (has a) (some a) (found has ls)
@@ -169,3 +183,12 @@ found-place {A} has x (y ∷ ys) e = go (has y) e (λ h. found-place has x ys h)
         → (i : ℕ) × (getD (map some (y ∷ ys)) i none ≡ some x)
     go true h r = (0, h)
     go false h r = let (i, p) = r h in (suc i, p)
+
+-- and has the key
+pub found-has : {A : Type 0} (has : A → Bool) (x : A) (ls : List A) → found has ls ≡ some x → has x ≡ true
+found-has has x [] e = absurd (Option·none-ne-some x e)
+found-has has x (y ∷ ys) e = go (has y) refl e (λ h. found-has has x ys h)
+  where
+    go : (b : Bool) → has y ≡ b → cond b (some y) (found has ys) ≡ some x → (found has ys ≡ some x → has x ≡ true) → has x ≡ true
+    go true h k r = ap has (sym (Option·some-injective y x k)) ∙ h
+    go false h k r = r k

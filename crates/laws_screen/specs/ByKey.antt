@@ -1,4 +1,4 @@
--- What was sent for a key of a list: group and individual contacts, which are "keyed by address".
+-- What was sent for a key of a list: group and individual contacts, which are "keyed by address", and line contacts, by IDtype and digits.
 use Prim.Native.Nat.{ℕ}
 use mathlib.Core.Bool.{Bool, cond}
 use mathlib.Core.List.{List, [], _∷_, map}
@@ -10,9 +10,9 @@ use Rattle.writing.specs.declared.Operation.the-variants.{Add, Delete, Replace}
 use Rattle.writing.specs.Settings.{Setting, group-contacts, individual-contacts, lines, key, quick-texts, home, channels, system, status-texts, group, individual, line-slot, last}
 use Rattle.tables.specs.declared.members.Members.{Members}
 use Rattle.tables.specs.declared.members.Members.the-variants.{OfGroups, OfIndividuals}
-use Rattle.tables.specs.Apply.{has-address, contact-of, with-room}
+use Rattle.tables.specs.Apply.{has-key, line-of, has-address, contact-of, with-room}
 use Rattle.tables.specs.MemberKinds.{AddressIn, MemberIn}
-use Rattle.tables.specs.Tables.{GroupMember, IndividualMember}
+use Rattle.tables.specs.Tables.{Line, LineKey, GroupMember, IndividualMember}
 use Rattle.screen.specs.declared.rows.Row.{Row}
 use Rattle.screen.specs.declared.rows.Row.the-variants.{GroupContact, IndividualContact}
 use Rattle.screen.specs.Rows.{Caption, group-row, individual-row}
@@ -66,7 +66,23 @@ to-individual-contact a (individual o f s) = none
 to-individual-contact a (line-slot o f s) = none
 to-individual-contact a (last f h) = none
 
--- the two by kind
+-- and of the line with the key k: "The identity of a line is its IDtype together with its digits"
+abbrev pub to-line : LineKey → Setting → Option (Option Line)
+to-line k (group-contacts o f es) = none
+to-line k (individual-contacts o f es) = none
+to-line k (lines o f es) = under-key (has-key k) o (map (line-of f) es)
+to-line k (key t f) = none
+to-line k (quick-texts o es) = none
+to-line k (home h) = none
+to-line k (channels o ns) = none
+to-line k (system s) = none
+to-line k (status-texts o es) = none
+to-line k (group o f s) = none
+to-line k (individual o f s) = none
+to-line k (line-slot o f s) = none
+to-line k (last f h) = none
+
+-- the two of contacts by kind
 abbrev pub to-contact : (w : Members) → AddressIn w → Setting → Option (Option (MemberIn w))
 to-contact OfGroups = to-group-contact
 to-contact OfIndividuals = to-individual-contact

@@ -23,8 +23,8 @@ fn read_counts(store: &[u8], limits: Limits) -> Counts
     ensures { λ r. ⌜ Reads limits (now (store .entry)) (told r) ⌝ }
 {
     let lines = CHANNELS + (COUNT + limits.channels * CHANNEL_SLOT);
-    let spare = lines + (COUNT + limits.lines * LINE_SLOT);
-    let held = count(&store[lines..spare]);
+    let order = lines + (COUNT + limits.lines * LINE_SLOT);
+    let held = count(&store[lines..order]);
     let channels = count(&store[CHANNELS..lines]);
     Counts::Held(held as u16, channels as u16)
 }

@@ -1,6 +1,7 @@
-// Runs cases that were worked out by hand, of the tables, their counts and the screen's rows: a line each, with the number answered and what was left behind.
+// Runs cases that were worked out by hand, of the tables, their counts and order, and the screen's rows: a line each, with the number answered and what was left behind.
 use tables::limits::HANDHELD_SIZE;
 
+mod caller_cases;
 mod channel_cases;
 mod contact_cases;
 mod count_cases;
@@ -18,6 +19,7 @@ fn main() {
     type_cases::run(&mut store);
     channel_cases::run(&mut store);
     count_cases::run(&mut store);
+    caller_cases::run(&mut store);
     text_cases::run(&mut store);
     slot_cases::run(&mut store);
     contact_cases::run(&mut store);

@@ -1,3 +1,4 @@
+pub mod CallerBits
 pub mod ExportBits
 pub mod Packed
 pub mod RowBits

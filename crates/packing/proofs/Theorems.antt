@@ -1,5 +1,5 @@
 -- What firmware may rely on: two answers that a contract allows are equal, and the bits of an answer give its values back. Assumes nothing.
-use Rattle.lists.proofs.Kit.{ℕ, _/_, _%_, _≤_, _≡_, refl, sym, ap, _∙_, List, arith}
+use Rattle.lists.proofs.Kit.{ℕ, _/_, _%_, _≤_, _<_, _≡_, refl, sym, ap, _∙_, List, Option, none, some, arith}
 use Rattle.plan.specs.Answers.{Answer}
 use Rattle.plan.proofs.AnswerLaws.{One, determined as value-determined}
 use Rattle.writing.specs.Writing.{bit}
@@ -17,7 +17,9 @@ use Rattle.screen.specs.Screen.{RowPart, of-store, of-scratch, AfterRow as Row}
 use Rattle.screen.proofs.Determined.{shown-determined, number-one}
 use Rattle.menu.specs.Menu.{Told as ToldCounts}
 use Rattle.menu.proofs.Theorems.{counts-one}
-use Rattle.packing.specs.Packing.{Starts, packed, Packs, Judgements, Commits, packed-export, PacksExport, Exports, packed-counts, PacksCounts, Counts, AnswersNumber, packed-part, start-of, length-of, PacksPart, AnswersPart, packed-value, PacksValue, Converts}
+use Rattle.callers.specs.Callers.{Told as ToldCaller}
+use Rattle.callers.proofs.Theorems.{line-of-one}
+use Rattle.packing.specs.Packing.{Starts, packed, Packs, Judgements, Commits, packed-export, PacksExport, Exports, packed-counts, PacksCounts, Counts, found-of, row-of, packed-caller, PacksCaller, LooksUp, AnswersNumber, packed-part, start-of, length-of, PacksPart, AnswersPart, packed-value, PacksValue, Converts}
 
 -- ---- one answer
 
@@ -63,6 +65,11 @@ exports-determined lim part store buffer s t r q x y =
 pub counts-determined : (lim : Limits) (store : List ℕ) (r q : ℕ) → Counts lim store r → Counts lim store q → r ≡ q
 counts-determined lim store r q x y =
     x .packs .bits ∙ ap packed-counts (counts-one lim store _ _ (x .allowed) (y .allowed)) ∙ sym (y .packs .bits)
+
+-- WHO IS CALLING: one number
+pub callers-determined : (lim : Limits) (idtype : ℕ) (digits store : List ℕ) (r q : ℕ) → LooksUp lim idtype digits store r → LooksUp lim idtype digits store q → r ≡ q
+callers-determined lim idtype digits store r q x y =
+    x .packs .bits ∙ ap packed-caller (line-of-one lim idtype digits store _ _ (x .allowed) (y .allowed)) ∙ sym (y .packs .bits)
 
 -- A ROW'S NUMBER: one
 pub numbers-determined : (lim : Limits) (table row : ℕ) (store scratch : List ℕ) (r q : ℕ) → AnswersNumber lim table row store scratch r → AnswersNumber lim table row store scratch q → r ≡ q
@@ -112,6 +119,21 @@ counts-unpacked t r p =
     let c = p .channels in
     let e = p .bits in
     (omega arith, omega arith, omega arith, omega arith)
+
+-- whether there is a row has one bit
+found-small : (o : Option ℕ) → found-of o ≤ 1
+found-small none = omega arith
+found-small (some r) = omega arith
+
+-- WHO IS CALLING
+pub caller-unpacked : (t : ToldCaller) (r : ℕ) → PacksCaller t r
+    → (r % 256 ≡ t .number) × (r / 256 % 2 ≡ found-of (t .row)) × (r / 512 % 128 ≡ 0) × (r / 65536 % 65536 ≡ row-of (t .row)) × (r < 4294967296)
+caller-unpacked t r p =
+    let i : found-of (t .row) ≤ 1 = found-small (t .row) in
+    let n = p .number in
+    let l = p .row in
+    let e = p .bits in
+    (omega arith, omega arith, omega arith, omega arith, omega arith)
 
 -- which slice a part is of
 abbrev pub slice-of : RowPart → ℕ

@@ -2,6 +2,7 @@
 use Prim.Native.Nat.{ℕ, _+_, _*_, _≤_, _<_}
 use mathlib.Core.Path.{_≡_}
 use mathlib.Core.List.{List, []}
+use mathlib.Core.Option.{Option, none, some}
 use Rattle.lists.specs.Ladder.{Answers}
 use Rattle.plan.specs.Answers.{Answer, Answered}
 use Rattle.writing.specs.Writing.{bit}
@@ -17,6 +18,7 @@ use Rattle.screen.specs.declared.answers.Place.{Place}
 use Rattle.screen.specs.Rows.{row-named}
 use Rattle.screen.specs.Screen.{RowPart, of-store, of-scratch, leaves, showing, numbering}
 use Rattle.menu.specs.Menu.{Told as ToldCounts, counting}
+use Rattle.callers.specs.Callers.{Told as ToldCaller, looking-up}
 
 -- ---- the limits
 
@@ -91,6 +93,33 @@ pub record Counts (lim : Limits) (store : List ℕ) (r : ℕ) : Type 0 where
   pub answer : ToldCounts
   pub allowed : Answers (counting lim store) answer
   pub packs : PacksCounts answer r
+
+-- ---- who is calling
+
+-- whether a row has the number: row 0 is a row too
+abbrev pub found-of : Option ℕ → ℕ
+found-of none = 0
+found-of (some r) = 1
+
+-- "a refusal carries no row": its bits are 0
+abbrev pub row-of : Option ℕ → ℕ
+row-of none = 0
+row-of (some r) = r
+
+-- "bits 0-7 number, bit 8 a row has it, 16-31 the row, all others 0"
+abbrev pub packed-caller : ToldCaller → ℕ
+packed-caller t = t .number + found-of (t .row) * 256 + row-of (t .row) * 65536
+
+pub record PacksCaller (t : ToldCaller) (r : ℕ) : Type 0 where
+  pub number : t .number < 256
+  pub row : row-of (t .row) < 65536
+  pub bits : r ≡ packed-caller t
+
+-- "The lookup answers with the row, or that no row has that number": an answer that its contract allows, packed
+pub record LooksUp (lim : Limits) (idtype : ℕ) (digits store : List ℕ) (r : ℕ) : Type 0 where
+  pub answer : ToldCaller
+  pub allowed : Answers (looking-up lim idtype digits store) answer
+  pub packs : PacksCaller answer r
 
 -- ---- the screen's rows
 

@@ -1,10 +1,12 @@
 // A shift: takes the messages of the records on standard input, from a fresh store, and prints what each comes to and what the set shows after it.
+mod call;
 mod messages;
 mod printing;
 mod room;
 mod rows;
 mod utf8;
 
+use call::call;
 use messages::tell;
 use printing::text;
 use records::Record;
@@ -19,10 +21,11 @@ use station::handheld::judge;
 use station::handheld::start;
 use tables::limits::HANDHELD_SIZE;
 
-// What the set shows: rows, and the menu's line.
+// What the set shows: rows, the menu's line, and who calls.
 fn show(store: &[u8]) {
     rows(store);
     room(store);
+    call(store);
 }
 
 // Judges a message, and commits it where it is good: what committing answers then, and what judging does where it is not.

@@ -39,7 +39,7 @@ fn is_there(store: &[u8], table: u32, place: u32) -> bool {
 }
 
 // The place of a row and what it shows.
-fn row(store: &[u8], table: u32, place: u32) {
+pub(crate) fn row(store: &[u8], table: u32, place: u32) {
     decimal(place as u64);
     text(b" ");
     let mut scratch = [0u8; 36];

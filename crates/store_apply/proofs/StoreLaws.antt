@@ -48,7 +48,7 @@ use Rattle.tables.specs.Owns.{Own, own, put-own}
 use Rattle.store_apply.specs.Places.{Unlisted}
 use Rattle.tables.proofs.AllowedLaws.{apply-allowed}
 use Rattle.tables.proofs.FitsLaws.{fits-key, fits-system, fits-group, fits-individual, fits-line-slot}
-use Rattle.tables.proofs.Frames.{hash-put as hash-back, key-put as key-back, home-put as home-back, system-put as system-back, quick-placed, quick-back, status-placed, status-back, groups-placed, groups-back, individuals-placed, individuals-back, line-slots-placed, line-slots-back, contacts-counted, contacts-back, channels-counted, channels-back, lines-counted, lines-back}
+use Rattle.tables.proofs.Frames.{hash-put as hash-back, key-put as key-back, home-put as home-back, system-put as system-back, quick-placed, quick-back, status-placed, status-back, groups-placed, groups-back, individuals-placed, individuals-back, line-slots-placed, line-slots-back, contacts-counted, contacts-back, channels-counted, channels-back, lines-ordered, lines-back}
 use Rattle.tables.proofs.LayoutLaws.{layout-length}
 
 -- ---- a region put back
@@ -191,7 +191,7 @@ module _ (l : Limits) (m s y : List ℕ) where
       let low : f .priority < 4 = (subst (Fits c) q p) .1 .1 .1 .1 .1 .0 in
       region-tried l was s is c left x (lines o f es) q r p (LineTable (l .lines)) b n y k
       (λ z e. ap₂ (λ a j. putMid a j (layout l was) y) v w ∙ lines-back l was (is .0) z y e)
-      (subst⁻¹ (LineTable (l .lines) (was .lines)) (ap₂ (λ a j. midOf a j (layout l was)) v w) (lines-counted l was (is .0) room))
+      (subst⁻¹ (LineTable (l .lines) (was .lines)) (ap₂ (λ a j. midOf a j (layout l was)) v w) (lines-ordered l was (is .0) room))
       (λ t. h low (l .lines) (was .lines) es t at (subst (InRange text-limits left) q r))
 
   -- ---- no store of these limits

@@ -77,7 +77,7 @@ fn apply_region(store: &mut [u8], limits: Limits, m: &[u8], setting: Setting) ->
     ensures { λ r. ⌜ Applied limits (now (m .entry)) setting (now (store .entry)) (now (store .exit)) r ⌝ }
 {
     let lines = CHANNELS + (COUNT + limits.channels * CHANNEL_SLOT);
-    let end = lines + (COUNT + limits.lines * LINE_SLOT);
+    let end = lines + (COUNT + limits.lines * LINE_SLOT + limits.lines);
     match setting {
         Setting::GroupContacts(op, flags, list) => {
             let byte = group_flag_byte(flags);

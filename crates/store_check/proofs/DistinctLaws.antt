@@ -9,7 +9,8 @@ use Rattle.slots.proofs.Pads.{pad-all, pad-is}
 use Rattle.slots.proofs.Parts.{flat-append}
 use Rattle.slots.proofs.Runs.{zeros-all, same-refl, same-not}
 use Rattle.counted_lists.specs.Counted.{Without, Distinct}
-use Rattle.store_check.specs.Checks.{Filled, key-in}
+use Rattle.orders.specs.OrderedLists.{slot-key}
+use Rattle.store_check.specs.Checks.{Filled}
 
 -- a slot of w bytes that is not empty
 abbrev Shown : ℕ → List ℕ → Type 0
@@ -43,7 +44,7 @@ module _ (w o k : ℕ) where
     pub left : List (List ℕ)
     pub each : All (Shown w) left
     pub here : midOf at (end - at) s ≡ flat left
-    pub same : Distinct (key-in o k) xs ↔ Distinct (key-in o k) left
+    pub same : Distinct (slot-key o k) xs ↔ Distinct (slot-key o k) left
 
   -- the same with the next slot
   record Next (s : List ℕ) (at end : ℕ) (xs : List (List ℕ)) : Type 0 where
@@ -51,7 +52,7 @@ module _ (w o k : ℕ) where
     later : List (List ℕ)
     each : Shown w slot × All (Shown w) later
     here : midOf at (end - at) s ≡ slot ++ flat later
-    same : Distinct (key-in o k) xs ↔ Distinct (key-in o k) (slot ∷ later)
+    same : Distinct (slot-key o k) xs ↔ Distinct (slot-key o k) (slot ∷ later)
 
   -- at the start all slots stand there
   pub distinct-start : 0 < w → (n : ℕ) (xs : List (List ℕ)) (s : List ℕ) (end : ℕ) → Found (0 < w) zeros? w s end → Filled w n xs s → Behind s 0 end xs
@@ -73,15 +74,15 @@ module _ (w o k : ℕ) where
     next : w ≤ end - at → Next s at end xs
     next h = go (q .left) (q .each) (q .here) (q .same)
       where
-        go : (ys : List (List ℕ)) → All (Shown w) ys → midOf at (end - at) s ≡ flat ys → Distinct (key-in o k) xs ↔ Distinct (key-in o k) ys → Next s at end xs
+        go : (ys : List (List ℕ)) → All (Shown w) ys → midOf at (end - at) s ≡ flat ys → Distinct (slot-key o k) xs ↔ Distinct (slot-key o k) ys → Next s at end xs
         go [] p e d = absurd (omega (arith, bytes-left, ap length e))
         go (y ∷ ys) p e d = record { slot = y; later = ys; each = p; here = e; same = d }
 
     -- where none are, no slot is left, and none has a key twice
-    pub distinct-end : end - at < w → Distinct (key-in o k) xs
+    pub distinct-end : end - at < w → Distinct (slot-key o k) xs
     distinct-end h = go (q .left) (q .each) (q .here) (q .same)
       where
-        go : (ys : List (List ℕ)) → All (Shown w) ys → midOf at (end - at) s ≡ flat ys → Distinct (key-in o k) xs ↔ Distinct (key-in o k) ys → Distinct (key-in o k) xs
+        go : (ys : List (List ℕ)) → All (Shown w) ys → midOf at (end - at) s ≡ flat ys → Distinct (slot-key o k) xs ↔ Distinct (slot-key o k) ys → Distinct (slot-key o k) xs
         go [] p e d = d .1 tt
         go (y ∷ ys) p e d = absurd (omega (arith, bytes-left, ap length e, length-append y (flat ys), p .0 .0))
 
@@ -101,7 +102,7 @@ module _ (w o k : ℕ) where
       abbrev key : List ℕ
       key = midOf (at + o) (at + o + k - (at + o)) s
 
-      key-read : key ≡ key-in o k (next h .slot)
+      key-read : key ≡ slot-key o k (next h .slot)
       key-read =
           let x = next h .slot in
           let j : at + o + k - (at + o) ≡ k = omega arith in
@@ -115,17 +116,17 @@ module _ (w o k : ℕ) where
       key-long = ap length key-read ∙ length-take-le k (drop o (next h .slot)) (omega (arith, length-drop o (next h .slot), next h .each .0 .0))
 
       -- a slot that is not empty is passed where it has another key
-      key-passed : (y : List ℕ) → zeros? y ≡ false → (fit o key y ≡ false) ↔ (key-in o k y ≢ key-in o k (next h .slot))
+      key-passed : (y : List ℕ) → zeros? y ≡ false → (fit o key y ≡ false) ↔ (slot-key o k y ≢ slot-key o k (next h .slot))
       key-passed y z =
-          let e : fit o key y ≡ same? (key-in o k y) (key-in o k (next h .slot))
-          = or-rest (hit o key y) (zeros? y) z ∙ ap (λ (i : ℕ). same? (take i (drop o y)) key) key-long ∙ ap (same? (key-in o k y)) key-read in (
-            λ f g. true≢false (sym (ap (λ (u : List ℕ). same? u (key-in o k (next h .slot))) g ∙ same-refl (key-in o k (next h .slot))) ∙ sym e ∙ f),
-            λ f. e ∙ same-not (key-in o k y) (key-in o k (next h .slot)) f,
+          let e : fit o key y ≡ same? (slot-key o k y) (slot-key o k (next h .slot))
+          = or-rest (hit o key y) (zeros? y) z ∙ ap (λ (i : ℕ). same? (take i (drop o y)) key) key-long ∙ ap (same? (slot-key o k y)) key-read in (
+            λ f g. true≢false (sym (ap (λ (u : List ℕ). same? u (slot-key o k (next h .slot))) g ∙ same-refl (slot-key o k (next h .slot))) ∙ sym e ∙ f),
+            λ f. e ∙ same-not (slot-key o k y) (slot-key o k (next h .slot)) f,
           )
 
       module _ (r : ℕ) (found : Found (KeyAt w o key × (length key ≡ k)) (fit o key) w (midOf (at + w) (end - (at + w)) s) r) where
         -- the search ends at the end where no slot behind has the key
-        key-none : (r ≡ end - (at + w)) ↔ Without (key-in o k) (key-in o k (next h .slot)) (next h .later)
+        key-none : (r ≡ end - (at + w)) ↔ Without (slot-key o k) (slot-key o k (next h .slot)) (next h .later)
         key-none =
             let n = next h in
             let c : Slots w (n .later) = all-turn (Shown w) (λ x. length x ≡ w) (λ x p. p .0) (n .later) (n .each .1) in
@@ -133,9 +134,9 @@ module _ (w o k : ℕ) where
             let l : end - (at + w) ≡ length (flat (n .later))
             = sym (length-take-le (end - (at + w)) (drop (at + w) s) (omega (arith, length-drop (at + w) s))) ∙ ap length (slot-cut .1) in
             let t = none-before (fit o key) w wide (n .later) (n .each .1) in (
-              λ e. all-both (Shown w) (λ y. fit o key y ≡ false) (λ y. key-in o k y ≢ key-in o k (n .slot)) (λ y p. key-passed y (p .1) .0) (n .later) (n .each .1) (t .0 (sym f ∙ e ∙ l)),
+              λ e. all-both (Shown w) (λ y. fit o key y ≡ false) (λ y. slot-key o k y ≢ slot-key o k (n .slot)) (λ y p. key-passed y (p .1) .0) (n .later) (n .each .1) (t .0 (sym f ∙ e ∙ l)),
               λ a.
-                  f ∙ t .1 (all-both (Shown w) (λ y. key-in o k y ≢ key-in o k (n .slot)) (λ y. fit o key y ≡ false) (λ y p. key-passed y (p .1) .1) (n .later) (n .each .1) a) ∙ sym l,
+                  f ∙ t .1 (all-both (Shown w) (λ y. slot-key o k y ≢ slot-key o k (n .slot)) (λ y. fit o key y ≡ false) (λ y p. key-passed y (p .1) .1) (n .later) (n .each .1) a) ∙ sym l,
             )
 
         -- the slot's key is no other's: those behind decide
@@ -145,5 +146,5 @@ module _ (w o k : ℕ) where
             record { left = n .later; each = n .each .1; here = slot-cut .1; same = (λ d. n .same .0 d .1, λ d. n .same .1 (key-none .0 e, d)) }
 
         -- it is another's too
-        pub distinct-stop : (r ≡ end - (at + w) → ⊥) → Distinct (key-in o k) xs → ⊥
+        pub distinct-stop : (r ≡ end - (at + w) → ⊥) → Distinct (slot-key o k) xs → ⊥
         distinct-stop e d = e (key-none .1 (next h .same .0 d .0))

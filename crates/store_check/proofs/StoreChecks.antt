@@ -1,8 +1,9 @@
 -- A store, region by region: which bytes are one. Assumes nothing.
-use Rattle.lists.proofs.Kit.{_≡_, sym, ap, ap₂, _∙_, subst, true, _↔_, Iff·rfl, Iff·trans, Iff·and, Option, List, [], _++_, append-assoc, append-nil, ℕ, _+_, _*_, _-_, arith, midOf, length, drop, replicate, length-append, length-drop}
-use Rattle.slots.specs.Slots.{places, front, zeros?, u16, EntryOf, PlacesOf}
+use Rattle.lists.proofs.Kit.{_≡_, sym, ap, ap₂, _∙_, subst, true, _↔_, Iff·rfl, Iff·trans, Iff·and, Option, List, [], _++_, map, append-assoc, append-nil, ℕ, _+_, _*_, _-_, arith, midOf, length, drop, replicate, length-append, length-drop}
+use Rattle.slots.specs.Slots.{places, zeros?, u16, EntryOf, PlacesOf}
 use Rattle.slots.proofs.Runs.{zeros-all, zeros-are}
-use Rattle.slots.proofs.Tables.{front-length, places-length}
+use Rattle.slots.proofs.Tables.{places-length}
+use Rattle.orders.proofs.ListLaws.{ordered-length}
 use Rattle.writing.specs.declared.HomeNumbers.{HomeNumbers}
 use Rattle.writing.specs.declared.SystemCode.{SystemCode}
 use Rattle.writing.specs.Ranges.{InChannel}
@@ -10,15 +11,17 @@ use Rattle.writing.specs.Settings.{Hash, Text}
 use Rattle.tables.specs.declared.limits.Limits.{Limits}
 use Rattle.tables.specs.Allowed.{QuickOk, StatusOk, GroupOk, IndividualOk, LineOk, HashOk, HomeOk, SystemOk, Allowed, PlacesOk, ListOk, LinesOk}
 use Rattle.store_check.specs.Checks.{Both, joined, KeyOk, FixedOf, IndexedOf, ContactsOk, ContactsOf, ContactListsOf, ChannelsOf, LinesOf}
-use Rattle.tables.specs.Layout.{quick-bytes, status-bytes, group-bytes, individual-bytes, line-bytes, hash-bytes, key-bytes, home-bytes, system-bytes, used-size, layout, Roomy, IsStore, count-size, counted, member-width, channel-width, line-width, contacts-size, channels-size, lines-size, group-contacts-at, channels-at, lines-at, member-size, line-slots-size, quick-at, quick-size, status-size}
+use Rattle.tables.specs.Layout.{quick-bytes, status-bytes, group-bytes, individual-bytes, line-bytes, hash-bytes, key-bytes, home-bytes, system-bytes, used-size, layout, Roomy, IsStore, counted, ordered, member-width, channel-width, line-width, line-key-at, line-key-size, contacts-size, channels-size, lines-size, group-contacts-at, channels-at, lines-at, member-size, line-slots-size, quick-at, quick-size, status-size}
 use Rattle.tables.specs.Limits.{contact-places}
 use Rattle.tables.specs.declared.members.Members.{Members}
 use Rattle.tables.specs.declared.members.Members.the-variants.{OfGroups, OfIndividuals}
 use Rattle.tables.specs.MemberKinds.{MemberIn}
-use Rattle.tables.specs.Members.{member-ok, member-bytes}
+use Rattle.tables.specs.Members.{member-bytes}
 use Rattle.tables.specs.Tables.{Line, GroupMember, IndividualMember, Key, Tables}
 use Rattle.store_check.proofs.CheckLaws.{Same, entry-same, parts-are, last-is, rest-is}
 use Rattle.tables.proofs.EntryCodes.{quick-code, status-code, group-code, individual-code, member-code, channel-code, line-code}
+use Rattle.tables.proofs.LayoutLaws.{list-wide}
+use Rattle.tables.proofs.OrderLaws.{lines-made}
 use Rattle.tables.proofs.FixedCodes.{hash-code, key-code, home-code, system-code}
 
 -- ---- how long the regions are
@@ -28,14 +31,9 @@ both-long : {A B : Type 0} {P : A → Type 0} {Q : B → Type 0} (f : A → List
     → (x : A × B) → Both P Q x → length (joined f g x) ≡ j + k
 both-long f g p q x h = length-append (f (x .0)) (g (x .1)) ∙ ap₂ (λ (a b : ℕ). a + b) (p (x .0) (h .0)) (q (x .1) (h .1))
 
-module _ {A : Type 0} (P : A → Type 0) (w : ℕ) (f : A → List ℕ) (long : (a : A) → length (f a) ≡ w) (n : ℕ) where
-  -- an indexed table
-  table-long : (os : List (Option A)) → PlacesOk P n os → length (places w f os) ≡ n * w
-  table-long os p = places-length w f long os ∙ ap (λ (i : ℕ). i * w) (p .0)
-
-  -- a list table with its count
-  list-long : (ls : List A) → length (counted w f n ls) ≡ count-size + n * w
-  list-long ls = omega (arith, places-length w f long (front n ls) ∙ ap (λ (i : ℕ). i * w) (front-length n ls))
+-- an indexed table
+table-long : {A : Type 0} (P : A → Type 0) (w : ℕ) (f : A → List ℕ) → ((a : A) → length (f a) ≡ w) → (n : ℕ) (os : List (Option A)) → PlacesOk P n os → length (places w f os) ≡ n * w
+table-long P w f long n os p = places-length w f long os ∙ ap (λ (i : ℕ). i * w) (p .0)
 
 -- ---- tables as entries
 
@@ -70,7 +68,7 @@ abbrev contacts-bytes : (w : Members) → List (MemberIn w) → List ℕ
 contacts-bytes w = counted member-width (member-bytes w) contact-places
 
 contacts-long : (w : Members) (xs : List (MemberIn w)) → ContactsOk w contact-places xs → length (contacts-bytes w xs) ≡ contacts-size
-contacts-long w xs p = list-long (member-ok w) member-width (member-bytes w) (member-code w .long) contact-places xs
+contacts-long w xs p = list-wide (member-code w) contact-places xs
 
 -- 4612 bytes are the two where each is
 pub contact-lists-are : (s : List ℕ) → length s ≡ 4612
@@ -162,7 +160,7 @@ module _ (lim : Limits) where
 
   -- the lines' bytes
   abbrev lines-bytes : List Line → List ℕ
-  lines-bytes = counted line-width line-bytes (lim .lines)
+  lines-bytes = ordered (lim .lines)
 
   -- the bytes that no table uses
   abbrev spare-bytes : Unit {0} → List ℕ
@@ -254,6 +252,11 @@ module _ (lim : Limits) where
         let e : a + k - a ≡ k = omega arith in
         (subst (λ (i : ℕ). EntryOf P f (midOf a i s)) e, subst (λ (i : ℕ). EntryOf P f (midOf a i s)) (sym e))
 
+    -- the lines with their order
+    lines-long : (ls : List Line) → LinesOk (lim .lines) ls → length (lines-bytes ls) ≡ lines-size lim
+    lines-long ls p =
+        omega (arith, ordered-length line-width line-key-at line-key-size (lim .lines) (map line-bytes ls) (lines-bytes ls) (lines-made (lim .lines) ls (p .0 .0) (room .few-lines) (p .0 .1) (p .1) .counted))
+
     -- the bytes that no table uses
     spare-part : (zeros? (midOf (lines-at lim + lines-size lim) (length s - (lines-at lim + lines-size lim)) s) ≡ true) ↔ EntryOf (λ u. Unit {0}) spare-bytes (drop (lines-at lim + lines-size lim) s)
     spare-part =
@@ -271,8 +274,8 @@ module _ (lim : Limits) where
         (Iff·trans (Iff·and Iff·rfl
         (Iff·trans (Iff·and (part-is (ListOk InChannel (lim .channels)) channels-bytes channels-at (channels-size lim))
         (Iff·trans (Iff·and (part-is (LinesOk (lim .lines)) lines-bytes (lines-at lim) (lines-size lim)) spare-part)
-        (parts-are (LinesOk (lim .lines)) (λ u. Unit {0}) lines-bytes spare-bytes (lines-at lim) (lines-size lim) s (λ ls p. list-long LineOk line-width line-bytes (line-code .long) (lim .lines) ls))))
-        (parts-are (ListOk InChannel (lim .channels)) (Both (LinesOk (lim .lines)) (λ u. Unit {0})) channels-bytes (joined lines-bytes spare-bytes) channels-at (channels-size lim) s (λ cs p. list-long InChannel 2 u16 (channel-code .long) (lim .channels) cs))))
+        (parts-are (LinesOk (lim .lines)) (λ u. Unit {0}) lines-bytes spare-bytes (lines-at lim) (lines-size lim) s lines-long)))
+        (parts-are (ListOk InChannel (lim .channels)) (Both (LinesOk (lim .lines)) (λ u. Unit {0})) channels-bytes (joined lines-bytes spare-bytes) channels-at (channels-size lim) s (λ cs p. list-wide channel-code (lim .channels) cs))))
         (parts-are BothOk RestOk both-bytes rest-bytes group-contacts-at 4612 s lists-long)))
         (parts-are IndexedOk (Both BothOk RestOk) indexed-bytes (joined both-bytes rest-bytes) 22 8096 s indexed-long)))
         (Iff·trans (parts-are FixedOk (Both IndexedOk (Both BothOk RestOk)) fixed-bytes (joined indexed-bytes (joined both-bytes rest-bytes)) 0 22 s fixed-long)

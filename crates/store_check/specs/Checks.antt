@@ -3,7 +3,7 @@ use Prim.Native.Nat.{ℕ, _≤_}
 use mathlib.Core.Path.{_≡_}
 use mathlib.Core.Bool.{false}
 use mathlib.Core.List.{List, _++_}
-use lib.ListN.{length, take, drop, replicate}
+use lib.ListN.{length, replicate}
 use Rattle.lists.specs.Every.{All}
 use Rattle.slots.specs.Slots.{EntryOf, flat, pad, places, u16, zeros?}
 use Rattle.writing.specs.Ranges.{InChannel}
@@ -17,7 +17,7 @@ use Rattle.tables.specs.Tables.{Line, Key}
 use Rattle.tables.specs.Allowed.{QuickOk, StatusOk, GroupOk, IndividualOk, LineOk, HashOk, HomeOk, SystemOk, TargetOk, PlacesOk, ListOk, KeyedOk, LinesOk}
 use Rattle.tables.specs.MemberKinds.{MemberIn, contact-key}
 use Rattle.tables.specs.Members.{member-ok, member-bytes}
-use Rattle.tables.specs.Layout.{counted, quick-bytes, status-bytes, group-bytes, individual-bytes, line-bytes, hash-bytes, key-bytes, home-bytes, system-bytes, quick-width, status-width, member-width, channel-width, line-width}
+use Rattle.tables.specs.Layout.{counted, ordered, quick-bytes, status-bytes, group-bytes, individual-bytes, line-bytes, hash-bytes, key-bytes, home-bytes, system-bytes, quick-width, status-width, member-width, channel-width, line-width}
 
 -- ---- two entries, one after the other
 
@@ -75,10 +75,6 @@ pub record Filled (w n : ℕ) (xs : List (List ℕ)) (s : List ℕ) : Type 0 whe
   pub each : All (λ x. (length x ≡ w) × (zeros? x ≡ false)) xs
   pub bytes : s ≡ flat (pad (replicate w 0) n xs)
 
--- the k bytes of a slot that stand at o
-abbrev pub key-in : ℕ → ℕ → List ℕ → List ℕ
-key-in o k x = take k (drop o x)
-
 -- ---- the regions of a store
 
 -- the key calls where it may
@@ -116,6 +112,6 @@ ContactListsOf s =
 abbrev pub ChannelsOf : ℕ → List ℕ → Type 0
 ChannelsOf n s = EntryOf (ListOk InChannel n) (counted channel-width u16 n) s
 
--- the bytes are the count of lines, and they in n places
+-- the bytes are the count of lines, they in n places, and their order
 abbrev pub LinesOf : ℕ → List ℕ → Type 0
-LinesOf n s = EntryOf (LinesOk n) (counted line-width line-bytes n) s
+LinesOf n s = EntryOf (LinesOk n) (ordered n) s

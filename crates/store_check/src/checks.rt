@@ -39,8 +39,8 @@ fn regions_ok(store: &[u8], limits: Limits) -> bool
     if !channels_ok(&store[CHANNELS..lines]) {
         return false;
     }
-    let spare = lines + (COUNT + limits.lines * LINE_SLOT);
-    if !lines_ok(&store[lines..spare]) {
+    let spare = lines + (COUNT + limits.lines * LINE_SLOT + limits.lines);
+    if !lines_ok(&store[lines..spare], limits.lines) {
         return false;
     }
     is_clear(&store[spare..])

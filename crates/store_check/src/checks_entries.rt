@@ -38,13 +38,13 @@ pub(crate) fn text_ok(s: &[u8]) -> bool
     is_clear(&s[units..])
 }
 
-// Whether every byte is at most 10.
-fn at_most_ten(s: &[u8]) -> bool
-    ensures { λ r. ⌜ (r ≡ true) ↔ All (λ x. x ≤ 10) (now (s .entry)) ⌝ }
+// Whether no byte is above the most.
+pub fn at_most(s: &[u8], most: u8) -> bool
+    ensures { λ r. ⌜ (r ≡ true) ↔ All (λ x. x ≤ most) (now (s .entry)) ⌝ }
 {
     let mut i = 0;
     while i < s.len() {
-        if 10 < s[i] {
+        if most < s[i] {
             return false;
         }
         i += 1;
@@ -60,7 +60,7 @@ fn digits_ok(s: &[u8]) -> bool
     if s[0] == 0 {
         return false;
     }
-    if !at_most_ten(s) {
+    if !at_most(s, 10) {
         return false;
     }
     let digits = used(s, 1);

@@ -1,11 +1,14 @@
-// Whether bytes are a list table with its count: channels, and contacts and lines of which no two have one key.
+// Whether bytes are a list table with its count: channels, contacts of which no two have one address, and lines with the order of their keys.
 use super::checks_entries::pair;
 use super::checks_tables::Table;
 use super::checks_tables::list_ok;
 use super::checks_tables::width;
+use counted_lists::counts::count;
+use orders::orders::order_ok;
 use slots::slots::place_of;
 use slots::slots::used;
 use tables::members::Members;
+use tables::places::ADDRESS_BYTES;
 use tables::places::CONTACTS_SIZE;
 use tables::places::COUNT;
 use tables::places::KEY_BYTES;
@@ -13,7 +16,6 @@ use tables::places::LINE_KEY;
 use tables::places::LINE_SLOT;
 use tables::places::MEMBER_ADDRESS;
 use tables::places::MEMBER_SLOT;
-use tables::places::MEMBER_TEXT;
 ghost use mathlib.Core.Path.{_≡_};
 ghost use mathlib.Core.Bool.{true};
 ghost use mathlib.Core.Logic.{_↔_};
@@ -22,8 +24,9 @@ ghost use Prim.Native.Nat.{ℕ, _+_, _*_, _≤_, _<_};
 ghost use lib.ListN.{length, take};
 ghost use Rattle.slots.specs.Slots.{u16};
 ghost use Rattle.counted_lists.specs.Counted.{Distinct};
+ghost use Rattle.orders.specs.OrderedLists.{slot-key};
 ghost use Rattle.tables.specs.Layout.{count-size, member-width, channel-width, line-width};
-ghost use Rattle.store_check.specs.Checks.{width-in, CountedIn, Filled, key-in, ContactsOf, ContactListsOf, ChannelsOf, LinesOf};
+ghost use Rattle.store_check.specs.Checks.{width-in, CountedIn, Filled, ContactsOf, ContactListsOf, ChannelsOf, LinesOf};
 
 // Whether the first two bytes are the count n.
 fn count_is(s: &[u8], n: usize) -> bool
@@ -46,10 +49,10 @@ fn counted_ok(t: Table, s: &[u8]) -> bool
     count_is(s, used(&s[COUNT..], w) / w)
 }
 
-// Whether no two slots of w bytes before the first empty one have the same k bytes at o; callers say the numbers so that the compiler knows them.
+// Whether no two slots of w bytes before the first empty one have the same k bytes at o; the caller says the numbers so that the compiler knows them.
 fn keys_distinct(s: &[u8], w: usize, o: usize, k: usize) -> bool
     requires { ⌜ (0 < w) × (o + k ≤ w) ⌝ }
-    ensures { λ r. ⌜ ((n : ℕ) (xs : List (List ℕ)) → Filled w n xs (now (s .entry)) → (r ≡ true) ↔ Distinct (key-in o k) xs) ⌝ }
+    ensures { λ r. ⌜ ((n : ℕ) (xs : List (List ℕ)) → Filled w n xs (now (s .entry)) → (r ≡ true) ↔ Distinct (slot-key o k) xs) ⌝ }
 {
     let end = used(s, w);
     let mut at = 0;
@@ -64,9 +67,6 @@ fn keys_distinct(s: &[u8], w: usize, o: usize, k: usize) -> bool
     }
     true
 }
-
-// How many bytes an address has.
-const ADDRESS_BYTES: usize = MEMBER_TEXT - MEMBER_ADDRESS;
 
 fn contacts_ok(who: Members, s: &[u8]) -> bool
     requires { ⌜ count-size ≤ length (now s) ⌝ }
@@ -96,12 +96,15 @@ pub(crate) fn channels_ok(s: &[u8]) -> bool
     counted_ok(Table::Channels, s)
 }
 
-pub(crate) fn lines_ok(s: &[u8]) -> bool
-    requires { ⌜ count-size ≤ length (now s) ⌝ }
-    ensures { λ r. ⌜ ((n : ℕ) → length (now (s .entry)) ≡ count-size + n * line-width → (r ≡ true) ↔ LinesOf n (now (s .entry))) ⌝ }
+// Lines with their order, which has each of them once and by ascending keys, so that no two have one key.
+pub(crate) fn lines_ok(s: &[u8], n: usize) -> bool
+    requires { ⌜ (n ≤ 255) × (length (now s) ≡ count-size + n * line-width + n) ⌝ }
+    ensures { λ r. ⌜ (r ≡ true) ↔ LinesOf n (now (s .entry)) ⌝ }
 {
-    if !counted_ok(Table::Lines, s) {
+    let base = s.len() - n;
+    if !counted_ok(Table::Lines, &s[0..base]) {
         return false;
     }
-    keys_distinct(&s[COUNT..], LINE_SLOT, LINE_KEY, KEY_BYTES)
+    let held = count(&s[0..base]);
+    order_ok(&s[COUNT..], LINE_SLOT, LINE_KEY, KEY_BYTES, n, held)
 }

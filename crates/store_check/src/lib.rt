@@ -1,6 +1,6 @@
 // Whether lent bytes are a store of the limits, region by region.
 pub mod checks;
-mod checks_entries;
+pub mod checks_entries;
 mod checks_fixed;
 mod checks_lists;
 mod checks_tables;

@@ -1,9 +1,9 @@
 -- Laws of the table of channels: what a turn of its loop does. Assumes nothing.
-use Rattle.lists.proofs.Kit.{_≡_, refl, sym, _∙_, subst, Bool, true, false, List, [], _∷_, head-eq-of-cons-eq, tail-eq-of-cons-eq, ℕ, _+_, _-_, _≤_, _<_, add-one, arith, eqb, length, drop, getD, replicate, drop-cons}
+use Rattle.lists.proofs.Kit.{_≡_, refl, sym, _∙_, subst, Bool, true, false, List, [], _∷_, map, head-eq-of-cons-eq, tail-eq-of-cons-eq, ℕ, _+_, _-_, _≤_, _<_, add-one, arith, eqb, length, drop, getD, replicate, drop-cons}
 use Rattle.lists.specs.Every.{All}
 use Rattle.slots.specs.Slots.{u16}
 use Rattle.slots.proofs.Numbers.{u16-same}
-use Rattle.counted_lists.specs.Counted.{Tried, Added, KeyDropped}
+use Rattle.counted_lists.specs.Counted.{Counted, Tried, Added, KeyDropped}
 use Rattle.counted_lists.proofs.EntryLaws.{Keyed, entries-add, entries-drop, entries-none}
 use Rattle.counted_lists.proofs.ListLaws.{tried-room, tried-full}
 use Rattle.writing.specs.declared.Operation.{Operation}
@@ -33,7 +33,8 @@ channel-added c x s t r e h n cs k p = entries-add InChannel channel-width u16 n
 pub channel-deleted : (c : ℕ) (x s t : List ℕ) → x ≡ u16 c → KeyDropped channel-width 0 x s t → ChannelApplied Delete c s t true
 channel-deleted c x s t e h n cs k p =
     tried-room (ChannelTable n) _ refl
-    (entries-drop InChannel channel-width u16 n cs s k 0 2 u16 tuned (λ a. eqb a c) (u16 c) t refl (λ a q. u16-same a c) (subst (λ (v : List ℕ). KeyDropped channel-width 0 v s t) e h))
+    (entries-drop (Counted channel-width n) InChannel u16 channel-width 0 2 u16 tuned (λ a. eqb a c) cs (k .each) (u16 c) t refl (λ a q. u16-same a c)
+    (subst (λ (v : List ℕ). KeyDropped channel-width 0 v s t) e h (omega arith) n (map u16 cs) (k .counted)))
 
 -- ---- the loop
 

@@ -1,6 +1,8 @@
 -- Laws of the tables of group and of individual contacts: a contact's slot, and what their loop is told of. Assumes nothing.
 use Rattle.lists.proofs.Kit.{_≡_, refl, sym, ap, ap₂, _∙_, subst, subst⁻¹, Bool, List, _∷_, _++_, ℕ, _<_, arith, length, replicate}
 use Rattle.slots.specs.Slots.{u24}
+use Rattle.counted_lists.specs.Counted.{Counted}
+use Rattle.counted_lists.proofs.CountLaws.{counted-none}
 use Rattle.writing.specs.declared.Coding.{Coding}
 use Rattle.writing.specs.declared.Operation.{Operation}
 use Rattle.writing.specs.Fields.{bitsOf}
@@ -58,8 +60,9 @@ bytes-made OfGroups x = refl
 bytes-made OfIndividuals x = refl
 
 -- contacts under a coding make members with these flags, which are kept by their address
-pub by-address : (w : Members) → FlagsIn w → Coding → ByKey (Addressed (AddressIn w)) (MemberIn w) member-width address-at address-size
+pub by-address : (w : Members) → FlagsIn w → Coding → ByKey (Addressed (AddressIn w)) (MemberIn w) (Counted member-width) member-width address-at address-size
 by-address w f c = record {
+  cleared = counted-none member-width;
   form = addressed (number-of w) c;
   ends = addressed-ends (number-of w) (address-ends (number-of w) (one-number w)) c;
   whole = addressed-whole (number-of w) c;

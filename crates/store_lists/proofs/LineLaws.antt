@@ -1,8 +1,14 @@
 -- Laws of the table of line contacts: a line's slot, and what its loop is told of. Assumes nothing.
-use Rattle.lists.proofs.Kit.{_≡_, ap, _∙_, subst, Bool, List, _++_, ℕ, _<_, arith, length, replicate}
+use Rattle.lists.proofs.Kit.{_≡_, refl, sym, ap, _∙_, subst, Bool, true, true≢false, List, _++_, ℕ, _<_, arith, midOf, length, take, drop, replicate, length-take, length-drop}
+use Rattle.slots.specs.Slots.{hit, unless}
+use Rattle.counted_lists.specs.Counted.{put-keyed, Tried}
+use Rattle.counted_lists.proofs.ListLaws.{tried-room}
+use Rattle.orders.specs.OrderedLists.{OrderedList, OrderedPut, OrderedDrop}
+use Rattle.orders.proofs.ListLaws.{ordered-fresh, ordered-length}
 use Rattle.writing.specs.declared.Coding.{Coding}
 use Rattle.writing.specs.declared.LineFlags.{LineFlags}
 use Rattle.writing.specs.declared.Operation.{Operation}
+use Rattle.writing.specs.declared.Operation.the-variants.{Add, Delete}
 use Rattle.writing.specs.Ranges.{text-limits, InContact}
 use Rattle.writing.specs.Settings.{Contact}
 use Rattle.writing.specs.Writing.{contact}
@@ -22,7 +28,7 @@ use Rattle.tables.specs.LineHeads.{LineHead}
 use Rattle.tables.specs.Tables.{Line, line-key}
 use Rattle.tables.proofs.EntryCodes.{key-of, line-keyed, keys-same}
 use Rattle.tables.proofs.TextLaws.{text-units}
-use Rattle.store_lists.specs.Lists.{LineSlot, LinesApplied}
+use Rattle.store_lists.specs.Lists.{KeyedStepped, LinePlaces, LineSlot, LineSlots, LinesApplied}
 use Rattle.store_lists.proofs.KeyedLaws.{ByKey, Next, KeyedDone, keyed-applied}
 
 -- head and text make the slot
@@ -31,9 +37,42 @@ slot-made m f p h r head fill e is range low =
     fill 16 (e .text) (is .end) (is .text) (range .1) (omega (arith, head .long))
     ∙ ap (λ (l : List ℕ). l ++ text-bytes 16 (e .text)) (head .bytes low (e .number) (is .middle) (is .number))
 
+-- ---- one step
+
+module _ (x s t : List ℕ) (m : ℕ) (places : LinePlaces (length s) m) where
+  -- a region of lines has m places
+  many : (n : ℕ) (xs : List (List ℕ)) → LineSlots n xs s → m ≡ n
+  many n xs g = places n (ordered-length line-width line-key-at line-key-size n xs s g)
+
+  -- the slot was put by its key
+  pub line-put : (r : Bool) → OrderedPut line-width line-key-at line-key-size m x s t r → KeyedStepped LineSlots Add line-width line-key-at line-key-size x s t r
+  line-put r h = record {
+    kept = h .kept;
+    tried = λ l i n xs g.
+        let e : m ≡ n = many n xs g in
+        subst (λ (j : ℕ). Tried (LineSlots j) (put-keyed (hit line-key-at (take line-key-size (drop line-key-at x))) j x xs) t r) e
+        (h .tried l xs (subst (λ (j : ℕ). LineSlots j xs s) (sym e) g));
+  }
+
+  -- the slots with its key were taken out
+  pub line-dropped : OrderedDrop line-width line-key-at m (midOf line-key-at line-key-size x) s t → KeyedStepped LineSlots Delete line-width line-key-at line-key-size x s t true
+  line-dropped h = record {
+    kept = λ f. absurd (true≢false f);
+    tried = λ l i n xs g.
+        let e : m ≡ n = many n xs g in
+        let k : length (midOf line-key-at line-key-size x) ≡ line-key-size = simp (length-take, length-drop) (omega arith) in
+        tried-room (LineSlots n) (unless (hit line-key-at (take line-key-size (drop line-key-at x))) xs) refl
+        (subst (λ (j : ℕ). LineSlots j (unless (hit line-key-at (midOf line-key-at line-key-size x)) xs) t) e
+        (subst (λ (j : ℕ). OrderedList line-width line-key-at j m (unless (hit line-key-at (midOf line-key-at line-key-size x)) xs) t) k
+        (h xs (subst (λ (j : ℕ). OrderedList line-width line-key-at j m xs s) (sym k) (subst (λ (j : ℕ). LineSlots j xs s) (sym e) g)))));
+  }
+
+-- ---- the loop
+
 -- line contacts under a coding make lines with these flags, which are kept by IDtype and digits
-pub by-number : LineFlags → Coding → ByKey Contact Line line-width line-key-at line-key-size
+pub by-number : LineFlags → Coding → ByKey Contact Line LineSlots line-width line-key-at line-key-size
 by-number f c = record {
+  cleared = ordered-fresh line-width line-key-at line-key-size;
   form = contact c;
   ends = contact-ends c;
   whole = contact-whole c;

@@ -1,5 +1,5 @@
 -- What applying settings to the list tables answers: group and individual contacts, line contacts, channels. What only inner functions promise stands last.
-use Prim.Native.Nat.{ℕ, _+_, _≤_, _<_}
+use Prim.Native.Nat.{ℕ, _+_, _*_, _≤_, _<_}
 use mathlib.Core.Path.{_≡_}
 use mathlib.Core.Logic.{_≢_}
 use mathlib.Core.Bool.{Bool, false}
@@ -7,7 +7,8 @@ use mathlib.Core.List.{List, _∷_, _++_}
 use lib.ListN.{length, take, drop}
 use Rattle.lists.specs.Every.{All}
 use Rattle.slots.specs.Slots.{u16, u24, hit}
-use Rattle.counted_lists.specs.Counted.{Counted, CountedOf, Tried}
+use Rattle.counted_lists.specs.Counted.{CountedOf, Tried}
+use Rattle.orders.specs.OrderedLists.{OrderedList}
 use Rattle.writing.specs.declared.LineFlags.{LineFlags}
 use Rattle.writing.specs.declared.Operation.{Operation}
 use Rattle.writing.specs.Fields.{each}
@@ -20,13 +21,13 @@ use Rattle.settings.specs.declared.settings.Entries.{Entries}
 use Rattle.read_fields.specs.Entries.{channel-list, ContactIs}
 use Rattle.read_fields.specs.TextsAndNumbers.{TextIs}
 use Rattle.settings.specs.Meant.{EntriesAre}
-use Rattle.tables.specs.Allowed.{LineOk}
 use Rattle.tables.specs.Apply.{keyed-step, channel-step, channels-after, contacts-after, line-of, lines-after}
-use Rattle.tables.specs.Layout.{text-bytes, channel-width, line-bytes, line-width, member-width}
+use Rattle.tables.specs.Layout.{text-bytes, channel-width, count-size, line-bytes, line-key-at, line-key-size, line-width, member-width}
 use Rattle.tables.specs.declared.members.Members.{Members}
 use Rattle.tables.specs.declared.members.Members.the-variants.{OfGroups, OfIndividuals}
 use Rattle.tables.specs.MemberKinds.{FlagsIn, AddressIn, MemberIn, number-of}
 use Rattle.tables.specs.Members.{member-ok, flags-of, member-bytes}
+use Rattle.tables.specs.OrderedLines.{LineList}
 use Rattle.tables.specs.Tables.{Line}
 
 -- ---- channels
@@ -42,9 +43,9 @@ ChannelsApplied o m p s t r =
 
 -- ---- line contacts
 
--- the bytes are the count and the table of these lines, with n places
+-- the bytes are the count, the table and the order of these lines, with n places
 abbrev pub LineTable : ℕ → List Line → List ℕ → Type 0
-LineTable n = CountedOf LineOk line-width line-bytes n
+LineTable n = LineList n
 
 -- what applying the contacts that stand at a place answers, on a region that was s and becomes t
 abbrev pub LinesApplied : Operation → List ℕ → LineFlags → Entries → List ℕ → List ℕ → Bool → Type 0
@@ -86,8 +87,19 @@ ContactSlot m flags p r =
     (us : Text) (next : ℕ) → TextIs m (p .text) us next → length us ≤ text-limits .short → p .address < 16777216
     → r ≡ flags ∷ u24 (p .address) ++ text-bytes (text-limits .short) us
 
--- what an operation with the slot x answers of a list of slots of w bytes, which have their key, k bytes, at o
-pub record KeyedStepped (op : Operation) (w o k : ℕ) (x s t : List ℕ) (r : Bool) : Type 0 where
+-- what an operation with the slot x answers of a list of slots of w bytes, with n places, which have their key, k bytes, at o
+pub record KeyedStepped (Is : ℕ → List (List ℕ) → List ℕ → Type 0) (op : Operation) (w o k : ℕ) (x s t : List ℕ) (r : Bool) : Type 0 where
   pub kept : r ≡ false → t ≡ s
-  pub tried : length x ≡ w → o + k ≤ w → (n : ℕ) (xs : List (List ℕ)) → Counted w n xs s
-      → Tried (Counted w n) (keyed-step (λ y. hit o (take k (drop o y))) n op x xs) t r
+  pub tried : length x ≡ w → o + k ≤ w → (n : ℕ) (xs : List (List ℕ)) → Is n xs s → Tried (Is n) (keyed-step (λ y. hit o (take k (drop o y))) n op x xs) t r
+
+-- the slots of lines, with their order
+abbrev pub LineSlots : ℕ → List (List ℕ) → List ℕ → Type 0
+LineSlots = OrderedList line-width line-key-at line-key-size
+
+-- what an operation with the slot of a line answers
+abbrev pub LineStepped : Operation → List ℕ → List ℕ → List ℕ → Bool → Type 0
+LineStepped op = KeyedStepped LineSlots op line-width line-key-at line-key-size
+
+-- r is how many places a region of lines of this size has
+abbrev pub LinePlaces : ℕ → ℕ → Type 0
+LinePlaces size r = (n : ℕ) → size ≡ n * line-width + count-size + n → r ≡ n

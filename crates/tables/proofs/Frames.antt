@@ -1,9 +1,10 @@
 -- Where the regions of the store stand: each is read at its place, and put back it changes that table and no other. Assumes nothing.
-use Rattle.lists.proofs.Kit.{ℕ, _+_, _*_, _-_, _≤_, _<_, _≡_, refl, sym, ap, _∙_, List, [], _∷_, _++_, Option, arith, putMid, midOf, getD, set, take, take-take, drop, length}
+use Rattle.lists.proofs.Kit.{ℕ, _+_, _*_, _-_, _≤_, _<_, _≡_, refl, sym, ap, _∙_, subst⁻¹, List, [], _∷_, _++_, Option, arith, putMid, midOf, getD, set, take, take-at, take-take, drop, length}
 use Rattle.lists.specs.Every.{All}
 use Rattle.slots.specs.Slots.{flat, front, places, u16, Placed, Listed, sum}
 use Rattle.counted_lists.specs.Counted.{CountedOf}
 use Rattle.counted_lists.proofs.EntryLaws.{entries-bytes, entries-made}
+use Rattle.orders.specs.OrderParts.{order-bytes}
 use Rattle.slots.proofs.Parts.{parts-get, parts-put, get-behind}
 use Rattle.writing.specs.declared.HomeNumbers.{HomeNumbers}
 use Rattle.writing.specs.declared.SystemCode.{SystemCode}
@@ -11,17 +12,20 @@ use Rattle.writing.specs.Ranges.{InChannel}
 use Rattle.writing.specs.Settings.{Text, Hash}
 use Rattle.tables.specs.declared.limits.Limits.{Limits}
 use Rattle.tables.specs.Allowed.{Allowed, QuickOk, StatusOk, GroupOk, IndividualOk, LineOk}
-use Rattle.tables.specs.Layout.{count-size, counted, channels-size, lines-size, lines-at, Roomy, regions, region-widths, used-size, layout, hash-bytes, key-bytes, home-bytes, system-bytes, quick-bytes, status-bytes, group-bytes, individual-bytes, line-bytes, quick-width, status-width, member-width, channel-width, line-width, channels-at, contacts-size, group-contacts-at, groups-at, hash-size, home-at, home-size, individual-contacts-at, individuals-at, key-at, key-size, line-slots-at, line-slots-size, member-size, quick-at, quick-size, status-at, status-size, system-at, system-size}
+use Rattle.tables.specs.Layout.{count-size, counted, ordered, channels-size, lines-size, lines-at, Roomy, regions, region-widths, used-size, layout, hash-bytes, key-bytes, home-bytes, system-bytes, quick-bytes, status-bytes, group-bytes, individual-bytes, line-bytes, quick-width, status-width, member-width, channel-width, line-width, channels-at, contacts-size, group-contacts-at, groups-at, hash-size, home-at, home-size, individual-contacts-at, individuals-at, key-at, key-size, line-slots-at, line-slots-size, member-size, quick-at, quick-size, status-at, status-size, system-at, system-size}
 use Rattle.tables.specs.Limits.{quick-places, status-places, slot-places, contact-places}
 use Rattle.tables.specs.declared.members.Members.{Members}
 use Rattle.tables.specs.declared.members.Members.the-variants.{OfGroups, OfIndividuals}
 use Rattle.tables.specs.MemberKinds.{MemberIn}
 use Rattle.tables.specs.Members.{member-ok, member-bytes, contacts-in, put-contacts, contacts-at}
+use Rattle.tables.specs.Order.{line-order}
+use Rattle.tables.specs.OrderedLines.{LineList}
 use Rattle.tables.specs.Tables.{Line, GroupMember, IndividualMember, Tables}
 use Rattle.writing.specs.declared.Kind.the-variants.{Lines, Key, QuickTexts, Home, Channels, System, StatusTexts, Group, Individual, LineSlot, Last}
 use Rattle.tables.specs.Owns.{Own, put-own}
 use Rattle.tables.proofs.EntryCodes.{channel-code, line-code, member-code}
-use Rattle.tables.proofs.LayoutLaws.{regions-wide}
+use Rattle.tables.proofs.LayoutLaws.{list-wide, regions-wide}
+use Rattle.tables.proofs.OrderLaws.{lines-made, lines-are}
 
 -- the widths of all regions, the spare bytes at the end
 abbrev pub all-widths : Limits → List ℕ
@@ -41,45 +45,27 @@ module _ (lim : Limits) (t : Tables) (ok : Allowed lim t) (k : ℕ) (h : k < 14)
 
 -- ---- list tables
 
--- region k, which starts at a, is a list table: at most m entries that have P, with w bytes each
-record ListAt (lim : Limits) (t : Tables) (k a : ℕ) {A : Type 0} (P : A → Type 0) (w : ℕ) (f : A → List ℕ) (m : ℕ) (xs : List A) : Type 0 where
-  low : k < 14
-  starts : a ≡ sum (take k (all-widths lim))
-  size : count-size + m * w ≡ getD (all-widths lim) k 0
-  is : getD (regions lim t) k [] ≡ counted w f m xs
+-- what starts at a is a list table: at most m entries that have P, with w bytes each
+record ListAt (lim : Limits) (t : Tables) (a : ℕ) {A : Type 0} (P : A → Type 0) (w : ℕ) (f : A → List ℕ) (m : ℕ) (xs : List A) : Type 0 where
+  is : midOf a (count-size + m * w) (layout lim t) ≡ counted w f m xs
   wide : 0 < w
   long : (x : A) → length (f x) ≡ w
   allowed : (length xs ≤ m) × All P xs
 
-module _ {lim : Limits} {t : Tables} {k a : ℕ} {A : Type 0} {P : A → Type 0} {w : ℕ} {f : A → List ℕ} {m : ℕ} {xs : List A} (ok : Allowed lim t) (l : ListAt lim t k a P w f m xs) where
-  -- it is read
-  list-get : midOf a (count-size + m * w) (layout lim t) ≡ counted w f m xs
-  list-get = region-get lim t ok k (l .low) a (count-size + m * w) (l .starts) (l .size) ∙ l .is
-
-  -- as a counted list
+module _ {lim : Limits} {t : Tables} {a : ℕ} {A : Type 0} {P : A → Type 0} {w : ℕ} {f : A → List ℕ} {m : ℕ} {xs : List A} (l : ListAt lim t a P w f m xs) where
+  -- it is read as a counted list
   list-counted : m < 65536 → CountedOf P w f m xs (midOf a (count-size + m * w) (layout lim t))
   list-counted few =
       entries-made P w f m xs (midOf a (count-size + m * w) (layout lim t)) (places w f (front m xs)) (l .wide) few (l .long)
-      (record { few = l .allowed .0; each = l .allowed .1; bytes = refl }) list-get
+      (record { few = l .allowed .0; each = l .allowed .1; bytes = refl }) (l .is)
 
   -- its count
   list-count : midOf a count-size (layout lim t) ≡ u16 (length xs)
-  list-count = sym (take-take count-size (count-size + m * w) (drop a (layout lim t)) (omega arith)) ∙ ap (take count-size) list-get
+  list-count = sym (take-take count-size (count-size + m * w) (drop a (layout lim t)) (omega arith)) ∙ ap (take count-size) (l .is)
 
   -- the slots behind its count
   list-listed : Listed P w f m xs (midOf (a + count-size) (m * w) (layout lim t))
-  list-listed = record { few = l .allowed .0; each = l .allowed .1; bytes = get-behind count-size a (m * w) (layout lim t) ∙ ap (drop count-size) list-get }
-
-  -- and put back
-  list-back : (u : Tables) (ys : List A) (y : List ℕ) → set (regions lim t) k (counted w f m ys) ≡ regions lim u → CountedOf P w f m ys y
-      → putMid a (count-size + m * w) (layout lim t) y ≡ layout lim u
-  list-back u ys y e c =
-      region-put lim t ok k (l .low) a (count-size + m * w) (l .starts) (l .size) u y (ap (set (regions lim t) k) (entries-bytes P w f m ys y c) ∙ e)
-
--- which region the contacts are
-abbrev contacts-region : Members → ℕ
-contacts-region OfGroups = 9
-contacts-region OfIndividuals = 10
+  list-listed = record { few = l .allowed .0; each = l .allowed .1; bytes = get-behind count-size a (m * w) (layout lim t) ∙ ap (drop count-size) (l .is) }
 
 -- ---- region by region
 
@@ -161,58 +147,94 @@ module _ (lim : Limits) (t : Tables) (ok : Allowed lim t) where
   -- ---- as counted lists
 
   -- the group and the individual contacts
-  contacts-list : (w : Members) → ListAt lim t (contacts-region w) (contacts-at w) (member-ok w) member-width (member-bytes w) contact-places (contacts-in w t)
-  contacts-list OfGroups = record { low = omega arith; starts = refl; size = refl; is = refl; wide = omega arith; long = member-code OfGroups .long; allowed = ok .group-contacts }
-  contacts-list OfIndividuals = record { low = omega arith; starts = refl; size = refl; is = refl; wide = omega arith; long = member-code OfIndividuals .long; allowed = ok .individual-contacts }
+  contacts-list : (w : Members) → ListAt lim t (contacts-at w) (member-ok w) member-width (member-bytes w) contact-places (contacts-in w t)
+  contacts-list OfGroups = record {
+    is = region-get lim t ok 9 (omega arith) (contacts-at OfGroups) contacts-size refl refl;
+    wide = omega arith;
+    long = member-code OfGroups .long;
+    allowed = ok .group-contacts;
+  }
+  contacts-list OfIndividuals = record {
+    is = region-get lim t ok 10 (omega arith) (contacts-at OfIndividuals) contacts-size refl refl;
+    wide = omega arith;
+    long = member-code OfIndividuals .long;
+    allowed = ok .individual-contacts;
+  }
 
   -- the channels
-  channels-list : ListAt lim t 11 channels-at InChannel channel-width u16 (lim .channels) (t .channels)
-  channels-list = record { low = omega arith; starts = refl; size = refl; is = refl; wide = omega arith; long = channel-code .long; allowed = ok .channels }
+  channels-list : ListAt lim t channels-at InChannel channel-width u16 (lim .channels) (t .channels)
+  channels-list = record {
+    is = region-get lim t ok 11 (omega arith) channels-at (channels-size lim) refl refl;
+    wide = omega arith;
+    long = channel-code .long;
+    allowed = ok .channels;
+  }
 
-  -- the line contacts
-  lines-list : ListAt lim t 12 (lines-at lim) LineOk line-width line-bytes (lim .lines) (t .lines)
-  lines-list = record { low = omega arith; starts = omega arith; size = refl; is = refl; wide = omega arith; long = line-code .long; allowed = ok .lines }
+  -- the line contacts and their order
+  lines-get : midOf (lines-at lim) (lines-size lim) (layout lim t) ≡ ordered (lim .lines) (t .lines)
+  lines-get = region-get lim t ok 12 (omega arith) (lines-at lim) (lines-size lim) (omega arith) refl
+
+  -- the line contacts, before their order
+  lines-list : ListAt lim t (lines-at lim) LineOk line-width line-bytes (lim .lines) (t .lines)
+  lines-list = record {
+    is = sym (take-take (count-size + lim .lines * line-width) (lines-size lim) (drop (lines-at lim) (layout lim t)) (omega arith))
+        ∙ ap (take (count-size + lim .lines * line-width)) lines-get
+        ∙ take-at (counted line-width line-bytes (lim .lines) (t .lines)) (order-bytes (lim .lines) (line-order (t .lines))) (count-size + lim .lines * line-width) (list-wide line-code (lim .lines) (t .lines));
+    wide = omega arith;
+    long = line-code .long;
+    allowed = ok .lines;
+  }
 
   -- the contacts: their count, and their places
   pub contacts-counted : (w : Members) → CountedOf (member-ok w) member-width (member-bytes w) contact-places (contacts-in w t) (midOf (contacts-at w) contacts-size (layout lim t))
-  contacts-counted w = list-counted ok (contacts-list w) (omega arith)
+  contacts-counted w = list-counted (contacts-list w) (omega arith)
 
   -- and put back
   pub contacts-back : (w : Members) (x : List (MemberIn w)) (y : List ℕ) → CountedOf (member-ok w) member-width (member-bytes w) contact-places x y
       → putMid (contacts-at w) contacts-size (layout lim t) y ≡ layout lim (put-contacts w t x)
-  contacts-back OfGroups x y = list-back ok (contacts-list OfGroups) (put-contacts OfGroups t x) x y refl
-  contacts-back OfIndividuals x y = list-back ok (contacts-list OfIndividuals) (put-contacts OfIndividuals t x) x y refl
+  contacts-back OfGroups x y c =
+      region-put lim t ok 9 (omega arith) (contacts-at OfGroups) contacts-size refl refl (put-contacts OfGroups t x) y
+      (ap (set (regions lim t) 9) (entries-bytes (member-ok OfGroups) member-width (member-bytes OfGroups) contact-places x y c))
+  contacts-back OfIndividuals x y c =
+      region-put lim t ok 10 (omega arith) (contacts-at OfIndividuals) contacts-size refl refl (put-contacts OfIndividuals t x) y
+      (ap (set (regions lim t) 10) (entries-bytes (member-ok OfIndividuals) member-width (member-bytes OfIndividuals) contact-places x y c))
 
   -- the channels
   pub channels-counted : Roomy lim → CountedOf InChannel channel-width u16 (lim .channels) (t .channels) (midOf channels-at (channels-size lim) (layout lim t))
-  channels-counted r = list-counted ok channels-list (r .few-channels)
+  channels-counted r = list-counted channels-list (r .few-channels)
 
   -- and put back
   pub channels-back : (x : List ℕ) (y : List ℕ) → CountedOf InChannel channel-width u16 (lim .channels) x y → putMid channels-at (channels-size lim) (layout lim t) y ≡ layout lim (put-own Channels t x)
-  channels-back x y = list-back ok channels-list (put-own Channels t x) x y refl
+  channels-back x y c =
+      region-put lim t ok 11 (omega arith) channels-at (channels-size lim) refl refl (put-own Channels t x) y
+      (ap (set (regions lim t) 11) (entries-bytes InChannel channel-width u16 (lim .channels) x y c))
 
-  -- the line contacts
-  pub lines-counted : Roomy lim → CountedOf LineOk line-width line-bytes (lim .lines) (t .lines) (midOf (lines-at lim) (lines-size lim) (layout lim t))
-  lines-counted r = list-counted ok lines-list (r .few-lines)
+  -- the line contacts and their order
+  pub lines-ordered : Roomy lim → LineList (lim .lines) (t .lines) (midOf (lines-at lim) (lines-size lim) (layout lim t))
+  lines-ordered r = subst⁻¹ (LineList (lim .lines) (t .lines)) lines-get (lines-made (lim .lines) (t .lines) (ok .lines .0) (r .few-lines) (ok .lines .1) (ok .distinct))
 
   -- and put back
-  pub lines-back : (x : List Line) (y : List ℕ) → CountedOf LineOk line-width line-bytes (lim .lines) x y → putMid (lines-at lim) (lines-size lim) (layout lim t) y ≡ layout lim (put-own Lines t x)
-  lines-back x y = list-back ok lines-list (put-own Lines t x) x y refl
+  pub lines-back : (x : List Line) (y : List ℕ) → LineList (lim .lines) x y → putMid (lines-at lim) (lines-size lim) (layout lim t) y ≡ layout lim (put-own Lines t x)
+  lines-back x y l = region-put lim t ok 12 (omega arith) (lines-at lim) (lines-size lim) (omega arith) refl (put-own Lines t x) y (ap (set (regions lim t) 12) (lines-are (lim .lines) x y l))
+
+  -- the line contacts alone
+  pub lines-counted : Roomy lim → CountedOf LineOk line-width line-bytes (lim .lines) (t .lines) (midOf (lines-at lim) (count-size + lim .lines * line-width) (layout lim t))
+  lines-counted r = list-counted lines-list (omega (arith, r .few-lines))
 
   -- COUNTS-STAND: the bytes that the lists begin with are their lengths
   pub counts-stand :
       (midOf channels-at count-size (layout lim t) ≡ u16 (length (t .channels))) × (midOf (lines-at lim) count-size (layout lim t) ≡ u16 (length (t .lines)))
       × (midOf group-contacts-at count-size (layout lim t) ≡ u16 (length (t .group-contacts)))
       × (midOf individual-contacts-at count-size (layout lim t) ≡ u16 (length (t .individual-contacts)))
-  counts-stand = (list-count ok channels-list, list-count ok lines-list, list-count ok (contacts-list OfGroups), list-count ok (contacts-list OfIndividuals))
+  counts-stand = (list-count channels-list, list-count lines-list, list-count (contacts-list OfGroups), list-count (contacts-list OfIndividuals))
 
   -- ---- the slots behind a count
 
   pub contacts-listed : (w : Members) → Listed (member-ok w) member-width (member-bytes w) contact-places (contacts-in w t) (midOf (contacts-at w + count-size) (contact-places * member-width) (layout lim t))
-  contacts-listed w = list-listed ok (contacts-list w)
+  contacts-listed w = list-listed (contacts-list w)
 
   pub channels-listed : Listed InChannel channel-width u16 (lim .channels) (t .channels) (midOf (channels-at + count-size) (lim .channels * channel-width) (layout lim t))
-  channels-listed = list-listed ok channels-list
+  channels-listed = list-listed channels-list
 
   pub lines-listed : Listed LineOk line-width line-bytes (lim .lines) (t .lines) (midOf (lines-at lim + count-size) (lim .lines * line-width) (layout lim t))
-  lines-listed = list-listed ok lines-list
+  lines-listed = list-listed lines-list

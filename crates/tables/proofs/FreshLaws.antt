@@ -1,14 +1,15 @@
 -- A fresh store: it is allowed, and what its bytes are. Assumes nothing.
-use Rattle.lists.proofs.Kit.{ℕ, _+_, _*_, _-_, _≤_, _≡_, refl, sym, ap, _∙_, List, [], _∷_, _++_, map, Option, none, arith, putMid, length, set, replicate, length-replicate, replicate-append-replicate}
+use Rattle.lists.proofs.Kit.{ℕ, _+_, _*_, _-_, _≤_, _≡_, refl, sym, ap, ap₂, _∙_, List, [], _∷_, _++_, map, Option, none, arith, putMid, length, set, replicate, length-replicate, replicate-append-replicate}
 use Rattle.lists.specs.Every.{All}
 use Rattle.lists.proofs.Every.{all-replicate}
 use Rattle.slots.specs.Slots.{flat, places, front, u16, Present, sum}
+use Rattle.slots.proofs.Pads.{pad-nil}
 use Rattle.slots.proofs.Parts.{flat-zeros, parts-put}
 use Rattle.slots.proofs.Tables.{front-nil, places-nil}
 use Rattle.writing.specs.Ranges.{no-hash as hash-0}
 use Rattle.tables.specs.declared.limits.Limits.{Limits}
 use Rattle.tables.specs.Allowed.{Allowed, QuickOk, StatusOk, GroupOk, IndividualOk, LineOk}
-use Rattle.tables.specs.Layout.{count-size, counted, regions, layout, used-size, Roomy, quick-bytes, status-bytes, group-bytes, individual-bytes, line-bytes, quick-width, status-width, member-width, channel-width, line-width, key-at, key-size}
+use Rattle.tables.specs.Layout.{count-size, counted, ordered, regions, layout, used-size, Roomy, quick-bytes, status-bytes, group-bytes, individual-bytes, line-bytes, quick-width, status-width, member-width, channel-width, line-width, key-at, key-size}
 use Rattle.tables.specs.Limits.{quick-places, status-places, slot-places, contact-places}
 use Rattle.tables.specs.Tables.{fresh}
 use Rattle.tables.proofs.Frames.{all-widths}
@@ -43,6 +44,10 @@ fresh-allowed lim =
 list-zeros : {A : Type 0} (w : ℕ) (f : A → List ℕ) (n : ℕ) → counted w f n [] ≡ replicate (count-size + n * w) 0
 list-zeros w f n = ap (λ (l : List ℕ). u16 0 ++ l) (ap (places w f) (front-nil n) ∙ places-nil w f n) ∙ replicate-append-replicate count-size (n * w) 0
 
+-- and so is that of no line, with its order
+lines-zeros : (n : ℕ) → ordered n [] ≡ replicate (count-size + n * line-width + n) 0
+lines-zeros n = ap₂ (λ (x y : List ℕ). x ++ y) (list-zeros line-width line-bytes n) (pad-nil 0 n) ∙ replicate-append-replicate (count-size + n * line-width) n 0
+
 -- the regions of a fresh store are zeros, the key aside
 fresh-regions : (lim : Limits) → regions lim fresh ≡ set (map (λ w. replicate w 0) (all-widths lim)) 1 (16 ∷ 0 ∷ 0 ∷ 0 ∷ [])
 fresh-regions lim =
@@ -54,7 +59,7 @@ fresh-regions lim =
     let a = list-zeros member-width group-bytes contact-places in
     let b = list-zeros member-width individual-bytes contact-places in
     let c = list-zeros channel-width u16 (lim .channels) in
-    let l = list-zeros line-width line-bytes (lim .lines) in
+    let l = lines-zeros (lim .lines) in
     (λ i.
     replicate 11 0 ∷ (16 ∷ 0 ∷ 0 ∷ 0 ∷ []) ∷ replicate 4 0 ∷ replicate 3 0 ∷ q i ∷ s i ∷ g i ∷ j i ∷ d i ∷ a i ∷ b i ∷ c i ∷ l i
     ∷ replicate (lim .size - used-size lim) 0 ∷ [])

@@ -1,24 +1,29 @@
 -- The bytes of tables: every region has its width, the regions are bytes, and equal bytes are equal tables. Assumes nothing.
-use Rattle.lists.proofs.Kit.{ℕ, _+_, _*_, _-_, _≤_, _<_, _≡_, refl, sym, ap, _∙_, false, List, [], _∷_, _++_, map, Option, arith, length, getD, take, drop, length-replicate}
+use Rattle.lists.proofs.Kit.{ℕ, suc, _+_, _*_, _-_, _≤_, _<_, _≡_, refl, sym, ap, _∙_, false, List, [], _∷_, _++_, map, Option, arith, length, getD, take, drop, length-append, length-replicate}
 use Rattle.lists.specs.Bytes.{Bytes}
 use Rattle.lists.proofs.Bytes.{bytes-zeros, bytes-append}
 use Rattle.lists.specs.Every.{All}
+use Rattle.lists.proofs.Seqs.{cut}
 use Rattle.slots.specs.Slots.{places, front, u16, zeros?, Present, sum}
 use Rattle.slots.proofs.Codes.{Code, places-one, list-one}
 use Rattle.slots.proofs.Numbers.{u16-bytes}
+use Rattle.slots.proofs.Pads.{pad-length}
 use Rattle.slots.proofs.Runs.{copy-whole}
 use Rattle.slots.proofs.Parts.{flat-bytes, flat-length, parts-one}
 use Rattle.slots.proofs.Tables.{all-front, front-length, places-bytes, places-length}
+use Rattle.orders.specs.OrderParts.{order-bytes}
 use Rattle.writing.specs.Ranges.{InChannel}
 use Rattle.tables.specs.declared.limits.Limits.{Limits}
 use Rattle.tables.specs.Allowed.{Allowed, QuickOk, StatusOk, GroupOk, IndividualOk, LineOk}
-use Rattle.tables.specs.Layout.{count-size, counted, regions, region-widths, used-size, layout, Roomy, quick-bytes, status-bytes, group-bytes, individual-bytes, line-bytes, quick-width, status-width, member-width, channel-width, line-width}
+use Rattle.tables.specs.Layout.{count-size, counted, ordered, regions, region-widths, used-size, layout, Roomy, quick-bytes, status-bytes, group-bytes, individual-bytes, line-bytes, quick-width, status-width, member-width, channel-width, line-width}
 use Rattle.tables.specs.Limits.{contact-places}
+use Rattle.tables.specs.Order.{line-order}
 use Rattle.tables.specs.Store.{StoreOf, Holds}
-use Rattle.tables.specs.Tables.{Tables}
+use Rattle.tables.specs.Tables.{Line, Tables}
 use Rattle.tables.proofs.EntryBytes.{quick-are-bytes, status-are-bytes, group-are-bytes, individual-are-bytes, channel-are-bytes, line-are-bytes, hash-are-bytes, key-are-bytes, home-are-bytes, system-are-bytes}
 use Rattle.tables.proofs.EntryCodes.{quick-code, quick-shown, status-code, status-shown, group-code, group-shown, individual-code, individual-shown, channel-code, channel-shown, line-code, line-shown}
 use Rattle.tables.proofs.FixedCodes.{hash-code, key-code, home-code, system-code}
+use Rattle.tables.proofs.OrderLaws.{order-are-bytes}
 
 -- ---- widths
 
@@ -27,8 +32,12 @@ table-wide : {A : Type 0} {P : A → Type 0} {w : ℕ} {f : A → List ℕ} → 
 table-wide {w = w} {f = f} k os n e = places-length w f (k .long) os ∙ ap (λ (i : ℕ). i * w) e
 
 -- a list table with n places
-list-wide : {A : Type 0} {P : A → Type 0} {w : ℕ} {f : A → List ℕ} → Code P w f → (n : ℕ) (xs : List A) → length (counted w f n xs) ≡ count-size + n * w
+pub list-wide : {A : Type 0} {P : A → Type 0} {w : ℕ} {f : A → List ℕ} → Code P w f → (n : ℕ) (xs : List A) → length (counted w f n xs) ≡ count-size + n * w
 list-wide k n xs = omega (arith, table-wide k (front n xs) n (front-length n xs))
+
+-- that of the lines with their order
+lines-wide : (n : ℕ) (ls : List Line) → length (ordered n ls) ≡ count-size + n * line-width + n
+lines-wide n ls = omega (arith, length-append (counted line-width line-bytes n ls) (order-bytes n (line-order ls)), list-wide line-code n ls, pad-length 0 n (map suc (line-order ls)))
 
 -- REGIONS-WIDE: every region has its width
 pub regions-wide : (lim : Limits) (t : Tables) → Allowed lim t → map length (regions lim t) ≡ region-widths lim ++ ((lim .size - used-size lim) ∷ [])
@@ -42,7 +51,7 @@ regions-wide lim t ok =
     let g = list-wide group-code contact-places (t .group-contacts) in
     let h = list-wide individual-code contact-places (t .individual-contacts) in
     let j = list-wide channel-code (lim .channels) (t .channels) in
-    let k = list-wide line-code (lim .lines) (t .lines) in
+    let k = lines-wide (lim .lines) (t .lines) in
     let z = length-replicate {A = ℕ} (lim .size - used-size lim) 0 in
     (λ i. a i ∷ 4 ∷ 4 ∷ 3 ∷ b i ∷ c i ∷ d i ∷ e i ∷ f i ∷ g i ∷ h i ∷ j i ∷ k i ∷ z i ∷ [])
 
@@ -88,7 +97,9 @@ layout-bytes lim t r ok =
     let j = list-bytes GroupOk member-width group-bytes group-are-bytes contact-places (t .group-contacts) (omega arith) (ok .group-contacts) in
     let k = list-bytes IndividualOk member-width individual-bytes individual-are-bytes contact-places (t .individual-contacts) (omega arith) (ok .individual-contacts) in
     let l = list-bytes InChannel channel-width u16 channel-are-bytes (lim .channels) (t .channels) (r .few-channels) (ok .channels) in
-    let m = list-bytes LineOk line-width line-bytes line-are-bytes (lim .lines) (t .lines) (r .few-lines) (ok .lines) in
+    let m = bytes-append (counted line-width line-bytes (lim .lines) (t .lines)) (order-bytes (lim .lines) (line-order (t .lines)))
+    (list-bytes LineOk line-width line-bytes line-are-bytes (lim .lines) (t .lines) (omega (arith, r .few-lines)) (ok .lines))
+    (order-are-bytes (lim .lines) (t .lines) (omega (arith, r .few-lines, ok .lines .0)) (ok .lines .1) (ok .distinct)) in
     let z = bytes-zeros (lim .size - used-size lim) in
     flat-bytes (regions lim t) (a, (b, (c, (d, (e, (f, (g, (h, (i, (j, (k, (l, (m, (z, tt))))))))))))))
 
@@ -124,7 +135,9 @@ layout-one lim t u p q e =
     let l = list-table-one group-code group-shown (p .group-contacts) (q .group-contacts) (at 9) in
     let m = list-table-one individual-code individual-shown (p .individual-contacts) (q .individual-contacts) (at 10) in
     let n = list-table-one channel-code channel-shown (p .channels) (q .channels) (at 11) in
-    let o = list-table-one line-code line-shown (p .lines) (q .lines) (at 12) in
+    let o = list-table-one line-code line-shown (p .lines) (q .lines)
+    (cut (counted line-width line-bytes (lim .lines) (t .lines)) (counted line-width line-bytes (lim .lines) (u .lines))
+    (list-wide line-code (lim .lines) (t .lines) ∙ sym (list-wide line-code (lim .lines) (u .lines))) (at 12) .0) in
     (λ i. record {
       hash = a i;
       key = b i;

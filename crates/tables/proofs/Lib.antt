@@ -14,6 +14,8 @@ pub mod FreshLaws
 pub mod HeadLaws
 pub mod LayoutLaws
 pub mod LineTypes
+pub mod OrderLaws
+pub mod OrderTheorems
 pub mod Owns
 pub mod ReplaceLaws
 pub mod RoomSentences

@@ -4,6 +4,7 @@ use mathlib.Core.Path.{_≡_}
 use mathlib.Core.List.{List, [], _∷_, _++_, map}
 use lib.ListN.{length, replicate, take}
 use Rattle.slots.specs.Slots.{flat, sum, pad, places, front, u16, u24}
+use Rattle.orders.specs.OrderParts.{order-bytes}
 use Rattle.writing.specs.declared.LineFlags.{LineFlags}
 use Rattle.writing.specs.declared.KeyTarget.{KeyTarget}
 use Rattle.writing.specs.declared.KeyTarget.the-variants.{Current, ToGroup, ToIndividual}
@@ -17,6 +18,7 @@ use Rattle.writing.specs.Writing.{bit, current, to-group}
 use Rattle.tables.specs.declared.limits.Limits.{Limits}
 use Rattle.tables.specs.Allowed.{Allowed}
 use Rattle.tables.specs.Limits.{quick-places, status-places, slot-places, contact-places}
+use Rattle.tables.specs.Order.{line-order}
 use Rattle.tables.specs.Tables.{Line, LineKey, line-key, GroupMember, IndividualMember, Key, Tables}
 
 -- ---- an entry's bytes
@@ -153,8 +155,9 @@ contacts-size = count-size + contact-places * member-width
 abbrev pub channels-size : Limits → ℕ
 channels-size lim = count-size + lim .channels * channel-width
 
+-- the lines' region ends with their order, a byte for each place
 abbrev pub lines-size : Limits → ℕ
-lines-size lim = count-size + lim .lines * line-width
+lines-size lim = count-size + lim .lines * line-width + lim .lines
 
 -- how many bytes each region has, the spare ones aside: hash, key, home, system, quick, status, groups, individuals, line slots, group contacts,
 -- individual contacts, channels, lines
@@ -212,6 +215,10 @@ used-size lim = channels-at + (channels-size lim + lines-size lim)
 abbrev pub counted : {A : Type 0} → ℕ → (A → List ℕ) → ℕ → List A → List ℕ
 counted w f n xs = u16 (length xs) ++ places w f (front n xs)
 
+-- "Keep beside the CA line contacts an order of them": the list table of the lines, then their order
+abbrev pub ordered : ℕ → List Line → List ℕ
+ordered n ls = counted line-width line-bytes n ls ++ order-bytes n (line-order ls)
+
 -- the regions, in order; the bytes that no table uses are 0
 abbrev pub regions : Limits → Tables → List (List ℕ)
 regions lim t =
@@ -227,7 +234,7 @@ regions lim t =
     ∷ counted member-width group-bytes contact-places (t .group-contacts)
     ∷ counted member-width individual-bytes contact-places (t .individual-contacts)
     ∷ counted channel-width u16 (lim .channels) (t .channels)
-    ∷ counted line-width line-bytes (lim .lines) (t .lines)
+    ∷ ordered (lim .lines) (t .lines)
     ∷ replicate (lim .size - used-size lim) 0
     ∷ []
 
@@ -235,11 +242,11 @@ regions lim t =
 unfoldable pub layout : Limits → Tables → List ℕ
 layout lim t = flat (regions lim t)
 
--- limits whose tables fit the store, and whose counts fit two bytes
+-- limits whose tables fit the store, whose counts fit two bytes, and whose lines' positions, plus one, fit one
 pub record Roomy (lim : Limits) : Type 0 where
   pub fits : used-size lim ≤ lim .size
   pub few-channels : lim .channels < 65536
-  pub few-lines : lim .lines < 65536
+  pub few-lines : lim .lines ≤ 255
 
 -- the bytes are those of tables that the rules allow; that they fill the store is said by StoreOf
 pub record IsStore (lim : Limits) (bytes : List ℕ) : Type 0 where

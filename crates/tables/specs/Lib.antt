@@ -6,6 +6,8 @@ pub mod Limits
 pub mod LineHeads
 pub mod MemberKinds
 pub mod Members
+pub mod Order
+pub mod OrderedLines
 pub mod Owns
 pub mod Store
 pub mod Tables

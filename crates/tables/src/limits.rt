@@ -4,6 +4,7 @@ use super::places::CHANNELS;
 use super::places::COUNT;
 use super::places::COUNTED;
 use super::places::LINE_SLOT;
+use super::places::ORDERED;
 ghost use mathlib.Core.Path.{_≡_};
 ghost use mathlib.Core.Bool.{true};
 ghost use mathlib.Core.Logic.{_↔_};
@@ -27,17 +28,17 @@ pub const HANDHELD: Limits = Limits {
     size: HANDHELD_SIZE,
 };
 
-// Whether the tables have room in a store of the limits' size, and their counts in two bytes.
+// Whether the tables have room in a store of the limits' size, their counts in two bytes, and the lines' positions, plus one, in one.
 pub fn roomy(limits: Limits) -> bool
     ensures { λ r. ⌜ (r ≡ true) ↔ Roomy limits ⌝ }
 {
     if COUNTED < limits.channels {
         return false;
     }
-    if COUNTED < limits.lines {
+    if ORDERED < limits.lines {
         return false;
     }
     let channels = COUNT + limits.channels * CHANNEL_SLOT;
-    let lines = COUNT + limits.lines * LINE_SLOT;
+    let lines = COUNT + limits.lines * LINE_SLOT + limits.lines;
     CHANNELS + (channels + lines) <= limits.size
 }

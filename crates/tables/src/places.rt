@@ -61,6 +61,9 @@ pub const COUNT: usize = 2;
 
 pub const COUNTED: usize = 65535;
 
+// The most places whose positions, plus one, a byte of an order can say.
+pub const ORDERED: usize = 255;
+
 // In a slot: a line's key, which is its IDtype and its digits, a member's address, and the text, which stands last.
 pub const LINE_KEY: usize = 1;
 

@@ -1,5 +1,6 @@
 //! Messages to try an implementation with: seeded, of every kind, for one set as it grows.
 
+pub mod callers;
 pub mod calls;
 pub mod damage;
 pub mod draft;
@@ -13,6 +14,7 @@ use crate::reference::commit::{judge_and_commit, REPLY_ROOM};
 use crate::reference::export::{part_bytes, PARTS};
 use crate::reference::message::{first_byte, Hash, LONGEST, QUERY, SHORTEST};
 use crate::reference::tables::Set;
+use callers::Caller;
 use draft::{restate, Draft};
 use maker::pool_hash;
 use random::Random;
@@ -53,6 +55,11 @@ impl Inputs {
         message.truncate(LONGEST_INPUT);
         judge_and_commit(&message, &mut self.set, &mut [0; REPLY_ROOM]);
         message
+    }
+
+    /// Who calls: mostly a line that the set holds, or one that comes near.
+    pub fn caller(&mut self) -> Caller {
+        callers::caller(&mut self.random, &self.set.tables)
     }
 
     fn request(&mut self) -> Draft {

@@ -1,10 +1,13 @@
 //! The bytes of a store as docs/STORE.md describes them: an independent reading, as the reference is of document 01.
 
+use crate::reference::callers::order;
 use crate::reference::message::Hash;
 use crate::reference::settings::{EmergencyKey, GroupSlot, IndividualSlot, SystemCode};
 use crate::reference::tables::{Line, Set};
 use std::ops::Range;
 
+#[cfg(test)]
+mod order_tests;
 #[cfg(test)]
 mod tests;
 
@@ -16,8 +19,10 @@ pub const GROUP_CONTACTS_AT: usize = 8_118;
 pub const INDIVIDUAL_CONTACTS_AT: usize = 10_424;
 pub const CHANNELS_AT: usize = 12_730;
 pub const LINES_AT: usize = 12_860;
+/// The order of the lines, behind their slots: a byte for each place.
+pub const ORDER_AT: usize = 14_526;
 /// The first byte that no table uses.
-pub const SPARE_AT: usize = 14_526;
+pub const SPARE_AT: usize = 14_558;
 /// Bytes of a count, high byte first.
 pub const COUNT: usize = 2;
 
@@ -28,6 +33,8 @@ const STATUS: usize = 33;
 pub const MEMBER: usize = 36;
 /// Of a line, in a slot or among the contacts.
 pub const LINE: usize = 52;
+/// IDtype and digits among them.
+pub const LINE_KEY: Range<usize> = 1..20;
 
 /// The only bytes that keep this set.
 pub fn bytes(set: &Set) -> Vec<u8> {
@@ -49,6 +56,8 @@ pub fn bytes(set: &Set) -> Vec<u8> {
     list(&mut out, CHANNEL, &tables.channels, |channel| channel.to_be_bytes().to_vec());
     out.resize(LINES_AT, 0);
     list(&mut out, LINE, &tables.lines, line);
+    out.resize(ORDER_AT, 0);
+    out.extend(order(&tables.lines).into_iter().map(named));
     out.resize(SIZE, 0);
     out
 }
@@ -68,6 +77,11 @@ fn list<T>(out: &mut Vec<u8>, size: usize, table: &[T], slot: impl Fn(&T) -> Vec
 
 fn count(entries: usize) -> [u8; COUNT] {
     u16::try_from(entries).expect("the tables have room for fewer").to_be_bytes()
+}
+
+/// A position plus one, since 0 names none.
+fn named(position: usize) -> u8 {
+    u8::try_from(position + 1).expect("the tables have room for fewer")
 }
 
 fn push(out: &mut Vec<u8>, size: usize, mut slot: Vec<u8>) {
@@ -153,14 +167,30 @@ pub fn is_store(bytes: &[u8]) -> bool {
         && are_contacts(&bytes[GROUP_CONTACTS_AT..INDIVIDUAL_CONTACTS_AT], is_group)
         && are_contacts(&bytes[INDIVIDUAL_CONTACTS_AT..CHANNELS_AT], is_individual)
         && counted(&bytes[CHANNELS_AT..LINES_AT], CHANNEL, is_channel)
-        && counted(&bytes[LINES_AT..SPARE_AT], LINE, is_line)
-        && keys_differ(&bytes[LINES_AT + COUNT..SPARE_AT], LINE, 1..20)
+        && are_lines(&bytes[LINES_AT..ORDER_AT])
+        && is_order(&bytes[ORDER_AT..SPARE_AT], &bytes[LINES_AT..ORDER_AT])
         && is_empty(&bytes[SPARE_AT..])
 }
 
 /// A list of groups or individuals, in which no address stands twice.
 fn are_contacts(bytes: &[u8], is_member: fn(&[u8]) -> bool) -> bool {
     counted(bytes, MEMBER, is_member) && keys_differ(&bytes[COUNT..], MEMBER, 1..4)
+}
+
+/// The line contacts, in which no IDtype and digits stand twice.
+fn are_lines(bytes: &[u8]) -> bool {
+    counted(bytes, LINE, is_line) && keys_differ(&bytes[COUNT..], LINE, LINE_KEY)
+}
+
+/// As many names of lines as are counted, the key of each before the next one's, so that none is named twice; then zeros only.
+fn is_order(order: &[u8], lines: &[u8]) -> bool {
+    let count = usize::from(pair(lines));
+    let slots: Vec<&[u8]> = lines[COUNT..].chunks_exact(LINE).take(count).collect();
+    let (names, rest) = order.split_at(count);
+    // Digits are kept as one more, so that the end of a number, 0, comes before any digit.
+    let key = |&name: &u8| Some(&slots.get(usize::from(name).checked_sub(1)?)?[LINE_KEY]);
+    let keys: Option<Vec<&[u8]>> = names.iter().map(key).collect();
+    keys.is_some_and(|keys| keys.is_sorted_by(|one, next| one < next)) && is_empty(rest)
 }
 
 fn is_empty(bytes: &[u8]) -> bool {

@@ -1,6 +1,7 @@
 //! The stored test of the program `shift`: its input is what the binary `shift` writes, and its output what the reference shows of it.
 
 use otap_reference::records::{Record, Records};
+use otap_reference::reference::callers::line_of;
 use otap_reference::reference::commit::{judge_and_commit, Answer, REPLY_ROOM};
 use otap_reference::reference::screen::{row_part, Row, Shown, SCRATCH_ROOM};
 use otap_reference::reference::tables::{Set, MOST_CHANNELS, MOST_LINES};
@@ -64,6 +65,19 @@ fn room(set: &Set) -> String {
     )
 }
 
+/// A call from PSTN 2346: the row that has the number and what the screen shows for it, if there is one.
+fn caller(set: &Set) -> String {
+    let row = line_of(0, &[2, 3, 4, 6], true, set).expect("a store, and four digits");
+    let name = |row: u32| shown(Row::Line(row as usize), set).expect("the row found is there");
+    let told = row.map_or("no row".to_string(), |row| format!("{row} {}", name(row)));
+    labelled("call from 2346", &told)
+}
+
+/// What stands at the end of each part of the output: the room and the call.
+fn asked(set: &Set) -> String {
+    room(set) + &caller(set)
+}
+
 fn words(answer: &Answer, query: bool) -> &'static str {
     match answer.number {
         0 if query => "the hash matches",
@@ -91,7 +105,7 @@ fn message_lines(answer: &Answer, query: bool, reply: &[u8]) -> String {
 
 fn shift_prints(input: &[u8]) -> String {
     let mut set = Set::default();
-    let mut out = format!("A fresh store\n{}{}", rows(&set), room(&set));
+    let mut out = format!("A fresh store\n{}{}", rows(&set), asked(&set));
     for (place, record) in Records::new(input).enumerate() {
         let Record::Whole { message, .. } = record else {
             panic!("the stored shift has whole records")
@@ -99,7 +113,7 @@ fn shift_prints(input: &[u8]) -> String {
         let mut reply = [0; REPLY_ROOM];
         let answer = judge_and_commit(message, &mut set, &mut reply);
         let told = message_lines(&answer, message[6] & 7 == 5, &reply);
-        out.push_str(&format!("\nMessage {}: {told}{}{}", place + 1, rows(&set), room(&set)));
+        out.push_str(&format!("\nMessage {}: {told}{}{}", place + 1, rows(&set), asked(&set)));
     }
     out
 }

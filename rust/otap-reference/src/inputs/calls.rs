@@ -1,5 +1,6 @@
 //! Calls of every kind for one set as it grows, at times with buffers of a wrong size.
 
+use super::callers::Caller;
 use super::random::Random;
 use super::Inputs;
 use crate::reference::commit::REPLY_ROOM;
@@ -43,6 +44,11 @@ impl Calls {
             }
             _ => Call::Counts,
         }
+    }
+
+    /// Who is calling, to be asked between the others: this call has no buffer.
+    pub fn caller(&mut self) -> Caller {
+        self.inputs.caller()
     }
 
     fn judged(&mut self) -> Vec<u8> {

@@ -1,9 +1,9 @@
-//! Stores with a poked count, with a list that changed beside its count, or with a poked line slot.
+//! Stores with a poked count, with a list that changed beside its count, with a poked order of lines, or with a poked line slot.
 
 use super::random::Random;
 use crate::layout::{
     CHANNEL, CHANNELS_AT, COUNT, GROUP_CONTACTS_AT, INDIVIDUAL_CONTACTS_AT, LINE, LINES_AT,
-    LINE_SLOTS_AT, MEMBER,
+    LINE_KEY, LINE_SLOTS_AT, MEMBER, ORDER_AT, SPARE_AT,
 };
 use crate::reference::tables::{MOST_CHANNELS, MOST_CONTACTS, MOST_LINES, SLOTS};
 
@@ -61,7 +61,8 @@ pub fn poke_count(random: &mut Random, bytes: &mut [u8]) {
     region.set_count(bytes, poked);
 }
 
-/// Copies the first entry of a store's list to its end, at times with another key, or takes the last one away; half of the time its count follows.
+/// Copies the first entry of a store's list to its end, at times with another key, or takes the last one away; half of the time its count follows,
+/// and of lines mostly their order.
 pub fn poke_list(random: &mut Random, bytes: &mut [u8]) {
     let region = random.pick(&REGIONS);
     let count = usize::from(region.count(bytes));
@@ -80,6 +81,44 @@ pub fn poke_list(random: &mut Random, bytes: &mut [u8]) {
     };
     if random.percent(50) {
         region.set_count(bytes, longer as u16);
+    }
+    if region == LINES && random.percent(80) {
+        order_lines(bytes);
+    }
+}
+
+/// Gives the lines that a store counts the order of their keys.
+pub fn order_lines(bytes: &mut [u8]) {
+    let key = |&place: &usize| &bytes[LINES.slot(place)..][LINE_KEY];
+    let mut places: Vec<usize> = (0..usize::from(LINES.count(bytes)).min(MOST_LINES)).collect();
+    places.sort_by(|one, other| key(one).cmp(key(other)));
+    bytes[ORDER_AT..SPARE_AT].fill(0);
+    for (byte, place) in bytes[ORDER_AT..].iter_mut().zip(places) {
+        *byte = place as u8 + 1;
+    }
+}
+
+/// Gives a store's lines another order, or at times the one that they have; also bytes that are none.
+pub fn poke_order(random: &mut Random, bytes: &mut [u8]) {
+    let count = usize::from(LINES.count(bytes)).min(MOST_LINES);
+    let order = &mut bytes[ORDER_AT..SPARE_AT];
+    let (place, other) = (random.below(count.max(1)), random.below(count.max(1)));
+    let behind = count.min(MOST_LINES - 1);
+    match random.below(12) {
+        0 => order.swap(place, other),
+        1 => order.swap(place, (place + 1) % count.max(1)),
+        2 => order[place] = 0,
+        3 => order[place] = order[other],
+        // The next place, which is empty, the last one, and none.
+        4 => order[place] = random.pick(&[count + 1, MOST_LINES, MOST_LINES + 1, 255]) as u8,
+        // One too many, and other bytes behind.
+        5 => order[behind] = random.pick(&[1, count, count + 1]) as u8,
+        6 => order[random.within(behind..=MOST_LINES - 1)] = random.bits(8) as u8,
+        7 => order[..count].reverse(),
+        8 => (0..count).for_each(|place| order[place] = place as u8 + 1),
+        9 => order[..count].iter_mut().for_each(|name| *name = name.wrapping_sub(1)),
+        10 => order[place..].rotate_right(1),
+        _ => order[random.below(MOST_LINES)] ^= 1 << random.below(8),
     }
 }
 

@@ -3,9 +3,9 @@
 use super::draft::carried;
 
 /// A coding type, and data with one or more settings: every type with every operation among them, and those with texts under both.
-pub const BASES: [(u8, &[u8]); 42] = [
+pub const BASES: [(u8, &[u8]); 43] = [
     (7, &[8, 1, 0xCA, 0, 9, 0x42, 1, 0x23, 0x45, 0xFF, 0, 0]),
-    (7, &[8, 1, 0xCA, 0, 14, 0xC0, 2, 0x12, 0x3F, 0, 0x41, 0, 0, 0x1F, 0, 0]),
+    (7, &[8, 1, 0xCA, 0, 13, 0xC0, 2, 0x12, 0x3F, 0, 0x41, 0, 0, 0x1F, 0, 0]),
     (7, &[8, 1, 0xCA, 0, 8, 0x80, 1, 0x12, 0x3F, 0, 0]),
     (7, &[8, 1, 0xCB, 0, 6, 0x78, 0x10, 0x00, 0x01]),
     (7, &[8, 2, 0xCB, 0, 3, 0xC8, 0xFF, 0, 3, 0xC0]),
@@ -39,6 +39,14 @@ pub const BASES: [(u8, &[u8]); 42] = [
         &[
             8, 3, 0xCA, 0, 6, 0x42, 1, 0x1F, 0, 0xCA, 0, 6, 0x40, 1, 0x1F, 0, 0xCA, 0, 6, 0x82, 1,
             0x1F, 0,
+        ],
+    ),
+    // Numbers that start alike, and in another order than by key: replaced, one of the other IDtype added, and one deleted.
+    (
+        4,
+        &[
+            8, 3, 0xCA, 0, 13, 0xC0, 3, 0x23, 0x45, 0xFF, 0, 0x23, 0xFF, 0, 0x3F, 0, 0xCA, 0, 8,
+            0x42, 1, 0x23, 0x45, 0xFF, 0, 0xCA, 0, 7, 0x80, 1, 0x23, 0xFF, 0,
         ],
     ),
     // Contacts and line slots.

@@ -3,7 +3,8 @@
 
 use super::*;
 use crate::inputs::pokes::{
-    poke_count, poke_line_slot, poke_list, Region, GROUP_CONTACTS, INDIVIDUAL_CONTACTS, REGIONS,
+    order_lines, poke_count, poke_line_slot, poke_list, poke_order, Region, GROUP_CONTACTS,
+    INDIVIDUAL_CONTACTS, LINES, REGIONS,
 };
 use crate::inputs::random::Random;
 use crate::inputs::Inputs;
@@ -47,7 +48,10 @@ fn counts_stand_before_their_lists() {
     // The last channel, the count of lines, then the first one's flags, IDtype and digits 0 and 0.
     assert_eq!(bytes[12_858..12_867], [1, 48, 0, 32, 0, 0, 1, 1, 0]);
     assert_eq!(bytes[12_862 + 31 * 52 + 20..][..2], [0x4E, 0x2D]);
-    assert_eq!((SPARE_AT, SIZE - SPARE_AT), (12_862 + 32 * 52, 10_050));
+    // The order of the lines, which stand as their digits go, and then nothing.
+    assert_eq!(bytes[14_525..14_529], [0, 1, 2, 3]);
+    assert_eq!(bytes[14_556..14_559], [31, 32, 0]);
+    assert_eq!(SIZE - SPARE_AT, 10_018);
 }
 
 #[test]
@@ -56,6 +60,8 @@ fn regions_follow_each_other() {
     assert_eq!(INDIVIDUAL_CONTACTS_AT, GROUP_CONTACTS_AT + 2 + 64 * 36);
     assert_eq!(CHANNELS_AT, INDIVIDUAL_CONTACTS_AT + 2 + 64 * 36);
     assert_eq!(LINES_AT, CHANNELS_AT + 2 + 64 * 2);
+    assert_eq!(ORDER_AT, LINES_AT + 2 + 32 * 52);
+    assert_eq!(SPARE_AT, ORDER_AT + 32);
 }
 
 #[test]
@@ -124,7 +130,7 @@ fn a_false_count_is_no_store() {
     }
 }
 
-/// A count that is right for its list, whose end has moved: of lists that are neither empty nor full.
+/// A count that is right for its list, whose end has moved: of lists that are neither empty nor full. Of lines their order goes along.
 #[test]
 fn a_list_and_its_count_change_together() {
     let (few, more) = (bytes(&held([7, 8, 40, 7])), bytes(&held([8, 9, 41, 8])));
@@ -135,6 +141,10 @@ fn a_list_and_its_count_change_together() {
             poked[slots.clone()].copy_from_slice(&to[slots]);
             assert!(!is_store(&poked), "the list without its count");
             region.set_count(&mut poked, region.count(to));
+            if region == LINES {
+                assert!(!is_store(&poked), "the lines without their order");
+                poked[ORDER_AT..SPARE_AT].copy_from_slice(&to[ORDER_AT..SPARE_AT]);
+            }
             assert!(is_store(&poked), "the list and its count");
         }
     }
@@ -189,7 +199,7 @@ fn kinds_of_contacts() {
     assert!(!is_store(&gap));
 }
 
-/// Two lines are told apart by each of the 19 bytes of IDtype and digits, and by no other byte.
+/// Two lines are told apart by each of the 19 bytes of IDtype and digits, and by no other byte. Their order follows.
 #[test]
 fn lines_differ_in_their_key() {
     let mut set = Set::default();
@@ -205,6 +215,7 @@ fn lines_differ_in_their_key() {
     let changed = |place: usize, byte: u8| {
         let mut poked = equal.clone();
         poked[second + place] = byte;
+        order_lines(&mut poked);
         is_store(&poked)
     };
     assert!(!changed(0, 15), "other flags, but one key");
@@ -216,7 +227,7 @@ fn lines_differ_in_their_key() {
     assert!(changed(19, 0), "a shorter number");
 }
 
-/// What messages make is a store; with another count it is none, and with another list only where that has its count.
+/// What messages make is a store; with another count or order it is none, and with another list only where that has its count and order.
 #[test]
 fn poked_stores() {
     let mut random = Random::new(11);
@@ -230,6 +241,11 @@ fn poked_stores() {
             assert!(is_store(&bytes), "seed {seed}");
             let mut poked = bytes.clone();
             poke_count(&mut random, &mut poked);
+            assert_eq!(is_store(&poked), poked == bytes, "seed {seed}");
+            poked.copy_from_slice(&bytes);
+            order_lines(&mut poked);
+            assert!(poked == bytes, "seed {seed}: the order is the one that the lines have");
+            poke_order(&mut random, &mut poked);
             assert_eq!(is_store(&poked), poked == bytes, "seed {seed}");
             poked.copy_from_slice(&bytes);
             poke_list(&mut random, &mut poked);

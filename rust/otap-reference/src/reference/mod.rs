@@ -3,6 +3,7 @@
 pub mod bits;
 #[cfg(test)]
 mod by_hand;
+pub mod callers;
 pub mod commit;
 pub mod export;
 pub mod menu;

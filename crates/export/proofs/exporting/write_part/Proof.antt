@@ -12,14 +12,14 @@ add-lines c = search needs
 add-lines-2 : tie.Need-add-lines-2
 add-lines-2 c = search needs
 
-mul-spare : tie.Need-mul-spare
-mul-spare c = search needs
+mul-order : tie.Need-mul-order
+mul-order c = search needs
 
-add-spare : tie.Need-add-spare
-add-spare c = search needs
+add-order : tie.Need-add-order
+add-order c = search needs
 
-add-spare-2 : tie.Need-add-spare-2
-add-spare-2 c = search needs
+add-order-2 : tie.Need-add-order-2
+add-order-2 c = search needs
 
 span-of-requires : tie.Need-span-of-requires
 span-of-requires c κs = search needs
@@ -54,9 +54,9 @@ write-part-spec =
     mul-lines
     add-lines
     add-lines-2
-    mul-spare
-    add-spare
-    add-spare-2
+    mul-order
+    add-order
+    add-order-2
     span-of-requires
     sub-write-held
     part-write-held-start

@@ -1,5 +1,5 @@
-use Rattle.lists.proofs.Kit.{needs, arith, _+_, _-_}
-use Rattle.tables.specs.Layout.{channels-size, lines-at, lines-size, channels-at}
+use Rattle.lists.proofs.Kit.{needs, arith, _+_, _*_, _-_}
+use Rattle.tables.specs.Layout.{channels-size, count-size, line-width, lines-at, channels-at}
 use Rattle.menu.proofs.CountLaws.{counts-read}
 use Rattle.menu.proofs.counting.read_counts.Statement.{statement}
 use Rattle.menu.proofs.counting.read_counts.Tie as tie
@@ -13,14 +13,14 @@ add-lines c = search needs
 add-lines-2 : tie.Need-add-lines-2
 add-lines-2 c = search needs
 
-mul-spare : tie.Need-mul-spare
-mul-spare c = search needs
+mul-order : tie.Need-mul-order
+mul-order c = search needs
 
-add-spare : tie.Need-add-spare
-add-spare c = search needs
+add-order : tie.Need-add-order
+add-order c = search needs
 
-add-spare-2 : tie.Need-add-spare-2
-add-spare-2 c = search needs
+add-order-2 : tie.Need-add-order-2
+add-order-2 c = search needs
 
 sub-count : tie.Need-sub-count
 sub-count c = search needs
@@ -56,7 +56,7 @@ returns : tie.Need-returns
 returns c =
     let s = c .before .before .before .before .before .before .before in
     let a = s .args in
-    counts-read (a .limits) (s .pre .0) (a .store .now) (lines-at (a .limits) + lines-size (a .limits) - lines-at (a .limits)) (channels-at + channels-size (a .limits) - channels-at) (omega arith) (omega arith) (c .before .before .count .result) (c .count2 .result) (c .before .before .count .ensures) (c .count2 .ensures)
+    counts-read (a .limits) (s .pre .0) (a .store .now) (lines-at (a .limits) + (count-size + a .limits .lines * line-width) - lines-at (a .limits)) (channels-at + channels-size (a .limits) - channels-at) (omega arith) (omega arith) (c .before .before .count .result) (c .count2 .result) (c .before .before .count .ensures) (c .count2 .ensures)
 
 pub read-counts-spec : {M : Type 1} → statement M
 read-counts-spec =
@@ -65,9 +65,9 @@ read-counts-spec =
     mul-lines
     add-lines
     add-lines-2
-    mul-spare
-    add-spare
-    add-spare-2
+    mul-order
+    add-order
+    add-order-2
     sub-count
     part-count-start
     part-count-end

@@ -25,6 +25,9 @@ add-end c = search needs
 add-end-2 : tie.Need-add-end-2
 add-end-2 c = search needs
 
+add-end-3 : tie.Need-add-end-3
+add-end-3 c = search needs
+
 enum-known-setting : tie.Need-enum-known-setting
 enum-known-setting c = search needs
 
@@ -92,14 +95,14 @@ apply-channels-requires : tie.Need-apply-channels-requires
 apply-channels-requires c κs = search needs
 
 apply-place-requires : tie.Need-apply-place-requires
-apply-place-requires c κs = (omega arith, unlisted (c .before .before .before .before .before .before .args .setting) (c .before .match .keys5))
+apply-place-requires c κs = (omega arith, unlisted (c .before .before .before .before .before .before .before .args .setting) (c .before .match .keys5))
 
 same-length : tie.Need-same-length
 same-length c = search needs
 
 returns : tie.Need-returns
 returns c =
-    let a = c .before .before .before .before .before .before .before .before .before .before .before .before .args in
+    let a = c .before .before .before .before .before .before .before .before .before .before .before .before .before .args in
     let g = c .before .before .before .before .before .before .setting .given in
     let y = c .before .before .apply-contacts in
     let b = c .before .before .before .before .group-flag-byte in
@@ -111,7 +114,7 @@ same-length-2 c = search needs
 
 returns-2 : tie.Need-returns-2
 returns-2 c =
-    let a = c .before .before .before .before .before .before .before .before .before .before .before .before .args in
+    let a = c .before .before .before .before .before .before .before .before .before .before .before .before .before .args in
     let g = c .before .before .before .before .before .before .setting2 .given in
     let y = c .before .before .apply-contacts2 in
     let b = c .before .before .before .before .individual-flag-byte in
@@ -123,7 +126,7 @@ same-length-3 c = search needs
 
 returns-3 : tie.Need-returns-3
 returns-3 c =
-    let a = c .before .before .before .before .before .before .before .before .before .before .before .args in
+    let a = c .before .before .before .before .before .before .before .before .before .before .before .before .args in
     let g = c .before .before .before .before .before .setting3 .given in
     let y = c .before .before .apply-lines in
     as-read (a .limits) (a .m .now) (a .store .now) _ (y .result) (a .setting) (Lines (g .0 .0) (g .0 .1 .0) (g .0 .1 .1 .0)) (g .1)
@@ -134,7 +137,7 @@ same-length-4 c = search needs
 
 returns-4 : tie.Need-returns-4
 returns-4 c =
-    let a = c .before .before .before .before .before .before .before .before .before .before .before .args in
+    let a = c .before .before .before .before .before .before .before .before .before .before .before .before .args in
     let g = c .before .before .before .before .before .setting4 .given in
     let y = c .before .before .apply-channels in
     as-read (a .limits) (a .m .now) (a .store .now) _ (y .result) (a .setting) (Channels (g .0 .0) (g .0 .1 .0)) (g .1)
@@ -144,7 +147,7 @@ same-length-5 : tie.Need-same-length-5
 same-length-5 c = search needs
 
 returns-5 : tie.Need-returns-5
-returns-5 c = c .before .before .apply-place .ensures (c .before .before .before .before .before .before .before .before .before .args .limits)
+returns-5 c = c .before .before .apply-place .ensures (c .before .before .before .before .before .before .before .before .before .before .args .limits)
 
 pub apply-region-spec : {M : Type 1} → statement M
 apply-region-spec =
@@ -156,6 +159,7 @@ apply-region-spec =
     mul-end
     add-end
     add-end-2
+    add-end-3
     enum-known-setting
     group-flag-byte-requires
     sub-apply-contacts

@@ -4,7 +4,7 @@ use Rattle.tables.proofs.AnswerLaws.{refused, not-said, was-said}
 use Rattle.store_check.proofs.StoreChecks.{store-is}
 use Rattle.store_check.proofs.checks.regions_ok.Statement.{statement}
 use Rattle.store_check.proofs.checks.regions_ok.Tie as tie
-use Rattle.tables.specs.Layout.{channels-size, lines-size, channels-at, lines-at}
+use Rattle.tables.specs.Layout.{channels-size, channels-at}
 
 sub-fixed-ok : tie.Need-sub-fixed-ok
 sub-fixed-ok c = search needs
@@ -93,6 +93,9 @@ add-spare c = search needs
 add-spare-2 : tie.Need-add-spare-2
 add-spare-2 c = search needs
 
+add-spare-3 : tie.Need-add-spare-3
+add-spare-3 c = search needs
+
 sub-lines-ok : tie.Need-sub-lines-ok
 sub-lines-ok c = search needs
 
@@ -107,9 +110,8 @@ lines-ok-requires c κs = search needs
 
 returns-5 : tie.Need-returns-5
 returns-5 c =
-    let b = c .before .before .before .before .before .before .before .before .before .before .before .before .before .before .before .before .before .before in
-    let lim = b .args .limits in
-    refused (λ x. not-said (c .before .lines-ok .result) (c .before .lines-ok .ensures (lim .lines) (slot-wide (b .args .store .now) (lines-at lim) (lines-size lim) (omega (arith, b .pre .0 .fits)))) (c .if5 .taken) (store-is (b .args .limits) (b .args .store .now) (b .pre .0) (b .pre .1) .1 x .1 .1 .1 .1 .0))
+    let b = c .before .before .before .before .before .before .before .before .before .before .before .before .before .before .before .before .before .before .before in
+    refused (λ x. not-said (c .before .lines-ok .result) (c .before .lines-ok .ensures) (c .if5 .taken) (store-is (b .args .limits) (b .args .store .now) (b .pre .0) (b .pre .1) .1 x .1 .1 .1 .1 .0))
 
 sub-is-clear : tie.Need-sub-is-clear
 sub-is-clear c = search needs
@@ -125,14 +127,14 @@ is-clear-requires c κs = search needs
 
 returns-6 : tie.Need-returns-6
 returns-6 c =
-    let b = c .before .before .before .before .before .before .before .before .before .before .before .before .before .before .before .before .before .before .before .before in
+    let b = c .before .before .before .before .before .before .before .before .before .before .before .before .before .before .before .before .before .before .before .before .before in
     let lim = b .args .limits in
     let t = store-is lim (b .args .store .now) (b .pre .0) (b .pre .1) in
-    let f = was-said (c .before .before .before .before .before .before .before .before .before .before .before .before .before .before .before .before .before .fixed-ok .result) (c .before .before .before .before .before .before .before .before .before .before .before .before .before .before .before .before .before .fixed-ok .ensures) (c .before .before .before .before .before .before .before .before .before .before .before .before .before .before .before .before .if1 .left) in
-    let i = was-said (c .before .before .before .before .before .before .before .before .before .before .before .before .before .before .indexed-ok .result) (c .before .before .before .before .before .before .before .before .before .before .before .before .before .before .indexed-ok .ensures) (c .before .before .before .before .before .before .before .before .before .before .before .before .before .if2 .left) in
-    let k = was-said (c .before .before .before .before .before .before .before .before .before .before .before .contact-lists-ok .result) (c .before .before .before .before .before .before .before .before .before .before .before .contact-lists-ok .ensures) (c .before .before .before .before .before .before .before .before .before .before .if3 .left) in
-    let h = was-said (c .before .before .before .before .before .before .before .channels-ok .result) (c .before .before .before .before .before .before .before .channels-ok .ensures (lim .channels) (slot-wide (b .args .store .now) channels-at (channels-size lim) (omega (arith, b .pre .0 .fits)))) (c .before .before .before .before .before .before .if4 .left) in
-    let l = was-said (c .before .before .before .lines-ok .result) (c .before .before .before .lines-ok .ensures (lim .lines) (slot-wide (b .args .store .now) (lines-at lim) (lines-size lim) (omega (arith, b .pre .0 .fits)))) (c .before .before .if5 .left) in
+    let f = was-said (c .before .before .before .before .before .before .before .before .before .before .before .before .before .before .before .before .before .before .fixed-ok .result) (c .before .before .before .before .before .before .before .before .before .before .before .before .before .before .before .before .before .before .fixed-ok .ensures) (c .before .before .before .before .before .before .before .before .before .before .before .before .before .before .before .before .before .if1 .left) in
+    let i = was-said (c .before .before .before .before .before .before .before .before .before .before .before .before .before .before .before .indexed-ok .result) (c .before .before .before .before .before .before .before .before .before .before .before .before .before .before .before .indexed-ok .ensures) (c .before .before .before .before .before .before .before .before .before .before .before .before .before .before .if2 .left) in
+    let k = was-said (c .before .before .before .before .before .before .before .before .before .before .before .before .contact-lists-ok .result) (c .before .before .before .before .before .before .before .before .before .before .before .before .contact-lists-ok .ensures) (c .before .before .before .before .before .before .before .before .before .before .before .if3 .left) in
+    let h = was-said (c .before .before .before .before .before .before .before .before .channels-ok .result) (c .before .before .before .before .before .before .before .before .channels-ok .ensures (lim .channels) (slot-wide (b .args .store .now) channels-at (channels-size lim) (omega (arith, b .pre .0 .fits)))) (c .before .before .before .before .before .before .before .if4 .left) in
+    let l = was-said (c .before .before .before .lines-ok .result) (c .before .before .before .lines-ok .ensures) (c .before .before .if5 .left) in
     (λ e. t .0 (f, (i, (k, (h, (l, sym (c .is-clear .ensures) ∙ e))))), λ x. c .is-clear .ensures ∙ t .1 x .1 .1 .1 .1 .1)
 
 pub regions-ok-spec : {M : Type 1} → statement M
@@ -165,6 +167,7 @@ regions-ok-spec =
     mul-spare
     add-spare
     add-spare-2
+    add-spare-3
     sub-lines-ok
     part-lines-ok-start
     part-lines-ok-end

@@ -10,12 +10,12 @@ shared-slice-read-if1 c = search needs
 returns : tie.Need-returns
 returns c = refused (λ x. digits-first (c .before .before .before .args .s .now) x (c .if1 .taken))
 
-at-most-ten-requires : tie.Need-at-most-ten-requires
-at-most-ten-requires c κs = search needs
+at-most-requires : tie.Need-at-most-requires
+at-most-requires c κs = search needs
 
 returns-2 : tie.Need-returns-2
 returns-2 c =
-    refused (λ x. not-said (c .before .at-most-ten .result) (c .before .at-most-ten .ensures) (c .if2 .taken) (digits-ten (c .before .before .before .before .before .args .s .now) (c .before .before .before .before .before .pre) x))
+    refused (λ x. not-said (c .before .at-most .result) (c .before .at-most .ensures) (c .if2 .taken) (digits-ten (c .before .before .before .before .before .args .s .now) (c .before .before .before .before .before .pre) x))
 
 used-requires : tie.Need-used-requires
 used-requires c κs = search needs
@@ -34,7 +34,7 @@ is-zeros-requires c κs = search needs
 
 returns-3 : tie.Need-returns-3
 returns-3 c =
-    let t = was-said (c .before .before .before .before .at-most-ten .result) (c .before .before .before .before .at-most-ten .ensures) (c .before .before .before .if2 .left) in
+    let t = was-said (c .before .before .before .before .at-most .result) (c .before .before .before .before .at-most .ensures) (c .before .before .before .if2 .left) in
     digits-is (c .before .before .before .before .before .before .before .before .args .s .now) (c .before .before .used .result) (c .before .before .before .before .before .before .before .before .pre) (c .before .before .used .ensures) (c .before .before .before .before .before .if1 .left) t (c .is-zeros .result) (c .is-zeros .ensures)
 
 pub digits-ok-spec : {M : Type 1} → statement M
@@ -43,7 +43,7 @@ digits-ok-spec =
     (tie.spec
     shared-slice-read-if1
     returns
-    at-most-ten-requires
+    at-most-requires
     returns-2
     used-requires
     sub-is-zeros

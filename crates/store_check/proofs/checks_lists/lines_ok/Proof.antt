@@ -1,47 +1,78 @@
-use Rattle.lists.proofs.Kit.{needs}
+use Rattle.lists.proofs.Kit.{needs, arith}
 use Rattle.tables.proofs.AnswerLaws.{refused, not-said, was-said}
-use Rattle.store_check.proofs.KeyedChecks.{keyed-counted, keyed-decided, line-tells}
-use Rattle.tables.specs.Layout.{line-key-at, line-key-size}
-use Rattle.tables.specs.Tables.{line-key}
-use Rattle.store_check.specs.declared.checks_tables.Table.the-variants.{Lines}
+use Rattle.store_check.proofs.KeyedChecks.{lines-counted, lines-decided}
 use Rattle.store_check.proofs.checks_lists.lines_ok.Statement.{statement}
 use Rattle.store_check.proofs.checks_lists.lines_ok.Tie as tie
+
+sub-base : tie.Need-sub-base
+sub-base c = search needs
+
+sub-counted-ok : tie.Need-sub-counted-ok
+sub-counted-ok c = search needs
+
+part-counted-ok-start : tie.Need-part-counted-ok-start
+part-counted-ok-start c = search needs
+
+part-counted-ok-end : tie.Need-part-counted-ok-end
+part-counted-ok-end c = search needs
 
 counted-ok-requires : tie.Need-counted-ok-requires
 counted-ok-requires c κs = search needs
 
 returns : tie.Need-returns
 returns c =
-    let a = c .before .before .before .args in
-    λ n l. refused (λ x. not-said (c .before .counted-ok .result) (c .before .counted-ok .ensures n l) (c .if1 .taken) (keyed-counted Lines line-key-at line-key-size line-key line-tells n (a .s .now) x))
+    let b = c .before .before .before .before in
+    let t = c .before .counted-ok in
+    refused (λ x. not-said (t .result) (t .ensures (b .args .n) (omega arith)) (c .if1 .taken) (lines-counted (b .args .n) (b .args .s .now) (b .pre .0) (b .pre .1) x))
 
-sub-keys-distinct : tie.Need-sub-keys-distinct
-sub-keys-distinct c = search needs
+sub-count : tie.Need-sub-count
+sub-count c = search needs
 
-part-keys-distinct-start : tie.Need-part-keys-distinct-start
-part-keys-distinct-start c = search needs
+part-count-start : tie.Need-part-count-start
+part-count-start c = search needs
 
-part-keys-distinct-end : tie.Need-part-keys-distinct-end
-part-keys-distinct-end c = search needs
+part-count-end : tie.Need-part-count-end
+part-count-end c = search needs
 
-keys-distinct-requires : tie.Need-keys-distinct-requires
-keys-distinct-requires c κs = search needs
+count-requires : tie.Need-count-requires
+count-requires c κs = search needs
+
+sub-order-ok : tie.Need-sub-order-ok
+sub-order-ok c = search needs
+
+part-order-ok-start : tie.Need-part-order-ok-start
+part-order-ok-start c = search needs
+
+part-order-ok-end : tie.Need-part-order-ok-end
+part-order-ok-end c = search needs
+
+order-ok-requires : tie.Need-order-ok-requires
+order-ok-requires c κs = search needs
 
 returns-2 : tie.Need-returns-2
 returns-2 c =
-    let a = c .before .before .before .before .before .args in
-    λ n l.
-    keyed-decided Lines line-key-at line-key-size line-key line-tells n (a .s .now) (c .keys-distinct .result) (c .keys-distinct .ensures)
-    (was-said (c .before .before .before .counted-ok .result) (c .before .before .before .counted-ok .ensures n l) (c .before .before .if1 .left))
+    let b = c .before .before .before .before .before .before .before .before in
+    let t = c .before .before .before .before .before .counted-ok in
+    let h = c .before .before .count in
+    lines-decided (b .args .n) (b .args .s .now) (b .pre .0) (b .pre .1) (h .result) (h .ensures) (c .order-ok .result) (c .order-ok .ensures)
+    (was-said (t .result) (t .ensures (b .args .n) (omega arith)) (c .before .before .before .before .if1 .left))
 
 pub lines-ok-spec : {M : Type 1} → statement M
 lines-ok-spec =
     tie.close
     (tie.spec
+    sub-base
+    sub-counted-ok
+    part-counted-ok-start
+    part-counted-ok-end
     counted-ok-requires
     returns
-    sub-keys-distinct
-    part-keys-distinct-start
-    part-keys-distinct-end
-    keys-distinct-requires
+    sub-count
+    part-count-start
+    part-count-end
+    count-requires
+    sub-order-ok
+    part-order-ok-start
+    part-order-ok-end
+    order-ok-requires
     returns-2)

@@ -44,11 +44,11 @@ returns c =
 line-slot-requires : tie.Need-line-slot-requires Inv-loop μ-loop
 line-slot-requires c κs = search needs
 
-slice-aggregate-step-keyed : tie.Need-slice-aggregate-step-keyed Inv-loop μ-loop
-slice-aggregate-step-keyed c = search needs
+slice-aggregate-step-line : tie.Need-slice-aggregate-step-line Inv-loop μ-loop
+slice-aggregate-step-line c = search needs
 
-step-keyed-requires : tie.Need-step-keyed-requires Inv-loop μ-loop
-step-keyed-requires c κs = search needs
+step-line-requires : tie.Need-step-line-requires Inv-loop μ-loop
+step-line-requires c κs = search needs
 
 same-length-2 : tie.Need-same-length-2 Inv-loop μ-loop
 same-length-2 c = search needs
@@ -59,7 +59,7 @@ returns-2 c =
     let z = c .before .before .before .before .before .before .before .before .before .before .before .before .before .before .before .before .empty-to-replace in
     let l = c .before .before .before .before .before .before .before .before .before .before .before .before .before .loop in
     let x = c .before .before .before .before .before .before .line-slot in
-    let k = c .before .before .before .step-keyed in
+    let k = c .before .before .before .step-line in
     lines-applied (a .operation) (a .m .now) (a .flags) (a .entries) (a .list .now) (z .last .0) (k .last .0) false (z .ensures)
     (λ low. keyed-full (by-number (a .flags) (a .entries .coding)) (a .operation) (a .m .now) (a .entries) (z .last .0) (l .p) (l .i) (l .list) (omega arith) (l .inv .1 low) _ (x .result)
     (next-line (a .flags) (a .entries .coding) (a .m .now) (l .p) (c .before .before .before .before .before .before .before .before .before .before .read-contact .ensures) _ _ (c .before .before .before .before .before .before .before .before .here .given .1) (x .result) (x .ensures) low)
@@ -77,7 +77,7 @@ loop-again c =
     let z = c .before .before .before .before .before .before .before .before .before .before .before .before .before .before .before .before .empty-to-replace in
     let l = c .before .before .before .before .before .before .before .before .before .before .before .before .before .loop in
     let x = c .before .before .before .before .before .before .line-slot in
-    let k = c .before .before .before .step-keyed in (
+    let k = c .before .before .before .step-line in (
       search needs,
       λ low. keyed-on (by-number (a .flags) (a .entries .coding)) (a .operation) (a .m .now) (a .entries) (z .last .0) (l .p) (l .i) (l .list) (omega arith) (l .inv .1 low) _ (x .result)
           (next-line (a .flags) (a .entries .coding) (a .m .now) (l .p) (c .before .before .before .before .before .before .before .before .before .before .read-contact .ensures) _ _ (c .before .before .before .before .before .before .before .before .here .given .1) (x .result) (x .ensures) low)
@@ -109,8 +109,8 @@ apply-lines-spec =
     same-length
     returns
     line-slot-requires
-    slice-aggregate-step-keyed
-    step-keyed-requires
+    slice-aggregate-step-line
+    step-line-requires
     same-length-2
     returns-2
     add-i

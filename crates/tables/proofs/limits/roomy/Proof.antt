@@ -22,6 +22,9 @@ mul-lines c = search needs
 add-lines : tie.Need-add-lines
 add-lines c = search needs
 
+add-lines-2 : tie.Need-add-lines-2
+add-lines-2 c = search needs
+
 add-result : tie.Need-add-result
 add-result c = search needs
 
@@ -29,7 +32,7 @@ add-result-2 : tie.Need-add-result-2
 add-result-2 c = search needs
 
 returns-3 : tie.Need-returns-3
-returns-3 c = room-is (c .before .before .before .before .before .before .before .args .limits) (omega arith) (omega arith)
+returns-3 c = room-is (c .before .before .before .before .before .before .before .before .args .limits) (omega arith) (omega arith)
 
 pub roomy-spec : {M : Type 1} → statement M
 roomy-spec =
@@ -41,6 +44,7 @@ roomy-spec =
     add-channels
     mul-lines
     add-lines
+    add-lines-2
     add-result
     add-result-2
     returns-3)

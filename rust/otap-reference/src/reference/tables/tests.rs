@@ -211,8 +211,10 @@ fn both_lines_in_the_store() {
     assert!(layout::is_store(&kept));
     assert_eq!(kept[12_860..12_868], bytes("00 02 00 01 03 04 05 06"));
     assert_eq!(kept[12_914..12_920], bytes("00 00 03 04 05 06"));
+    assert_eq!(kept[14_526..14_529], bytes("02 01 00"));
     kept[12_863] = PSTN.into();
     assert!(!layout::is_store(&kept), "two lines of one IDtype and number");
     kept[12_915] = PABX.into();
+    kept[14_526..14_528].copy_from_slice(&[1, 2]);
     assert!(kept == layout::bytes(&after(&[TELEPHONE, EXTENSION])));
 }

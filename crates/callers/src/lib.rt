@@ -1,0 +1,3 @@
+// Who is calling: the row of the line contact that has a number.
+pub mod handheld;
+pub mod lookup;

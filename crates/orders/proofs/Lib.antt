@@ -1,0 +1,11 @@
+pub mod Before
+pub mod Times
+pub mod Laws
+pub mod Steps
+pub mod OrderBytes
+pub mod Lookups
+pub mod Checking
+pub mod KeyLists
+pub mod Joins
+pub mod Examples
+pub mod ListLaws

@@ -1,0 +1,3 @@
+pub mod OrderParts
+pub mod OrderedLists
+pub mod Orders

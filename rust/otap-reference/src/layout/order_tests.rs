@@ -1,0 +1,174 @@
+//! The order of the lines among a store's bytes: where it stands, and that a false one makes bytes no store.
+
+use super::*;
+use crate::reference::settings::LineFlags;
+
+const PSTN: bool = false;
+const PABX: bool = true;
+
+/// Lines in an order that is not theirs by key.
+const FOUR: [(bool, &[u8]); 4] =
+    [(PSTN, &[2, 3, 4, 5]), (PABX, &[2, 3, 4, 5]), (PSTN, &[2, 3]), (PSTN, &[3])];
+
+/// A store with these lines, each with a name.
+fn kept(keys: &[(bool, &[u8])]) -> Vec<u8> {
+    let line = |&(pabx, digits): &(bool, &[u8])| Line {
+        digits: digits.to_vec(),
+        flags: LineFlags { pabx, ..LineFlags::default() },
+        text: vec![0x4E2D],
+    };
+    let mut set = Set::default();
+    set.tables.lines = keys.iter().map(line).collect();
+    bytes(&set)
+}
+
+/// A store with so many lines, of both IDtypes, the last first.
+fn many(count: u8) -> Vec<u8> {
+    let numbers: Vec<[u8; 2]> = (0..count).rev().map(|place| [place / 10, place % 10]).collect();
+    let keys: Vec<(bool, &[u8])> =
+        numbers.iter().map(|digits| (digits[1] % 2 == 1, &digits[..])).collect();
+    kept(&keys)
+}
+
+/// Whether these bytes with another order, zeros behind it, are a store.
+fn with_order(bytes: &[u8], order: &[u8]) -> bool {
+    let mut poked = bytes.to_vec();
+    poked[14_526..14_558].fill(0);
+    poked[14_526..14_526 + order.len()].copy_from_slice(order);
+    is_store(&poked)
+}
+
+/// Whether these bytes with one byte changed are a store; the first of the order is 0.
+fn with_byte(bytes: &[u8], place: usize, byte: u8) -> bool {
+    let mut poked = bytes.to_vec();
+    poked[14_526 + place] = byte;
+    is_store(&poked)
+}
+
+#[test]
+fn the_order_of_four_lines() {
+    let bytes = kept(&FOUR);
+    assert!(is_store(&bytes));
+    assert_eq!(bytes[14_526..14_530], [3, 1, 4, 2]);
+    assert!(is_empty(&bytes[14_530..]));
+    assert!(is_empty(&bytes[12_862 + 4 * 52..14_526]));
+}
+
+/// Of all arrangements of four names, and of four bytes with a name twice.
+#[test]
+fn four_lines_have_one_order() {
+    let bytes = kept(&FOUR);
+    let mut stores = Vec::new();
+    for place in 0..6_usize.pow(4) {
+        let order = [216, 36, 6, 1].map(|unit| (place / unit % 6) as u8);
+        if with_order(&bytes, &order) {
+            stores.push(order);
+        }
+    }
+    assert_eq!(stores, [[3, 1, 4, 2]]);
+}
+
+#[test]
+fn false_orders_of_four_lines() {
+    let bytes = kept(&FOUR);
+    let orders: [(&str, &[u8]); 19] = [
+        ("the first two exchanged, so a longer number first", &[1, 3, 4, 2]),
+        ("the last two exchanged, so by digits alone", &[3, 1, 2, 4]),
+        ("the outer two exchanged", &[2, 1, 4, 3]),
+        ("as the lines stand", &[1, 2, 3, 4]),
+        ("backwards", &[2, 4, 1, 3]),
+        ("0 in the middle", &[3, 0, 4, 2]),
+        ("0 in the middle, and all names", &[3, 1, 0, 4, 2]),
+        ("0 at the start, and all names", &[0, 3, 1, 4, 2]),
+        ("one too many, a name again", &[3, 1, 4, 2, 2]),
+        ("one too many, of the next place", &[3, 1, 4, 2, 5]),
+        ("one too few", &[3, 1, 4]),
+        ("none, as before A7", &[]),
+        ("one twice, for the one before", &[3, 3, 4, 2]),
+        ("one twice, for the last", &[3, 1, 4, 4]),
+        ("the next place, last", &[3, 1, 4, 5]),
+        ("the next place, first", &[5, 1, 4, 2]),
+        ("a position beyond all places", &[3, 1, 4, 33]),
+        ("a position beyond the order", &[3, 1, 255, 2]),
+        ("positions from 0", &[2, 0, 3, 1]),
+    ];
+    assert!(with_order(&bytes, &[3, 1, 4, 2]));
+    for (what, order) in orders {
+        assert!(!with_order(&bytes, order), "{what}");
+    }
+}
+
+/// Names or other bytes, in use or behind, in the order's last byte and in the first spare one.
+#[test]
+fn every_byte_of_the_order() {
+    let bytes = kept(&FOUR);
+    for place in 0..=32 {
+        for byte in (0..=34).chain([64, 127, 128, 254, 255]) {
+            let right = bytes[14_526 + place];
+            assert_eq!(with_byte(&bytes, place, byte), byte == right, "{place}: {byte}");
+        }
+    }
+}
+
+#[test]
+fn no_lines_have_no_order() {
+    let bytes = kept(&[]);
+    assert!(is_store(&bytes) && is_empty(&bytes[12_860..]));
+    for place in 0..32 {
+        for byte in [1, 2, 32, 33, 255] {
+            assert!(!with_byte(&bytes, place, byte), "{place}: {byte}");
+        }
+    }
+}
+
+#[test]
+fn one_line_is_the_first() {
+    let bytes = kept(&FOUR[1..2]);
+    assert!(is_store(&bytes));
+    for byte in 0..=255 {
+        assert_eq!(with_byte(&bytes, 0, byte), byte == 1, "{byte}");
+        assert_eq!(with_byte(&bytes, 1, byte), byte == 0, "{byte} behind");
+    }
+}
+
+/// No byte of a full order is 0, and each but the right one is false.
+#[test]
+fn a_full_order() {
+    for count in [31, 32] {
+        let bytes = many(count);
+        assert!(is_store(&bytes), "{count}");
+        let order = bytes[14_526..14_526 + usize::from(count)].to_vec();
+        assert_eq!((1..=count).filter(|name| order.contains(name)).count(), order.len());
+        for place in 0..order.len() {
+            for byte in [0, order[(place + 1) % order.len()], count + 1, 33, 255] {
+                assert!(!with_byte(&bytes, place, byte), "{count}, {place}: {byte}");
+            }
+            let mut swapped = order.clone();
+            swapped.swap(place, (place + 1) % order.len());
+            assert!(!with_order(&bytes, &swapped), "{count}, {place}");
+        }
+    }
+}
+
+/// A key that changes moves its line in the order; flags and text do not.
+#[test]
+fn the_order_follows_the_keys() {
+    let bytes = kept(&FOUR);
+    let slot = |position: usize| 12_862 + position * 52;
+    let changed = |place: usize, byte: u8, order: &[u8]| {
+        let mut poked = bytes.clone();
+        poked[place] = byte;
+        (is_store(&poked), with_order(&poked, order))
+    };
+    assert_eq!(changed(slot(3) + 1, 1, &[3, 1, 2, 4]), (false, true), "PABX 3");
+    assert_eq!(changed(slot(1) + 1, 0, &[3, 1, 4, 2]), (false, false), "PSTN 2345 twice");
+    assert_eq!(changed(slot(2) + 3, 5, &[1, 3, 4, 2]), (false, true), "24");
+    assert_eq!(changed(slot(2) + 4, 1, &[3, 1, 4, 2]), (true, true), "230");
+    assert_eq!(changed(slot(2) + 4, 6, &[1, 3, 4, 2]), (false, true), "235");
+    assert_eq!(changed(slot(3) + 3, 1, &[3, 1, 4, 2]), (true, true), "30");
+    assert_eq!(changed(slot(3) + 2, 1, &[4, 3, 1, 2]), (false, true), "0");
+    for position in 0..4 {
+        assert_eq!(changed(slot(position), 15, &[3, 1, 4, 2]), (true, true), "flags");
+        assert_eq!(changed(slot(position) + 20, 0, &[3, 1, 4, 2]), (true, true), "text");
+    }
+}
