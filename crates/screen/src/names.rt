@@ -86,7 +86,7 @@ fn member_slot(n: usize, places: usize, base: usize) -> SlotPlace
 }
 
 // Where the row's slot stands: docs/STORE.md.
-fn slot_of(row: Row, limits: Limits) -> SlotPlace
+pub fn slot_of(row: Row, limits: Limits) -> SlotPlace
     requires { ⌜ Roomy limits ⌝ }
     ensures { λ r. ⌜ SlotIs limits row r ⌝ }
 {
@@ -123,7 +123,7 @@ fn wide(x: u8) -> u32
 }
 
 // The number of three bytes, high byte first.
-fn address_of(s: &[u8]) -> u32
+pub fn address_of(s: &[u8]) -> u32
     requires { ⌜ length (now s) ≡ 3 ⌝ }
     ensures { λ r. ⌜ ((a : ℕ) → now (s .entry) ≡ u24 a → r ≡ a) ⌝ }
 {
