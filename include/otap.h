@@ -62,12 +62,12 @@ enum { OTAP_LAYOUT = 5 };
  */
 enum {
     OTAP_START_STACK = 256,      /* measured 40 */
-    OTAP_JUDGE_STACK = 26624,    /* 26,372: it has the working copy that otap_commit has */
-    OTAP_COMMIT_STACK = 26624,   /* 26,372: 24,576 of them are the working copy of the store */
-    OTAP_EXPORT_STACK = 1024,    /* 832 */
-    OTAP_ROW_STACK = 1024,       /* 664 otap_row_number, 744 otap_row_part */
-    OTAP_COUNTS_STACK = 1024,    /* 468 */
-    OTAP_LINE_OF_STACK = 1024,   /* 464, on AArch64 alone so far */
+    OTAP_JUDGE_STACK = 26624,    /* 26,288: it has the working copy that otap_commit has */
+    OTAP_COMMIT_STACK = 26624,   /* 26,288: 24,576 of them are the working copy of the store */
+    OTAP_EXPORT_STACK = 1024,    /* 896 */
+    OTAP_ROW_STACK = 1024,       /* 728 otap_row_number, 808 otap_row_part */
+    OTAP_COUNTS_STACK = 1024,    /* 532 */
+    OTAP_LINE_OF_STACK = 1024,   /* 712 */
     OTAP_CONVERSION_STACK = 256  /* 64 */
 };
 
