@@ -1,5 +1,5 @@
 -- What a row's slot keeps, and what is answered of it. Assumes nothing.
-use Rattle.lists.proofs.Kit.{ℕ, _+_, _-_, _*_, _≤_, _≡_, refl, sym, ap, ap₂, _∙_, subst, _⊎_, inl, inr, true, false, List, [], _∷_, map, Option, none, some, Option·none-ne-some, arith, midOf, mid-len, length, getD, length-map}
+use Rattle.lists.proofs.Kit.{ℕ, _+_, _-_, _*_, _≤_, _≡_, refl, sym, ap, ap₂, _∙_, subst, _⊎_, inl, inr, true, false, true≢false, List, [], _∷_, map, Option, none, some, Option·none-ne-some, arith, midOf, mid-len, eqb, length, getD, length-map}
 use denote.Enum.Declared.{tagOf}
 use types.Run.{OneOf}
 use Rattle.lists.specs.Every.{All}
@@ -121,11 +121,16 @@ module _ {lim : Limits} {s : List ℕ} {row : Row} {slot : Slot} (h : Here lim s
   pub filled-here : zeros? (midOf (slot .start) (slot .end - slot .start) s) ≡ false → Filled lim s row (At slot)
   filled-here z = (found-fits h .many-bytes, found-fits h .inside, λ t o. row-kept lim t s row slot o (h .is) .kept z)
 
--- where it is, and how many bytes it has
-pub filled-at : (lim : Limits) (s : List ℕ) (row : Row) {place : SlotPlace} (slot : Slot) → Filled lim s row place → place ≡ At slot → (slot .start + status-width ≤ slot .end) × (slot .end ≤ length s) × (status-width ≤ length (midOf (slot .start) (slot .end - slot .start) s))
-filled-at lim s row slot f e =
+-- it lies in the store, and no slot has fewer bytes than a status text's
+pub record SlotIn (s : List ℕ) (slot : Slot) : Type 0 where
+  pub wide : slot .start + status-width ≤ slot .end
+  pub inside : slot .end ≤ length s
+  pub many : status-width ≤ length (midOf (slot .start) (slot .end - slot .start) s)
+
+pub slot-in : (lim : Limits) (s : List ℕ) (row : Row) {place : SlotPlace} (slot : Slot) → Filled lim s row place → place ≡ At slot → SlotIn s slot
+slot-in lim s row slot f e =
     let g = subst (Filled lim s row) e f in
-    (g .0, g .1, omega (arith, g .0, mid-len (slot .start) (slot .end) s (g .1)))
+    record { wide = g .0; inside = g .1; many = omega (arith, g .0, mid-len (slot .start) (slot .end) s (g .1)) }
 
 -- ---- what is read of a slot
 
@@ -160,6 +165,13 @@ individual-kind row = row-kind row 3 (4 ∷ 6 ∷ []) (refl, (refl, tt))
 
 pub text-kind : (row : Row) → OneOf (1 ∷ 2 ∷ 8 ∷ []) (tagOf the-type row) → kind-of row ≡ 0
 text-kind row = row-kind row 0 (1 ∷ 2 ∷ 8 ∷ []) (refl, (refl, (refl, tt)))
+
+-- and those that are no lines
+pub no-line : (row : Row) → OneOf (1 ∷ 2 ∷ 3 ∷ 4 ∷ 5 ∷ 6 ∷ 8 ∷ []) (tagOf the-type row) → kind-of row ≡ 1 → ⊥
+no-line row one e =
+    true≢false
+    (sym (ap (λ k. eqb k 1) (kind-by row ∙ e))
+    ∙ at-case (λ n. eqb (kind-at n) 1) false (1 ∷ 2 ∷ 3 ∷ 4 ∷ 5 ∷ 6 ∷ 8 ∷ []) (tagOf the-type row) (refl, (refl, (refl, (refl, (refl, (refl, (refl, tt))))))) one)
 
 -- the target of a slot's bytes, by kind: its flags, and the address behind them
 pub line-reads : (slot : List ℕ) (f : LineFlags) → LineFlagsAre (getD slot 0 0) (getD slot 1 0) f → Reads LineOk line-bytes line-target slot (ToLine f)

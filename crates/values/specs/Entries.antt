@@ -4,14 +4,17 @@ use mathlib.Core.Path.{_≡_}
 use mathlib.Core.List.{List, map}
 use mathlib.Core.Option.{Option, none, some}
 use lib.ListN.{getD, length, take, drop}
+use Rattle.slots.specs.Slots.{written-over}
 use Rattle.writing.specs.declared.LineFlags.{LineFlags}
 use Rattle.writing.specs.declared.GroupFlags.{GroupFlags}
 use Rattle.writing.specs.declared.IndividualFlags.{IndividualFlags}
+use Rattle.writing.specs.Ranges.{InNumber}
 use Rattle.writing.specs.Settings.{Number}
 use Rattle.writing.specs.Writing.{bit}
 use Rattle.tables.specs.declared.limits.Limits.{Limits}
 use Rattle.tables.specs.Allowed.{LineOk, GroupOk, IndividualOk}
-use Rattle.tables.specs.Layout.{line-flags, group-flags, individual-flags, line-bytes, group-bytes, individual-bytes, status-width}
+use Rattle.tables.specs.Apply.{and-then}
+use Rattle.tables.specs.Layout.{line-flags, group-flags, individual-flags, line-bytes, group-bytes, individual-bytes, digit-bytes, status-width}
 use Rattle.tables.specs.Store.{Holds}
 use Rattle.tables.specs.Tables.{Line as LineEntry, GroupMember, IndividualMember, Tables}
 use Rattle.screen.specs.declared.names.SlotPlace.{SlotPlace}
@@ -19,8 +22,10 @@ use Rattle.screen.specs.declared.names.SlotPlace.the-variants.{At, Beyond}
 use Rattle.screen.specs.declared.rows.Row.{Row}
 use Rattle.screen.specs.declared.rows.Row.the-variants.{Line, QuickText, StatusText, Group, Individual, GroupContact, IndividualContact, LineSlot, NoTable}
 use Rattle.screen.specs.Rows.{of}
+use Rattle.values.specs.declared.answers.Digits.{Digits}
 use Rattle.values.specs.declared.answers.Entry.{Entry}
 use Rattle.values.specs.declared.answers.Target.{Target}
+use Rattle.values.specs.Digits.{AfterDigits, digits-told, stays}
 use Rattle.values.specs.Values.{Asked, refused, given, line-target, group-target, individual-target, entry-told}
 
 -- ---- flags
@@ -123,3 +128,17 @@ said o = either (refused 17) given o
 -- the target that a slot of the row keeps
 abbrev pub TargetIs : Row → List ℕ → Entry → Type 0
 TargetIs row slot r = (o : Option Standing) → Kept row slot o → entry-told r ≡ said (of target-of o)
+
+-- ---- digits
+
+-- digits that were kept stand at the buffer's start
+abbrev pub DigitsWritten : List ℕ → List ℕ → List ℕ → ℕ → Type 0
+DigitsWritten kept before after r = (ds : Number) → InNumber ds → kept ≡ digit-bytes ds → (r ≡ length ds) × (after ≡ written-over ds before)
+
+-- what is answered of the digits that may stand there, and the buffer afterwards
+abbrev pub digits-said : List ℕ → Option Number → AfterDigits
+digits-said buffer o = either (stays 17 buffer) (λ ds. record { number = 0; count = length ds; buffer = written-over ds buffer }) o
+
+-- the digits that a slot of the row keeps
+abbrev pub DigitsAre : Row → List ℕ → List ℕ → List ℕ → Digits → Type 0
+DigitsAre row slot before after r = (o : Option Standing) → Kept row slot o → digits-told r after ≡ digits-said before (and-then o number-of)

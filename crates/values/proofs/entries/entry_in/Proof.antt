@@ -1,8 +1,7 @@
-use Rattle.lists.proofs.Kit.{needs, arith, refl, inl, length, _+_, _≤_, _-_, midOf}
-use Rattle.tables.specs.Layout.{status-width}
+use Rattle.lists.proofs.Kit.{needs, arith, refl, inl}
 use Rattle.tables.specs.Store.{StoreOf}
 use Rattle.tables.proofs.AnswerLaws.{not-said, was-said}
-use Rattle.values.proofs.EntryLaws.{filled-at, entry-none, entry-there}
+use Rattle.values.proofs.EntryLaws.{SlotIn, slot-in, entry-none, entry-there}
 use Rattle.values.proofs.entries.entry_in.Statement.{statement}
 use Rattle.values.proofs.entries.entry_in.Tie as tie
 
@@ -11,13 +10,10 @@ store-here : (c : tie.Else1) → StoreOf (c .before .before .before .args .limit
 store-here c = was-said (c .before .is-store .result) (c .before .is-store .ensures) (c .if1 .left)
 
 -- the slot that was found for the row
-slot-here : (c : tie.After-slot) →
-    let slot = c .slot .given .0 .0 in
-    let s = c .before .before .before .before .before .before .args .store .now in
-    (slot .start + status-width ≤ slot .end) × (slot .end ≤ length s) × (status-width ≤ length (midOf (slot .start) (slot .end - slot .start) s))
+slot-here : (c : tie.After-slot) → SlotIn (c .before .before .before .before .before .before .args .store .now) (c .slot .given .0 .0)
 slot-here c =
     let a = c .before .before .before .before .before .before .args in
-    filled-at (a .limits) (a .store .now) (a .row) (c .slot .given .0 .0) (c .before .before .filled-slot .ensures) (c .slot .given .1)
+    slot-in (a .limits) (a .store .now) (a .row) (c .slot .given .0 .0) (c .before .before .filled-slot .ensures) (c .slot .given .1)
 
 is-store-requires : tie.Need-is-store-requires
 is-store-requires c κs = search needs
@@ -38,16 +34,16 @@ returns-2 : tie.Need-returns-2
 returns-2 c = entry-none (c .before .before .before .before .before .before .args .row) (store-here (c .before .before .before)) (c .before .before .filled-slot .result) (c .before .before .filled-slot .ensures) (c .enum-told .given .1)
 
 sub-target-of : tie.Need-sub-target-of
-sub-target-of c = let f = slot-here (c .before) in omega (arith, f .0, f .1)
+sub-target-of c = let f = slot-here (c .before) in omega (arith, f .wide, f .inside)
 
 part-target-of-start : tie.Need-part-target-of-start
-part-target-of-start c = let f = slot-here (c .before) in omega (arith, f .0, f .1)
+part-target-of-start c = let f = slot-here (c .before) in omega (arith, f .wide, f .inside)
 
 part-target-of-end : tie.Need-part-target-of-end
-part-target-of-end c = let f = slot-here (c .before) in omega (arith, f .0, f .1)
+part-target-of-end c = let f = slot-here (c .before) in omega (arith, f .wide, f .inside)
 
 target-of-requires : tie.Need-target-of-requires
-target-of-requires c κs = slot-here (c .before .before) .2
+target-of-requires c κs = slot-here (c .before .before) .many
 
 returns-3 : tie.Need-returns-3
 returns-3 c =
