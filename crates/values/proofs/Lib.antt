@@ -1,0 +1,3 @@
+pub mod DigitLaws
+pub mod EntryLaws
+pub mod FlagLaws
