@@ -1,2 +1,3 @@
 pub mod AskLaws
+pub mod FixedLaws
 pub mod TuningLaws
