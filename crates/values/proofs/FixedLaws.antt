@@ -1,5 +1,5 @@
 -- The emergency key, the home numbers and the system code, read back from their bytes. Assumes nothing.
-use Rattle.lists.proofs.Kit.{ℕ, _+_, _*_, _/_, _%_, _<_, _≡_, refl, sym, ap, _∙_, Bool, true, false, true≢false, List, some, arith, eqb, eq-eqb, ne-eqb, midOf, getD}
+use Rattle.lists.proofs.Kit.{ℕ, _+_, _*_, _/_, _%_, _<_, _≡_, sym, ap, _∙_, Bool, true, false, true≢false, List, some, arith, eqb, eq-eqb, ne-eqb, midOf, getD}
 use Rattle.lists.specs.Ladder.{Answers}
 use Rattle.slots.specs.Slots.{u16, u24}
 use Rattle.writing.specs.declared.HomeNumbers.{HomeNumbers}

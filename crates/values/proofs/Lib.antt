@@ -1,3 +1,4 @@
 pub mod AskLaws
 pub mod FixedLaws
+pub mod Theorems
 pub mod TuningLaws
