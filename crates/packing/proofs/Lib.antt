@@ -4,3 +4,4 @@ pub mod Packed
 pub mod RowBits
 pub mod ShownPart
 pub mod Theorems
+pub mod ValueBits
