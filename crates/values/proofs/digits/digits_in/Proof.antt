@@ -17,7 +17,7 @@ slot-here c =
     slot-in (a .limits) (a .store .now) (a .row) (c .slot .given .0 .0) (c .before .before .filled-slot .ensures) (c .slot .given .1)
 
 returns : tie.Need-returns
-returns c = inl (c .if1 .taken, refl)
+returns c = inl (omega (arith, c .if1 .taken), refl)
 
 is-store-requires : tie.Need-is-store-requires
 is-store-requires c κs = search needs
