@@ -24,9 +24,14 @@ ghost use lib.ListN.{length};
 ghost use Rattle.lists.specs.Ladder.{Answers};
 ghost use Rattle.writing.specs.Writing.{bit, current, to-group};
 ghost use Rattle.tables.specs.Allowed.{SystemOk};
-ghost use Rattle.tables.specs.Layout.{home-bytes, key-address, key-bytes, system-bytes};
+ghost use Rattle.tables.specs.Layout.{home-bytes, home-size, key-address, key-bytes, key-size, system-bytes, system-size};
 ghost use Rattle.tables.specs.Tables.{Key as KeyEntry};
 ghost use Rattle.values.specs.Values.{home-asked, home-told, key-asked, key-of, key-told, system-asked, system-told};
+
+// How many bytes the key's and the home numbers' regions have.
+const KEY_SIZE: usize = HOME - KEY;
+
+const HOME_SIZE: usize = SYSTEM - HOME;
 
 // In its region: the key's address, behind its flags; NP, behind NZI; LA, roaming and PAR, behind LAI.
 const KEY_ADDRESS: usize = 1;
@@ -57,11 +62,11 @@ fn target_of(here: bool, group: bool, address: u32) -> KeyTarget
 
 // The key of its bytes.
 fn key_of(s: &[u8]) -> EmergencyKey
-    requires { ⌜ length (now s) ≡ 4 ⌝ }
+    requires { ⌜ length (now s) ≡ key-size ⌝ }
     ensures { λ r. ⌜ ((k : KeyEntry) → now (s .entry) ≡ key-bytes k → r ≡ key-of k) ⌝ }
 {
     let bits = s[0];
-    let address = address_of(&s[KEY_ADDRESS..4]);
+    let address = address_of(&s[KEY_ADDRESS..KEY_SIZE]);
     let target = target_of(odd(bits / 16), odd(bits / 8), address);
     let flags = KeyFlags {
         voice: odd(bits / 4),
@@ -76,18 +81,18 @@ fn key_of(s: &[u8]) -> EmergencyKey
 
 // The home numbers of their bytes.
 fn home_of(s: &[u8]) -> HomeNumbers
-    requires { ⌜ length (now s) ≡ 4 ⌝ }
+    requires { ⌜ length (now s) ≡ home-size ⌝ }
     ensures { λ r. ⌜ ((h : HomeNumbers) → now (s .entry) ≡ home-bytes h → r ≡ h) ⌝ }
 {
     HomeNumbers {
         nzi: pair_of(&s[0..NP]),
-        np: pair_of(&s[NP..4]),
+        np: pair_of(&s[NP..HOME_SIZE]),
     }
 }
 
 // The system code of its bytes.
 fn system_of(s: &[u8]) -> SystemCode
-    requires { ⌜ length (now s) ≡ 3 ⌝ }
+    requires { ⌜ length (now s) ≡ system-size ⌝ }
     ensures { λ r. ⌜ ((c : SystemCode) → SystemOk c → now (s .entry) ≡ system-bytes c → r ≡ c) ⌝ }
 {
     let fields = s[SYSTEM_FIELDS];
