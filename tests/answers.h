@@ -1,4 +1,4 @@
-/* What the tests of numbers, contacts, callers and entries share: an answer that must be, the counts of a store, bytes that are none, a message to a fresh one. */
+/* What several tests of C share: an answer that must be, the counts of a store, bytes that are none, a message to a fresh one. */
 #ifndef ANSWERS_H
 #define ANSWERS_H
 
