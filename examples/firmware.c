@@ -1,6 +1,6 @@
 /*
- * A bit of firmware over libotap_handheld.a: keep a store at power-on or start one, judge messages and commit them, save, start again, draw the rows, write
- * the settings out and into another set. Every answer is checked; the first that is not what it must be ends the program with 1. examples/firmware.out is
+ * A bit of firmware over libotap_handheld.a: keep a store at power-on or start one, judge messages and commit them, save, start again, draw the rows,
+ * name who is calling, write the settings out and into another set. Every answer is checked; the first that is not what it must be ends the program with 1. examples/firmware.out is
  * what it prints.
  * It is one task, so it needs no lock; docs/FIRMWARE.md says where three need one, and how to save so that a power cut loses nothing (banks.c).
  */
@@ -268,6 +268,44 @@ static void add_contacts(void)
     draw("rows after the contacts");
 }
 
+/* A task of its own would have held the lock of otap_commit since it asked for the row: a message in between could move it. */
+static void print_caller(uint64_t caller)
+{
+    uint64_t part = otap_row_part(OTAP_LINES, otap_line_row(caller), store, sizeof store, scratch, sizeof scratch);
+    must_be("whether the caller's row is shown", part != 0, 1);
+    print_text(otap_part_bytes(part, store, scratch), otap_part_length(part));
+    printf(" (line %u)\n", (unsigned)otap_line_row(caller));
+}
+
+/* An incoming line call: its name, if a line contact has this IDtype and these digits, and else its digits. Line slots are not looked up. */
+static uint64_t line_call(uint32_t id_type, const uint8_t *digits, size_t length)
+{
+    uint64_t caller = otap_line_of(id_type, digits, length, store, sizeof store);
+    size_t at;
+    printf("call from %s ", id_type == OTAP_PABX ? "PABX" : "PSTN");
+    for (at = 0; at < length; at++) {
+        printf("%u", (unsigned)digits[at]);
+    }
+    printf(": ");
+    if (otap_line_found(caller)) {
+        print_caller(caller);
+    } else {
+        printf("%s\n", otap_answer_number(caller) == OTAP_OK ? "not among the lines" : "not a number");
+    }
+    return caller;
+}
+
+/* The line is PABX 2345, in row 0; 122 stands in a line slot only, and nineteen digits are no number. */
+static void line_calls(void)
+{
+    static const uint8_t center[] = {2, 3, 4, 5}, police[] = {1, 2, 2}, long_one[OTAP_DIGITS + 1] = {1};
+    must_be("PABX 2345", line_call(OTAP_PABX, center, sizeof center), 0x100);
+    must_be("PSTN 2345", line_call(OTAP_PSTN, center, sizeof center), OTAP_OK);
+    must_be("PABX 234", line_call(OTAP_PABX, center, sizeof center - 1), OTAP_OK);
+    must_be("PSTN 122", line_call(OTAP_PSTN, police, sizeof police), OTAP_OK);
+    must_be("nineteen digits", line_call(OTAP_PSTN, long_one, sizeof long_one), OTAP_BAD_NUMBER);
+}
+
 static void try_refused(void)
 {
     uint64_t answer;
@@ -338,6 +376,7 @@ int main(void)
     draw("rows of a fresh store");
     add_and_rename();
     add_contacts();
+    line_calls();
     try_refused();
     export_to_other();
     same_rows();

@@ -11,6 +11,8 @@ void keep_message(const uint8_t *message, size_t length); /* until the call ends
 void show_waiting(int taken, int restart);                /* to the user: whether it would be taken, and whether the set would start again */
 void draw_row(uint32_t row, const uint8_t *units, size_t length);
 void draw_room(uint32_t lines, uint32_t channels);
+void show_caller(const uint8_t *units, size_t length);  /* a contact's name, or its number where it has none: 16-bit units, high byte first */
+void show_digits(const uint8_t *digits, size_t length); /* of a caller that is no contact: what came with the call */
 void lock_store(void);
 void unlock_store(void);
 
@@ -63,6 +65,22 @@ void on_message(const uint8_t *message, size_t length)
         send_reply(reply, otap_answer_length(answer));
     if (otap_answer_reboot(answer))
         restart_set();
+}
+
+/* The radio task, when a line call comes in: who is calling. The row and its name are asked for under one hold of the lock, for a message that is
+ * committed between the two can move the rows. */
+void on_line_call(uint32_t id_type, const uint8_t *digits, size_t length)
+{
+    uint64_t caller;
+    lock_store();
+    caller = otap_line_of(id_type, digits, length, store, sizeof store);
+    if (otap_line_found(caller)) {
+        uint64_t part = otap_row_part(OTAP_LINES, otap_line_row(caller), store, sizeof store, scratch, sizeof scratch);
+        show_caller(otap_part_bytes(part, store, scratch), otap_part_length(part));
+    }
+    unlock_store();
+    if (!otap_line_found(caller)) /* no line has this number, or it is none: 20 */
+        show_digits(digits, length);
 }
 
 /* The settings menu, a screen task too: what is free, on every key. It draws nothing where the bytes are no store. */

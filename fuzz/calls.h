@@ -195,6 +195,41 @@ static uint64_t counts_twice(const uint8_t *store, size_t store_length)
     return answer;
 }
 
+/* 1 to 18 digits, each 0 to 9. */
+static int is_number(const uint8_t *digits, size_t length)
+{
+    size_t at = 0;
+    while (at < length && at < OTAP_DIGITS && digits[at] <= 9) {
+        at++;
+    }
+    return length > 0 && at == length;
+}
+
+/* Who is calling: a row only where the answer is 0, and then one that there can be. */
+static uint64_t line_of_once(uint32_t id_type, const uint8_t *digits, size_t length, const uint8_t *store, size_t store_length, int guarded)
+{
+    Lent d = lend(digits, length, guarded), s = lend(store, store_length, guarded);
+    uint64_t answer = otap_line_of(id_type, d.bytes, d.length, s.bytes, s.length);
+    uint32_t number = otap_answer_number(answer);
+    must((answer & 0xFFFFFFFF0000FE00u) == 0, "bits of a caller that must be 0");
+    must(same_bytes(d.bytes, digits, length) && same_bytes(s.bytes, store, store_length), "looking up leaves the digits and the store");
+    must(number == OTAP_OK || number == OTAP_NO_STORE || number == OTAP_BAD_NUMBER, "a number of a caller");
+    must(number == OTAP_NO_STORE || store_length == OTAP_STORE_BYTES, "a store has its size");
+    must(number == OTAP_NO_STORE || (number == OTAP_BAD_NUMBER) != is_number(digits, length), "20 exactly of what is no number");
+    must(otap_line_found(answer) ? number == OTAP_OK && otap_line_row(answer) < OTAP_LINE_ROWS : answer == number, "a row that there can be, or none");
+    must(!otap_line_found(answer) || id_type <= OTAP_PABX, "no line has another IDtype");
+    give_back(&d);
+    give_back(&s);
+    return answer;
+}
+
+static uint64_t line_of_twice(uint32_t id_type, const uint8_t *digits, size_t length, const uint8_t *store, size_t store_length)
+{
+    uint64_t answer = line_of_once(id_type, digits, length, store, store_length, 0);
+    must(answer == line_of_once(id_type, digits, length, store, store_length, 1), "the same row twice");
+    return answer;
+}
+
 /* Whether bytes are a store, by the number of a row. */
 static int is_store(const uint8_t *store, size_t store_length)
 {

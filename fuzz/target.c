@@ -3,14 +3,10 @@
  * goes from record to record. Each message is judged and then committed, and the one before it once more after it. After each the store is still a store,
  * and at the end it is written out into a fresh one that becomes the same.
  */
-#include "rows.h"
+#include "callers.h"
+#include "input.h"
 
 enum { MOST_RECORDS = 64 };
-
-typedef struct {
-    const uint8_t *bytes;
-    size_t left;
-} Input;
 
 static uint8_t store[OTAP_STORE_BYTES + 64], after[OTAP_STORE_BYTES + 64], other[OTAP_STORE_BYTES + 64];
 
@@ -25,46 +21,6 @@ __attribute__((section("__libfuzzer_extra_counters")))
 static uint8_t reached[2048];
 
 int LLVMFuzzerTestOneInput(const uint8_t *data, size_t size);
-
-static unsigned next_byte(Input *input)
-{
-    if (input->left == 0) {
-        return 0;
-    }
-    input->left--;
-    return *input->bytes++;
-}
-
-static size_t next_bytes(Input *input, size_t length, uint8_t *to)
-{
-    size_t given = length < input->left ? length : input->left;
-    memcpy(to, input->bytes, given);
-    input->bytes += given;
-    input->left -= given;
-    return given;
-}
-
-/* The high five bits of a choice: mostly what the call needs; else the buffer or the store is one more, one less, none, or some more. */
-static size_t chosen_size(unsigned choice, size_t least)
-{
-    switch (choice >> 3) {
-    case 16: return least + 1;
-    case 17: case 18: return least - 1;
-    case 19: return 0;
-    case 20: return least + 40;
-    default: return least;
-    }
-}
-
-static size_t chosen_store(unsigned choice)
-{
-    switch (choice >> 3) {
-    case 18: case 21: return OTAP_STORE_BYTES - 1;
-    case 22: return OTAP_STORE_BYTES + 1;
-    case 23: return 0;
-    default: return OTAP_STORE_BYTES;
-    }
-}
 
 static void note(uint64_t answer)
 {
@@ -93,6 +49,7 @@ static void commit_message(const uint8_t *message, size_t length, unsigned choic
     if (otap_answer_number(answer) == OTAP_OK) {
         memcpy(store, after, OTAP_STORE_BYTES);
         must(is_store(store, OTAP_STORE_BYTES), "a store stays a store");
+        check_order(store);
         check_counts(store);
     }
     note(answer);
@@ -170,6 +127,7 @@ static void restore_it(void)
     }
     must(same_bytes(store + 11, other + 11, OTAP_STORE_BYTES - 11), "the other store has the same tables");
     check_lists(store, check_counts(store));
+    check_callers(store);
     must(check_counts(other) == check_counts(store), "the other store has the same counts");
 }
 
@@ -182,6 +140,7 @@ static int known_by_all(void)
     must(known == (otap_answer_number(export_twice(2, store, OTAP_STORE_BYTES, OTAP_EXPORT_BYTES, request)) == OTAP_OK), "export knows a store");
     must(known == (commit_twice(query, sizeof query, store, OTAP_STORE_BYTES, OTAP_REPLY_BYTES, after) != OTAP_NO_STORE), "judging and committing know a store");
     must(known == (counts_twice(store, OTAP_STORE_BYTES) != OTAP_NO_STORE), "counts know a store");
+    must(known == (line_of_twice(OTAP_PABX, query, 2, store, OTAP_STORE_BYTES) != OTAP_NO_STORE), "looking up knows a store");
     return known;
 }
 
@@ -220,6 +179,25 @@ static void poke_count(Input *input)
     memcpy(store, other, OTAP_STORE_BYTES);
 }
 
+/* The order of the lines with two of its bytes exchanged, or with any value in one of them or right behind it: it is a store only with its own. */
+static void poke_order(Input *input)
+{
+    unsigned at = next_byte(input), value = next_byte(input);
+    uint8_t *order = store + ORDER_AT;
+    int own;
+    memcpy(other, store, OTAP_STORE_BYTES);
+    if (at < 128) {
+        order[at % (OTAP_LINE_ROWS + 1)] = (uint8_t)value;
+    } else {
+        order[at % OTAP_LINE_ROWS] = other[ORDER_AT + value % OTAP_LINE_ROWS];
+        order[value % OTAP_LINE_ROWS] = other[ORDER_AT + at % OTAP_LINE_ROWS];
+    }
+    own = same_bytes(other, store, OTAP_STORE_BYTES);
+    must(known_by_all() == own, "a false order is no store");
+    reached[2006 + own] = 1;
+    memcpy(store, other, OTAP_STORE_BYTES);
+}
+
 /* Another key of a slot: a line's other IDtype, or an address that differs in its last bit. Whether it is one. */
 static int other_key(const List *list, uint8_t *slot)
 {
@@ -231,7 +209,7 @@ static int other_key(const List *list, uint8_t *slot)
     return (slot[2] & 0x7F) != 0 || slot[3] != 0;
 }
 
-/* One entry more, like another but for its key: a store exactly if none has that key yet. It goes on from there if it is one. */
+/* One entry more, like another but for its key, in the order if it is a line: a store exactly if none has that key yet. It goes on from there if so. */
 static void poke_entry(Input *input)
 {
     unsigned like = next_byte(input);
@@ -247,6 +225,9 @@ static void poke_entry(Input *input)
     memcpy(slot, store + slot_of(list->table, like % count).first, layout[list->table].width);
     good = other_key(list, slot) && !has_key(store, list, count, slot);
     store[list->count + 1]++;
+    if (list->table == OTAP_LINES) {
+        order_lines(store);
+    }
     must(known_by_all() == good, "an entry's key is its own: IDtype and number, or the address");
     reached[2004 + good] = 1;
     if (!good) {
@@ -261,6 +242,46 @@ static void ask_counts(unsigned choice)
     size_t store_length = chosen_store(choice);
     uint64_t answer = counts_twice(store, store_length);
     must((store_length == OTAP_STORE_BYTES) == (answer != OTAP_NO_STORE), "a store is known as one, and of another size none is");
+}
+
+/* A key that is a line's or comes near it: a digit fewer or more, another digit, fewer digits, another IDtype. How many digits it has. */
+static size_t near_line(Input *input, unsigned row, uint32_t *id_type, uint8_t *digits)
+{
+    unsigned change = next_byte(input), choice = change / 8;
+    size_t length = digits_of(store, row, digits);
+    *id_type = key_at(store, row)[0];
+    switch (change % 8) {
+    case 2: return length - 1;
+    case 3: digits[length] = (uint8_t)(choice % 10); return length + 1;
+    case 4: *id_type ^= 1; return length;
+    case 5: *id_type += 1 + choice * 0x01010101u; return length;
+    case 6: digits[choice % length] = (uint8_t)(choice % 12); return length;
+    case 7: return choice % (length + 1);
+    default: return length;
+    }
+}
+
+/* Who is calling: like one of the lines, or any digits and now and then others. */
+static void ask_caller(Input *input, unsigned choice)
+{
+    uint8_t digits[OTAP_DIGITS + 6];
+    unsigned like = next_byte(input);
+    uint32_t id_type = like % 4;
+    size_t length, at, store_length = chosen_store(choice);
+    uint64_t answer;
+    if (like < 192 && store[LINE_COUNT_AT] > 0) {
+        length = near_line(input, like % store[LINE_COUNT_AT], &id_type, digits);
+    } else {
+        length = next_bytes(input, next_byte(input) % (sizeof digits + 1), digits);
+        for (at = 0; at < length; at++) {
+            digits[at] = (uint8_t)(digits[at] < 240 ? digits[at] % 10 : digits[at]);
+        }
+    }
+    answer = line_of_twice(id_type, digits, length, store, store_length);
+    if (store_length == OTAP_STORE_BYTES) {
+        check_caller(store, id_type, digits, length, answer);
+        reached[2008 + otap_line_found(answer)] = 1;
+    }
 }
 
 /* What one way gives, the other takes back. */
@@ -308,8 +329,16 @@ static void one_record(Input *input)
     case 2: case 3: commit_built(input, choice); break;
     case 4: ask_row(input, choice); ask_counts(choice); break;
     case 5: ask_export(input, choice); ask_counts(choice); break;
-    case 6: (choice & 8 ? poke_count : choice & 16 ? poke_entry : poke)(input); break;
-    default: (choice & 8 ? convert : start_again)(input); break;
+    case 6: (choice & 8 ? poke_count : choice & 16 ? poke_entry : choice & 32 ? poke_order : poke)(input); break;
+    default:
+        if (choice & 8) {
+            convert(input);
+        } else if (choice & 16) {
+            ask_caller(input, choice);
+        } else {
+            start_again(input);
+        }
+        break;
     }
 }
 

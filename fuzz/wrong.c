@@ -1,7 +1,5 @@
 /* Wrong libraries, to see that the checks of target.c can fail: the linker puts these before the archive's functions (--wrap). WRONG says which. */
-#include "otap.h"
-
-#include <string.h>
+#include "orders.h"
 
 #ifndef WRONG
 #define WRONG 0
@@ -13,12 +11,14 @@ uint64_t __real_otap_export(uint32_t, const uint8_t *, uint64_t, uint8_t *, uint
 uint32_t __real_otap_row_number(uint32_t, uint32_t, const uint8_t *, uint64_t, const uint8_t *, uint64_t);
 uint64_t __real_otap_row_part(uint32_t, uint32_t, const uint8_t *, uint64_t, uint8_t *, uint64_t);
 uint64_t __real_otap_counts(const uint8_t *, uint64_t);
+uint64_t __real_otap_line_of(uint32_t, const uint8_t *, uint64_t, const uint8_t *, uint64_t);
 uint64_t __wrap_otap_judge(const uint8_t *, uint64_t, const uint8_t *, uint64_t, uint8_t *, uint64_t);
 uint64_t __wrap_otap_commit(const uint8_t *, uint64_t, uint8_t *, uint64_t, uint8_t *, uint64_t);
 uint64_t __wrap_otap_export(uint32_t, const uint8_t *, uint64_t, uint8_t *, uint64_t);
 uint32_t __wrap_otap_row_number(uint32_t, uint32_t, const uint8_t *, uint64_t, const uint8_t *, uint64_t);
 uint64_t __wrap_otap_row_part(uint32_t, uint32_t, const uint8_t *, uint64_t, uint8_t *, uint64_t);
 uint64_t __wrap_otap_counts(const uint8_t *, uint64_t);
+uint64_t __wrap_otap_line_of(uint32_t, const uint8_t *, uint64_t, const uint8_t *, uint64_t);
 
 /* Where a store has a line before the last with the last one's digits, whatever its IDtype; 0 if there is none. */
 static size_t same_number(const uint8_t *store)
@@ -40,6 +40,7 @@ static void wipe(uint8_t *store)
         memcpy(store + first, store + last, 52);
         memset(store + last, 0, 52);
         store[12861]--;
+        order_lines(store);
     }
 }
 
@@ -233,4 +234,34 @@ uint64_t __wrap_otap_counts(const uint8_t *store, uint64_t store_length)
         return lines << 32 | channels << 16; /* lines for channels */
     }
     return WRONG == 15 && store_length == OTAP_STORE_BYTES && answer == OTAP_NO_STORE ? OTAP_OK : answer; /* an empty set for no store */
+}
+
+/* The same bytes with the order that their lines have. */
+static const uint8_t *in_order(const uint8_t *store)
+{
+    static uint8_t other[OTAP_STORE_BYTES];
+    memcpy(other, store, sizeof other);
+    order_lines(other);
+    return other;
+}
+
+uint64_t __wrap_otap_line_of(uint32_t id_type, const uint8_t *digits, uint64_t digits_length, const uint8_t *store, uint64_t store_length)
+{
+    uint64_t answer = __real_otap_line_of(id_type, digits, digits_length, store, store_length);
+    if (WRONG == 25 && otap_line_found(answer)) {
+        return answer + 0x10000; /* the next row */
+    }
+    if (WRONG == 26 && answer == OTAP_OK) {
+        return __real_otap_line_of(id_type ^ 1, digits, digits_length, store, store_length); /* the digits alone */
+    }
+    if (WRONG == 27 && answer == OTAP_OK && digits_length > 1) {
+        return __real_otap_line_of(id_type, digits, digits_length - 1, store, store_length); /* a line that the caller's number begins with */
+    }
+    if (WRONG == 28 && answer == OTAP_OK) {
+        return OTAP_NO_ROW; /* a refusal, where no row has the number */
+    }
+    if (WRONG == 29 && store_length == OTAP_STORE_BYTES && answer == OTAP_NO_STORE) {
+        return __real_otap_line_of(id_type, digits, digits_length, in_order(store), store_length); /* any order will do */
+    }
+    return WRONG == 30 && otap_line_found(answer) && digits_length == OTAP_DIGITS ? OTAP_BAD_NUMBER : answer; /* 18 digits are too many */
 }

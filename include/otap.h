@@ -50,8 +50,11 @@ enum {
     OTAP_ROW_BYTES = 46        /* a row's part has at most as many: 23 units */
 };
 
+/* A line's number has at most as many digits, and at least 1. */
+enum { OTAP_DIGITS = 18 };
+
 /* The number of a store's layout, docs/STORE.md: it changes where the layout does. No store holds it; firmware saves it beside the store. */
-enum { OTAP_LAYOUT = 4 };
+enum { OTAP_LAYOUT = 5 };
 
 /*
  * Stack in bytes: a ceiling for each call on every processor, which tests/stack.c holds it to, and the most that it measured on x86-64, AArch64,
@@ -59,11 +62,12 @@ enum { OTAP_LAYOUT = 4 };
  */
 enum {
     OTAP_START_STACK = 256,      /* measured 40 */
-    OTAP_JUDGE_STACK = 26624,    /* 26,372: it has the working copy that otap_commit has */
-    OTAP_COMMIT_STACK = 26624,   /* 26,372: 24,576 of them are the working copy of the store */
-    OTAP_EXPORT_STACK = 1024,    /* 832 */
-    OTAP_ROW_STACK = 1024,       /* 664 otap_row_number, 744 otap_row_part */
-    OTAP_COUNTS_STACK = 1024,    /* 468 */
+    OTAP_JUDGE_STACK = 26624,    /* 26,288: it has the working copy that otap_commit has */
+    OTAP_COMMIT_STACK = 26624,   /* 26,288: 24,576 of them are the working copy of the store */
+    OTAP_EXPORT_STACK = 1024,    /* 896 */
+    OTAP_ROW_STACK = 1024,       /* 728 otap_row_number, 808 otap_row_part */
+    OTAP_COUNTS_STACK = 1024,    /* 532 */
+    OTAP_LINE_OF_STACK = 1024,   /* 712 */
     OTAP_CONVERSION_STACK = 256  /* 64 */
 };
 
@@ -83,7 +87,8 @@ enum {
     OTAP_SHORT_BUFFER = 15,    /* scratch under 36 bytes, or export buffer under 4,096 */
     OTAP_NO_PART = 16,         /* export part not 1 to 10 */
     OTAP_NO_ROW = 17,          /* the screen's row is absent, or a background group's */
-    OTAP_OUTSIDE_PLAN = 20,    /* dialled number outside the plan */
+    OTAP_OUTSIDE_PLAN = 20,    /* of a conversion: dialled number outside the plan */
+    OTAP_BAD_NUMBER = 20,      /* of otap_line_of, the same number: not 1 to 18 digits, or a digit above 9; which of the two it is, the call says */
     OTAP_OUTSIDE_KIND = 21,    /* address outside its kind's plan */
     OTAP_NO_CHANNEL = 22       /* channel outside 1 to 640, or no channel's transmit value */
 };
@@ -108,6 +113,12 @@ enum {
     OTAP_STATUS_LAST = 127,
     OTAP_SLOT_ROWS = 16,       /* group, individual and line slots 0 to 15 */
     OTAP_CONTACT_ROWS = 64     /* positions 0 to 63 of group contacts, and of individual contacts */
+};
+
+/* The IDtypes of a line. */
+enum {
+    OTAP_PSTN = 0,             /* the telephone network */
+    OTAP_PABX = 1              /* a private exchange */
 };
 
 /* Room for as many scan channels, which no row shows; in each list of contacts, for as many as it has rows: OTAP_LINE_ROWS, OTAP_CONTACT_ROWS. */
@@ -201,6 +212,24 @@ uint64_t otap_export(uint32_t part,
 uint64_t otap_counts(const uint8_t *store, uint64_t store_length);
 
 /*
+ * Who is calling: the row of the line contact that has this IDtype and these digits. Touches no byte.
+ *   0   a row has that number: otap_line_found is 1, and otap_line_row the row, of OTAP_LINES;
+ *       or no row has it: otap_line_found is 0
+ *   11  not a store; no row
+ *   20  OTAP_BAD_NUMBER: no digits, more than OTAP_DIGITS, or a digit above 9; no row
+ * The first that applies, in this order: 11, 20. That no row has the number is no refusal, and row 0 is a row: ask otap_line_found.
+ * id_type is OTAP_PSTN or OTAP_PABX; any other is one that no line has. Digits are one a byte, 0 to 9 and not their characters. They are compared as they
+ * are: 1 and 01 differ, and a number that only begins like a line's is not that line's. Line slots are not looked up.
+ * The row is the line's position: otap_row_part shows its name there, or its digits where it has none. After any messages that is the name last sent with
+ * this IDtype and these digits. Ask for the part under the same hold of the lock: a message that is committed in between can move the rows.
+ * In the answer, bits 0 to 7 are the number, bit 8 whether a row has it, 16 to 31 the row; all others are 0.
+ * Unpack with otap_answer_number, otap_line_found, otap_line_row.
+ */
+uint64_t otap_line_of(uint32_t id_type,
+                      const uint8_t *digits, uint64_t digits_length,
+                      const uint8_t *store, uint64_t store_length);
+
+/*
  * Whether a row can be shown. Touches no byte.
  *   0   yes: otap_row_part with the same lengths gives its part
  *   15  scratch_length is under OTAP_SCRATCH_BYTES
@@ -242,7 +271,7 @@ uint64_t otap_channel_of_transmit(uint32_t frequency); /* 0: the channel that se
 
 /* Unpacking. */
 
-/* The number of an answer of otap_judge, otap_commit, otap_export, otap_counts or a conversion; not of otap_row_part, which has none. */
+/* The number of an answer of otap_judge, otap_commit, otap_export, otap_counts, otap_line_of or a conversion; not of otap_row_part, which has none. */
 static inline uint32_t otap_answer_number(uint64_t answer)
 {
     return (uint32_t)(answer & 0xFFu);
@@ -300,6 +329,18 @@ static inline uint32_t otap_counts_free_lines(uint64_t answer)
 static inline uint32_t otap_counts_free_channels(uint64_t answer)
 {
     return otap_answer_number(answer) == OTAP_OK ? (uint32_t)OTAP_CHANNEL_PLACES - otap_counts_channels(answer) : 0;
+}
+
+/* 1 if a row has the caller's number; 0 if none has, and of a refusal. */
+static inline int otap_line_found(uint64_t answer)
+{
+    return (int)((answer >> 8) & 1u);
+}
+
+/* The row of OTAP_LINES that has the caller's number; 0 also where none has, so ask otap_line_found first. */
+static inline uint32_t otap_line_row(uint64_t answer)
+{
+    return (uint32_t)((answer >> 16) & 0xFFFFu);
 }
 
 /* 1 if the part lies in the scratch, 0 if in the store. */

@@ -4,156 +4,8 @@
  * that they touch nothing. With the word "outside" a call is lent one byte too many, to see the fault.
  */
 #define _DEFAULT_SOURCE
-#include "otap.h"
-#include "messages.h"
-
-#include <stdio.h>
-#include <stdlib.h>
-#include <string.h>
-
-static const char *volatile current = "nothing";
-
-static void must(int holds, const char *what)
-{
-    if (!holds) {
-        fprintf(stderr, "%s: %s\n", current, what);
-        exit(1);
-    }
-}
-
-#ifdef __unix__
-#include "pages.h"
-enum { TIMES = 20 };
-#else
-#include "guards.h"
-enum { TIMES = 1 }; /* an emulator is slow */
-#endif
-
-enum { LONGEST = 32768 };
-
-static Lent message, store, buffer;
-static unsigned long calls, seen[256];
-static uint8_t filled[OTAP_STORE_BYTES + 1];
-static uint8_t copy_of_store[LONGEST], copy_of_buffer[LONGEST], forecast[LONGEST];
-
-/* After each call. */
-static void nothing_outside(void)
-{
-    must(kept(&message) && kept(&store) && kept(&buffer), "outside the lent bytes, or writing what is only to be read");
-}
-
-static void remember(void)
-{
-    memcpy(copy_of_store, store.bytes, store.length);
-    memcpy(copy_of_buffer, buffer.bytes, buffer.length);
-    calls++;
-}
-
-static int store_stays(void)
-{
-    return memcmp(copy_of_store, store.bytes, store.length) == 0;
-}
-
-static int buffer_stays(size_t from)
-{
-    return memcmp(copy_of_buffer + from, buffer.bytes + from, buffer.length - from) == 0;
-}
-
-/* Of a message, by the sizes of what is lent: the same of judging and committing. */
-static uint32_t expected_by_size(void)
-{
-    if (buffer.length < OTAP_REPLY_BYTES) {
-        return OTAP_SHORT_REPLY;
-    }
-    if (store.length != OTAP_STORE_BYTES) {
-        return OTAP_NO_STORE;
-    }
-    return message.length < 7 || message.length > OTAP_MESSAGE_BYTES ? OTAP_MESSAGE_LENGTH : OTAP_OK;
-}
-
-/* The numbers that a message can get, and what they leave of the reply buffer. */
-static void answered(uint64_t answer)
-{
-    uint32_t expected = expected_by_size();
-    must(expected == OTAP_OK ? otap_answer_number(answer) < OTAP_SHORT_REPLY || otap_answer_number(answer) > OTAP_MESSAGE_LENGTH
-                                   || otap_answer_number(answer) == OTAP_NO_STORE
-                             : answer == expected, "number");
-    must(buffer_stays(otap_answer_length(answer)), "bytes past the reply changed");
-}
-
-static uint64_t call_judge(void)
-{
-    uint64_t answer = otap_judge(message.bytes, message.length, store.bytes, store.length, buffer.bytes, buffer.length);
-    nothing_outside();
-    return answer;
-}
-
-/* Judged on a store that cannot be written; what leaves the reply buffer, again on one that cannot be written either. The buffer is left in `forecast`. */
-static uint64_t judge(void)
-{
-    uint64_t answer;
-    current = "otap_judge";
-    remember();
-    answer = call_judge();
-    answered(answer);
-    memcpy(forecast, buffer.bytes, buffer.length);
-    if (otap_answer_number(answer) >= OTAP_SHORT_REPLY) {
-        seal(&buffer);
-        calls++;
-        must(answer == call_judge(), "another answer");
-    }
-    return answer;
-}
-
-static uint64_t call_commit(void)
-{
-    uint64_t answer = otap_commit(message.bytes, message.length, store.bytes, store.length, buffer.bytes, buffer.length);
-    nothing_outside();
-    return answer;
-}
-
-/* What changes nothing does not write either, not even what was there: the same call again, on bytes that cannot be written. */
-static void commit_again(uint64_t answer)
-{
-    current = "otap_commit that is refused";
-    seal(&store);
-    if (otap_answer_number(answer) >= OTAP_SHORT_REPLY) {
-        seal(&buffer);
-    }
-    calls++;
-    must(answer == call_commit(), "another answer");
-}
-
-static uint64_t commit(void)
-{
-    uint64_t answer;
-    current = "otap_commit";
-    remember();
-    answer = call_commit();
-    answered(answer);
-    must(otap_answer_number(answer) == OTAP_OK || store_stays(), "a refusal changed the store");
-    seen[otap_answer_number(answer)]++;
-    if (otap_answer_number(answer) != OTAP_OK) {
-        commit_again(answer);
-    }
-    return answer;
-}
-
-/* A message to these bytes, judged and then committed: the same answer, and the same bytes in the reply buffer. */
-static uint64_t commit_to(int at_end, const Message *said, const uint8_t *bytes, size_t store_length, size_t reply_length)
-{
-    uint64_t judged, answer;
-    lend(&message, at_end, said->bytes, said->length, 0);
-    lend(&store, at_end, bytes, store_length, 0);
-    lend(&buffer, at_end, filled, reply_length, 1);
-    judged = judge();
-    lend(&store, at_end, bytes, store_length, 1);
-    lend(&buffer, at_end, filled, reply_length, 1);
-    answer = commit();
-    must(judged == answer, "another answer than judging");
-    must(memcmp(forecast, buffer.bytes, reply_length) == 0, "another reply than judging");
-    return answer;
-}
+#include "bounded.h"
+#include "lines.h"
 
 static void commit_at(int at_end, const Message *said, size_t store_length, size_t reply_length)
 {
@@ -165,31 +17,8 @@ static void start_sizes(void)
     static const size_t sizes[] = {0, 1, OTAP_STORE_BYTES - 1, OTAP_STORE_BYTES, OTAP_STORE_BYTES + 1};
     size_t each;
     for (each = 0; each < 10; each++) {
-        size_t length = sizes[each / 2];
-        uint32_t number;
-        current = "otap_start";
-        lend(&store, each % 2, filled, length, 1);
-        memcpy(copy_of_store, store.bytes, length);
-        number = otap_start(store.bytes, length);
-        nothing_outside();
-        calls++;
-        must(number == (length == OTAP_STORE_BYTES ? OTAP_OK : OTAP_NO_STORE), "number");
-        must(number == OTAP_OK || store_stays(), "a refusal changed the store");
+        start_at((int)(each % 2), sizes[each / 2]);
     }
-}
-
-static void counts_at(int at_end, const uint8_t *bytes, size_t store_length)
-{
-    uint64_t answer;
-    current = "otap_counts";
-    lend(&store, at_end, bytes, store_length, 0);
-    calls++;
-    answer = otap_counts(store.bytes, store_length);
-    nothing_outside();
-    must(store_length == OTAP_STORE_BYTES || answer == OTAP_NO_STORE, "number");
-    must(otap_answer_number(answer) == OTAP_OK || (answer == OTAP_NO_STORE && (store_length != OTAP_STORE_BYTES || bytes != filled)),
-         "a refusal has counts, or a store has none");
-    must(otap_counts_lines(answer) <= OTAP_LINE_ROWS && otap_counts_channels(answer) <= OTAP_CHANNEL_PLACES, "more than there is room for");
 }
 
 static void counts_sizes(void)
@@ -198,6 +27,34 @@ static void counts_sizes(void)
     size_t each;
     for (each = 0; each < 10; each++) {
         counts_at((int)(each % 2), filled, sizes[each / 2]);
+    }
+}
+
+/* Numbers of every length up to far too many digits, the first line's own among them. */
+static void line_of_sizes(void)
+{
+    static const size_t sizes[] = {0, 1, OTAP_STORE_BYTES - 1, OTAP_STORE_BYTES, OTAP_STORE_BYTES + 1};
+    uint8_t digits[2 * OTAP_DIGITS] = {0};
+    size_t each, length;
+    Key first = key_of(filled, 0);
+    memcpy(digits, first.digits, first.length);
+    for (each = 0; each < 10; each++) {
+        for (length = 0; length <= sizeof digits; length++) {
+            line_of_at((int)(each % 2), first.id_type, digits, length, filled, sizes[each / 2]);
+        }
+    }
+}
+
+/* Each line's number, with its own IDtype and with others; the places that have no line come without digits. */
+static void line_of_all(void)
+{
+    uint32_t row, id_type;
+    for (row = 0; row < OTAP_LINE_ROWS; row++) {
+        Key key = key_of(filled, row);
+        for (id_type = 0; id_type < 3; id_type++) {
+            line_of_at((int)(row % 2), id_type, key.digits, key.length, filled, OTAP_STORE_BYTES);
+        }
+        line_of_at((int)(row % 2), 0xFFFFFFFFu, key.digits, key.length, filled, OTAP_STORE_BYTES);
     }
 }
 
@@ -273,22 +130,6 @@ static void commit_random(unsigned turns)
     }
 }
 
-static void export_at(int at_end, uint32_t part, const uint8_t *bytes, size_t store_length, size_t length)
-{
-    uint32_t expected = length < OTAP_EXPORT_BYTES ? OTAP_SHORT_BUFFER : store_length != OTAP_STORE_BYTES ? OTAP_NO_STORE
-                      : part < 1 || part > OTAP_EXPORT_PARTS ? OTAP_NO_PART : OTAP_OK;
-    uint64_t answer;
-    current = "otap_export";
-    lend(&store, at_end, bytes, store_length, 0);
-    lend(&buffer, at_end, filled, length, 1);
-    remember();
-    answer = otap_export(part, store.bytes, store_length, buffer.bytes, length);
-    nothing_outside();
-    must(otap_answer_number(answer) == expected || (bytes != filled && answer == OTAP_NO_STORE), "number");
-    must(otap_answer_number(answer) == OTAP_OK || otap_export_length(answer) == 0, "a refusal has a length");
-    must(otap_export_length(answer) <= length && buffer_stays(otap_export_length(answer)), "bytes past the request changed");
-}
-
 static void export_sizes(void)
 {
     unsigned turn;
@@ -301,29 +142,6 @@ static void export_sizes(void)
         }
         export_at(at_end, 0xFFFFFFFFu, filled, store_length, length);
     }
-}
-
-static void row_at(int at_end, uint32_t table, uint32_t row, const uint8_t *bytes, size_t store_length, size_t length)
-{
-    uint32_t expected = length < OTAP_SCRATCH_BYTES ? OTAP_SHORT_BUFFER : store_length != OTAP_STORE_BYTES ? OTAP_NO_STORE : OTAP_OK;
-    uint32_t number;
-    uint64_t part;
-    size_t wrote;
-    current = "otap_row_number";
-    lend(&store, at_end, bytes, store_length, 0);
-    lend(&buffer, at_end, filled, length, 0);
-    number = otap_row_number(table, row, store.bytes, store_length, buffer.bytes, length);
-    nothing_outside();
-    must(number == expected || (expected == OTAP_OK && number == OTAP_NO_ROW) || (bytes != filled && number == OTAP_NO_STORE), "number");
-    current = "otap_row_part";
-    lend(&buffer, at_end, filled, length, 1);
-    remember();
-    part = otap_row_part(table, row, store.bytes, store_length, buffer.bytes, length);
-    nothing_outside();
-    wrote = otap_part_in_scratch(part) ? otap_part_length(part) : 0;
-    must(number == OTAP_OK || part == 0, "a refusal has a part");
-    must(otap_part_offset(part) + otap_part_length(part) <= (wrote != 0 ? length : store_length), "the part is outside");
-    must(buffer_stays(wrote), "bytes past the number changed");
 }
 
 static void row_sizes(void)
@@ -353,6 +171,7 @@ static void damaged_stores(unsigned turns)
 {
     static uint8_t bytes[OTAP_STORE_BYTES];
     static Message said;
+    Key called;
     unsigned turn;
     for (turn = 0; turn < turns; turn++) {
         memcpy(bytes, filled, sizeof bytes);
@@ -360,6 +179,8 @@ static void damaged_stores(unsigned turns)
         export_at((int)(turn % 2), 1 + turn % OTAP_EXPORT_PARTS, bytes, sizeof bytes, OTAP_EXPORT_BYTES);
         row_at((int)(turn % 2), 1 + turn % OTAP_TABLES, random_below(OTAP_STATUS_LAST + 1), bytes, sizeof bytes, OTAP_SCRATCH_BYTES);
         counts_at((int)(turn % 2), bytes, sizeof bytes);
+        called = key_of(filled, turn % OTAP_LINE_ROWS);
+        line_of_at((int)(turn % 2), called.id_type, called.digits, called.length, bytes, sizeof bytes);
         write_message(&said, turn % MESSAGE_KINDS, turn);
         commit_to((int)(turn % 2), &said, bytes, sizeof bytes, OTAP_REPLY_BYTES);
     }
@@ -391,6 +212,8 @@ static void every_length(void)
         fill(vary);
         row_all();
         counts_sizes();
+        line_of_sizes();
+        line_of_all();
         for (part = 1; part <= 2 * OTAP_EXPORT_PARTS; part++) {
             export_at((int)(part % 2), (part + 1) / 2, filled, OTAP_STORE_BYTES, OTAP_EXPORT_BYTES);
         }
@@ -423,6 +246,7 @@ int main(int count, char **words)
     }
     start_sizes();
     counts_sizes();
+    line_of_sizes();
     commit_sizes();
     commit_message_sizes();
     commit_cuts();

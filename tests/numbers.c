@@ -191,6 +191,7 @@ static void counted(void)
     }
     same("short store", 11, OTAP_NO_STORE, otap_counts(store, OTAP_STORE_BYTES - 1));
     same("long store", 11, OTAP_NO_STORE, otap_counts(store, OTAP_STORE_BYTES + 1));
+    same("long store, and no digits", 11, OTAP_NO_STORE, otap_line_of(OTAP_PABX, reply, 0, store, OTAP_STORE_BYTES + 1));
     memset(other, 0xFF, sizeof other);
     no_store("erased flash", other);
 }
@@ -268,8 +269,8 @@ static void layout(void)
     for (at = 0; at < OTAP_STORE_BYTES; at++) {
         sum = (sum ^ store[at]) * 16777619u;
     }
-    same("layout", 4, OTAP_LAYOUT, 4);
-    same("sum of a full store of layout 4", 0x90E2A897u, sum, sum);
+    same("layout", 5, OTAP_LAYOUT, 5);
+    same("sum of a full store of layout 5", 0xE71CBB0Du, sum, sum);
 }
 
 static void conversions(void)

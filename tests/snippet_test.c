@@ -93,6 +93,22 @@ void draw_room(uint32_t lines, uint32_t channels)
     must(lines == OTAP_LINE_ROWS && channels == free_channels, "what is free");
 }
 
+/* The shown one has to be PABX 2345, by its name A where it stands, or PSTN 3, which has none. */
+void show_caller(const uint8_t *units, size_t length)
+{
+    note('n');
+    must(held, "a name is shown without the lock");
+    must(length == 2 && units[0] == 0 && units[1] == (units == scratch ? '3' : 'A'), "the name of the caller");
+    must(units == scratch || units == store + 12862 + 20, "where it stands");
+}
+
+void show_digits(const uint8_t *digits, size_t length)
+{
+    note('g');
+    must(!held, "digits are shown without the lock");
+    must(length == 0 || digits[0] == 2 || digits[0] == 10, "what came with the call");
+}
+
 void lock_store(void)
 {
     note('(');
@@ -191,6 +207,34 @@ static void draws_contacts(void)
     must(last_row == 2, "the third in its own row");
 }
 
+/* PABX 2345 with a name, and PSTN 3 without one; then the list is emptied again. */
+static void names_callers(void)
+{
+    static const uint8_t named[] = {0x42, 1, 0x23, 0x45, 0xFF, 0, 'A', 0, 0}, nameless[] = {0x40, 1, 0x3F, 0, 0}, none[] = {0xC0, 0};
+    static const uint8_t number[] = {2, 3, 4, 5, 6}, three[] = {3}, wrong[] = {10};
+    open_request(&message, 2);
+    put_bytes(&message, 0xCA, named, sizeof named);
+    put_bytes(&message, 0xCA, nameless, sizeof nameless);
+    on_message(message.bytes, message.length);
+    must_call("()()s", "two lines");
+    on_line_call(OTAP_PABX, number, 4);
+    must_call("(n)", "a caller with a name");
+    on_line_call(OTAP_PSTN, three, 1);
+    must_call("(n)", "a caller without a name");
+    on_line_call(OTAP_PSTN, number, 4);
+    must_call("()g", "the same number of another network");
+    on_line_call(OTAP_PABX, number, 5);
+    must_call("()g", "a number that begins like it");
+    on_line_call(OTAP_PABX, number, 0);
+    must_call("()g", "a caller without a number");
+    on_line_call(OTAP_PABX, wrong, 1);
+    must_call("()g", "no digit");
+    open_request(&message, 1);
+    put_bytes(&message, 0xCA, none, sizeof none);
+    on_message(message.bytes, message.length);
+    must_call("()()s", "no line");
+}
+
 /* Two channels, then bytes that are no store. */
 static void draws_the_menu(void)
 {
@@ -218,7 +262,8 @@ int main(void)
     draw_groups();
     must_call("(ddddddddddddddd)", "fifteen of sixteen rows are drawn, slot 3 was deleted");
     draws_contacts();
+    names_callers();
     draws_the_menu();
-    printf("the snippet keeps, judges, saves, answers, starts again and draws\n");
+    printf("the snippet keeps, judges, saves, answers, starts again, names callers and draws\n");
     return 0;
 }

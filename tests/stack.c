@@ -2,6 +2,7 @@
 #define _XOPEN_SOURCE 700
 #include "otap.h"
 #include "judged.h"
+#include "lines.h"
 #include "messages.h"
 
 #include <stdio.h>
@@ -14,17 +15,18 @@ enum { STACK = 256 * 1024 };
 enum { STACK = 32 * 1024 };
 #endif
 
-enum { PAINT = 0xA5, CALLS = 8 };
+enum { PAINT = 0xA5, CALLS = 9 };
 
 /* The header's ceiling for each; it has what was measured beside them, and docs/TESTING.md too. */
 static const unsigned long most[CALLS] = {OTAP_START_STACK, OTAP_JUDGE_STACK, OTAP_COMMIT_STACK, OTAP_EXPORT_STACK, OTAP_ROW_STACK, OTAP_ROW_STACK,
-                                          OTAP_COUNTS_STACK, OTAP_CONVERSION_STACK};
+                                          OTAP_COUNTS_STACK, OTAP_LINE_OF_STACK, OTAP_CONVERSION_STACK};
 static const char *const names[CALLS] = {"otap_start", "otap_judge", "otap_commit", "otap_export", "otap_row_number", "otap_row_part", "otap_counts",
-                                         "a conversion"};
+                                         "otap_line_of", "a conversion"};
 
 static uint8_t stack[STACK], store[OTAP_STORE_BYTES], filled[OTAP_STORE_BYTES];
 static uint8_t buffer[OTAP_EXPORT_BYTES];
 static Message message;
+static Key caller;
 static unsigned which, turn;
 static uint64_t answer;
 
@@ -45,7 +47,8 @@ static void call(void)
     case 4: answer = otap_row_number(table, row, store, sizeof store, buffer, sizeof buffer); break;
     case 5: answer = otap_row_part(table, row, store, sizeof store, buffer, sizeof buffer); break;
     case 6: answer = otap_counts(store, sizeof store); break;
-    case 7: convert(turn); break;
+    case 7: answer = otap_line_of(caller.id_type, caller.digits, caller.length, store, sizeof store); break;
+    case 8: convert(turn); break;
     default: break; /* nothing, for what the switch of stacks itself takes */
     }
 }
@@ -90,6 +93,8 @@ static unsigned long deepest(void)
     unsigned long deep = 0, now;
     for (turn = 0; turn < OTAP_TABLES * (OTAP_STATUS_LAST + 1); turn++) {
         write_message(&message, turn % MESSAGE_KINDS, turn / MESSAGE_KINDS);
+        caller = key_of(filled, turn % OTAP_LINE_ROWS);
+        caller.length -= turn / OTAP_LINE_ROWS % 2; /* a line's own number, or one digit fewer, which no line has */
         now = depth();
         deep = now > deep ? now : deep;
     }

@@ -1,5 +1,5 @@
 // tests/wasm.mjs: the module for wasm32 in node: no imports; the stored inputs of the programs `take` and `put`, judged and committed, come to their
-// stored outputs.
+// stored outputs; and callers are found.
 import { readFileSync } from "node:fs";
 import { fileURLToPath } from "node:url";
 
@@ -9,7 +9,7 @@ if (WebAssembly.Module.imports(module).length > 0) throw new Error("the module i
 const { exports } = new WebAssembly.Instance(module);
 
 // The buffers, one behind the other from __heap_base on: pointers are numbers, lengths and packed answers BigInts.
-const sizes = { store: 24576, message: 65536, reply: 20, buffer: 4096 };
+const sizes = { store: 24576, message: 65536, reply: 20, buffer: 4096, digits: 19 };
 let end = exports.__heap_base.value;
 const at = {};
 for (const [name, size] of Object.entries(sizes)) {
@@ -65,6 +65,12 @@ function putWrites() {
     return Buffer.concat(parts);
 }
 
+// Who is calling, packed: the number, bit 8 where a row has it, the row from bit 16 on.
+function lineOf(idType, digits) {
+    memory.set(digits, at.digits);
+    return exports.otap_line_of(idType, ...lent("digits", digits.length), ...lent("store"));
+}
+
 function same(what, got, wanted) {
     if (!got.equals(wanted)) throw new Error(`${what}: not the bytes that it must be`);
 }
@@ -76,5 +82,9 @@ same("take", takePrints(stored("take", "stdin")), stored("take", "stdout"));
 start();
 takePrints(stored("put", "stdin"));
 same("put", putWrites(), stored("put", "stdout"));
+start();
+take([2, 2, 0, 0, 8, 4, 8, 1, 0xca, 0, 10, 0x42, 2, 0x3f, 0, 0x23, 0x45, 0xff, 0]); // PABX 3, then PABX 2345
+const asked = [lineOf(1, [3]), lineOf(1, [2, 3, 4, 5]), lineOf(0, [3]), lineOf(1, [2, 3, 4]), lineOf(1, []), lineOf(1, Array(19).fill(2))];
+if (asked.join() !== [0x100, 0x10100, 0, 0, 20, 20].join()) throw new Error(`who is calling: ${asked}`);
 if (exports.otap_transmit(640) !== 3560000n << 8n) throw new Error("transmit");
-console.log("no imports; take and put, judged and committed, as stored");
+console.log("no imports; take and put, judged and committed, as stored; callers are found");

@@ -64,6 +64,9 @@ pub fn all() -> Vec<Case> {
         cases.push(case(format!("row-{name}"), Call::Row(table, row), 0));
     }
     cases.push(case("counts".into(), Call::Counts, 0));
+    for (name, digits, row) in messages::callers() {
+        cases.push(case(format!("line-of-{name}"), Call::LineOf { digits, row }, 0));
+    }
     for (which, conversion) in conversions::ALL.iter().enumerate() {
         cases.push(case(format!("{}-x100", conversion.name), Call::Convert(which), 0));
     }

@@ -4,6 +4,7 @@ use crate::messages;
 use crate::sides::{Call, Rattle, Side};
 use crate::timing::median;
 use otap::Store;
+use otap_reference::inputs::pokes::order_lines;
 use otap_reference::layout;
 use std::hint::black_box;
 use std::time::Instant;
@@ -13,6 +14,8 @@ const CALLS: u32 = 20;
 /// The first line of the store, and the bytes of one (docs/STORE.md).
 const LINES: usize = 12_862;
 const LINE: usize = 52;
+/// The last byte of their order.
+const LAST_OF_ORDER: usize = 14_557;
 /// The first group contact and the first individual contact, and the bytes of one.
 const CONTACTS: [usize; 2] = [8_120, 10_426];
 const CONTACT: usize = 36;
@@ -39,17 +42,25 @@ fn stores() -> Vec<(&'static str, Vec<u8>)> {
         change(&mut bytes);
         bytes
     };
-    let mut fewer = full.clone();
-    assert_eq!(fewer.call(&Call::Commit(messages::without_contacts())), 0);
+    let without = |message| {
+        let mut fewer = full.clone();
+        assert_eq!(fewer.call(&Call::Commit(message)), 0);
+        fewer.bytes
+    };
     vec![
         ("full: 64 group contacts, 64 individual contacts and 32 lines", full.bytes.clone()),
-        ("full, but for both lists of contacts", fewer.bytes),
+        ("full, but for both lists of contacts", without(messages::without_contacts())),
+        ("full, but for the lines", without(messages::without_lines())),
         ("full, addresses of contacts with other first bytes", changed(other_first_bytes)),
         ("full, line numbers with other first digits", changed(other_first_digits)),
         ("last two group contacts equal: ends behind their list", changed(equal_contacts)),
-        ("last two lines equal: ends before the spare bytes", changed(equal_lines)),
         (
-            "last line wrong: ends before lines are compared",
+            "last byte of the order wrong: ends before the spare bytes",
+            changed(|bytes| bytes[LAST_OF_ORDER] ^= 1),
+        ),
+        ("last two lines equal: ends in their order", changed(equal_lines)),
+        (
+            "last line wrong: ends before their order",
             changed(|bytes| bytes[LINES + 31 * LINE] = 0xFF),
         ),
         ("first byte wrong: ends at once", changed(|bytes| bytes[0] = 0xFF)),
@@ -60,6 +71,7 @@ fn other_first_digits(bytes: &mut [u8]) {
     for (place, line) in bytes[LINES..].chunks_exact_mut(LINE).take(32).enumerate() {
         line[2] = 1 + (place % 10) as u8;
     }
+    order_lines(bytes);
 }
 
 fn other_first_bytes(bytes: &mut [u8]) {

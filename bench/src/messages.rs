@@ -71,9 +71,19 @@ pub fn filling() -> Vec<Vec<u8>> {
     ]
 }
 
+/// What empties the list of lines.
+pub fn without_lines() -> Vec<u8> {
+    request(&lines(0, Operation::Replace))
+}
+
 /// What empties both lists of contacts.
 pub fn without_contacts() -> Vec<u8> {
     request(&[group_contacts(Operation::Replace, 0), individual_contacts(Operation::Replace, 0)])
+}
+
+/// Who calls a full store: its last line, and a number that comes close to all 32 and is none of them.
+pub fn callers() -> [(&'static str, Vec<u8>, Option<u32>); 2] {
+    [("found", line(31, 0).digits, Some(31)), ("none", vec![7; 18], None)]
 }
 
 fn full(settings: impl Fn(usize) -> Vec<Vec<u8>>) -> Vec<u8> {

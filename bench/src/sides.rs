@@ -1,8 +1,9 @@
 //! The same calls to the archive and to plain Rust.
 
 use crate::conversions;
-use otap::{Part, Store, Table, EXPORT_ROOM, REPLY_ROOM, SCRATCH_ROOM, STORE_SIZE};
+use otap::{Part, Store, Table, EXPORT_ROOM, PSTN, REPLY_ROOM, SCRATCH_ROOM, STORE_SIZE};
 use otap_reference::layout;
+use otap_reference::reference::callers::line_of;
 use otap_reference::reference::commit::{commit, judge};
 use otap_reference::reference::export::export;
 use otap_reference::reference::menu::counts;
@@ -17,6 +18,11 @@ pub enum Call {
     Export(Part),
     Row(Table, u32),
     Counts,
+    /// Who is calling from the telephone network: the digits, and the row that has to be answered.
+    LineOf {
+        digits: Vec<u8>,
+        row: Option<u32>,
+    },
     /// A hundred conversions, named by their place in `conversions::ALL`.
     Convert(usize),
 }
@@ -101,6 +107,10 @@ impl Side for Rattle {
             Call::Counts => {
                 black_box(store.counts()).map_or_else(|refusal| refusal.number(), |_| 0)
             }
+            Call::LineOf { digits, row } => {
+                let found = store.line_of(PSTN, black_box(digits));
+                answered(black_box(found).map_err(otap::Refusal::number), *row)
+            }
             Call::Convert(which) => {
                 conversions::ALL[*which].rattle();
                 0
@@ -127,12 +137,20 @@ impl Side for Plain {
                 0
             }
             Call::Counts => black_box(counts(true, black_box(&self.set))).number,
+            Call::LineOf { digits, row } => {
+                answered(black_box(line_of(PSTN, black_box(digits), true, &self.set)), *row)
+            }
             Call::Convert(which) => {
                 conversions::ALL[*which].plain();
                 0
             }
         }
     }
+}
+
+/// The number of a caller, and that of no call where it is another row than it has to be.
+fn answered(answer: Result<Option<u32>, u8>, row: Option<u32>) -> u8 {
+    answer.map_or_else(|number| number, |found| if found == row { 0 } else { u8::MAX })
 }
 
 fn named(table: Table, row: usize) -> Row {

@@ -49,6 +49,7 @@ fn call_name(call: &Call) -> &'static str {
         Call::Export(_) => "export",
         Call::Row(..) => "row",
         Call::Counts => "counts",
+        Call::LineOf { .. } => "line-of",
         Call::Convert(which) => conversions::ALL[*which].name,
     }
 }

@@ -3,6 +3,7 @@
  * so a tick is 40 instructions. Repeated calls make it exact enough; the few around each call are in it.
  */
 #include "otap.h"
+#include "lines.h"
 #include "messages.h"
 
 #include <stdio.h>
@@ -12,6 +13,7 @@ enum { TICK = 40, TIMES = 200 };
 static volatile uint32_t *const systick = (volatile uint32_t *)0xE000E010u; /* control, reload, now */
 static uint8_t store[OTAP_STORE_BYTES], buffer[OTAP_EXPORT_BYTES];
 static Message said;
+static Key caller;
 static uint32_t which, row;
 static volatile uint64_t answer;
 
@@ -38,6 +40,11 @@ static void show_row(void)
 static void counts(void)
 {
     answer = otap_counts(store, sizeof store);
+}
+
+static void line_of(void)
+{
+    answer = otap_line_of(caller.id_type, caller.digits, caller.length, store, sizeof store);
 }
 
 static void individual(void)
@@ -82,6 +89,23 @@ static void fill(void)
     }
 }
 
+/* What the screen asks for. */
+static void count_reads(void)
+{
+    which = OTAP_GROUPS;
+    count("row, a group's text", show_row);
+    row = 13;
+    count("row, a group's number", show_row);
+    which = OTAP_GROUP_CONTACTS;
+    row = OTAP_CONTACT_ROWS - 1;
+    count("row, a group contact's text", show_row);
+    count("counts", counts);
+    caller = key_of(store, OTAP_LINE_ROWS - 1);
+    count("line of, found", line_of);
+    caller.length--; /* no line has it */
+    count("line of, none", line_of);
+}
+
 int main(void)
 {
     static const char *const commits[] = {"commit, 32 lines", "commit, 63 quick texts", "commit, a quick text", "commit, 96 status texts",
@@ -113,14 +137,7 @@ int main(void)
         which = each + 1;
         count(parts[each], export_part);
     }
-    which = OTAP_GROUPS;
-    count("row, a group's text", show_row);
-    row = 13;
-    count("row, a group's number", show_row);
-    which = OTAP_GROUP_CONTACTS;
-    row = OTAP_CONTACT_ROWS - 1;
-    count("row, a group contact's text", show_row);
-    count("counts", counts);
+    count_reads();
     count("individual of dialled", individual);
     count("transmit", transmit);
     count("channel of transmit", channel);

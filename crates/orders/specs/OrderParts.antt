@@ -46,7 +46,7 @@ abbrev pub Dropped : (n p : ℕ) → (s t : List ℕ) → Type 0
 Dropped n p s t = (w count : ℕ) (key : ℕ → List ℕ) → length s ≡ n * w + n → n ≤ 255 → count < n → p ≤ count → DistinctTo key (suc count) → drop (n * w) s ≡ order-bytes n (order-of key (suc count))
     → t ≡ take (n * w) s ++ order-bytes n (order-of (λ q. key (lift p q)) count)
 
--- ---- steps
+-- ---- inner steps: no promise cites these
 
 -- slot p stands in s, and the key in it
 pub record InSlot (w o k p size : ℕ) : Type 0 where

@@ -108,7 +108,7 @@ abbrev other-rows : List ℕ
 other-rows = 0 ∷ 1 ∷ 2 ∷ 4 ∷ 6 ∷ 7 ∷ 8 ∷ []
 
 -- what is the same for each of some cases is that for a row of one of them
-at-case : {A : Type 0} (f : ℕ → A) (a : A) (ks : List ℕ) (n : ℕ) → All (λ k. f k ≡ a) ks → OneOf ks n → f n ≡ a
+pub at-case : {A : Type 0} (f : ℕ → A) (a : A) (ks : List ℕ) (n : ℕ) → All (λ k. f k ≡ a) ks → OneOf ks n → f n ≡ a
 at-case f a [] n h e = absurd e
 at-case f a (k ∷ []) n h e = ap f e ∙ h .0
 at-case f a (k ∷ j ∷ ks) n h (inl e) = ap f e ∙ h .0

@@ -62,19 +62,19 @@ key-of k = record { target = k .target; flags = k .flags }
 -- ---- what a call answers
 
 -- the number, and the value where there is one
-pub record Asked (V : Type 0) : Type 0 where
+pub record Asked (A : Type 0) : Type 0 where
   pub number : ℕ
-  pub value : Option V
+  pub value : Option A
 
 -- a refusal: "all other bits 0"
-abbrev pub refused : {V : Type 0} → ℕ → Asked V
+abbrev pub refused : {A : Type 0} → ℕ → Asked A
 refused n = record { number = n; value = none }
 
-abbrev pub given : {V : Type 0} → V → Asked V
+abbrev pub given : {A : Type 0} → A → Asked A
 given v = record { number = 0; value = some v }
 
 -- "11, 17 (nothing stands there)"; else what the tables of the store have there
-abbrev pub asking : {V : Type 0} → Limits → (Tables → Option V) → List ℕ → Ladder (Asked V)
+abbrev pub asking : {A : Type 0} → Limits → (Tables → Option A) → List ℕ → Ladder (Asked A)
 asking lim what store =
     rung (StoreOf lim store → ⊥) (refused 11)
     (rung ((t : Tables) → Holds lim t store → what t ≡ none) (refused 17)

@@ -22,8 +22,10 @@ pub enum Refusal {
     NoSuchPart,
     /// 17: there is no such row, or it is a background group's, which is not shown.
     NoSuchRow,
-    /// 20: the dialled number is outside the plan.
+    /// 20 of a conversion: the dialled number is outside the plan.
     OutsidePlan,
+    /// 20 of [`Store::line_of`](crate::Store::line_of): the caller's number has no digits, more than 18, or a digit above 9.
+    BadNumber,
     /// 21: the address is outside its kind's plan.
     OutsideKind,
     /// 22: there is no such channel.
@@ -32,7 +34,7 @@ pub enum Refusal {
     Unlisted(u8),
 }
 
-const LISTED: [(u8, Refusal, &str); 11] = [
+const LISTED: [(u8, Refusal, &str); 12] = [
     (10, Refusal::ReplyShort, "the reply buffer is under 20 bytes"),
     (11, Refusal::NotAStore, "the bytes lent are not a store"),
     (12, Refusal::MessageLength, "the message is under 7 or over 4,096 bytes"),
@@ -42,6 +44,7 @@ const LISTED: [(u8, Refusal, &str); 11] = [
     (16, Refusal::NoSuchPart, "there is no such part"),
     (17, Refusal::NoSuchRow, "there is no such row"),
     (20, Refusal::OutsidePlan, "the dialled number is outside the plan"),
+    (20, Refusal::BadNumber, "the caller's number is not 1 to 18 digits"),
     (21, Refusal::OutsideKind, "the address is outside its kind's plan"),
     (22, Refusal::NoSuchChannel, "there is no such channel"),
 ];
@@ -55,6 +58,7 @@ impl Refusal {
         }
     }
 
+    /// Of two with one number the first; the call that means the other says so itself.
     pub(crate) fn from_number(number: u8) -> Refusal {
         LISTED.iter().find(|row| row.0 == number).map_or(Refusal::Unlisted(number), |row| row.1)
     }

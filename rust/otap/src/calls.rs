@@ -46,6 +46,13 @@ unsafe extern "C" {
         scratch_length: u64,
     ) -> u64;
     fn otap_counts(store: *const u8, store_length: u64) -> u64;
+    fn otap_line_of(
+        id_type: u32,
+        digits: *const u8,
+        digits_length: u64,
+        store: *const u8,
+        store_length: u64,
+    ) -> u64;
     // These have no buffers, so that every call is sound.
     pub safe fn otap_individual_of_dialled(dialled: u32) -> u64;
     pub safe fn otap_group_of_dialled(dialled: u32) -> u64;
@@ -99,4 +106,10 @@ pub fn row_part(table: u32, row: u32, store: &[u8], scratch: &mut [u8]) -> u64 {
 pub fn counts(store: &[u8]) -> u64 {
     // SAFETY: the slice is live for the call, which only reads it.
     unsafe { otap_counts(store.as_ptr(), length(store)) }
+}
+
+pub fn line_of(id_type: u32, digits: &[u8], store: &[u8]) -> u64 {
+    let (d, s) = (digits.as_ptr(), store.as_ptr());
+    // SAFETY: the slices are live for the call, which only reads them.
+    unsafe { otap_line_of(id_type, d, length(digits), s, length(store)) }
 }

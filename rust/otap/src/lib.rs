@@ -19,6 +19,7 @@
 #![warn(missing_docs)]
 
 mod answer;
+mod callers;
 mod calls;
 mod conversions;
 mod counts;
@@ -26,6 +27,7 @@ mod row;
 mod store;
 
 pub use answer::{Answer, Outcome, Refusal};
+pub use callers::{MOST_DIGITS, PABX, PSTN};
 pub use conversions::{
     channel_of_transmit, dialled_of_group, dialled_of_individual, group_of_dialled,
     individual_of_dialled, receive, transmit, GroupAddress, IndividualAddress,

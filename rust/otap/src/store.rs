@@ -1,6 +1,7 @@
 //! A set's store, over bytes that the firmware lends.
 
 use crate::answer::{byte, half, Answer, Refusal};
+use crate::callers;
 use crate::calls;
 use crate::counts::Counts;
 use crate::row::{Row, Table};
@@ -328,5 +329,33 @@ impl<'s> Store<'s> {
     /// ```
     pub fn counts(&self) -> Result<Counts, Refusal> {
         Counts::unpack(calls::counts(self.bytes))
+    }
+
+    /// Who is calling: the row of the line contact with this IDtype, [`PSTN`](crate::PSTN) or [`PABX`](crate::PABX),
+    /// and these digits, one a byte, 0 to 9; none where no line has them. Refused with 11, then 20.
+    ///
+    /// Digits are compared as they are: 1 and 01 differ. No line has another IDtype, and line slots are not
+    /// looked up. The row is one of [`Table::Lines`], which shows the caller's name, or the digits where it
+    /// has none; after the next `commit` it may be another's.
+    ///
+    /// ```
+    /// # fn main() -> Result<(), otap::Refusal> {
+    /// use otap::{Outcome, Refusal, Store, Table, PABX, PSTN, REPLY_ROOM, SCRATCH_ROOM, STORE_SIZE};
+    /// let (mut bytes, mut scratch) = ([0; STORE_SIZE], [0; SCRATCH_ROOM]);
+    /// let mut store = Store::start(&mut bytes)?;
+    /// // Adds PABX 3 without a name, and PABX 2345 with the name A1, in eight-bit characters.
+    /// let message = *b"\x02\x02\0\x11\x08\x04\x08\x01\xCA\0\x0C\x42\x02\x3F\0\x23\x45\xFFA1\0";
+    /// assert_eq!(store.commit(&message, &mut [0; REPLY_ROOM]).outcome, Outcome::Taken);
+    /// assert_eq!(store.line_of(PABX, &[2, 3, 4, 5]), Ok(Some(1)));
+    /// assert_eq!(store.row(Table::Lines, 1, &mut scratch)?.bytes(), b"\0A\01");
+    /// // The same digits of the other IDtype, and fewer of them, are no line's; without digits it is no number.
+    /// assert_eq!(store.line_of(PSTN, &[2, 3, 4, 5]), Ok(None));
+    /// assert_eq!(store.line_of(PABX, &[2, 3, 4]), Ok(None));
+    /// assert_eq!(store.line_of(PABX, &[]), Err(Refusal::BadNumber));
+    /// # Ok(())
+    /// # }
+    /// ```
+    pub fn line_of(&self, id_type: u32, digits: &[u8]) -> Result<Option<u32>, Refusal> {
+        callers::unpack(calls::line_of(id_type, digits, self.bytes))
     }
 }

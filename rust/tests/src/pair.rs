@@ -3,6 +3,7 @@
 use crate::raw;
 use otap::{Part, Refusal, Row, Slice, Store, Table, STORE_SIZE};
 use otap_reference::layout;
+use otap_reference::reference::callers::line_of;
 use otap_reference::reference::commit::{commit_from, judge_from, Answer};
 use otap_reference::reference::export::{export, Exported};
 use otap_reference::reference::menu::{self, counts};
@@ -138,6 +139,21 @@ impl Pair {
         wanted.number
     }
 
+    /// Who is calling: a row, none, or the refusal; the packed answer has no other bit. The screen then shows the caller alike.
+    pub fn call_from(&mut self, id_type: u32, digits: &[u8]) -> Result<Option<u32>, u8> {
+        let before = self.bytes.clone();
+        let wanted = line_of(id_type, digits, before.len() == STORE_SIZE, &self.set);
+        let store = Store::lent(&mut self.bytes);
+        let said = store.line_of(id_type, digits).map_err(Refusal::number);
+        assert_eq!(said, wanted, "{id_type} {digits:?}");
+        assert_eq!(raw::line_of(id_type, digits, store.bytes()), packed_caller(wanted));
+        assert!(self.bytes == before, "looking up only reads");
+        if let Ok(Some(row)) = wanted {
+            assert_eq!(self.show_into(1, row, otap::SCRATCH_ROOM), 0, "the caller's row");
+        }
+        wanted
+    }
+
     pub fn compare_exports(&mut self) {
         for part in 0..=Part::ALL.len() as u32 + 1 {
             self.export_into(part, otap::EXPORT_ROOM + part as usize);
@@ -195,6 +211,11 @@ fn exported(part: u32, bytes: &mut [u8], buffer: &mut [u8]) -> (u8, usize) {
 /// The bits of the C answer: number 0 to 7, lines 16 to 31, channels 32 to 47, all others 0.
 fn packed(counts: &menu::Counts) -> u64 {
     u64::from(counts.number) | (counts.lines as u64) << 16 | (counts.channels as u64) << 32
+}
+
+/// The bits of the C answer: number 0 to 7, 8 where there is a row, the row 16 to 31, all others 0.
+fn packed_caller(answer: Result<Option<u32>, u8>) -> u64 {
+    answer.map_or_else(u64::from, |row| row.map_or(0, |row| 1 << 8 | u64::from(row) << 16))
 }
 
 fn assert_same(part: Row, shown: &Shown, table: u32, row: u32) {

@@ -26,6 +26,13 @@ unsafe extern "C" {
         length: u64,
     ) -> u64;
     fn otap_counts(store: *const u8, store_length: u64) -> u64;
+    fn otap_line_of(
+        id_type: u32,
+        digits: *const u8,
+        length: u64,
+        store: *const u8,
+        store_length: u64,
+    ) -> u64;
 }
 
 pub fn export(part: u32, store: &[u8], buffer: &mut [u8]) -> u64 {
@@ -49,4 +56,10 @@ pub fn row_part(table: u32, row: u32, store: &[u8], scratch: &mut [u8]) -> u64 {
 pub fn counts(store: &[u8]) -> u64 {
     // SAFETY: the slice is live for the call, which only reads it.
     unsafe { otap_counts(store.as_ptr(), store.len() as u64) }
+}
+
+pub fn line_of(id_type: u32, digits: &[u8], store: &[u8]) -> u64 {
+    let (length, store_length) = (digits.len() as u64, store.len() as u64);
+    // SAFETY: the slices are live for the call, which only reads them.
+    unsafe { otap_line_of(id_type, digits.as_ptr(), length, store.as_ptr(), store_length) }
 }

@@ -163,8 +163,11 @@ fn bytes_of_both_lines() {
     assert_eq!(opened(&[(second, 2)]), Err(Refusal::NotAStore));
     assert_eq!(opened(&[(second, 1), (second - 1, 15)]), Err(Refusal::NotAStore), "other flags");
     assert_eq!(opened(&[(second, 1), (second + 20, 1)]), Err(Refusal::NotAStore), "a text");
-    assert!(opened(&[(second, 1), (second + 4, 7)]).is_ok(), "PABX 2346");
-    assert!(opened(&[(second, 1), (second + 5, 1)]).is_ok(), "PABX 23450");
-    let exchanged = opened(&[(first, 0), (second, 1)]);
+    // The order has the telephone before the extension; as it stands, it is the other line's turn.
+    let (one, two) = ((14_526, 1), (14_527, 2));
+    assert!(opened(&[(second, 1), (second + 4, 7), one, two]).is_ok(), "PABX 2346");
+    assert!(opened(&[(second, 1), (second + 5, 1), one, two]).is_ok(), "PABX 23450");
+    assert_eq!(opened(&[(second, 1), (second + 4, 7)]), Err(Refusal::NotAStore), "their order");
+    let exchanged = opened(&[(first, 0), (second, 1), one, two]);
     assert_eq!(exchanged, Ok(after(&[TELEPHONE, EXTENSION]).bytes));
 }

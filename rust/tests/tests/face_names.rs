@@ -66,6 +66,7 @@ fn refusals_of_stores_exports_and_rows() {
     assert_eq!(refused(Store::start(&mut [0; 3])), (Refusal::NotAStore, 11));
     assert_eq!(refused(Store::open(&mut [0; STORE_SIZE])), (Refusal::NotAStore, 11));
     assert_eq!(refused(Store::lent(&mut [0; 3]).counts()), (Refusal::NotAStore, 11));
+    assert_eq!(refused(Store::lent(&mut [0; 3]).line_of(0, &[])), (Refusal::NotAStore, 11));
     let mut bytes = vec![0; STORE_SIZE];
     let store = Store::start(&mut bytes).expect("the size is right");
     let (mut buffer, mut scratch) = ([0; EXPORT_ROOM], [0; SCRATCH_ROOM]);
@@ -78,6 +79,9 @@ fn refusals_of_stores_exports_and_rows() {
     assert_eq!(refused(store.row(Table::Lines, 0, &mut scratch)), (Refusal::NoSuchRow, 17));
     assert_eq!(refused(store.check_row(Table::Lines, 0, &scratch)), (Refusal::NoSuchRow, 17));
     assert_eq!(Refusal::NoSuchRow.to_string(), "17: there is no such row");
+    assert_eq!(refused(store.line_of(0, &[])), (Refusal::BadNumber, 20));
+    let said = Refusal::BadNumber.to_string();
+    assert_eq!(said, "20: the caller's number is not 1 to 18 digits");
 }
 
 #[test]
@@ -85,6 +89,7 @@ fn refusals_of_conversions() {
     let (nobody, no_group) = (otap::IndividualAddress(0), otap::GroupAddress(0));
     assert_eq!(refused(otap::individual_of_dialled(0)), (Refusal::OutsidePlan, 20));
     assert_eq!(refused(otap::group_of_dialled(0)), (Refusal::OutsidePlan, 20));
+    assert_eq!(Refusal::OutsidePlan.to_string(), "20: the dialled number is outside the plan");
     assert_eq!(refused(otap::dialled_of_individual(nobody)), (Refusal::OutsideKind, 21));
     assert_eq!(refused(otap::dialled_of_group(no_group)), (Refusal::OutsideKind, 21));
     assert_eq!(refused(otap::transmit(0)), (Refusal::NoSuchChannel, 22));

@@ -39,19 +39,19 @@ fn calls_of_every_kind_and_size() {
         let mut pair = Pair::fresh();
         for _ in 0..200 {
             let size = calls.store_size(STORE_SIZE);
-            let number = if size == STORE_SIZE {
-                call(&mut pair, &calls.call())
-            } else {
-                let mut bytes = pair.bytes.clone();
-                bytes.resize(size, 0);
-                let mut other = Pair { bytes, set: pair.set.clone() };
-                call(&mut other, &calls.call())
-            };
-            *counts.entry(number).or_default() += 1;
+            let mut other = Pair { bytes: pair.bytes.clone(), set: pair.set.clone() };
+            other.bytes.resize(size, 0);
+            let lent = if size == STORE_SIZE { &mut pair } else { &mut other };
+            let number = call(lent, &calls.call());
+            let caller = calls.caller();
+            let called = lent.call_from(caller.id_type, &caller.digits);
+            for number in [number, called.map_or_else(|refusal| refusal, |_| 0)] {
+                *counts.entry(number).or_default() += 1;
+            }
         }
     }
     println!("{counts:?}");
-    for number in (0..=5).chain(10..=17) {
+    for number in (0..=5).chain(10..=17).chain([20]) {
         assert!(counts.get(&number).is_some_and(|&count| count > 100), "number {number}");
     }
 }
@@ -80,6 +80,8 @@ fn a_store_of_another_size_is_none() {
         assert_eq!(pair.export_into(1, EXPORT_ROOM), 11);
         assert_eq!(pair.show_into(1, 0, SCRATCH_ROOM), 11);
         assert_eq!(pair.count(), 11);
+        assert_eq!(pair.call_from(otap::PSTN, &[3]), Err(11));
+        assert_eq!(pair.call_from(otap::PSTN, &[]), Err(11));
         assert_eq!(number_of(&Store::open(&mut pair.bytes)), 11);
     }
 }

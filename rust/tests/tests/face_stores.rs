@@ -1,7 +1,7 @@
 //! Which bytes are a store: those that messages make, those that docs/STORE.md allows, and no others.
 
 use otap::{Outcome, Part, Store, Table, EXPORT_ROOM, REPLY_ROOM, SCRATCH_ROOM, STORE_SIZE};
-use otap_reference::inputs::pokes::{poke_count, poke_line_slot, poke_list};
+use otap_reference::inputs::pokes::{poke_count, poke_line_slot, poke_list, poke_order};
 use otap_reference::inputs::random::Random;
 use otap_reference::inputs::Inputs;
 use otap_reference::layout;
@@ -20,10 +20,11 @@ fn is_store(bytes: &mut [u8]) -> bool {
     let shown = number_of(&store.row(Table::Lines, 40, &mut [0; SCRATCH_ROOM]));
     let checked = number_of(&store.check_row(Table::Lines, 40, &[0; SCRATCH_ROOM]));
     let counted = number_of(&store.counts());
+    let called = number_of(&store.line_of(otap::PABX, &[1]));
     let opened = number_of(&Store::open(bytes));
     let (done, number) = if taken == 11 { (11, 11) } else { (0, 17) };
     assert_eq!((exports, shown, checked), (vec![done; Part::ALL.len()], number, number));
-    assert_eq!((counted, opened), (done, done));
+    assert_eq!((counted, called, opened), (done, done, done));
     assert!(*bytes == before, "none of these calls changes the bytes");
     assert_eq!(taken, if layout::is_store(bytes) { 5 } else { 11 });
     taken == 5
@@ -172,6 +173,25 @@ fn poked_counts_are_refused() {
     }
     println!("{stores} still a store, {refused} refused");
     assert!(stores > 500 && refused > 500);
+}
+
+/// The lines have one order, and with another every call refuses the bytes.
+#[test]
+fn poked_orders_are_refused() {
+    let mut random = Random::new(9);
+    let (mut stores, mut refused) = (0, 0);
+    for seed in 5_600..5_630 {
+        let pair = grown(seed, 40);
+        for turn in 0..300 {
+            let mut bytes = pair.bytes.clone();
+            poke_order(&mut random, &mut bytes);
+            let is_store = is_store(&mut bytes);
+            assert_eq!(is_store, bytes == pair.bytes, "seed {seed} turn {turn}");
+            *if is_store { &mut stores } else { &mut refused } += 1;
+        }
+    }
+    println!("{stores} still a store, {refused} refused");
+    assert!(stores > 200 && refused > 5_000);
 }
 
 /// Line slots copied from others or from a line contact, emptied, or changed in a byte.

@@ -1,0 +1,31 @@
+/* The lines of a store and the order of their keys, where docs/STORE.md says that they stand. */
+#ifndef ORDERS_H
+#define ORDERS_H
+
+#include "otap.h"
+
+#include <string.h>
+
+enum { LINE_COUNT_AT = 12861, LINES_AT = 12862, LINE_BYTES = 52, KEY_BYTES = 19, ORDER_AT = 14526 };
+
+/* A line's key: IDtype, then its digits, each as one more than itself, and zeros. */
+static const uint8_t *key_at(const uint8_t *store, unsigned row)
+{
+    return store + LINES_AT + LINE_BYTES * row + 1;
+}
+
+/* Gives the lines that are counted their order. The end of a number is 0 and a digit is more, so that keys compare as their bytes do. */
+static void order_lines(uint8_t *store)
+{
+    uint8_t *order = store + ORDER_AT;
+    unsigned row, at;
+    memset(order, 0, OTAP_LINE_ROWS);
+    for (row = 0; row < store[LINE_COUNT_AT] && row < OTAP_LINE_ROWS; row++) {
+        for (at = row; at > 0 && memcmp(key_at(store, row), key_at(store, order[at - 1] - 1u), KEY_BYTES) < 0; at--) {
+            order[at] = order[at - 1];
+        }
+        order[at] = (uint8_t)(row + 1);
+    }
+}
+
+#endif
