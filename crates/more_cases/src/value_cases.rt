@@ -1,4 +1,4 @@
-// What stands behind a row, and the settings that the radio works by: each table, places that are empty, a fresh store, and no store.
+// What stands behind a row, and the settings that the radio works by: each table, places that are empty, a fresh store, and no store. Addresses are decimal.
 use case_lines::printing::decimal;
 use case_lines::printing::hex;
 use case_lines::printing::text;
@@ -33,15 +33,6 @@ fn wide(n: u8) -> u32 {
     n as u32
 }
 
-fn address(a: u32) {
-    let bytes = [
-        (a / 65536 % 256) as u8,
-        (a / 256 % 256) as u8,
-        (a % 256) as u8,
-    ];
-    hex(&bytes, 3);
-}
-
 // The flags that lines, groups and individuals share.
 fn flags(encryption: bool, emergency: bool, priority: u8) {
     field(b", encryption ", bit(encryption));
@@ -57,16 +48,14 @@ fn target(x: Target) {
             field(b", IDtype ", bit(f.pabx));
         }
         Target::Group(f, a) => {
-            text(b"0, group");
-            address(a.0);
+            field(b"0, group ", a.0);
             flags(f.encryption, f.emergency, f.priority);
             field(b", attribute ", wide(f.attribute));
             field(b", broadcast ", bit(f.broadcast));
             field(b", OVCM ", bit(f.ovcm));
         }
         Target::Individual(f, a) => {
-            text(b"0, individual");
-            address(a.0);
+            field(b"0, individual ", a.0);
             flags(f.encryption, f.emergency, f.priority);
         }
     }
@@ -118,14 +107,8 @@ fn armed(k: EmergencyKey) {
     let to = k.target;
     match to {
         KeyTarget::Current(group) => field(b"0, current place, group ", bit(group)),
-        KeyTarget::ToGroup(a) => {
-            text(b"0, group");
-            address(a.0);
-        }
-        KeyTarget::ToIndividual(a) => {
-            text(b"0, individual");
-            address(a.0);
-        }
+        KeyTarget::ToGroup(a) => field(b"0, group ", a.0),
+        KeyTarget::ToIndividual(a) => field(b"0, individual ", a.0),
     }
     field(b", voice ", bit(k.flags.voice));
     field(b", status ", bit(k.flags.status));
