@@ -1,5 +1,5 @@
 /*
- * otap_unpack.h: what the answers of otap.h have in their bits, which it says there of each call. otap.h includes this file, and nothing else has to.
+ * otap_unpack.h: the functions that unpack the answers of otap.h, which says of each call what its bits are. otap.h includes this file; firmware need not.
  */
 #ifndef OTAP_UNPACK_H
 #define OTAP_UNPACK_H

@@ -219,25 +219,38 @@ fn number(store: &[u8]) {
     digits(1, 0, store, &mut short);
 }
 
-pub(crate) fn run(store: &mut [u8]) {
-    requests(b"a fresh store\n", store);
-    text(b"a fresh store\n");
+// Every value of a store.
+fn all(store: &[u8]) {
     every(store);
     fixed(store);
     number(store);
-    fill(store);
-    every(store);
+}
+
+// Second places, of which one is a background group's, and places that no table has.
+fn others(store: &[u8]) {
     behind(4, 1, store);
     behind(4, 2, store);
     behind(6, 1, store);
     behind(6, 2, store);
     behind(8, 16, store);
-    fixed(store);
-    number(store);
-    requests(b"key to the current place, group bit: 01 CB 0003 C0\n", store);
+}
+
+fn current(store: &mut [u8]) {
+    requests(
+        b"key to the current place, group bit: 01 CB 0003 C0\n",
+        store,
+    );
     key(store);
+}
+
+pub(crate) fn run(store: &mut [u8]) {
+    requests(b"a fresh store\n", store);
+    text(b"a fresh store\n");
+    all(store);
+    fill(store);
+    all(store);
+    others(store);
+    current(store);
     text(b"no store\n");
-    every(b"");
-    fixed(b"");
-    number(b"");
+    all(b"");
 }

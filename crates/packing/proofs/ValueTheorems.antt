@@ -1,47 +1,22 @@
 -- What firmware may rely on where it asks what stands behind a row, and for the settings: one answer, and its bits give the values back. Assumes nothing.
-use Rattle.lists.proofs.Kit.{ℕ, _/_, _%_, _<_, _≡_, sym, ap, _∙_, List, Option, some, Option·some-injective, length, arith}
+use Rattle.lists.proofs.Kit.{ℕ, _/_, _%_, _<_, _≡_, sym, ap, _∙_, List, arith}
 use Rattle.lists.specs.Ladder.{Ladder, Answers}
-use Rattle.lists.proofs.Ladder.{OneFoot, one-answer}
-use Rattle.slots.specs.Slots.{written-over}
 use Rattle.writing.specs.declared.HomeNumbers.{HomeNumbers}
 use Rattle.writing.specs.declared.SystemCode.{SystemCode}
 use Rattle.writing.specs.Canonical.{side-by-side}
 use Rattle.writing.specs.Fields.{Field}
-use Rattle.writing.specs.Settings.{Number}
 use Rattle.writing.specs.Writing.{bit}
 use Rattle.tables.specs.declared.limits.Limits.{Limits}
-use Rattle.tables.specs.Store.{Holds}
-use Rattle.tables.specs.Tables.{Tables}
-use Rattle.tables.proofs.LayoutLaws.{layout-one}
-use Rattle.screen.specs.declared.rows.Row.{Row}
 use Rattle.screen.specs.Rows.{row-named}
-use Rattle.values.specs.Digits.{AfterDigits, number-at, writing-digits}
-use Rattle.values.specs.Values.{Asked, given, asking, entering, tuning, key-asked, home-asked, system-asked}
+use Rattle.values.specs.Digits.{AfterDigits, writing-digits}
+use Rattle.values.specs.Values.{Asked, entering, tuning, key-asked, home-asked, system-asked}
+use Rattle.values.proofs.Theorems.{asked-one, digits-one}
 use Rattle.packing.specs.declared.entries.EntryValues.{EntryValues}
 use Rattle.packing.specs.declared.fixed.KeyValues.{KeyValues}
 use Rattle.packing.specs.PackedValues.{PacksFields, Packed, entry-bits, entry-fields, Enters, digits-fields, WritesDigits, channel-value, channel-fields, Tunes, key-bits, key-fields, AnswersKey, home-bits, home-fields, AnswersHome, system-bits, system-fields, AnswersSystem}
 use Rattle.packing.proofs.SideBySide.{read-back}
 
 -- ---- one answer
-
--- tables that one store holds have the same there
-one-there : {A : Type 0} (lim : Limits) (what : Tables → Option A) (store : List ℕ) (t u : Tables) (v w : A) → Holds lim t store → Holds lim u store → what t ≡ some v → what u ≡ some w → v ≡ w
-one-there lim what store t u v w h k e d =
-    Option·some-injective v w (sym e ∙ ap what (layout-one lim t u (h .0) (k .0) (sym (h .1) ∙ k .1)) ∙ d)
-
--- so what is asked of a store has one answer
-asked-one : {A : Type 0} (lim : Limits) (what : Tables → Option A) (store : List ℕ) (a b : Asked A) → Answers (asking lim what store) a → Answers (asking lim what store) b → a ≡ b
-asked-one {A} lim what store = one-answer (asking lim what store) foot
-  where
-    foot : OneFoot (asking lim what store)
-    foot a b (t, h, v, e, p) (u, k, w, d, q) = p ∙ ap given (one-there lim what store t u v w h k e d) ∙ sym q
-
-digits-one : (lim : Limits) (row : Row) (store buffer : List ℕ) (a b : AfterDigits) → Answers (writing-digits lim row store buffer) a → Answers (writing-digits lim row store buffer) b → a ≡ b
-digits-one lim row store buffer = one-answer (writing-digits lim row store buffer) foot
-  where
-    foot : OneFoot (writing-digits lim row store buffer)
-    foot a b (t, h, v, e, p) (u, k, w, d, q) =
-        p ∙ ap (λ (ds : Number). record { number = 0; count = length ds; buffer = written-over ds buffer }) (one-there lim (λ y. number-at y row) store t u v w h k e d) ∙ sym q
 
 -- an answer that is one has one number
 packed-one : {A : Type 0} (call : Ladder A) (fields : A → List Field) → ((a b : A) → Answers call a → Answers call b → a ≡ b) → (r q : ℕ) → Packed call fields r → Packed call fields q → r ≡ q

@@ -133,6 +133,21 @@ impl<'s> Store<'s> {
     /// # Ok(())
     /// # }
     /// ```
+    ///
+    /// A message in the middle of a list does not compile:
+    ///
+    /// ```compile_fail,E0502
+    /// # fn main() -> Result<(), otap::Refusal> {
+    /// # use otap::{Store, Table, REPLY_ROOM, STORE_SIZE};
+    /// # let mut bytes = [0; STORE_SIZE];
+    /// # let mut store = Store::start(&mut bytes)?;
+    /// let mut rows = store.rows(Table::Lines)?;
+    /// let first = rows.next();
+    /// store.commit(&[], &mut [0; REPLY_ROOM]);
+    /// let second = rows.next();
+    /// # Ok(())
+    /// # }
+    /// ```
     pub fn rows(&self, table: Table) -> Result<Rows<'_>, Refusal> {
         self.counts()?;
         Ok(Rows { table, left: table.places(), store: self.bytes() })
