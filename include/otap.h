@@ -69,10 +69,10 @@ enum {
     OTAP_JUDGE_STACK = 26624,    /* 26,288: it has the working copy that otap_commit has */
     OTAP_COMMIT_STACK = 26624,   /* 26,288: 24,576 of them are the working copy of the store */
     OTAP_EXPORT_STACK = 1024,    /* 896 */
-    OTAP_ROW_STACK = 1024,       /* 728 otap_row_number, 808 otap_row_part */
+    OTAP_ROW_STACK = 1024,       /* 816 otap_row_number, 896 otap_row_part */
     OTAP_COUNTS_STACK = 1024,    /* 532 */
     OTAP_LINE_OF_STACK = 1024,   /* 712 */
-    OTAP_VALUE_STACK = 1024,     /* of each call from otap_entry to otap_system_code; not measured yet */
+    OTAP_VALUE_STACK = 1024,     /* 648, the most of the calls from otap_entry to otap_system_code */
     OTAP_CONVERSION_STACK = 256  /* 64 */
 };
 
