@@ -162,10 +162,6 @@ module _ {lim : Limits} {s : List ℕ} {row : Row} {slot : Slot} (h : Here lim s
   pub individual-text : OneOf individual-rows (tagOf the-type row) → slot .text ≡ slot .start + 4
   individual-text = text-at 4 individual-rows (refl, (refl, tt))
 
-  -- so its address has three bytes
-  pub three-bytes : slot .text ≡ slot .start + 4 → length (midOf (slot .start + 1) (slot .text - (slot .start + 1)) s) ≡ 3
-  three-bytes k = mid-len (slot .start + 1) (slot .text) s (omega (arith, found-fits .ends, found-fits .inside)) ∙ omega arith
-
   -- zeros are no row
   pub named-zeros : zeros? (midOf (slot .start) (slot .end - slot .start) s) ≡ true → NameIs lim s row (Refused Absent)
   named-zeros z t o = row-seen lim t s row slot o (h .is) .gone z

@@ -8,7 +8,7 @@ use plan::numbers::GroupAddress;
 use plan::numbers::IndividualAddress;
 use screen::names::SlotPlace;
 use screen::names::address_of;
-use screen::names::slot_of;
+use screen::names::row_slot;
 use screen::rows::Row;
 use slots::bytes::is_zeros;
 use store_check::checks::is_store;
@@ -72,7 +72,7 @@ pub(crate) fn filled_slot(row: Row, store: &[u8], limits: Limits) -> SlotPlace
     requires { ⌜ StoreOf limits (now store) ⌝ }
     ensures { λ r. ⌜ Filled limits (now (store .entry)) row r ⌝ }
 {
-    let SlotPlace::At(slot) = slot_of(row, limits) else {
+    let SlotPlace::At(slot) = row_slot(row, limits) else {
         return SlotPlace::Beyond;
     };
     let start = slot.start;

@@ -6,10 +6,10 @@ use Rattle.values.proofs.entries.filled_slot.Tie as tie
 
 -- the slot that was found for the row
 slot-here : (c : tie.After-slot) → Here (c .before .before .before .before .args .limits) (c .before .before .before .before .args .store .now) (c .before .before .before .before .args .row) (c .slot .given .0 .0)
-slot-here c = here (c .before .before .before .before .pre) (c .before .before .slot-of .ensures) (c .slot .given .1)
+slot-here c = here (c .before .before .before .before .pre) (c .before .before .row-slot .ensures (c .before .before .before .before .pre .roomy)) (c .slot .given .1)
 
-slot-of-requires : tie.Need-slot-of-requires
-slot-of-requires c κs = search needs
+row-slot-requires : tie.Need-row-slot-requires
+row-slot-requires c κs = search needs
 
 enum-known-slot : tie.Need-enum-known-slot
 enum-known-slot c = search needs
@@ -18,7 +18,7 @@ enum-told : tie.Need-enum-told
 enum-told c = search needs
 
 returns : tie.Need-returns
-returns c = let s = c .before .before .before .before in filled-beyond (s .args .limits) (s .args .store .now) (s .args .row) (c .before .before .slot-of .result) (c .before .before .slot-of .ensures) (c .enum-told .given .1)
+returns c = let s = c .before .before .before .before in filled-beyond (s .args .limits) (s .args .store .now) (s .args .row) (c .before .before .row-slot .result) (c .before .before .row-slot .ensures (s .pre .roomy)) (c .enum-told .given .1)
 
 sub-is-zeros : tie.Need-sub-is-zeros
 sub-is-zeros c = let f = found-fits (slot-here (c .before)) in omega (arith, f .some-byte, f .inside)
@@ -42,7 +42,7 @@ pub filled-slot-spec : {M : Type 1} → statement M
 filled-slot-spec =
     tie.close
     (tie.spec
-    slot-of-requires
+    row-slot-requires
     enum-known-slot
     enum-told
     returns
