@@ -66,13 +66,13 @@ enum { OTAP_LAYOUT = 5 };
  */
 enum {
     OTAP_START_STACK = 256,      /* measured 40 */
-    OTAP_JUDGE_STACK = 26624,    /* 26,372: it has the working copy that otap_commit has */
-    OTAP_COMMIT_STACK = 26624,   /* 26,372: 24,576 of them are the working copy of the store */
-    OTAP_EXPORT_STACK = 1024,    /* 832 */
-    OTAP_ROW_STACK = 1024,       /* 664 otap_row_number, 744 otap_row_part */
-    OTAP_COUNTS_STACK = 1024,    /* 468 */
-    OTAP_LINE_OF_STACK = 1024,   /* 464, on AArch64 alone so far */
-    OTAP_VALUE_STACK = 1024,     /* of each call from otap_entry to otap_system_code; not measured yet */
+    OTAP_JUDGE_STACK = 26624,    /* 26,288: it has the working copy that otap_commit has */
+    OTAP_COMMIT_STACK = 26624,   /* 26,288: 24,576 of them are the working copy of the store */
+    OTAP_EXPORT_STACK = 1024,    /* 896 */
+    OTAP_ROW_STACK = 1024,       /* 816 otap_row_number, 896 otap_row_part */
+    OTAP_COUNTS_STACK = 1024,    /* 532 */
+    OTAP_LINE_OF_STACK = 1024,   /* 712 */
+    OTAP_VALUE_STACK = 1024,     /* 648 otap_entry, 640 otap_entry_digits; 540 otap_channel, otap_emergency_key and the others of a value */
     OTAP_CONVERSION_STACK = 256  /* 64 */
 };
 
