@@ -72,7 +72,7 @@ enum {
     OTAP_ROW_STACK = 1024,       /* 816 otap_row_number, 896 otap_row_part */
     OTAP_COUNTS_STACK = 1024,    /* 532 */
     OTAP_LINE_OF_STACK = 1024,   /* 712 */
-    OTAP_VALUE_STACK = 1024,     /* 648, the most of the calls from otap_entry to otap_system_code */
+    OTAP_VALUE_STACK = 1024,     /* 648 otap_entry, 640 otap_entry_digits; 540 otap_channel, otap_emergency_key and the others of a value */
     OTAP_CONVERSION_STACK = 256  /* 64 */
 };
 
