@@ -1,10 +1,11 @@
 /*
- * A bit of firmware over libotap_handheld.a: keep a store at power-on or start one, judge messages and commit them, save, start again, draw the rows,
- * name who is calling, write the settings out and into another set. Every answer is checked; the first that is not what it must be ends the program with 1. examples/firmware.out is
- * what it prints.
+ * A bit of firmware over libotap_handheld.a: keep a store at power-on or start one, judge messages and commit them, save, start again, draw the rows and
+ * what stands behind them, name who is calling, write the settings out and into another set. Every answer is checked; the first that is not what it must
+ * be ends the program with 1. examples/firmware.out is what it prints.
  * It is one task, so it needs no lock; docs/FIRMWARE.md says where three need one, and how to save so that a power cut loses nothing (banks.c).
  */
 #include "otap.h"
+#include "text.h"
 
 #include <stdio.h>
 #include <stdlib.h>
@@ -44,11 +45,12 @@ static const uint8_t renaming[] = {
     0x80                                /* reboot, no reply, HashCode 0 */
 };
 
-/* Two group contacts, of which the first is a background group and is not shown, an individual contact without a name, and a line slot. */
+/* Two group contacts, of which the first is a background group and is not shown, an individual contact without a name, a line slot; then two channels,
+ * and the emergency key. */
 static const uint8_t contacts[] = {
     0x02, 0x02, 0x00, 0x00,             /* length 0: not stated */
     0x08, 0x04,                         /* MFID; coding type 0100, eight-bit characters */
-    0x08, 0x04,                         /* request, four settings */
+    0x08, 0x06,                         /* request, six settings */
     0xC8, 0x00, 0x0D,                   /* group contacts, DataLength 13 */
     0x50, 0x00, 0x01, 0x10, 0x00, 0x03, /* add, attribute 01, background; priority 0; one entry: address 100003 */
     'D', 'a', 't', 'a', 0x00,           /* Data, end */
@@ -59,7 +61,9 @@ static const uint8_t contacts[] = {
     0x40, 0x01, 0x10, 0x00, 0x01, 0x00, /* add; one entry: address 100001; no text, end */
     0xD3, 0x00, 0x0D,                   /* line slot, DataLength 13 */
     0x40, 0x02, 0x12, 0x2F,             /* add, IDtype PSTN; index 2; number 122, end */
-    'P', 'o', 'l', 'i', 'c', 'e', 0x00  /* Police, end */
+    'P', 'o', 'l', 'i', 'c', 'e', 0x00, /* Police, end */
+    0xCE, 0x00, 0x07, 0xC0, 0x02, 0x0F, 0x12, 0x80, /* scan channels, DataLength 7: replace by two, 241 and 640 */
+    0xCB, 0x00, 0x06, 0x60, 0x10, 0x00, 0x04 /* emergency key, DataLength 6: group 100004, voice */
 };
 
 /* Setting 1 is good, setting 2 is not: so that nothing may change. */
@@ -91,43 +95,43 @@ static void must_be(const char *what, uint64_t is, uint64_t must)
     }
 }
 
-/* One character as UTF-8. */
-static void print_character(uint32_t c)
+/* What a call to the row goes to, digits or an address: a task of its own would ask under the same hold of the lock as for the name, and keep both
+ * together (ptt.c). A text has nothing behind it. */
+static void print_target(uint32_t table, uint32_t row)
 {
-    if (c < 0x80) {
-        putchar((int)c);
-    } else if (c < 0x800) {
-        putchar((int)(0xC0 | (c >> 6)));
-    } else if (c < 0x10000) {
-        putchar((int)(0xE0 | (c >> 12)));
-        putchar((int)(0x80 | ((c >> 6) & 0x3F)));
+    uint8_t digits[OTAP_DIGITS];
+    size_t at, count = otap_digits_count(otap_entry_digits(table, row, store, sizeof store, digits, sizeof digits));
+    uint64_t entry = otap_entry(table, row, store, sizeof store);
+    if (table == OTAP_QUICK_TEXTS || table == OTAP_STATUS_TEXTS) {
+        must_be("what stands behind a text", entry, OTAP_NOTHING_THERE);
+        return;
+    }
+    must_be("the number behind a row that is shown", otap_answer_number(entry), OTAP_OK);
+    printf(" -> ");
+    if (count == 0) {
+        printf("%06X", (unsigned)otap_entry_address(entry));
+    }
+    for (at = 0; at < count; at++) {
+        printf("%u", (unsigned)digits[at]);
+    }
+}
+
+/* What the radio works by. The number is asked first, for a refusal's values are 0. */
+static void draw_settings(void)
+{
+    uint64_t key = otap_emergency_key(store, sizeof store), home = otap_home_numbers(store, sizeof store), code = otap_system_code(store, sizeof store);
+    uint32_t at;
+    must_be("the numbers of the settings", otap_answer_number(key) + otap_answer_number(home) + otap_answer_number(code), OTAP_OK);
+    if (otap_key_current(key)) {
+        printf("  emergency key: current place");
     } else {
-        putchar((int)(0xF0 | (c >> 18)));
-        putchar((int)(0x80 | ((c >> 12) & 0x3F)));
-        putchar((int)(0x80 | ((c >> 6) & 0x3F)));
+        printf("  emergency key: %s %06X", otap_key_group(key) ? "group" : "individual", (unsigned)otap_key_address(key));
     }
-    if (c >= 0x80) {
-        putchar((int)(0x80 | (c & 0x3F)));
+    printf("; NZI %u, NP %u; LAI %u; channels:", (unsigned)otap_home_nzi(home), (unsigned)otap_home_np(home), (unsigned)otap_system_lai(code));
+    for (at = 0; otap_answer_number(otap_channel(at, store, sizeof store)) == OTAP_OK; at++) {
+        printf(" %u", (unsigned)otap_channel_value(otap_channel(at, store, sizeof store)));
     }
-}
-
-static uint32_t unit_at(const uint8_t *text, size_t at)
-{
-    return (uint32_t)text[at] * 256 + text[at + 1];
-}
-
-/* Units as UTF-8. The library keeps any units but 0, so a half of a pair can stand alone. */
-static void print_text(const uint8_t *text, size_t length)
-{
-    size_t at = 0;
-    while (at < length) {
-        uint32_t unit = unit_at(text, at);
-        uint32_t next = at + 2 < length ? unit_at(text, at + 2) : 0;
-        int pair = unit >= 0xD800 && unit < 0xDC00 && next >= 0xDC00 && next < 0xE000;
-        int half = !pair && unit >= 0xD800 && unit < 0xE000;
-        print_character(pair ? 0x10000 + ((unit - 0xD800) << 10) + (next - 0xDC00) : half ? 0xFFFD : unit);
-        at += pair ? 4 : 2;
-    }
+    printf("\n");
 }
 
 /* A task of its own would hold the lock of otap_commit from here to the last print_text. Each row is asked for once: 0 is a row that is not shown, which
@@ -143,7 +147,9 @@ static void draw_table(const char *name, uint32_t table, uint32_t first, uint32_
         }
         printf("  %s %u: ", name, (unsigned)row);
         print_text(otap_part_bytes(part, store, scratch), otap_part_length(part));
-        printf("%s\n", otap_part_in_scratch(part) ? " (number)" : "");
+        printf("%s", otap_part_in_scratch(part) ? " (number)" : "");
+        print_target(table, row);
+        printf("\n");
     }
 }
 
@@ -168,6 +174,7 @@ static void draw(const char *title)
     draw_table("group contact", OTAP_GROUP_CONTACTS, 0, OTAP_CONTACT_ROWS - 1);
     draw_table("individual contact", OTAP_INDIVIDUAL_CONTACTS, 0, OTAP_CONTACT_ROWS - 1);
     draw_table("line slot", OTAP_LINE_SLOTS, 0, OTAP_SLOT_ROWS - 1);
+    draw_settings();
 }
 
 /* Keeps what was saved if it is a store, and starts one only where it is none. */

@@ -12,8 +12,11 @@ header_as() {
     echo '#include "otap.h"' | $compiler -std="$standard" $warnings -fsyntax-only -x "$language" -
 }
 
+# build_and_print EXAMPLE LANGUAGE STANDARD COMPILER FLAGS: what it prints is what is stored.
 build_and_print() {
-    build "$1" "$2" "$3" "$4" "$5" examples/firmware.c && run_built "$1" > "$built/printed" && diff examples/firmware.out "$built/printed"
+    example=$1
+    shift
+    build "$example" "$@" "examples/$example.c" && run_built "$example" > "$built/printed" && diff "examples/$example.out" "$built/printed"
 }
 
 # README.md quotes examples/snippet.c: the ```c block after the marker line is the file, byte for byte.
@@ -36,6 +39,7 @@ step "snippet as C++" $CXX -x c++ -std=c++98 $warnings -c examples/snippet.c -o 
 step "banks as C++" $CXX -x c++ -std=c++98 $warnings -c examples/banks.c -o "$built/banks.o"
 step "snippet in README.md" snippet_quoted
 need_archive
-step "firmware as C" build_and_print firmware_c c c99 "$CC" "$sanitizers"
-step "firmware as C++" build_and_print firmware_cpp c++ c++11 "$CXX" "$sanitizers"
+step "firmware as C" build_and_print firmware c c99 "$CC" "$sanitizers"
+step "firmware as C++" build_and_print firmware c++ c++11 "$CXX" "$sanitizers"
+step "PTT with two tasks" build_and_print ptt c c99 "$CC" "-pthread $sanitizers"
 exit $failed

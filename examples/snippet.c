@@ -9,7 +9,7 @@ void send_reply(const uint8_t *bytes, size_t length);
 void restart_set(void);
 void keep_message(const uint8_t *message, size_t length); /* until the call ends: then on_message gets what was kept, in the order that it came in */
 void show_waiting(int taken, int restart);                /* to the user: whether it would be taken, and whether the set would start again */
-void draw_row(uint32_t row, const uint8_t *units, size_t length);
+void draw_row(uint32_t row, const uint8_t *units, size_t length, uint64_t target); /* keeps the target with the name: PTT calls what was drawn */
 void draw_room(uint32_t lines, uint32_t channels);
 void show_caller(const uint8_t *units, size_t length);  /* a contact's name, or its number where it has none: 16-bit units, high byte first */
 void show_digits(const uint8_t *digits, size_t length); /* of a caller that is no contact: what came with the call */
@@ -94,7 +94,8 @@ void draw_menu(void)
         draw_room(otap_counts_free_lines(counts), otap_counts_free_channels(counts));
 }
 
-/* The screen task: a whole list under one hold of the lock; each row its name, or its number, in 16-bit units, high byte first. */
+/* The screen task: a whole list under one hold of the lock; each row its name, or its number, in 16-bit units, high byte first, and what stands behind it.
+ * Both are asked for together and kept together: PTT calls that target, never the row as it is then, for a message may come in between. */
 static void draw_list(uint32_t table, uint32_t rows)
 {
     uint32_t row;
@@ -102,7 +103,7 @@ static void draw_list(uint32_t table, uint32_t rows)
     for (row = 0; row < rows; row++) {
         uint64_t part = otap_row_part(table, row, store, sizeof store, scratch, sizeof scratch);
         if (part != 0) /* 0 is no row, and a row that is shown is never 0: one call is enough */
-            draw_row(row, otap_part_bytes(part, store, scratch), otap_part_length(part));
+            draw_row(row, otap_part_bytes(part, store, scratch), otap_part_length(part), otap_entry(table, row, store, sizeof store));
     }
     unlock_store();
 }

@@ -12,7 +12,8 @@ archive=${OTAP_ARCHIVE_DIR:-target/archive/$(uname -m)-linux}/libotap_handheld.a
 flags="-std=c11 -Wall -Wextra -Iinclude -g -O1"
 sanitizers="-fsanitize=address,undefined -fno-sanitize-recover=all"
 wrapped="-Wl,--wrap=otap_judge -Wl,--wrap=otap_commit -Wl,--wrap=otap_export -Wl,--wrap=otap_row_number -Wl,--wrap=otap_row_part -Wl,--wrap=otap_counts"
-wrapped="$wrapped -Wl,--wrap=otap_line_of"
+wrapped="$wrapped -Wl,--wrap=otap_line_of -Wl,--wrap=otap_entry -Wl,--wrap=otap_entry_digits -Wl,--wrap=otap_channel -Wl,--wrap=otap_emergency_key"
+wrapped="$wrapped -Wl,--wrap=otap_home_numbers -Wl,--wrap=otap_system_code"
 CC=${CC:-gcc}
 # There are many short-lived buffers: a large quarantine only slows it down.
 export ASAN_OPTIONS=quarantine_size_mb=1
@@ -32,7 +33,7 @@ checks_can_fail() {
     $CC $flags $sanitizers -c fuzz/target.c -o "$work/target.o" || return 1
     $CC $flags $sanitizers -c fuzz/driver.c -o "$work/driver.o" || return 1
     wrong=0
-    while [ $wrong -le 30 ]; do
+    while [ $wrong -le 41 ]; do
         $CC $flags -DWRONG=$wrong -c fuzz/wrong.c -o "$work/wrong.o" || return 1
         $CC $sanitizers "$work/target.o" "$work/driver.o" "$work/wrong.o" "$archive" $wrapped -o "$work/wrong" || return 1
         (cd "$work" && ./wrong 0 1 "$seeds"/*) > "$work/log" 2>&1
@@ -44,7 +45,7 @@ checks_can_fail() {
         fi
         wrong=$((wrong + 1))
     done
-    echo "ok      the checks find each of 30 wrong libraries"
+    echo "ok      the checks find each of 41 wrong libraries"
 }
 
 with_libfuzzer() {

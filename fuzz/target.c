@@ -4,7 +4,7 @@
  * and at the end it is written out into a fresh one that becomes the same.
  */
 #include "callers.h"
-#include "input.h"
+#include "entries.h"
 
 enum { MOST_RECORDS = 64 };
 
@@ -128,6 +128,7 @@ static void restore_it(void)
     must(same_bytes(store + 11, other + 11, OTAP_STORE_BYTES - 11), "the other store has the same tables");
     check_lists(store, check_counts(store));
     check_callers(store);
+    check_entries(store);
     must(check_counts(other) == check_counts(store), "the other store has the same counts");
 }
 
@@ -141,6 +142,7 @@ static int known_by_all(void)
     must(known == (commit_twice(query, sizeof query, store, OTAP_STORE_BYTES, OTAP_REPLY_BYTES, after) != OTAP_NO_STORE), "judging and committing know a store");
     must(known == (counts_twice(store, OTAP_STORE_BYTES) != OTAP_NO_STORE), "counts know a store");
     must(known == (line_of_twice(OTAP_PABX, query, 2, store, OTAP_STORE_BYTES) != OTAP_NO_STORE), "looking up knows a store");
+    must(known_behind(store, known), "each call for a value knows a store");
     return known;
 }
 
@@ -335,6 +337,8 @@ static void one_record(Input *input)
             convert(input);
         } else if (choice & 16) {
             ask_caller(input, choice);
+        } else if (choice & 32) {
+            ask_value(input, store);
         } else {
             start_again(input);
         }

@@ -12,6 +12,12 @@ uint32_t __real_otap_row_number(uint32_t, uint32_t, const uint8_t *, uint64_t, c
 uint64_t __real_otap_row_part(uint32_t, uint32_t, const uint8_t *, uint64_t, uint8_t *, uint64_t);
 uint64_t __real_otap_counts(const uint8_t *, uint64_t);
 uint64_t __real_otap_line_of(uint32_t, const uint8_t *, uint64_t, const uint8_t *, uint64_t);
+uint64_t __real_otap_entry(uint32_t, uint32_t, const uint8_t *, uint64_t);
+uint64_t __real_otap_entry_digits(uint32_t, uint32_t, const uint8_t *, uint64_t, uint8_t *, uint64_t);
+uint64_t __real_otap_channel(uint32_t, const uint8_t *, uint64_t);
+uint64_t __real_otap_emergency_key(const uint8_t *, uint64_t);
+uint64_t __real_otap_home_numbers(const uint8_t *, uint64_t);
+uint64_t __real_otap_system_code(const uint8_t *, uint64_t);
 uint64_t __wrap_otap_judge(const uint8_t *, uint64_t, const uint8_t *, uint64_t, uint8_t *, uint64_t);
 uint64_t __wrap_otap_commit(const uint8_t *, uint64_t, uint8_t *, uint64_t, uint8_t *, uint64_t);
 uint64_t __wrap_otap_export(uint32_t, const uint8_t *, uint64_t, uint8_t *, uint64_t);
@@ -19,6 +25,12 @@ uint32_t __wrap_otap_row_number(uint32_t, uint32_t, const uint8_t *, uint64_t, c
 uint64_t __wrap_otap_row_part(uint32_t, uint32_t, const uint8_t *, uint64_t, uint8_t *, uint64_t);
 uint64_t __wrap_otap_counts(const uint8_t *, uint64_t);
 uint64_t __wrap_otap_line_of(uint32_t, const uint8_t *, uint64_t, const uint8_t *, uint64_t);
+uint64_t __wrap_otap_entry(uint32_t, uint32_t, const uint8_t *, uint64_t);
+uint64_t __wrap_otap_entry_digits(uint32_t, uint32_t, const uint8_t *, uint64_t, uint8_t *, uint64_t);
+uint64_t __wrap_otap_channel(uint32_t, const uint8_t *, uint64_t);
+uint64_t __wrap_otap_emergency_key(const uint8_t *, uint64_t);
+uint64_t __wrap_otap_home_numbers(const uint8_t *, uint64_t);
+uint64_t __wrap_otap_system_code(const uint8_t *, uint64_t);
 
 /* Where a store has a line before the last with the last one's digits, whatever its IDtype; 0 if there is none. */
 static size_t same_number(const uint8_t *store)
@@ -264,4 +276,60 @@ uint64_t __wrap_otap_line_of(uint32_t id_type, const uint8_t *digits, uint64_t d
         return __real_otap_line_of(id_type, digits, digits_length, in_order(store), store_length); /* any order will do */
     }
     return WRONG == 30 && otap_line_found(answer) && digits_length == OTAP_DIGITS ? OTAP_BAD_NUMBER : answer; /* 18 digits are too many */
+}
+
+/* The address of an answer of otap_entry; its other bits but the number's are flags. */
+static const uint64_t address_bits = 0xFFFFFF00u;
+
+uint64_t __wrap_otap_entry(uint32_t table, uint32_t index, const uint8_t *store, uint64_t store_length)
+{
+    uint64_t answer = __real_otap_entry(table, index, store, store_length);
+    uint64_t next = __real_otap_entry(table, index + 1, store, store_length), before = __real_otap_entry(table, index - 1, store, store_length);
+    if (otap_answer_number(answer) != OTAP_OK) {
+        return WRONG == 31 && store_length == OTAP_STORE_BYTES ? OTAP_NOTHING_THERE : answer; /* takes any bytes for a store */
+    }
+    if (WRONG == 32 && otap_answer_number(next) == OTAP_OK) {
+        return (answer & ~address_bits) | (next & address_bits); /* the neighbour's address */
+    }
+    if (WRONG == 33 && (table == OTAP_GROUPS || table == OTAP_GROUP_CONTACTS)) {
+        return answer & 0x1FFFFFFF00u; /* an individual's kind for a group: without attribute, broadcast and OVCM */
+    }
+    if (WRONG == 34 && otap_answer_number(before) == OTAP_OK) {
+        return (answer & address_bits) | (before & ~address_bits); /* the flags of the slot before */
+    }
+    return WRONG == 35 && otap_entry_attribute(answer) == OTAP_BACKGROUND ? OTAP_NOTHING_THERE : answer; /* nothing behind what has no row */
+}
+
+uint64_t __wrap_otap_entry_digits(uint32_t table, uint32_t index, const uint8_t *store, uint64_t store_length, uint8_t *digits, uint64_t digits_length)
+{
+    uint32_t other = WRONG == 36 && table == OTAP_LINES && index > 0 ? index - 1 : index; /* the digits of the line before */
+    uint64_t answer = __real_otap_entry_digits(table, other, store, store_length, digits, digits_length);
+    size_t count = otap_digits_count(answer);
+    if (WRONG == 37 && count > 0 && count < OTAP_DIGITS) {
+        digits[count] = 0; /* an end behind the digits */
+    }
+    return answer;
+}
+
+uint64_t __wrap_otap_channel(uint32_t position, const uint8_t *store, uint64_t store_length)
+{
+    return __real_otap_channel(WRONG == 38 ? position + 1 : position, store, store_length); /* a channel one position late */
+}
+
+uint64_t __wrap_otap_emergency_key(const uint8_t *store, uint64_t store_length)
+{
+    uint64_t answer = __real_otap_emergency_key(store, store_length);
+    return WRONG == 39 && otap_key_current(answer) ? answer & ~((uint64_t)1 << 33) : answer; /* the current place loses the group bit */
+}
+
+uint64_t __wrap_otap_home_numbers(const uint8_t *store, uint64_t store_length)
+{
+    uint64_t answer = __real_otap_home_numbers(store, store_length);
+    return WRONG == 40 ? answer & 0x3FFFFFFu : answer; /* NP in nine bits */
+}
+
+uint64_t __wrap_otap_system_code(const uint8_t *store, uint64_t store_length)
+{
+    uint64_t answer = __real_otap_system_code(store, store_length);
+    return WRONG == 41 && otap_answer_number(answer) == OTAP_OK ? answer ^ 1u << 26 : answer; /* the other PAR */
 }

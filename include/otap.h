@@ -3,7 +3,7 @@
  *
  * The library owns no memory and keeps nothing between two calls: the tables are in the store, bytes that the caller lends. No call allocates, waits or
  * calls back, and every call comes back. Every answer is a number of the table below; a call that answers more than a number packs it into 64 bits, and
- * the functions at the end of this file unpack it.
+ * the functions of otap_unpack.h, which this file includes, unpack it.
  *
  * What the caller has to hold, for no C function can look at it:
  *
@@ -23,6 +23,10 @@
  * a message can draw one row's name beside another row's number. So either draw while holding the lock under which otap_commit is called, or, under that
  * lock, ask for the rows and copy their bytes out (at most OTAP_ROW_BYTES each), then draw the copies. Copy all rows that are drawn together under one
  * hold of the lock: rows asked for in two holds can be of two lists. Asking twice without a lock does not help.
+ *
+ * Calling. An officer picks a row by its name and presses PTT. Ask for the name and for what stands behind it, otap_entry and for a line otap_entry_digits
+ * too, under one hold of the lock, and keep both together. What is called is the target that was kept with the name that was drawn, never the row as it is
+ * when the key is pressed: a message may have come in between, and the row may be another's.
  *
  * Judging. A message is taken in two steps. otap_judge says what it would come to, otap_commit does it. So a request that comes during a call is judged
  * then, for the user to know whether it will be taken and whether the set will start again, and committed after the call. What judging promises: a
@@ -50,7 +54,7 @@ enum {
     OTAP_ROW_BYTES = 46        /* a row's part has at most as many: 23 units */
 };
 
-/* A line's number has at most as many digits, and at least 1. */
+/* A line's number has at most as many digits, and at least 1; a buffer for digits has at least as many bytes. */
 enum { OTAP_DIGITS = 18 };
 
 /* The number of a store's layout, docs/STORE.md: it changes where the layout does. No store holds it; firmware saves it beside the store. */
@@ -65,9 +69,10 @@ enum {
     OTAP_JUDGE_STACK = 26624,    /* 26,288: it has the working copy that otap_commit has */
     OTAP_COMMIT_STACK = 26624,   /* 26,288: 24,576 of them are the working copy of the store */
     OTAP_EXPORT_STACK = 1024,    /* 896 */
-    OTAP_ROW_STACK = 1024,       /* 728 otap_row_number, 808 otap_row_part */
+    OTAP_ROW_STACK = 1024,       /* 816 otap_row_number, 896 otap_row_part */
     OTAP_COUNTS_STACK = 1024,    /* 532 */
     OTAP_LINE_OF_STACK = 1024,   /* 712 */
+    OTAP_VALUE_STACK = 1024,     /* 648 otap_entry, 640 otap_entry_digits; 540 otap_channel, otap_emergency_key and the others of a value */
     OTAP_CONVERSION_STACK = 256  /* 64 */
 };
 
@@ -84,9 +89,10 @@ enum {
     OTAP_MESSAGE_LENGTH = 12,  /* message under 7 or over 4,096 bytes */
     OTAP_BAD_CARRIER = 13,     /* carrier field or length wrong */
     OTAP_OTHER_MESSAGE = 14,   /* MsgType is neither request nor result query */
-    OTAP_SHORT_BUFFER = 15,    /* scratch under 36 bytes, or export buffer under 4,096 */
+    OTAP_SHORT_BUFFER = 15,    /* scratch under 36 bytes, export buffer under 4,096, or digits buffer under 18 */
     OTAP_NO_PART = 16,         /* export part not 1 to 10 */
     OTAP_NO_ROW = 17,          /* the screen's row is absent, or a background group's */
+    OTAP_NOTHING_THERE = 17,   /* the same number, of otap_entry, otap_entry_digits and otap_channel: nothing stands there */
     OTAP_OUTSIDE_PLAN = 20,    /* of a conversion: dialled number outside the plan */
     OTAP_BAD_NUMBER = 20,      /* of otap_line_of, the same number: not 1 to 18 digits, or a digit above 9; which of the two it is, the call says */
     OTAP_OUTSIDE_KIND = 21,    /* address outside its kind's plan */
@@ -119,6 +125,13 @@ enum {
 enum {
     OTAP_PSTN = 0,             /* the telephone network */
     OTAP_PABX = 1              /* a private exchange */
+};
+
+/* The attributes of a group. */
+enum {
+    OTAP_BACKGROUND = 1,       /* the radio listens to it, and the screen has no row for it */
+    OTAP_RESPONSE = 2,
+    OTAP_MEMBER = 3
 };
 
 /* Room for as many scan channels, which no row shows; in each list of contacts, for as many as it has rows: OTAP_LINE_ROWS, OTAP_CONTACT_ROWS. */
@@ -258,6 +271,68 @@ uint64_t otap_row_part(uint32_t table, uint32_t row,
                        uint8_t *scratch, uint64_t scratch_length);
 
 /*
+ * What stands behind a row, for a call to it: the address and the flags of a group or an individual, the flags of a line. Touches no byte.
+ *   0   they are in the answer
+ *   11  not a store
+ *   17  OTAP_NOTHING_THERE: an empty place, an index or a position that the table does not have, or another table: a text has nothing behind it
+ * The first that applies, in this order: 11, 17; a refusal has all other bits 0. The table says which kind it is: a group's in OTAP_GROUPS and
+ * OTAP_GROUP_CONTACTS, an individual's in OTAP_INDIVIDUALS and OTAP_INDIVIDUAL_CONTACTS, a line's in OTAP_LINES and OTAP_LINE_SLOTS. A group and an
+ * individual may have the same address, so keep the table with it. A row is named as for otap_row_part. A background group, which has no row there, is
+ * answered like any other, for the radio listens to it; and every row of these six tables that is shown has something behind it.
+ * After any messages, the name that otap_row_part shows and what this answers were sent together, in one entry of one setting. Ask for both under one
+ * hold of the lock, and keep both: see "Calling" above.
+ * In the answer, bits 0 to 7 are the number, 8 to 31 the address, 0 of a line, 32 IDtype, 33 encryption, 34 emergency, 35 to 36 priority, 37 to 38
+ * attribute, 39 broadcast, 40 OVCM; all others are 0, and so is what the kind has not: IDtype is a line's, the last three are a group's.
+ * Unpack with otap_answer_number, otap_entry_address, otap_entry_id_type, otap_entry_encryption, otap_entry_emergency, otap_entry_priority,
+ * otap_entry_attribute, otap_entry_broadcast, otap_entry_ovcm.
+ */
+uint64_t otap_entry(uint32_t table, uint32_t index,
+                    const uint8_t *store, uint64_t store_length);
+
+/*
+ * The digits of a line contact or of a line slot, to be dialled: one a byte, 0 to 9, at the start of the buffer; its bytes past them stay.
+ *   0   they are written; otap_digits_count is how many, 1 to OTAP_DIGITS
+ *   15  digits_length is under OTAP_DIGITS
+ *   11  not a store
+ *   17  OTAP_NOTHING_THERE: no line there, or a table other than OTAP_LINES and OTAP_LINE_SLOTS
+ * The first that applies, in this order: 15, 11, 17; a refusal has all other bits 0, and touches no byte. The store is only read.
+ * In the answer, bits 0 to 7 are the number, 8 to 15 how many; all others are 0. Unpack with otap_answer_number, otap_digits_count.
+ */
+uint64_t otap_entry_digits(uint32_t table, uint32_t index,
+                           const uint8_t *store, uint64_t store_length,
+                           uint8_t *digits, uint64_t digits_length);
+
+/*
+ * The scan channel at a position, from 0: they stand in the order in which they were added, repeats too, and otap_counts says how many. Touches no byte.
+ *   0   the channel, 241 to 640, which otap_transmit and otap_receive take
+ *   11  not a store
+ *   17  OTAP_NOTHING_THERE: no channel at this position, nor at any behind it
+ * The first that applies, in this order: 11, 17. In the answer, bits 0 to 7 are the number, 8 to 19 the channel; all others are 0.
+ * Unpack with otap_answer_number, otap_channel_value.
+ */
+uint64_t otap_channel(uint32_t position, const uint8_t *store, uint64_t store_length);
+
+/*
+ * What the emergency key calls, and how. Touches no byte.
+ *   0   the key, which is always there: a fresh store's calls the current place, with its flags 0
+ *   11  not a store; all other bits are 0
+ * With current it has no address, and its group bit is kept. Otherwise the address is a group's if otap_key_group is 1, else an individual's.
+ * In the answer, bits 0 to 7 are the number, 8 to 31 the address, 0 with current, 32 current, 33 group, 34 voice, 35 status, 36 siren; all others are 0.
+ * Unpack with otap_answer_number, otap_key_current, otap_key_address, otap_key_group, otap_key_voice, otap_key_status, otap_key_siren.
+ */
+uint64_t otap_emergency_key(const uint8_t *store, uint64_t store_length);
+
+/*
+ * The numbers that the set works by. Each touches no byte, and answers 0, or 11 with all other bits 0: not a store. A fresh store's are 0, so ask the
+ * number first.
+ * Home numbers: bits 0 to 7 the number, 8 to 16 NZI, 17 to 26 NP. Unpack with otap_answer_number, otap_home_nzi, otap_home_np.
+ * System code: bits 0 to 7 the number, 8 to 19 LAI, 20 to 23 LA, 24 to 25 roaming, 26 PAR. Unpack with otap_answer_number, otap_system_lai, otap_system_la,
+ * otap_system_roaming, otap_system_par. All other bits are 0.
+ */
+uint64_t otap_home_numbers(const uint8_t *store, uint64_t store_length);
+uint64_t otap_system_code(const uint8_t *store, uint64_t store_length);
+
+/*
  * Conversions of GA/T 1056-2013. Frequencies are in units of 100 Hz; a dialled number has eight digits.
  * Unpack with otap_answer_number, otap_value; the value of a refusal is 0.
  */
@@ -269,112 +344,10 @@ uint64_t otap_transmit(uint32_t channel);              /* 0: the frequency to se
 uint64_t otap_receive(uint32_t channel);               /* 0: the frequency to listen on; 22 */
 uint64_t otap_channel_of_transmit(uint32_t frequency); /* 0: the channel that sends on it; 22 */
 
-/* Unpacking. */
-
-/* The number of an answer of otap_judge, otap_commit, otap_export, otap_counts, otap_line_of or a conversion; not of otap_row_part, which has none. */
-static inline uint32_t otap_answer_number(uint64_t answer)
-{
-    return (uint32_t)(answer & 0xFFu);
-}
-
-/* Of an answer of otap_judge or otap_commit: the place, from 1, of the first setting at fault; 0 if it is none of them. */
-static inline uint32_t otap_answer_failed(uint64_t answer)
-{
-    return (uint32_t)((answer >> 8) & 0xFFu);
-}
-
-/* 1 if the reply is to be sent, once the message is committed, else 0. */
-static inline int otap_answer_send(uint64_t answer)
-{
-    return (int)((answer >> 16) & 1u);
-}
-
-/* 1 if the set is to start again, once the message is committed, else 0. */
-static inline int otap_answer_reboot(uint64_t answer)
-{
-    return (int)((answer >> 17) & 1u);
-}
-
-/* How many bytes of the reply buffer are the reply. */
-static inline size_t otap_answer_length(uint64_t answer)
-{
-    return (size_t)((answer >> 24) & 0xFFu);
-}
-
-/* How many bytes of the buffer are the request. */
-static inline size_t otap_export_length(uint64_t answer)
-{
-    return (size_t)((answer >> 16) & 0xFFFFu);
-}
-
-/* How many line contacts the store holds; 0 also of a refusal, so ask the number first. */
-static inline uint32_t otap_counts_lines(uint64_t answer)
-{
-    return (uint32_t)((answer >> 16) & 0xFFFFu);
-}
-
-/* How many scan channels the store holds, repeats counted; 0 also of a refusal, so ask the number first. */
-static inline uint32_t otap_counts_channels(uint64_t answer)
-{
-    return (uint32_t)((answer >> 32) & 0xFFFFu);
-}
-
-/* How many more line contacts have room; 0 of a refusal. */
-static inline uint32_t otap_counts_free_lines(uint64_t answer)
-{
-    return otap_answer_number(answer) == OTAP_OK ? (uint32_t)OTAP_LINE_ROWS - otap_counts_lines(answer) : 0;
-}
-
-/* How many more scan channels have room; 0 of a refusal. */
-static inline uint32_t otap_counts_free_channels(uint64_t answer)
-{
-    return otap_answer_number(answer) == OTAP_OK ? (uint32_t)OTAP_CHANNEL_PLACES - otap_counts_channels(answer) : 0;
-}
-
-/* 1 if a row has the caller's number; 0 if none has, and of a refusal. */
-static inline int otap_line_found(uint64_t answer)
-{
-    return (int)((answer >> 8) & 1u);
-}
-
-/* The row of OTAP_LINES that has the caller's number; 0 also where none has, so ask otap_line_found first. */
-static inline uint32_t otap_line_row(uint64_t answer)
-{
-    return (uint32_t)((answer >> 16) & 0xFFFFu);
-}
-
-/* 1 if the part lies in the scratch, 0 if in the store. */
-static inline int otap_part_in_scratch(uint64_t part)
-{
-    return (int)(part & 1u);
-}
-
-/* The part's first byte. */
-static inline size_t otap_part_offset(uint64_t part)
-{
-    return (size_t)((part >> 16) & 0xFFFFu);
-}
-
-/* The part's length in bytes: twice its units. */
-static inline size_t otap_part_length(uint64_t part)
-{
-    return (size_t)((part >> 32) & 0xFFFFu);
-}
-
-/* The part's bytes, of the two buffers that otap_row_part was lent. */
-static inline const uint8_t *otap_part_bytes(uint64_t part, const uint8_t *store, const uint8_t *scratch)
-{
-    return (otap_part_in_scratch(part) ? scratch : store) + otap_part_offset(part);
-}
-
-/* The value of a conversion. */
-static inline uint32_t otap_value(uint64_t answer)
-{
-    return (uint32_t)((answer >> 8) & 0xFFFFFFFFu);
-}
-
 #ifdef __cplusplus
 }
 #endif
+
+#include "otap_unpack.h"
 
 #endif

@@ -1,4 +1,4 @@
-/* What the tests of numbers, contacts and callers share: an answer that must be, the counts of a store, bytes that are none, a message to a fresh one. */
+/* What several tests of C share: an answer that must be, the counts of a store, bytes that are none, a message to a fresh one. */
 #ifndef ANSWERS_H
 #define ANSWERS_H
 
@@ -42,6 +42,12 @@ static inline void no_store(const char *what, uint8_t *bytes)
     same("lines and channels of no store", 0, otap_counts_lines(answer), otap_counts_channels(answer));
     same("free of no store", 0, otap_counts_free_lines(answer), otap_counts_free_channels(answer));
     same(what, 11, OTAP_NO_STORE, otap_line_of(OTAP_PSTN, reply, 0, bytes, OTAP_STORE_BYTES));
+    same(what, 11, OTAP_NO_STORE, otap_entry(OTAP_GROUPS, 0, bytes, OTAP_STORE_BYTES));
+    same(what, 11, OTAP_NO_STORE, otap_entry_digits(OTAP_LINES, 0, bytes, OTAP_STORE_BYTES, scratch, sizeof scratch));
+    same(what, 11, OTAP_NO_STORE, otap_channel(0, bytes, OTAP_STORE_BYTES));
+    same(what, 11, OTAP_NO_STORE, otap_emergency_key(bytes, OTAP_STORE_BYTES));
+    same(what, 11, OTAP_NO_STORE, otap_home_numbers(bytes, OTAP_STORE_BYTES));
+    same(what, 11, OTAP_NO_STORE, otap_system_code(bytes, OTAP_STORE_BYTES));
     same(what, 11, OTAP_NO_STORE, otap_export(1, bytes, OTAP_STORE_BYTES, buffer, sizeof buffer));
     same(what, 11, OTAP_NO_STORE, otap_row_number(OTAP_GROUPS, 0, bytes, OTAP_STORE_BYTES, scratch, sizeof scratch));
     write_query(&said, 0);

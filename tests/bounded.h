@@ -197,6 +197,55 @@ static void line_of_at(int at_end, uint32_t id_type, const uint8_t *digits, size
     must(otap_line_found(answer) ? otap_line_row(answer) < OTAP_LINE_ROWS : answer == number, "a row that there is not");
 }
 
+/* Of a call that only reads a store: the numbers that it can get, and that no other bits than its own are set, of a refusal none. */
+static void read_only(uint64_t answer, const uint8_t *bytes, size_t store_length, uint64_t own)
+{
+    uint32_t number = otap_answer_number(answer);
+    nothing_outside();
+    must(store_length == OTAP_STORE_BYTES ? number != OTAP_NO_STORE || bytes != filled : number == OTAP_NO_STORE, "number");
+    must(number == OTAP_OK || number == OTAP_NO_STORE || number == OTAP_NOTHING_THERE, "number");
+    must(number == OTAP_OK ? (answer & ~own) == 0 : answer == number, "bits that must be 0");
+}
+
+static void entry_at(int at_end, uint32_t table, uint32_t index, const uint8_t *bytes, size_t store_length)
+{
+    current = "otap_entry";
+    lend(&store, at_end, bytes, store_length, 0);
+    calls++;
+    read_only(otap_entry(table, index, store.bytes, store_length), bytes, store_length, 0x1FFFFFFFF00u);
+}
+
+/* A channel, and what has no row. */
+static void settings_at(int at_end, uint32_t position, const uint8_t *bytes, size_t store_length)
+{
+    lend(&store, at_end, bytes, store_length, 0);
+    calls += 4;
+    current = "otap_channel";
+    read_only(otap_channel(position, store.bytes, store_length), bytes, store_length, 0xFFF00u);
+    current = "otap_emergency_key";
+    read_only(otap_emergency_key(store.bytes, store_length), bytes, store_length, 0x1FFFFFFF00u);
+    current = "otap_home_numbers";
+    read_only(otap_home_numbers(store.bytes, store_length), bytes, store_length, 0x7FFFF00u);
+    current = "otap_system_code";
+    read_only(otap_system_code(store.bytes, store_length), bytes, store_length, 0x7FFFF00u);
+}
+
+static void digits_at(int at_end, uint32_t table, uint32_t index, const uint8_t *bytes, size_t store_length, size_t length)
+{
+    uint64_t answer;
+    current = "otap_entry_digits";
+    lend(&store, at_end, bytes, store_length, 0);
+    lend(&buffer, at_end, filled, length, 1);
+    remember();
+    answer = otap_entry_digits(table, index, store.bytes, store_length, buffer.bytes, length);
+    must((answer == OTAP_SHORT_BUFFER) == (length < OTAP_DIGITS), "15 exactly of short buffers");
+    must(otap_digits_count(answer) <= OTAP_DIGITS && buffer_stays(otap_digits_count(answer)), "bytes past the digits changed");
+    if (length >= OTAP_DIGITS) {
+        read_only(answer, bytes, store_length, 0x1F00);
+    }
+    nothing_outside();
+}
+
 static void export_at(int at_end, uint32_t part, const uint8_t *bytes, size_t store_length, size_t length)
 {
     uint32_t expected = length < OTAP_EXPORT_BYTES ? OTAP_SHORT_BUFFER : store_length != OTAP_STORE_BYTES ? OTAP_NO_STORE

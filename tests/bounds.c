@@ -58,6 +58,35 @@ static void line_of_all(void)
     }
 }
 
+/* The tables of every size of store, with the first index and ones that there are not. */
+static void entry_sizes(void)
+{
+    static const size_t sizes[] = {0, 1, OTAP_STORE_BYTES - 1, OTAP_STORE_BYTES, OTAP_STORE_BYTES + 1};
+    size_t each;
+    uint32_t table;
+    for (each = 0; each < 10; each++) {
+        for (table = 0; table <= OTAP_TABLES + 1; table++) {
+            entry_at((int)(each % 2), table, 0, filled, sizes[each / 2]);
+            entry_at((int)(each % 2), table, 0xFFFFFFFFu, filled, sizes[each / 2]);
+        }
+        settings_at((int)(each % 2), 0, filled, sizes[each / 2]);
+        settings_at((int)(each % 2), 0xFFFFFFFFu, filled, sizes[each / 2]);
+    }
+}
+
+/* What stands behind every row, and every channel. */
+static void entry_all(void)
+{
+    uint32_t each;
+    for (each = 0; each < (OTAP_TABLES + 2) * 66; each++) {
+        entry_at((int)(each % 2), each / 66, each % 66, filled, OTAP_STORE_BYTES);
+        digits_at((int)(each % 2), each / 66, each % 66, filled, OTAP_STORE_BYTES, OTAP_DIGITS);
+    }
+    for (each = 0; each <= OTAP_CHANNEL_PLACES; each++) {
+        settings_at((int)(each % 2), each, filled, OTAP_STORE_BYTES);
+    }
+}
+
 /* Every pair of sizes of the store and the other buffer, at both ends of the pages: 50 cases. */
 static int sizes_of(unsigned turn, size_t least, size_t *store_length, size_t *other_length)
 {
@@ -158,6 +187,19 @@ static void row_sizes(void)
     }
 }
 
+static void digits_sizes(void)
+{
+    unsigned turn;
+    for (turn = 0; turn < 50; turn++) {
+        size_t store_length, length;
+        int at_end = sizes_of(turn, OTAP_DIGITS, &store_length, &length);
+        digits_at(at_end, OTAP_LINES, 0, filled, store_length, length);
+        digits_at(at_end, OTAP_LINE_SLOTS, 0, filled, store_length, length);
+        digits_at(at_end, OTAP_GROUPS, 0, filled, store_length, length);
+        digits_at(at_end, 0xFFFFFFFFu, 0xFFFFFFFFu, filled, store_length, length);
+    }
+}
+
 static void row_all(void)
 {
     uint32_t each;
@@ -181,6 +223,9 @@ static void damaged_stores(unsigned turns)
         counts_at((int)(turn % 2), bytes, sizeof bytes);
         called = key_of(filled, turn % OTAP_LINE_ROWS);
         line_of_at((int)(turn % 2), called.id_type, called.digits, called.length, bytes, sizeof bytes);
+        entry_at((int)(turn % 2), 1 + turn % OTAP_TABLES, random_below(OTAP_CONTACT_ROWS), bytes, sizeof bytes);
+        digits_at((int)(turn % 2), turn % 2 == 0 ? OTAP_LINES : OTAP_LINE_SLOTS, turn % OTAP_LINE_ROWS, bytes, sizeof bytes, OTAP_DIGITS);
+        settings_at((int)(turn % 2), turn % OTAP_CHANNEL_PLACES, bytes, sizeof bytes);
         write_message(&said, turn % MESSAGE_KINDS, turn);
         commit_to((int)(turn % 2), &said, bytes, sizeof bytes, OTAP_REPLY_BYTES);
     }
@@ -214,6 +259,7 @@ static void every_length(void)
         counts_sizes();
         line_of_sizes();
         line_of_all();
+        entry_all();
         for (part = 1; part <= 2 * OTAP_EXPORT_PARTS; part++) {
             export_at((int)(part % 2), (part + 1) / 2, filled, OTAP_STORE_BYTES, OTAP_EXPORT_BYTES);
         }
@@ -247,6 +293,9 @@ int main(int count, char **words)
     start_sizes();
     counts_sizes();
     line_of_sizes();
+    entry_sizes();
+    digits_sizes();
+    entry_all();
     commit_sizes();
     commit_message_sizes();
     commit_cuts();

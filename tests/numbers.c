@@ -192,6 +192,7 @@ static void counted(void)
     same("short store", 11, OTAP_NO_STORE, otap_counts(store, OTAP_STORE_BYTES - 1));
     same("long store", 11, OTAP_NO_STORE, otap_counts(store, OTAP_STORE_BYTES + 1));
     same("long store, and no digits", 11, OTAP_NO_STORE, otap_line_of(OTAP_PABX, reply, 0, store, OTAP_STORE_BYTES + 1));
+    same("long store, and no table", 11, OTAP_NO_STORE, otap_entry(0, 0, store, OTAP_STORE_BYTES + 1));
     memset(other, 0xFF, sizeof other);
     no_store("erased flash", other);
 }

@@ -78,6 +78,7 @@ step "numbers and constants" build_and_run numbers "$sanitizers"
 step "judging and committing" build_and_run judging "$sanitizers"
 step "contacts and slots" build_and_run contacts "$sanitizers"
 step "who is calling" build_and_run callers "$sanitizers"
+step "behind a row" build_and_run entries "$sanitizers"
 step "bounds of the lent bytes" build_and_run bounds -O1 && show
 step "bounds can fail" sees_outside
 step "two banks, cut at every byte" build_and_run_banks && show

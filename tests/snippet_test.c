@@ -76,11 +76,18 @@ void show_waiting(int taken, int restart)
     told = taken + restart;
 }
 
-void draw_row(uint32_t row, const uint8_t *units, size_t length)
+/* The address that messages.h gives a group of this row. */
+static uint32_t address_of(uint32_t row)
+{
+    return contacts || row < 14 ? 0x100001 + row : row == 14 ? 0x103C29 : 0xFFFF10;
+}
+
+void draw_row(uint32_t row, const uint8_t *units, size_t length, uint64_t target)
 {
     note('d');
     last_row = row;
     must(held, "drawn without the lock");
+    must(otap_answer_number(target) == OTAP_OK && otap_entry_address(target) == address_of(row), "a row's own target, kept with its name");
     must(!contacts || (length == 16 && units == scratch), "a contact without a name is shown by its number");
     must(contacts || row != 13 || (length == 16 && memcmp(units, "\0003\0002\0008\0002\0000\0009\0001\0003", 16) == 0), "group 13 is shown by its number");
     must(contacts || row != 0 || (length == 32 && units == store + 6134 + 4), "group 0 is shown by its name, where it stands");

@@ -15,13 +15,15 @@ enum { STACK = 256 * 1024 };
 enum { STACK = 32 * 1024 };
 #endif
 
-enum { PAINT = 0xA5, CALLS = 9 };
+enum { PAINT = 0xA5, CALLS = 15 };
 
 /* The header's ceiling for each; it has what was measured beside them, and docs/TESTING.md too. */
 static const unsigned long most[CALLS] = {OTAP_START_STACK, OTAP_JUDGE_STACK, OTAP_COMMIT_STACK, OTAP_EXPORT_STACK, OTAP_ROW_STACK, OTAP_ROW_STACK,
-                                          OTAP_COUNTS_STACK, OTAP_LINE_OF_STACK, OTAP_CONVERSION_STACK};
+                                          OTAP_COUNTS_STACK, OTAP_LINE_OF_STACK, OTAP_VALUE_STACK, OTAP_VALUE_STACK, OTAP_VALUE_STACK,
+                                          OTAP_VALUE_STACK, OTAP_VALUE_STACK, OTAP_VALUE_STACK, OTAP_CONVERSION_STACK};
 static const char *const names[CALLS] = {"otap_start", "otap_judge", "otap_commit", "otap_export", "otap_row_number", "otap_row_part", "otap_counts",
-                                         "otap_line_of", "a conversion"};
+                                         "otap_line_of", "otap_entry", "otap_entry_digits", "otap_channel", "otap_emergency_key", "otap_home_numbers",
+                                         "otap_system_code", "a conversion"};
 
 static uint8_t stack[STACK], store[OTAP_STORE_BYTES], filled[OTAP_STORE_BYTES];
 static uint8_t buffer[OTAP_EXPORT_BYTES];
@@ -48,7 +50,13 @@ static void call(void)
     case 5: answer = otap_row_part(table, row, store, sizeof store, buffer, sizeof buffer); break;
     case 6: answer = otap_counts(store, sizeof store); break;
     case 7: answer = otap_line_of(caller.id_type, caller.digits, caller.length, store, sizeof store); break;
-    case 8: convert(turn); break;
+    case 8: answer = otap_entry(table, row, store, sizeof store); break;
+    case 9: answer = otap_entry_digits(turn % 2 == 0 ? OTAP_LINES : OTAP_LINE_SLOTS, row, store, sizeof store, buffer, sizeof buffer); break;
+    case 10: answer = otap_channel(row, store, sizeof store); break;
+    case 11: answer = otap_emergency_key(store, sizeof store); break;
+    case 12: answer = otap_home_numbers(store, sizeof store); break;
+    case 13: answer = otap_system_code(store, sizeof store); break;
+    case 14: convert(turn); break;
     default: break; /* nothing, for what the switch of stacks itself takes */
     }
 }

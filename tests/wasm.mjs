@@ -1,5 +1,5 @@
 // tests/wasm.mjs: the module for wasm32 in node: no imports; the stored inputs of the programs `take` and `put`, judged and committed, come to their
-// stored outputs; and callers are found.
+// stored outputs; callers are found; and what stands behind a row is answered.
 import { readFileSync } from "node:fs";
 import { fileURLToPath } from "node:url";
 
@@ -71,6 +71,12 @@ function lineOf(idType, digits) {
     return exports.otap_line_of(idType, ...lent("digits", digits.length), ...lent("store"));
 }
 
+// The digits behind a row of lines, at the start of a buffer of 18 bytes.
+function digitsOf(table, index) {
+    const answer = exports.otap_entry_digits(table, index, ...lent("store"), ...lent("digits", 18));
+    return (answer & 0xffn) === 0n ? [...memory.subarray(at.digits, at.digits + Number(answer >> 8n))].join("") : `refused ${answer}`;
+}
+
 function same(what, got, wanted) {
     if (!got.equals(wanted)) throw new Error(`${what}: not the bytes that it must be`);
 }
@@ -86,5 +92,15 @@ start();
 take([2, 2, 0, 0, 8, 4, 8, 1, 0xca, 0, 10, 0x42, 2, 0x3f, 0, 0x23, 0x45, 0xff, 0]); // PABX 3, then PABX 2345
 const asked = [lineOf(1, [3]), lineOf(1, [2, 3, 4, 5]), lineOf(0, [3]), lineOf(1, [2, 3, 4]), lineOf(1, []), lineOf(1, Array(19).fill(2))];
 if (asked.join() !== [0x100, 0x10100, 0, 0, 20, 20].join()) throw new Error(`who is calling: ${asked}`);
+// The same lines behind their rows; then a member group of priority 2, two channels, the key to individual 100001, NZI 15 and NP 806, LAI ABC.
+take([2, 2, 0, 0, 8, 4, 8, 5, 0xd1, 0, 8, 0x70, 0x83, 0x10, 0, 2, 0, 0xce, 0, 7, 0xc0, 2, 0x0f, 0x12, 0x80,
+    0xcb, 0, 6, 0x20, 0x10, 0, 1, 0xcd, 0, 5, 0x07, 0xe4, 0xc0, 0xcf, 0, 5, 0xab, 0xc8, 0x60]);
+const behind = [[1, 1], [4, 3], [4, 2], [9, 0]].map(([table, index]) => exports.otap_entry(table, index, ...lent("store")));
+const fixed = ["otap_emergency_key", "otap_home_numbers", "otap_system_code"].map((name) => exports[name](...lent("store")));
+const tuned = [0, 1, 2].map((position) => exports.otap_channel(position, ...lent("store")));
+const wanted = [1n << 32n, 0x100002n << 8n | 2n << 35n | 3n << 37n, 17n, 17n, 0x100001n << 8n | 1n << 34n, 15n << 8n | 806n << 17n,
+    0xabcn << 8n | 8n << 20n | 1n << 24n | 1n << 26n, 241n << 8n, 640n << 8n, 17n, "3", "2345", "refused 17"];
+const found = [...behind, ...fixed, ...tuned, digitsOf(1, 0), digitsOf(1, 1), digitsOf(8, 0)];
+if (found.join() !== wanted.join()) throw new Error(`behind a row: ${found}`);
 if (exports.otap_transmit(640) !== 3560000n << 8n) throw new Error("transmit");
-console.log("no imports; take and put, judged and committed, as stored; callers are found");
+console.log("no imports; take and put, judged and committed, as stored; callers are found, and what stands behind a row");

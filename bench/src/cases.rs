@@ -3,6 +3,7 @@
 use crate::conversions;
 use crate::messages;
 use crate::sides::{Call, Checked, Plain, Rattle, Side};
+use crate::values;
 use otap::{Part, Table};
 
 pub struct Case {
@@ -66,6 +67,9 @@ pub fn all() -> Vec<Case> {
     cases.push(case("counts".into(), Call::Counts, 0));
     for (name, digits, row) in messages::callers() {
         cases.push(case(format!("line-of-{name}"), Call::LineOf { digits, row }, 0));
+    }
+    for value in values::ALL {
+        cases.push(case(value.name().into(), Call::Value(value), 0));
     }
     for (which, conversion) in conversions::ALL.iter().enumerate() {
         cases.push(case(format!("{}-x100", conversion.name), Call::Convert(which), 0));

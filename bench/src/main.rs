@@ -9,6 +9,7 @@ mod program;
 mod sides;
 mod stack;
 mod timing;
+mod values;
 
 fn main() -> std::process::ExitCode {
     program::run()

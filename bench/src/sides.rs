@@ -1,6 +1,7 @@
 //! The same calls to the archive and to plain Rust.
 
 use crate::conversions;
+use crate::values::Value;
 use otap::{Part, Store, Table, EXPORT_ROOM, PSTN, REPLY_ROOM, SCRATCH_ROOM, STORE_SIZE};
 use otap_reference::layout;
 use otap_reference::reference::callers::line_of;
@@ -23,6 +24,7 @@ pub enum Call {
         digits: Vec<u8>,
         row: Option<u32>,
     },
+    Value(Value),
     /// A hundred conversions, named by their place in `conversions::ALL`.
     Convert(usize),
 }
@@ -111,6 +113,7 @@ impl Side for Rattle {
                 let found = store.line_of(PSTN, black_box(digits));
                 answered(black_box(found).map_err(otap::Refusal::number), *row)
             }
+            Call::Value(value) => value.rattle(&store, &mut self.buffer),
             Call::Convert(which) => {
                 conversions::ALL[*which].rattle();
                 0
@@ -140,6 +143,7 @@ impl Side for Plain {
             Call::LineOf { digits, row } => {
                 answered(black_box(line_of(PSTN, black_box(digits), true, &self.set)), *row)
             }
+            Call::Value(value) => value.plain(black_box(&self.set), &mut self.buffer),
             Call::Convert(which) => {
                 conversions::ALL[*which].plain();
                 0

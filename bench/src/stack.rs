@@ -50,6 +50,7 @@ fn call_name(call: &Call) -> &'static str {
         Call::Row(..) => "row",
         Call::Counts => "counts",
         Call::LineOf { .. } => "line-of",
+        Call::Value(value) => value.name(),
         Call::Convert(which) => conversions::ALL[*which].name,
     }
 }

@@ -47,6 +47,26 @@ static void line_of(void)
     answer = otap_line_of(caller.id_type, caller.digits, caller.length, store, sizeof store);
 }
 
+static void entry(void)
+{
+    answer = otap_entry(which, row, store, sizeof store);
+}
+
+static void entry_digits(void)
+{
+    answer = otap_entry_digits(which, row, store, sizeof store, buffer, sizeof buffer);
+}
+
+static void channel_at(void)
+{
+    answer = otap_channel(row, store, sizeof store);
+}
+
+static void emergency_key(void)
+{
+    answer = otap_emergency_key(store, sizeof store);
+}
+
 static void individual(void)
 {
     answer = otap_individual_of_dialled(32820200);
@@ -89,7 +109,7 @@ static void fill(void)
     }
 }
 
-/* What the screen asks for. */
+/* What the screen, PTT and the radio ask for. */
 static void count_reads(void)
 {
     which = OTAP_GROUPS;
@@ -104,6 +124,12 @@ static void count_reads(void)
     count("line of, found", line_of);
     caller.length--; /* no line has it */
     count("line of, none", line_of);
+    count("entry, a group contact", entry);
+    count("channel", channel_at);
+    count("emergency key", emergency_key);
+    which = OTAP_LINES;
+    row = OTAP_LINE_ROWS - 1;
+    count("entry digits", entry_digits);
 }
 
 int main(void)

@@ -107,6 +107,9 @@ in-table [] i a e = absurd (Option·none-ne-some a e)
 in-table (o ∷ os) zero a e = omega arith
 in-table (o ∷ os) (suc i) a e = let h : i < length os = in-table os i a e in omega (arith, h)
 
+in-slots : {A : Type 0} (os : List (Option A)) (i : ℕ) (a : A) → length os ≡ slot-places → getD os i none ≡ some a → i < slot-places
+in-slots os i a many e = subst (λ (n : ℕ). i < n) many (in-table os i a e)
+
 -- ---- names and addresses
 
 module _ (lim : Limits) (log : List (List Setting)) (t : Tables) (o : InOrder lim fresh log t) (i : ℕ) (h : i < slot-places) where
@@ -137,27 +140,28 @@ module _ (lim : Limits) (log : List (List Setting)) (store scratch : RefT (List 
   pub line-slot-name : (l : Line) → LastSent (to-line-slot i) (all-of log) l → l .text ≢ [] → PartGiven lim store scratch (LineSlot i) r → r .now ≡ unit-bytes (l .text)
   line-slot-name l s n p = row-name lim log store scratch (LineSlot i) r t x o big p (line-row l) (ap (of line-row) (line-slot-sent lim log t o i h l .1 s)) n
 
-module _ (lim : Limits) (log : List (List Setting)) (store : List ℕ) (x : Reached lim log store) (t : Tables) (o : InOrder lim fresh log t) (i : ℕ) (c : Caption) where
-  -- GROUP ROW SENT: what stands in a group row, name and address, was sent in one setting, the last for that slot
-  pub group-row-sent : caption t (Group i) ≡ some c → (g : GroupMember) × LastSent (to-group i) (all-of log) g × (c ≡ group (g .text) (g .address))
-  group-row-sent e =
-      let ok = reached-tables lim log store x t o .1 .0 in
-      let (g, is, d) = came-of (getD (t .groups) i none) group-row c e in
-      let h : i < slot-places = subst (λ (n : ℕ). i < n) (ok .groups .0) (in-table (t .groups) i g is) in
-      (g, group-sent lim log t o i h g .0 is, group-shows g c d)
+module _ (lim : Limits) (log : List (List Setting)) (store : List ℕ) (x : Reached lim log store) (t : Tables) (o : InOrder lim fresh log t) (i : ℕ) where
+  -- GROUP HELD: the member in a group slot is the one that was last sent for that slot
+  pub group-held : (g : GroupMember) → getD (t .groups) i none ≡ some g → LastSent (to-group i) (all-of log) g
+  group-held g is = group-sent lim log t o i (in-slots (t .groups) i g (reached-tables lim log store x t o .1 .0 .groups .0) is) g .0 is
 
-  -- INDIVIDUAL ROW SENT: and in an individual row
-  pub individual-row-sent : caption t (Individual i) ≡ some c → (g : IndividualMember) × LastSent (to-individual i) (all-of log) g × (c ≡ individual (g .text) (g .address))
-  individual-row-sent e =
-      let ok = reached-tables lim log store x t o .1 .0 in
-      let (g, is, d) = from-entry individual-row (getD (t .individuals) i none) e in
-      let h : i < slot-places = subst (λ (n : ℕ). i < n) (ok .individuals .0) (in-table (t .individuals) i g is) in
-      (g, individual-sent lim log t o i h g .0 is, d)
+  -- INDIVIDUAL HELD: and that in an individual slot
+  pub individual-held : (g : IndividualMember) → getD (t .individuals) i none ≡ some g → LastSent (to-individual i) (all-of log) g
+  individual-held g is = individual-sent lim log t o i (in-slots (t .individuals) i g (reached-tables lim log store x t o .1 .0 .individuals .0) is) g .0 is
 
-  -- LINE SLOT ROW SENT: and in the row of a line slot
-  pub line-slot-row-sent : caption t (LineSlot i) ≡ some c → (l : Line) × LastSent (to-line-slot i) (all-of log) l × (c ≡ line (l .text) (l .number))
-  line-slot-row-sent e =
-      let ok = reached-tables lim log store x t o .1 .0 in
-      let (l, is, d) = from-entry line-row (getD (t .line-slots) i none) e in
-      let h : i < slot-places = subst (λ (n : ℕ). i < n) (ok .line-slots .0) (in-table (t .line-slots) i l is) in
-      (l, line-slot-sent lim log t o i h l .0 is, d)
+  -- LINE SLOT HELD: and the line in a line slot
+  pub line-slot-held : (l : Line) → getD (t .line-slots) i none ≡ some l → LastSent (to-line-slot i) (all-of log) l
+  line-slot-held l is = line-slot-sent lim log t o i (in-slots (t .line-slots) i l (reached-tables lim log store x t o .1 .0 .line-slots .0) is) l .0 is
+
+  module _ (c : Caption) where
+    -- GROUP ROW SENT: what stands in a group row, name and address, was sent in one setting, the last for that slot
+    pub group-row-sent : caption t (Group i) ≡ some c → (g : GroupMember) × LastSent (to-group i) (all-of log) g × (c ≡ group (g .text) (g .address))
+    group-row-sent e = let (g, is, d) = came-of (getD (t .groups) i none) group-row c e in (g, group-held g is, group-shows g c d)
+
+    -- INDIVIDUAL ROW SENT: and in an individual row
+    pub individual-row-sent : caption t (Individual i) ≡ some c → (g : IndividualMember) × LastSent (to-individual i) (all-of log) g × (c ≡ individual (g .text) (g .address))
+    individual-row-sent e = let (g, is, d) = from-entry individual-row (getD (t .individuals) i none) e in (g, individual-held g is, d)
+
+    -- LINE SLOT ROW SENT: and in the row of a line slot
+    pub line-slot-row-sent : caption t (LineSlot i) ≡ some c → (l : Line) × LastSent (to-line-slot i) (all-of log) l × (c ≡ line (l .text) (l .number))
+    line-slot-row-sent e = let (l, is, d) = from-entry line-row (getD (t .line-slots) i none) e in (l, line-slot-held l is, d)

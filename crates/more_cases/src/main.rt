@@ -12,6 +12,7 @@ mod screen_cases;
 mod slot_cases;
 mod text_cases;
 mod type_cases;
+mod value_cases;
 
 fn main() {
     let mut store = [0u8; HANDHELD_SIZE];
@@ -26,4 +27,5 @@ fn main() {
     line_slot_cases::run(&mut store);
     eight_bit_cases::run(&mut store);
     screen_cases::run(&mut store);
+    value_cases::run(&mut store);
 }

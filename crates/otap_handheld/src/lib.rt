@@ -2,6 +2,8 @@
 mod caller;
 mod conversions;
 mod counts;
+mod entries;
 mod exports;
 mod messages;
+mod radio;
 mod rows;

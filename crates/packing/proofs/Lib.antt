@@ -3,4 +3,7 @@ pub mod ExportBits
 pub mod Packed
 pub mod RowBits
 pub mod ShownPart
+pub mod SideBySide
 pub mod Theorems
+pub mod ValueBits
+pub mod ValueTheorems

@@ -1,1 +1,2 @@
+pub mod PackedValues
 pub mod Packing

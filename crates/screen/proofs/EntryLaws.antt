@@ -85,14 +85,15 @@ record Sees {A : Type 0} (P : A → Type 0) (f : A → List ℕ) (cap : A → Ca
   hides : (a : A) → P a → hidden row (getD (f a) 0 0) ≡ true → see (some a) ≡ none
   shows : (a : A) → P a → hidden row (getD (f a) 0 0) ≡ false → see (some a) ≡ some (cap a)
 
-module _ {A : Type 0} {P : A → Type 0} {w h : ℕ} {f : A → List ℕ} (x : Texts P w h f) {row : Row} {see : Option A → Option Caption} (v : Sees P f (x .cap) row see)
-    (n base : ℕ) (os : List (Option A)) {s l : List ℕ} (same : s ≡ l) (p : Placed P w f n os (midOf base (n * w) l)) (i : ℕ) (slot : Slot) (at : Slotted base n i w h (At slot)) where
+-- a slot of a table, whatever its entries are
+module _ {A : Type 0} {P : A → Type 0} {w : ℕ} {f : A → List ℕ} (long : (a : A) → length (f a) ≡ w)
+    (h n base : ℕ) (os : List (Option A)) {s l : List ℕ} (same : s ≡ l) (p : Placed P w f n os (midOf base (n * w) l)) (i : ℕ) (slot : Slot) (at : Slotted base n i w h (At slot)) where
   -- the table's part of the store
   placed : Placed P w f n os (midOf base (n * w) s)
   placed = subst (λ (v : List ℕ). Placed P w f n os (midOf base (n * w) v)) (sym same) p
 
   -- the slot's width
-  slot-width : slot .end - slot .start ≡ w
+  pub slot-width : slot .end - slot .start ≡ w
   slot-width = omega (arith, at .1, at .3)
 
   -- the slot, cut out of the table
@@ -103,11 +104,24 @@ module _ {A : Type 0} {P : A → Type 0} {w h : ℕ} {f : A → List ℕ} (x : T
       ∙ part-part s base (n * w) (i * w) (slot .end - slot .start) (omega (arith, slot-width, slot-within i n w (at .0)))
       ∙ ap (λ b. midOf b (slot .end - slot .start) s) (sym (at .1))
 
-  -- what is not zeros is an entry
+  -- SLOT-ENTRY: what is not zeros is an entry
+  pub slot-entry : zeros? (midOf (slot .start) (slot .end - slot .start) s) ≡ false → (a : A) × (getD os i none ≡ some a) × P a × (midOf (slot .start) w s ≡ f a)
+  slot-entry z =
+      let (a, e, q) = place-some P w f long n os (midOf base (n * w) s) placed i (at .0) (ap zeros? slot-here ∙ z) in
+      (a, e, q, ap (λ j. midOf (slot .start) j s) (sym slot-width) ∙ sym slot-here ∙ place-read P w f long n os (midOf base (n * w) s) placed i (at .0) ∙ ap (slot-of w f) e)
+
+  -- SLOT-NONE: zeros are none
+  pub slot-none : ((a : A) → P a → zeros? (f a) ≡ false) → zeros? (midOf (slot .start) (slot .end - slot .start) s) ≡ true → getD os i none ≡ none
+  slot-none shown z = place-none P w f long n os (midOf base (n * w) s) placed i (at .0) shown (ap zeros? slot-here ∙ z)
+
+-- the slots of a list are a table whose first places are used
+pub listed-placed : {A : Type 0} {P : A → Type 0} {w : ℕ} {f : A → List ℕ} {n : ℕ} {xs : List A} {s : List ℕ} → Listed P w f n xs s → Placed P w f n (front n xs) s
+listed-placed {P = P} {n = n} {xs = xs} p = record { many = front-length n xs; each = all-front P n xs (p .each); bytes = p .bytes }
+
+module _ {A : Type 0} {P : A → Type 0} {w h : ℕ} {f : A → List ℕ} (x : Texts P w h f) {row : Row} {see : Option A → Option Caption} (v : Sees P f (x .cap) row see)
+    (n base : ℕ) (os : List (Option A)) {s l : List ℕ} (same : s ≡ l) (p : Placed P w f n os (midOf base (n * w) l)) (i : ℕ) (slot : Slot) (at : Slotted base n i w h (At slot)) where
   entry : zeros? (midOf (slot .start) (slot .end - slot .start) s) ≡ false → (a : A) × (getD os i none ≡ some a) × P a × (midOf (slot .start) w s ≡ f a)
-  entry z =
-      let (a, e, q) = place-some P w f (x .long) n os (midOf base (n * w) s) placed i (at .0) (ap zeros? slot-here ∙ z) in
-      (a, e, q, ap (λ j. midOf (slot .start) j s) (sym slot-width) ∙ sym slot-here ∙ place-read P w f (x .long) n os (midOf base (n * w) s) placed i (at .0) ∙ ap (slot-of w f) e)
+  entry = slot-entry (x .long) h n base os same p i slot at
 
   -- one that is hidden by its first byte is not seen
   hides : zeros? (midOf (slot .start) (slot .end - slot .start) s) ≡ false → hidden row (getD s (slot .start) 0) ≡ true → see (getD os i none) ≡ none
@@ -122,7 +136,7 @@ module _ {A : Type 0} {P : A → Type 0} {w h : ℕ} {f : A → List ℕ} (x : T
       let us : Text = text-of (x .cap a) in
       let o : TextOk (x .units) us = x .ok a q in
       let j : slot .text ≡ slot .start + h = omega (arith, at .1, at .2) in
-      let d : slot .end - slot .text ≡ 2 * x .units = omega (arith, slot-width, x .wide, at .1, at .2, at .3) in
+      let d : slot .end - slot .text ≡ 2 * x .units = omega (arith, slot-width (x .long) h n base os same p i slot at, x .wide, at .1, at .2, at .3) in
       let t : midOf (slot .text) (slot .end - slot .text) s ≡ text-bytes (x .units) us
       = ap₂ (λ i j. midOf i j s) j d ∙ part-known s (f a) (slot .start) w h (2 * x .units) b (omega (arith, x .wide)) ∙ ap (take (2 * x .units)) (x .behind a) ∙ take-all (2 * x .units) (text-bytes (x .units) us) (omega (arith, text-length (x .units) us)) in
       record {
@@ -138,7 +152,7 @@ module _ {A : Type 0} {P : A → Type 0} {w h : ℕ} {f : A → List ℕ} (x : T
   seen : Seen s slot row (see (getD os i none))
   seen =
       record {
-        gone = λ z. ap see (place-none P w f (x .long) n os (midOf base (n * w) s) placed i (at .0) (x .shown) (ap zeros? slot-here ∙ z)) ∙ v .absent;
+        gone = λ z. ap see (slot-none (x .long) h n base os same p i slot at (x .shown) z) ∙ v .absent;
         hides = hides;
         held = held;
       }
@@ -148,7 +162,7 @@ list-seen : {A : Type 0} {P : A → Type 0} {w h : ℕ} {f : A → List ℕ} (x 
     (n base : ℕ) (xs : List A) {s l : List ℕ} (same : s ≡ l) (p : Listed P w f n xs (midOf base (n * w) l)) (i : ℕ) (slot : Slot) (at : Slotted base n i w h (At slot)) → Seen s slot row (see (getD (map some xs) i none))
 list-seen {A} {P} {w} {h} {f} x {row} {see} v n base xs {s} same p i slot at =
     subst (λ (o : Option A). Seen s slot row (see o)) (front-get n xs i (at .0))
-    (seen x v n base (front n xs) same (record { many = front-length n xs; each = all-front P n xs (p .each); bytes = p .bytes }) i slot at)
+    (seen x v n base (front n xs) same (listed-placed p) i slot at)
 
 -- ---- the tables
 
@@ -230,7 +244,7 @@ sees-all {f = f} kind by = record { kind = kind; absent = refl; hides = λ a p e
 -- ---- rows
 
 -- the lines stand where the regions before them end
-lines-here : (lim : Limits) (t : Tables) → Allowed lim t → Listed LineOk line-width line-bytes (lim .lines) (t .lines) (midOf (region-start lim 12 + count-size) (lim .lines * line-width) (layout lim t))
+pub lines-here : (lim : Limits) (t : Tables) → Allowed lim t → Listed LineOk line-width line-bytes (lim .lines) (t .lines) (midOf (region-start lim 12 + count-size) (lim .lines * line-width) (layout lim t))
 lines-here lim t ok =
     let e : lines-at lim + count-size ≡ region-start lim 12 + count-size = omega arith in
     subst (λ (b : ℕ). Listed LineOk line-width line-bytes (lim .lines) (t .lines) (midOf b (lim .lines * line-width) (layout lim t))) e (lines-listed lim t ok)
@@ -256,7 +270,7 @@ row-seen lim t s (LineSlot n) slot (ok, e) x = seen lines (sees-all (λ l. refl)
 row-seen lim t s NoTable slot h x = absurd x
 
 -- what stands past the end is not seen
-pub none-past : {A : Type 0} (see : Option A → Option Caption) (os : List (Option A)) (n : ℕ) → see none ≡ none → length os ≤ n → see (getD os n none) ≡ none
+pub none-past : {A B : Type 0} (see : Option A → Option B) (os : List (Option A)) (n : ℕ) → see none ≡ none → length os ≤ n → see (getD os n none) ≡ none
 none-past see os n e h = ap see (List·getD-eq-default os none {n = n} h) ∙ e
 
 -- so what is seen stands among the places

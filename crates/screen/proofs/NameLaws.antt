@@ -108,7 +108,7 @@ abbrev other-rows : List ℕ
 other-rows = 0 ∷ 1 ∷ 2 ∷ 4 ∷ 6 ∷ 7 ∷ 8 ∷ []
 
 -- what is the same for each of some cases is that for a row of one of them
-at-case : {A : Type 0} (f : ℕ → A) (a : A) (ks : List ℕ) (n : ℕ) → All (λ k. f k ≡ a) ks → OneOf ks n → f n ≡ a
+pub at-case : {A : Type 0} (f : ℕ → A) (a : A) (ks : List ℕ) (n : ℕ) → All (λ k. f k ≡ a) ks → OneOf ks n → f n ≡ a
 at-case f a [] n h e = absurd e
 at-case f a (k ∷ []) n h e = ap f e ∙ h .0
 at-case f a (k ∷ j ∷ ks) n h (inl e) = ap f e ∙ h .0
@@ -161,10 +161,6 @@ module _ {lim : Limits} {s : List ℕ} {row : Row} {slot : Slot} (h : Here lim s
   -- and an individual's
   pub individual-text : OneOf individual-rows (tagOf the-type row) → slot .text ≡ slot .start + 4
   individual-text = text-at 4 individual-rows (refl, (refl, tt))
-
-  -- so its address has three bytes
-  pub three-bytes : slot .text ≡ slot .start + 4 → length (midOf (slot .start + 1) (slot .text - (slot .start + 1)) s) ≡ 3
-  three-bytes k = mid-len (slot .start + 1) (slot .text) s (omega (arith, found-fits .ends, found-fits .inside)) ∙ omega arith
 
   -- zeros are no row
   pub named-zeros : zeros? (midOf (slot .start) (slot .end - slot .start) s) ≡ true → NameIs lim s row (Refused Absent)

@@ -120,7 +120,7 @@ module _ (kept s : List ℕ) (ds : Number) (ok : InNumber ds) (e : kept ≡ digi
   so-far-start = record { within = omega arith; bytes = refl }
 
   -- what is kept at i, below 18, is a digit or the end
-  kept-here : (i : ℕ) → i < 18 → i < length ds → getD kept i 0 ≡ suc (getD ds i 0)
+  pub kept-here : (i : ℕ) → i < 18 → i < length ds → getD kept i 0 ≡ suc (getD ds i 0)
   kept-here i h l = ap (λ k. getD k i 0) e ∙ kept-digit 18 ds i h l
 
   -- there is a digit where what is kept is not 0

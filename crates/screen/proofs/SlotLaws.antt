@@ -34,18 +34,20 @@ slot-status lim n Beyond h x = λ _. x
 
 -- ---- a slot in the store
 
--- the slot lies in the bytes, and its text in the slot, whose first byte is there
+-- the slot lies in the bytes, and its text in the slot, whose first byte is there; no slot has fewer than 33 bytes
 pub record SlotFits (s : Slot) (size : ℕ) : Type 0 where
   pub text-in : s .start ≤ s .text
   pub ends : s .text ≤ s .end
   pub some-byte : s .start < s .end
+  pub many-bytes : s .start + status-width ≤ s .end
   pub inside : s .end ≤ size
 
-slotted-fits : (base places n w h : ℕ) (s : Slot) (size : ℕ) → 0 < w → h ≤ w → base + places * w ≤ size → Slotted base places n w h (At s) → SlotFits s size
+slotted-fits : (base places n w h : ℕ) (s : Slot) (size : ℕ) → status-width ≤ w → h ≤ w → base + places * w ≤ size → Slotted base places n w h (At s) → SlotFits s size
 slotted-fits base places n w h s size p q r x = record {
   text-in = omega (arith, x .1, x .2);
   ends = omega (arith, x .2, x .3);
   some-byte = omega (arith, x .1, x .3);
+  many-bytes = omega (arith, x .1, x .3);
   inside = omega (arith, x .3, slot-within n places w (x .0));
 }
 

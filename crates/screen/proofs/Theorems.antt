@@ -146,7 +146,7 @@ equal-rows lim row s u x y r q e big large g h =
 -- ---- kinds
 
 -- what stands in a row of a table is an entry of that table
-pub from-entry : {A : Type 0} (g : A → Caption) (o : Option A) {c : Caption} → of g o ≡ some c → (a : A) × (o ≡ some a) × (c ≡ g a)
+pub from-entry : {A B : Type 0} (g : A → B) (o : Option A) {c : B} → of g o ≡ some c → (a : A) × (o ≡ some a) × (c ≡ g a)
 from-entry g none {c} e = absurd (Option·none-ne-some c e)
 from-entry g (some a) {c} e = (a, refl, sym (Option·some-injective (g a) c e))
 

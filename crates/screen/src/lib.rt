@@ -1,7 +1,7 @@
 // The rows of the screen: a row's own name, or its number.
 pub mod answers;
 pub mod handheld;
-mod names;
+pub mod names;
 mod numbers;
 pub mod rows;
 mod show;

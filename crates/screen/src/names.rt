@@ -7,6 +7,7 @@ use slots::bytes::is_zeros;
 use slots::slots::used;
 use store_check::checks::is_store;
 use tables::limits::Limits;
+use tables::limits::roomy;
 use tables::places::CHANNEL_SLOT;
 use tables::places::CHANNELS;
 use tables::places::CONTACT_PLACES;
@@ -115,6 +116,16 @@ fn slot_of(row: Row, limits: Limits) -> SlotPlace
     }
 }
 
+// The same, of any limits: where the tables have no room in their store, no row has a slot.
+pub fn row_slot(row: Row, limits: Limits) -> SlotPlace
+    ensures { λ r. ⌜ (Roomy limits → SlotIs limits row r) ⌝ }
+{
+    if !roomy(limits) {
+        return SlotPlace::Beyond;
+    }
+    slot_of(row, limits)
+}
+
 // A byte as a number.
 fn wide(x: u8) -> u32
     ensures { λ r. ⌜ (r ≡ x) × (r < 256) ⌝ }
@@ -123,10 +134,12 @@ fn wide(x: u8) -> u32
 }
 
 // The number of three bytes, high byte first.
-fn address_of(s: &[u8]) -> u32
-    requires { ⌜ length (now s) ≡ 3 ⌝ }
+pub fn address_of(s: &[u8]) -> u32
     ensures { λ r. ⌜ ((a : ℕ) → now (s .entry) ≡ u24 a → r ≡ a) ⌝ }
 {
+    if s.len() != 3 {
+        return 0;
+    }
     wide(s[0]) * 65536 + wide(s[1]) * 256 + wide(s[2])
 }
 

@@ -12,11 +12,17 @@ pub(crate) fn decimal(n: u64) {
     io::print_decimal(STDOUT_FILENO, n);
 }
 
-// A space and two hexadecimal digits.
-fn byte(b: u8) {
+// Two hexadecimal digits.
+pub(crate) fn hex_pair(b: u8) {
     let high = (b / 16) as usize;
     let low = (b % 16) as usize;
-    text(&[b' ', HEX[high], HEX[low]]);
+    text(&[HEX[high], HEX[low]]);
+}
+
+// A space and two hexadecimal digits.
+fn byte(b: u8) {
+    text(b" ");
+    hex_pair(b);
 }
 
 // The first bytes, as many as are counted.

@@ -1,4 +1,5 @@
 // The rows of the screen that are there, a line for each table that has one.
+use super::behind::behind;
 use super::printing::decimal;
 use super::printing::text;
 use super::utf8::show_text;
@@ -63,6 +64,7 @@ fn table_rows(store: &[u8], table: u32, start: u32, end: u32) -> bool {
         if is_there(store, table, place) {
             before(table, first);
             row(store, table, place);
+            behind(store, table, place);
             first = false;
         }
         place += 1;

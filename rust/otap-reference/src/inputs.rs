@@ -9,6 +9,7 @@ pub mod pokes;
 pub mod random;
 pub mod requests;
 pub mod sweep;
+pub mod values;
 
 use crate::reference::commit::{judge_and_commit, REPLY_ROOM};
 use crate::reference::export::{part_bytes, PARTS};
@@ -18,6 +19,7 @@ use callers::Caller;
 use draft::{restate, Draft};
 use maker::pool_hash;
 use random::Random;
+use values::Value;
 
 /// Longest message ever made, a little over the longest allowed.
 pub const LONGEST_INPUT: usize = 4_200;
@@ -60,6 +62,11 @@ impl Inputs {
     /// Who calls: mostly a line that the set holds, or one that comes near.
     pub fn caller(&mut self) -> Caller {
         callers::caller(&mut self.random, &self.set.tables)
+    }
+
+    /// What is asked for behind a row or of the settings: mostly where the set holds something.
+    pub fn value(&mut self) -> Value {
+        values::value(&mut self.random, &self.set.tables)
     }
 
     fn request(&mut self) -> Draft {

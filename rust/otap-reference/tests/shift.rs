@@ -5,6 +5,7 @@ use otap_reference::reference::callers::line_of;
 use otap_reference::reference::commit::{judge_and_commit, Answer, REPLY_ROOM};
 use otap_reference::reference::screen::{row_part, Row, Shown, SCRATCH_ROOM};
 use otap_reference::reference::tables::{Set, MOST_CHANNELS, MOST_LINES};
+use otap_reference::reference::values::{entry, entry_digits, Entry, DIGITS_ROOM};
 use std::fs::read;
 use std::process::Command;
 
@@ -21,6 +22,25 @@ fn shown(row: Row, set: &Set) -> Option<String> {
     }
 }
 
+/// What stands behind a row, in parentheses: the address, or the IDtype and the digits; nothing for a text.
+fn behind(table: u32, place: u32, set: &Set) -> String {
+    match entry(table, place, true, set) {
+        Ok(Entry::Group { address, .. }) => format!(" ({:06X})", address.0),
+        Ok(Entry::Individual { address, .. }) => format!(" ({:06X})", address.0),
+        Ok(Entry::Line { flags }) => {
+            let id_type = if flags.pabx { "PABX" } else { "PSTN" };
+            format!(" ({id_type} {})", digits(table, place, set))
+        }
+        Err(_) => String::new(),
+    }
+}
+
+fn digits(table: u32, place: u32, set: &Set) -> String {
+    let mut buffer = [0; DIGITS_ROOM];
+    let count = entry_digits(table, place, true, set, &mut buffer).expect("a line has digits");
+    buffer[..count].iter().map(u8::to_string).collect()
+}
+
 /// A line that begins with a label, in a column as wide as the longest and two spaces.
 fn labelled(label: &str, shown: &str) -> String {
     format!("  {label:<21}{shown}\n")
@@ -29,7 +49,7 @@ fn labelled(label: &str, shown: &str) -> String {
 /// The row of a table at a place.
 type RowAt = fn(usize) -> Row;
 
-/// A line for each table that has rows.
+/// A line for each table that has rows; the tables are in the order of their numbers, from 1.
 fn rows(set: &Set) -> String {
     let tables: [(&str, RowAt); 8] = [
         ("lines", Row::Line),
@@ -42,8 +62,11 @@ fn rows(set: &Set) -> String {
         ("line slots", Row::LineSlot),
     ];
     let mut out = String::new();
-    for (name, row) in tables {
-        let there = |place| shown(row(place), set).map(|text| format!("{place} {text}"));
+    for (table, (name, row)) in (1..).zip(tables) {
+        let there = |place: u32| {
+            let text = shown(row(place as usize), set)?;
+            Some(format!("{place} {text}{}", behind(table, place, set)))
+        };
         let shown: Vec<String> = (0..256).filter_map(there).collect();
         if !shown.is_empty() {
             out.push_str(&labelled(name, &shown.join(", ")));

@@ -16,12 +16,14 @@ pub enum Refusal {
     WrongCarrier,
     /// 14: the message is neither a request nor a result query.
     WrongMessageType,
-    /// 15: the scratch has fewer than 36 bytes, or the export buffer fewer than 4,096.
+    /// 15: the scratch has fewer than 36 bytes, the export buffer fewer than 4,096, or the digits buffer fewer than 18.
     BufferShort,
     /// 16: there is no such part to export; a [`Part`](crate::Part) is always one.
     NoSuchPart,
-    /// 17: there is no such row, or it is a background group's, which is not shown.
+    /// 17 of the screen: there is no such row, or it is a background group's, which is not shown.
     NoSuchRow,
+    /// 17 of [`Store::entry`](crate::Store::entry), its digits and a channel: nothing stands there.
+    NothingThere,
     /// 20 of a conversion: the dialled number is outside the plan.
     OutsidePlan,
     /// 20 of [`Store::line_of`](crate::Store::line_of): the caller's number has no digits, more than 18, or a digit above 9.
@@ -34,7 +36,7 @@ pub enum Refusal {
     Unlisted(u8),
 }
 
-const LISTED: [(u8, Refusal, &str); 12] = [
+const LISTED: [(u8, Refusal, &str); 13] = [
     (10, Refusal::ReplyShort, "the reply buffer is under 20 bytes"),
     (11, Refusal::NotAStore, "the bytes lent are not a store"),
     (12, Refusal::MessageLength, "the message is under 7 or over 4,096 bytes"),
@@ -43,6 +45,7 @@ const LISTED: [(u8, Refusal, &str); 12] = [
     (15, Refusal::BufferShort, "the buffer lent is too short"),
     (16, Refusal::NoSuchPart, "there is no such part"),
     (17, Refusal::NoSuchRow, "there is no such row"),
+    (17, Refusal::NothingThere, "nothing stands there"),
     (20, Refusal::OutsidePlan, "the dialled number is outside the plan"),
     (20, Refusal::BadNumber, "the caller's number is not 1 to 18 digits"),
     (21, Refusal::OutsideKind, "the address is outside its kind's plan"),
@@ -152,12 +155,31 @@ impl<'r> Answer<'r> {
         Answer {
             outcome: Outcome::from_number(byte(packed, 0)),
             failed_id: byte(packed, 8),
-            send: packed >> 16 & 1 == 1,
-            reboot: packed >> 17 & 1 == 1,
+            send: bit(packed, 16),
+            reboot: bit(packed, 17),
             // Crate `otap_handheld` proves that the length is within the buffer; `get` does not rely on it.
             reply: reply.get(..usize::from(length)).unwrap_or_default(),
         }
     }
+}
+
+/// What a number of 0 has; of the calls that ask what stands somewhere, 17 is not that of the screen.
+pub(crate) fn value<T>(packed: u64, unpack: impl FnOnce(u64) -> T) -> Result<T, Refusal> {
+    match byte(packed, 0) {
+        0 => Ok(unpack(packed)),
+        17 => Err(Refusal::NothingThere),
+        number => Err(Refusal::from_number(number)),
+    }
+}
+
+/// As many bits from `place` on, at most 32.
+pub(crate) fn bits(packed: u64, place: u32, width: u32) -> u32 {
+    (packed >> place & ((1 << width) - 1)) as u32
+}
+
+/// The bit at `place`.
+pub(crate) fn bit(packed: u64, place: u32) -> bool {
+    packed >> place & 1 == 1
 }
 
 /// The eight bits from `place` on.

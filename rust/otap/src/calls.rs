@@ -53,6 +53,19 @@ unsafe extern "C" {
         store: *const u8,
         store_length: u64,
     ) -> u64;
+    fn otap_entry(table: u32, index: u32, store: *const u8, store_length: u64) -> u64;
+    fn otap_entry_digits(
+        table: u32,
+        index: u32,
+        store: *const u8,
+        store_length: u64,
+        digits: *mut u8,
+        digits_length: u64,
+    ) -> u64;
+    fn otap_channel(position: u32, store: *const u8, store_length: u64) -> u64;
+    fn otap_emergency_key(store: *const u8, store_length: u64) -> u64;
+    fn otap_home_numbers(store: *const u8, store_length: u64) -> u64;
+    fn otap_system_code(store: *const u8, store_length: u64) -> u64;
     // These have no buffers, so that every call is sound.
     pub safe fn otap_individual_of_dialled(dialled: u32) -> u64;
     pub safe fn otap_group_of_dialled(dialled: u32) -> u64;
@@ -112,4 +125,35 @@ pub fn line_of(id_type: u32, digits: &[u8], store: &[u8]) -> u64 {
     let (d, s) = (digits.as_ptr(), store.as_ptr());
     // SAFETY: the slices are live for the call, which only reads them.
     unsafe { otap_line_of(id_type, d, length(digits), s, length(store)) }
+}
+
+pub fn entry(table: u32, index: u32, store: &[u8]) -> u64 {
+    // SAFETY: the slice is live for the call, which only reads it.
+    unsafe { otap_entry(table, index, store.as_ptr(), length(store)) }
+}
+
+pub fn entry_digits(table: u32, index: u32, store: &[u8], digits: &mut [u8]) -> u64 {
+    let (s, d) = (store.as_ptr(), digits.as_mut_ptr());
+    // SAFETY: the slices are live for the call, and the store, only read, does not overlap the digits.
+    unsafe { otap_entry_digits(table, index, s, length(store), d, length(digits)) }
+}
+
+pub fn channel(position: u32, store: &[u8]) -> u64 {
+    // SAFETY: the slice is live for the call, which only reads it.
+    unsafe { otap_channel(position, store.as_ptr(), length(store)) }
+}
+
+pub fn emergency_key(store: &[u8]) -> u64 {
+    // SAFETY: as above.
+    unsafe { otap_emergency_key(store.as_ptr(), length(store)) }
+}
+
+pub fn home_numbers(store: &[u8]) -> u64 {
+    // SAFETY: as above.
+    unsafe { otap_home_numbers(store.as_ptr(), length(store)) }
+}
+
+pub fn system_code(store: &[u8]) -> u64 {
+    // SAFETY: as above.
+    unsafe { otap_system_code(store.as_ptr(), length(store)) }
 }

@@ -23,7 +23,10 @@ mod callers;
 mod calls;
 mod conversions;
 mod counts;
+mod drawn;
+mod entries;
 mod row;
+mod settings;
 mod store;
 
 pub use answer::{Answer, Outcome, Refusal};
@@ -33,7 +36,10 @@ pub use conversions::{
     individual_of_dialled, receive, transmit, GroupAddress, IndividualAddress,
 };
 pub use counts::{Counts, MOST_CHANNELS, MOST_LINES};
+pub use drawn::{DrawnRow, Rows};
+pub use entries::{Attribute, CallFlags, Entries, Entry};
 pub use row::{Row, Slice, Table, CONTACT_ROWS};
+pub use settings::{Channels, EmergencyKey, HomeNumbers, KeyTarget, SystemCode};
 pub use store::{Part, Store, EXPORT_ROOM, LONGEST_MESSAGE, REPLY_ROOM, SCRATCH_ROOM, STORE_SIZE};
 
 // The README's snippet is compiled and run with the doc examples.

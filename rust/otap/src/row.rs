@@ -1,6 +1,7 @@
 //! A row of the screen: the part of the store, or of the scratch, that shows it.
 
 use crate::answer::half;
+use core::ops::Range;
 
 /// Positions of the group contacts, and of the individual contacts: rows 0 to 63.
 pub const CONTACT_ROWS: u32 = 64;
@@ -72,6 +73,22 @@ impl Table {
         self as u32
     }
 
+    /// Its places: every row that it has is one of them.
+    ///
+    /// ```
+    /// assert_eq!(otap::Table::Groups.places(), 0..16);
+    /// assert_eq!(otap::Table::StatusTexts.places(), 32..128);
+    /// ```
+    pub fn places(self) -> Range<u32> {
+        match self {
+            Table::Lines => 0..32,
+            Table::QuickTexts => 0..64,
+            Table::StatusTexts => 32..128,
+            Table::Groups | Table::Individuals | Table::LineSlots => 0..16,
+            Table::GroupContacts | Table::IndividualContacts => 0..CONTACT_ROWS,
+        }
+    }
+
     /// The table with this number.
     ///
     /// ```
@@ -92,6 +109,11 @@ pub enum Slice {
     Scratch,
 }
 
+/// Two bytes each, high byte first.
+pub(crate) fn units_of(bytes: &[u8]) -> impl Iterator<Item = u16> + '_ {
+    bytes.chunks_exact(2).map(|pair| pair.iter().fold(0, |unit, &b| unit << 8 | u16::from(b)))
+}
+
 /// What the screen draws for a row; it borrows the store and the scratch.
 #[derive(Clone, Copy, Debug, PartialEq, Eq)]
 pub struct Row<'a> {
@@ -108,9 +130,7 @@ impl<'a> Row<'a> {
 
     /// The same as units.
     pub fn units(&self) -> impl Iterator<Item = u16> + 'a {
-        self.bytes
-            .chunks_exact(2)
-            .map(|pair| pair.iter().fold(0, |unit, &b| unit << 8 | u16::from(b)))
+        units_of(self.bytes)
     }
 
     /// Whether the text or the number is shown.

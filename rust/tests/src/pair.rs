@@ -247,7 +247,7 @@ fn text_offset(table: u32, row: u32) -> usize {
 }
 
 /// The reference names rows by table; a table outside the eight has none.
-fn reference_row(table: u32, row: u32) -> Option<screen::Row> {
+pub(crate) fn reference_row(table: u32, row: u32) -> Option<screen::Row> {
     let row = row as usize;
     match table {
         1 => Some(screen::Row::Line(row)),

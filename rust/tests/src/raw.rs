@@ -33,6 +33,19 @@ unsafe extern "C" {
         store: *const u8,
         store_length: u64,
     ) -> u64;
+    fn otap_entry(table: u32, index: u32, store: *const u8, store_length: u64) -> u64;
+    fn otap_entry_digits(
+        table: u32,
+        index: u32,
+        store: *const u8,
+        store_length: u64,
+        digits: *mut u8,
+        length: u64,
+    ) -> u64;
+    fn otap_channel(position: u32, store: *const u8, store_length: u64) -> u64;
+    fn otap_emergency_key(store: *const u8, store_length: u64) -> u64;
+    fn otap_home_numbers(store: *const u8, store_length: u64) -> u64;
+    fn otap_system_code(store: *const u8, store_length: u64) -> u64;
 }
 
 pub fn export(part: u32, store: &[u8], buffer: &mut [u8]) -> u64 {
@@ -62,4 +75,36 @@ pub fn line_of(id_type: u32, digits: &[u8], store: &[u8]) -> u64 {
     let (length, store_length) = (digits.len() as u64, store.len() as u64);
     // SAFETY: the slices are live for the call, which only reads them.
     unsafe { otap_line_of(id_type, digits.as_ptr(), length, store.as_ptr(), store_length) }
+}
+
+pub fn entry(table: u32, index: u32, store: &[u8]) -> u64 {
+    // SAFETY: the slice is live for the call, which only reads it.
+    unsafe { otap_entry(table, index, store.as_ptr(), store.len() as u64) }
+}
+
+pub fn entry_digits(table: u32, index: u32, store: &[u8], digits: &mut [u8]) -> u64 {
+    let (store_length, length) = (store.len() as u64, digits.len() as u64);
+    let (store, digits) = (store.as_ptr(), digits.as_mut_ptr());
+    // SAFETY: the slices are live for the call and do not overlap.
+    unsafe { otap_entry_digits(table, index, store, store_length, digits, length) }
+}
+
+pub fn channel(position: u32, store: &[u8]) -> u64 {
+    // SAFETY: the slice is live for the call, which only reads it.
+    unsafe { otap_channel(position, store.as_ptr(), store.len() as u64) }
+}
+
+pub fn emergency_key(store: &[u8]) -> u64 {
+    // SAFETY: as above.
+    unsafe { otap_emergency_key(store.as_ptr(), store.len() as u64) }
+}
+
+pub fn home_numbers(store: &[u8]) -> u64 {
+    // SAFETY: as above.
+    unsafe { otap_home_numbers(store.as_ptr(), store.len() as u64) }
+}
+
+pub fn system_code(store: &[u8]) -> u64 {
+    // SAFETY: as above.
+    unsafe { otap_system_code(store.as_ptr(), store.len() as u64) }
 }

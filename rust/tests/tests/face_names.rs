@@ -1,7 +1,7 @@
 //! Every outcome and refusal by its name and its number in document 01, each from a call made by hand.
 
 use otap::{Outcome, Part, Refusal, Store, Table};
-use otap::{EXPORT_ROOM, REPLY_ROOM, SCRATCH_ROOM, STORE_SIZE};
+use otap::{EXPORT_ROOM, MOST_DIGITS, REPLY_ROOM, SCRATCH_ROOM, STORE_SIZE};
 use otap_tests::pair::commit_judged;
 use otap_tests::raw;
 
@@ -67,6 +67,7 @@ fn refusals_of_stores_exports_and_rows() {
     assert_eq!(refused(Store::open(&mut [0; STORE_SIZE])), (Refusal::NotAStore, 11));
     assert_eq!(refused(Store::lent(&mut [0; 3]).counts()), (Refusal::NotAStore, 11));
     assert_eq!(refused(Store::lent(&mut [0; 3]).line_of(0, &[])), (Refusal::NotAStore, 11));
+    assert_eq!(refused(Store::lent(&mut [0; 3]).emergency_key()), (Refusal::NotAStore, 11));
     let mut bytes = vec![0; STORE_SIZE];
     let store = Store::start(&mut bytes).expect("the size is right");
     let (mut buffer, mut scratch) = ([0; EXPORT_ROOM], [0; SCRATCH_ROOM]);
@@ -79,6 +80,12 @@ fn refusals_of_stores_exports_and_rows() {
     assert_eq!(refused(store.row(Table::Lines, 0, &mut scratch)), (Refusal::NoSuchRow, 17));
     assert_eq!(refused(store.check_row(Table::Lines, 0, &scratch)), (Refusal::NoSuchRow, 17));
     assert_eq!(Refusal::NoSuchRow.to_string(), "17: there is no such row");
+    assert_eq!(refused(store.entry(Table::Lines, 0)), (Refusal::NothingThere, 17));
+    assert_eq!(refused(store.drawn(Table::QuickTexts, 0)), (Refusal::NothingThere, 17));
+    assert_eq!(refused(store.channel(0)), (Refusal::NothingThere, 17));
+    let short_digits = store.entry_digits(Table::Lines, 0, &mut buffer[..MOST_DIGITS - 1]);
+    assert_eq!(refused(short_digits), (Refusal::BufferShort, 15));
+    assert_eq!(Refusal::NothingThere.to_string(), "17: nothing stands there");
     assert_eq!(refused(store.line_of(0, &[])), (Refusal::BadNumber, 20));
     let said = Refusal::BadNumber.to_string();
     assert_eq!(said, "20: the caller's number is not 1 to 18 digits");

@@ -1,8 +1,10 @@
 //! Buffers of a wrong size: the number, the order of the refusals, and that nothing is touched.
 
-use otap::{Store, EXPORT_ROOM, REPLY_ROOM, SCRATCH_ROOM, STORE_SIZE};
+use otap::{Store, EXPORT_ROOM, MOST_DIGITS, REPLY_ROOM, SCRATCH_ROOM, STORE_SIZE};
 use otap_reference::inputs::calls::{Call, Calls};
+use otap_reference::inputs::values::Value;
 use otap_tests::pair::{number_of, patterned, Pair};
+use otap_tests::values::refused_by_all;
 use std::collections::BTreeMap;
 
 /// A store's size before the contact lists, half of today's.
@@ -45,7 +47,8 @@ fn calls_of_every_kind_and_size() {
             let number = call(lent, &calls.call());
             let caller = calls.caller();
             let called = lent.call_from(caller.id_type, &caller.digits);
-            for number in [number, called.map_or_else(|refusal| refusal, |_| 0)] {
+            let asked = lent.ask(calls.value());
+            for number in [number, called.map_or_else(|refusal| refusal, |_| 0), asked] {
                 *counts.entry(number).or_default() += 1;
             }
         }
@@ -82,6 +85,7 @@ fn a_store_of_another_size_is_none() {
         assert_eq!(pair.count(), 11);
         assert_eq!(pair.call_from(otap::PSTN, &[3]), Err(11));
         assert_eq!(pair.call_from(otap::PSTN, &[]), Err(11));
+        refused_by_all(&mut pair.bytes);
         assert_eq!(number_of(&Store::open(&mut pair.bytes)), 11);
     }
 }
@@ -101,6 +105,10 @@ fn short_buffers_come_first() {
             }
             for room in 0..SCRATCH_ROOM {
                 assert_eq!(pair.show_into(u32::MAX, 9, room), 15);
+            }
+            for room in 0..MOST_DIGITS {
+                let value = Value::EntryDigits { table: u32::MAX, index: 9, room };
+                assert_eq!(pair.ask(value), 15);
             }
         }
     }

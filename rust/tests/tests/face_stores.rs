@@ -1,6 +1,7 @@
 //! Which bytes are a store: those that messages make, those that docs/STORE.md allows, and no others.
 
-use otap::{Outcome, Part, Store, Table, EXPORT_ROOM, REPLY_ROOM, SCRATCH_ROOM, STORE_SIZE};
+use otap::{Outcome, Part, Store, Table};
+use otap::{EXPORT_ROOM, MOST_DIGITS, REPLY_ROOM, SCRATCH_ROOM, STORE_SIZE};
 use otap_reference::inputs::pokes::{poke_count, poke_line_slot, poke_list, poke_order};
 use otap_reference::inputs::random::Random;
 use otap_reference::inputs::Inputs;
@@ -21,10 +22,21 @@ fn is_store(bytes: &mut [u8]) -> bool {
     let checked = number_of(&store.check_row(Table::Lines, 40, &[0; SCRATCH_ROOM]));
     let counted = number_of(&store.counts());
     let called = number_of(&store.line_of(otap::PABX, &[1]));
+    let behind = [
+        number_of(&store.entry(Table::Lines, 40)),
+        number_of(&store.entry_digits(Table::Lines, 40, &mut [0; MOST_DIGITS])),
+        number_of(&store.channel(64)),
+    ];
+    let fixed = [
+        number_of(&store.emergency_key()),
+        number_of(&store.home_numbers()),
+        number_of(&store.system_code()),
+    ];
     let opened = number_of(&Store::open(bytes));
     let (done, number) = if taken == 11 { (11, 11) } else { (0, 17) };
     assert_eq!((exports, shown, checked), (vec![done; Part::ALL.len()], number, number));
     assert_eq!((counted, called, opened), (done, done, done));
+    assert_eq!((behind, fixed), ([number; 3], [done; 3]));
     assert!(*bytes == before, "none of these calls changes the bytes");
     assert_eq!(taken, if layout::is_store(bytes) { 5 } else { 11 });
     taken == 5

@@ -2,6 +2,7 @@
 
 use super::callers::Caller;
 use super::random::Random;
+use super::values::Value;
 use super::Inputs;
 use crate::reference::commit::REPLY_ROOM;
 use crate::reference::export::{EXPORT_ROOM, PARTS};
@@ -51,6 +52,11 @@ impl Calls {
         self.inputs.caller()
     }
 
+    /// What stands behind a row or a setting, to be asked between the others too.
+    pub fn value(&mut self) -> Value {
+        self.inputs.value()
+    }
+
     fn judged(&mut self) -> Vec<u8> {
         let message = self.inputs.message();
         self.waiting = Some(message.clone());
@@ -73,14 +79,8 @@ impl Calls {
         }
     }
 
-    /// Mostly enough, and often just so.
     fn room(&mut self, least: usize) -> usize {
-        match self.random.below(20) {
-            0 => self.random.below(least),
-            1 => least - 1,
-            2..=9 => least,
-            _ => least + self.random.below(50),
-        }
+        room(&mut self.random, least)
     }
 
     fn part(&mut self) -> u32 {
@@ -102,5 +102,15 @@ impl Calls {
             1 => (table, row + self.random.pick(&[0x100, 0x1_0000, 0x8000_0000])),
             _ => (table, row),
         }
+    }
+}
+
+/// Mostly enough, and often just so.
+pub fn room(random: &mut Random, least: usize) -> usize {
+    match random.below(20) {
+        0 => random.below(least),
+        1 => least - 1,
+        2..=9 => least,
+        _ => least + random.below(50),
     }
 }

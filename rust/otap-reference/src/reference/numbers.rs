@@ -13,6 +13,7 @@ pub const WRONG_CARRIER: u8 = 13;
 pub const WRONG_MESSAGE_TYPE: u8 = 14;
 pub const BUFFER_SHORT: u8 = 15;
 pub const NO_SUCH_PART: u8 = 16;
+/// Also where nothing stands behind a row, or no channel at a position.
 pub const NO_SUCH_ROW: u8 = 17;
 /// Also of a caller's number that is none (document 02, A7).
 pub const OUTSIDE_PLAN: u8 = 20;

@@ -89,7 +89,7 @@ fn individual(one: &IndividualSlot) -> Shown {
     text_or(&one.text, || number(dialled_individual(one.address), one.address.0))
 }
 
-fn held<T>(table: &[Option<T>], place: usize) -> Option<&T> {
+pub(super) fn held<T>(table: &[Option<T>], place: usize) -> Option<&T> {
     table.get(place)?.as_ref()
 }
 

@@ -1,6 +1,6 @@
 -- `screen::names::name_in` meets its contract. Assumes nothing.
 use Rattle.lists.proofs.Kit.{sym, _∙_, needs, arith}
-use Rattle.screen.proofs.NameLaws.{Here, here, Shown, named-beyond, found-fits, group-text, individual-text, three-bytes, named-zeros, named-hidden, named-text, named-empty, named-digits, named-group, named-individual}
+use Rattle.screen.proofs.NameLaws.{Here, here, Shown, named-beyond, found-fits, group-text, individual-text, named-zeros, named-hidden, named-text, named-empty, named-digits, named-group, named-individual}
 use Rattle.screen.proofs.names.name_in.Statement.{statement}
 use Rattle.screen.proofs.names.name_in.Tie as tie
 
@@ -86,7 +86,7 @@ part-address-of-end : tie.Need-part-address-of-end
 part-address-of-end c = let f = found-fits (slot-here (c .before .before .before .before .before .before .before .before .before .before .before)) in omega (arith, f .text-in, f .ends, f .inside, group-text (slot-here (c .before .before .before .before .before .before .before .before .before .before .before)) (c .match2 .keys2))
 
 address-of-requires : tie.Need-address-of-requires
-address-of-requires c κs = three-bytes (slot-here (c .before .before .before .before .before .before .before .before .before .before .before .before)) (group-text (slot-here (c .before .before .before .before .before .before .before .before .before .before .before .before)) (c .before .match2 .keys2))
+address-of-requires c κs = search needs
 
 sub-address-of-2 : tie.Need-sub-address-of-2
 sub-address-of-2 c = let f = found-fits (slot-here (c .before .before .before .before .before .before .before .before .before .before .before)) in omega (arith, f .text-in, f .ends, f .inside, individual-text (slot-here (c .before .before .before .before .before .before .before .before .before .before .before)) (c .match2 .keys3))
@@ -98,7 +98,7 @@ part-address-of-end-2 : tie.Need-part-address-of-end-2
 part-address-of-end-2 c = let f = found-fits (slot-here (c .before .before .before .before .before .before .before .before .before .before .before)) in omega (arith, f .text-in, f .ends, f .inside, individual-text (slot-here (c .before .before .before .before .before .before .before .before .before .before .before)) (c .match2 .keys3))
 
 address-of-requires-2 : tie.Need-address-of-requires-2
-address-of-requires-2 c κs = three-bytes (slot-here (c .before .before .before .before .before .before .before .before .before .before .before .before)) (individual-text (slot-here (c .before .before .before .before .before .before .before .before .before .before .before .before)) (c .before .match2 .keys3))
+address-of-requires-2 c κs = search needs
 
 returns-5 : tie.Need-returns-5
 returns-5 c = named-digits (row-here (c .before .before .before .before)) (c .before .before .used .ensures) (c .before .if3 .left) (c .match2 .keys1)

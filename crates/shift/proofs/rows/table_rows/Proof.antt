@@ -22,6 +22,9 @@ before-requires c κs = search needs
 row-requires : tie.Need-row-requires Inv-loop μ-loop
 row-requires c κs = search needs
 
+behind-requires : tie.Need-behind-requires Inv-loop μ-loop
+behind-requires c κs = search needs
+
 add-place : tie.Need-add-place Inv-loop μ-loop
 add-place c = search needs
 
@@ -50,6 +53,7 @@ table-rows-spec =
     is-there-requires
     before-requires
     row-requires
+    behind-requires
     add-place
     loop-less
     loop-again

@@ -1,0 +1,3 @@
+pub mod Accident
+pub mod Called
+pub mod Entries

@@ -1,0 +1,1 @@
+// Taking, the screen and what stands behind a row together: laws only.

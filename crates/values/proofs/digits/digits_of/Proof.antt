@@ -1,0 +1,43 @@
+use Rattle.lists.proofs.Kit.{needs, arith, mid-len}
+use Rattle.values.proofs.DigitLaws.{line-digits, no-digits}
+use Rattle.values.proofs.EntryLaws.{line-kind, no-line}
+use Rattle.values.proofs.digits.digits_of.Statement.{statement}
+use Rattle.values.proofs.digits.digits_of.Tie as tie
+
+sub-write-kept : tie.Need-sub-write-kept
+sub-write-kept c = search needs
+
+part-write-kept-start : tie.Need-part-write-kept-start
+part-write-kept-start c = search needs
+
+part-write-kept-end : tie.Need-part-write-kept-end
+part-write-kept-end c = search needs
+
+write-kept-requires : tie.Need-write-kept-requires
+write-kept-requires c κs = let s = c .before .before .before .before .before in (omega (arith, mid-len 2 20 (s .args .slot .now) (omega arith)), s .pre .1)
+
+same-length : tie.Need-same-length
+same-length c = search needs
+
+returns : tie.Need-returns
+returns c =
+    let a = c .before .before .before .before .before .before .before .before .args in
+    let w = c .before .before .write-kept in
+    line-digits (a .row) (a .slot .now) (a .buffer .now) (w .last .1 .0) (w .result) (line-kind (a .row) (c .before .before .before .before .before .match .keys1)) (w .ensures)
+
+returns-2 : tie.Need-returns-2
+returns-2 c =
+    let a = c .before .before .before .args in
+    no-digits (a .row) (a .slot .now) (a .buffer .now) (no-line (a .row) (c .match .keys2))
+
+pub digits-of-spec : {M : Type 1} → statement M
+digits-of-spec =
+    tie.close
+    (tie.spec
+    sub-write-kept
+    part-write-kept-start
+    part-write-kept-end
+    write-kept-requires
+    same-length
+    returns
+    returns-2)
