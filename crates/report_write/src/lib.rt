@@ -1,0 +1,4 @@
+// Writes one parameter of a report, from the slot of the store that keeps its entry.
+mod fixed;
+pub mod items;
+mod listed;
