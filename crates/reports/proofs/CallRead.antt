@@ -94,7 +94,7 @@ module _ {A : Type 0} (Good : A → Type 0) where
 -- ---- the report call
 
 -- a query's types are bytes, and at most 255
-types-bytes : {types query : List ℕ} → All (_< 256) query → TypesOf types query → All (_< 256) types
+pub types-bytes : {types query : List ℕ} → All (_< 256) query → TypesOf types query → All (_< 256) types
 types-bytes {types} {query} b q =
     let w : All (_< 256) (q .carried .header ++ q .data-bytes) = subst (All (_< 256)) (q .carried .whole) b .1 .1 in
     all-right (_< 256) (q .head) types (subst (All (_< 256)) (q .parts) (all-right (_< 256) (q .carried .header) (q .data-bytes) w))

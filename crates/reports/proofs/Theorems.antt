@@ -1,0 +1,84 @@
+-- What is promised of the report call and of the reader together. Assumes nothing.
+use Rattle.lists.proofs.Kit.{ℕ, zero, suc, _+_, _-_, _≤_, _<_, _≡_, refl, sym, ap, _∙_, ap₂, _≢_, inl, inr, List, [], _∷_, _++_, arith, length, getD, take}
+use Rattle.lists.specs.Every.{All}
+use Rattle.lists.specs.Ladder.{Answers}
+use Rattle.tables.specs.declared.limits.Limits.{Limits}
+use Rattle.tables.specs.Limits.{handheld}
+use Rattle.tables.specs.Store.{Holds}
+use Rattle.tables.specs.Tables.{Tables}
+use Rattle.reports.specs.Asked.{asked}
+use Rattle.reports.specs.Cut.{messages}
+use Rattle.reports.specs.Reading.{Read, reading}
+use Rattle.reports.specs.Reporting.{After, Asks, Reportable, TooMany, reporting}
+use Rattle.reports.specs.Reports.{TypesOf}
+use Rattle.reports.proofs.CallRead.{ReadAs, report-read, types-bytes, types-few}
+use Rattle.reports.proofs.Determined.{asks-one, reading-determined}
+use Rattle.reports.proofs.Few.{few-messages}
+use Rattle.reports.proofs.ReadBack.{whole-report}
+use Rattle.reports.proofs.SplitLaws.{all}
+
+module _ (lim : Limits) (query : List ℕ) (index : ℕ) (store buffer : List ℕ) where
+  -- REPORT STAYS: "All of them write nothing, 1 too"
+  pub report-stays : (a : After) → Answers (reporting lim query index store buffer) a → a .answer .number ≢ 0 → a .buffer ≡ buffer
+  report-stays a (inl (p, e)) n = ap (λ (x : After). x .buffer) e
+  report-stays a (inr (p, inl (q, e))) n = ap (λ (x : After). x .buffer) e
+  report-stays a (inr (p, inr (q, inl (r, e)))) n = ap (λ (x : After). x .buffer) e
+  report-stays a (inr (p, inr (q, inr (r, inl (s, e))))) n = ap (λ (x : After). x .buffer) e
+  report-stays a (inr (p, inr (q, inr (r, inr (s, inl (t, e)))))) n = ap (λ (x : After). x .buffer) e
+  report-stays a (inr (p, inr (q, inr (r, inr (s, inr (t, inl (u, e))))))) n = ap (λ (x : After). x .buffer) e
+  report-stays a (inr (p, inr (q, inr (r, inr (s, inr (t, inr (u, inl (v, e)))))))) n = ap (λ (x : After). x .buffer) e
+  report-stays a (inr (p, inr (q, inr (r, inr (s, inr (t, inr (u, inr (v, inl (w, e))))))))) n = ap (λ (x : After). x .buffer) e
+  report-stays a (inr (p, inr (q, inr (r, inr (s, inr (t, inr (u, inr (v, inr (w, inl (x, e)))))))))) n = ap (λ (y : After). y .buffer) e
+  report-stays a (inr (p, inr (q, inr (r, inr (s, inr (t, inr (u, inr (v, inr (w, inr (x, f)))))))))) n = absurd (n (ap (λ (y : After). y .answer .number) (f .after)))
+
+-- NEVER TOO MANY: a hand-held never answers 4 for a report of over 255 messages
+pub never-too-many : (query : List ℕ) (index : ℕ) (store buffer : List ℕ) → All (_< 256) query → (t : Tables) (types : List ℕ)
+    → Asks handheld query index store buffer t types → TooMany handheld query index store buffer → ⊥
+never-too-many query index store buffer b t types asks many =
+    omega (arith, many t types asks, few-messages t types (asks .holds .0) (types-bytes b (asks .asks)) (types-few (asks .asks)))
+
+-- ---- all messages of a report
+
+-- n in a row, from number i on
+abbrev pub row : {A : Type 0} → ℕ → ℕ → (ℕ → A) → List A
+row zero i f = []
+row (suc n) i f = f i ∷ row n (suc i) f
+
+-- a row that has every element of a list is the list
+row-is : {A : Type 0} (d : A) (f : ℕ → A) (i : ℕ) (l : List A) → ((j : ℕ) → j < length l → f (i + j) ≡ getD l j d) → row (length l) i f ≡ l
+row-is d f i [] h = refl
+row-is d f i (a ∷ l) h =
+    ap₂ (λ x y. x ∷ y) (ap f (omega arith) ∙ h 0 (omega arith)) (row-is d f (suc i) l (λ j k. ap f (omega arith) ∙ h (suc j) (omega arith)))
+
+-- one message of a report, as a call wrote it and as it was read
+pub record Reported (lim : Limits) (query store : List ℕ) (index : ℕ) (a : After) (r : Read) : Type 0 where
+  pub buffer : List ℕ
+  pub written : Answers (reporting lim query index store buffer) a
+  pub good : a .answer .number ≡ 0
+  pub read : Answers (reading (lim .message) (take (a .answer .message-length) (a .buffer))) r
+
+module _ (lim : Limits) (query store : List ℕ) (b : All (_< 256) query) (can : Reportable lim) (t : Tables) (types : List ℕ) (holds : Holds lim t store) (asks : TypesOf types query) where
+  -- READ BACK: a message that a call wrote is read with the call's total, the index that was asked for, and that message's parameters
+  pub message-read : (index : ℕ) (a : After) (r : Read) → Reported lim query store index a r
+      → (r .number ≡ 0) × (r .total ≡ a .answer .total) × (r .total ≡ length (messages lim t types)) × (r .index ≡ index) × (r .items ≡ getD (messages lim t types) (index - 1) [])
+  message-read index a r m =
+      let s : ReadAs lim query index store (m .buffer) a = report-read lim query index store (m .buffer) b (can .wide) (can .short) a (m .written) (m .good) in
+      let d = reading-determined (lim .message) (take (a .answer .message-length) (a .buffer)) r _ (m .read) (s .reads) in
+      let (x, y) = asks-one lim query index store (m .buffer) (s .asks) (record { holds = holds; asks = asks }) in
+      (
+        ap (λ (z : Read). z .number) d,
+        ap (λ (z : Read). z .total) d,
+        ap (λ (z : Read). z .total) d ∙ s .total ∙ (λ i. length (messages lim (x i) (y i))),
+        ap (λ (z : Read). z .index) d,
+        ap (λ (z : Read). z .items) d ∙ (λ i. getD (messages lim (x i) (y i)) (index - 1) []),
+      )
+
+  -- ALL READ: what is read of messages 1 to the total, one after another, is what was asked for, up to the first unknown type
+  pub all-read : (afters : ℕ → After) (reads : ℕ → Read) → ((i : ℕ) → 1 ≤ i → i ≤ length (messages lim t types) → Reported lim query store i (afters i) (reads i))
+      → all (row (length (messages lim t types)) 1 (λ i. reads i .items)) ≡ asked t types
+  all-read afters reads each =
+      let same : row (length (messages lim t types)) 1 (λ i. reads i .items) ≡ messages lim t types
+      = row-is [] (λ i. reads i .items) 1 (messages lim t types) (λ j l.
+          let back : 1 + j - 1 ≡ j = omega arith in
+          message-read (1 + j) (afters (1 + j)) (reads (1 + j)) (each (1 + j) (omega arith) (omega arith)) .4 ∙ ap (λ k. getD (messages lim t types) k []) back) in
+      ap all same ∙ whole-report lim t types
