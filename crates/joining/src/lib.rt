@@ -1,0 +1,1 @@
+// Joins two requests under one header, for dispatch software.
