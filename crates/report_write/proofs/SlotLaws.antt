@@ -1,7 +1,6 @@
 -- What stands in a slot, an entry or none: how many bytes, and when they are all zeros. Assumes nothing.
 use Rattle.lists.proofs.Kit.{ℕ, _≤_, _<_, _≡_, refl, sym, ap, _∙_, subst⁻¹, true, false, true≢false, _&&_, List, Option, none, some, arith, length, replicate, length-replicate}
 use Rattle.slots.specs.Slots.{zeros?}
-use Rattle.slots.proofs.Runs.{zeros-all}
 use Rattle.tables.proofs.EntryCodes.{quick-code, quick-shown, status-code, status-shown, channel-code, channel-shown, line-code, line-shown, group-code, group-shown, individual-code, individual-shown}
 use Rattle.tables.proofs.FixedCodes.{hash-code, key-code, home-code, system-code}
 use Rattle.export_write.specs.Writers.{Wrote}
