@@ -8,5 +8,6 @@ pub mod entries;
 pub mod exports;
 pub mod fixed;
 pub mod messages;
+pub mod report;
 pub mod rows;
 pub mod tuning;
