@@ -1,5 +1,5 @@
 // What C answers are packed as, for sets of any limits.
-mod bits;
+pub mod bits;
 pub mod caller;
 pub mod conversions;
 pub mod counts;

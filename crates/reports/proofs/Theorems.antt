@@ -21,6 +21,9 @@ use Rattle.reports.proofs.SplitLaws.{all}
 abbrev pub Small : Told → Type 0
 Small x = (x .number < 256) × (x .total < 256) × (x .message-length < 65536)
 
+abbrev SmallRead : Read → Type 0
+SmallRead r = (r .number < 256) × (r .total < 256) × (r .index < 256) × (length (r .items) < 256)
+
 module _ (lim : Limits) (query : List ℕ) (index : ℕ) (store buffer : List ℕ) where
   -- REPORT STAYS: "All of them write nothing, 1 too"
   pub report-stays : (a : After) → Answers (reporting lim query index store buffer) a → a .answer .number ≢ 0 → a .buffer ≡ buffer
@@ -61,6 +64,22 @@ module _ (lim : Limits) (query : List ℕ) (index : ℕ) (store buffer : List �
           let k : length (report-bytes (length (messages lim (f .tables) (f .types))) index (getD (messages lim (f .tables) (f .types)) (index - 1) [])) ≤ lim .message
           = subst (λ (i : ℕ). length (report-bytes (length (messages lim (f .tables) (f .types))) i (getD (messages lim (f .tables) (f .types)) (index - 1) [])) ≤ lim .message) e (h .1) in
           subst (λ (x : After). Small (x .answer)) (sym (f .after)) (omega arith, omega arith, omega (arith, k, can .short))
+
+-- READ SMALL: what is read of a message fits an answer of 32 bits
+pub read-small : (most : ℕ) (message : List ℕ) (r : Read) → Answers (reading most message) r
+    → (r .number < 256) × (r .total < 256) × (r .index < 256) × (length (r .items) < 256)
+read-small most message r (inl (p, e)) = subst SmallRead (sym e) (omega arith, omega arith, omega arith, omega arith)
+read-small most message r (inr (p, inl (q, e))) = subst SmallRead (sym e) (omega arith, omega arith, omega arith, omega arith)
+read-small most message r (inr (p, inr (q, inl (s, e)))) = subst SmallRead (sym e) (omega arith, omega arith, omega arith, omega arith)
+read-small most message r (inr (p, inr (q, inr (s, inl (t, e))))) = subst SmallRead (sym e) (omega arith, omega arith, omega arith, omega arith)
+read-small most message r (inr (p, inr (q, inr (s, inr (t, inl (u, e)))))) = subst SmallRead (sym e) (omega arith, omega arith, omega arith, omega arith)
+read-small most message r (inr (p, inr (q, inr (s, inr (t, inr (u, f)))))) =
+    let (x1, r1, h1, l1, e1, s1) = f .report .says in
+    let (x2, r2, h2, l2, e2, s2) = s1 in
+    let (x3, r3, h3, l3, e3, s3) = s2 in
+    let (x4, r4, h4, l4, e4, s4) = s3 in
+    let (x5, r5, h5, l5, e5, s5) = s4 in
+    (omega (arith, f .good), omega (arith, h3, l3), omega (arith, h4, l4), omega (arith, h5, l5))
 
 -- NEVER TOO MANY: a hand-held never answers 4 for a report of over 255 messages
 pub never-too-many : (query : List ℕ) (index : ℕ) (store buffer : List ℕ) → All (_< 256) query → (t : Tables) (types : List ℕ)
