@@ -1,5 +1,5 @@
 -- Flags, and where the key calls. Assumes nothing.
-use Rattle.lists.proofs.Kit.{ℕ, _%_, _≡_, refl, sym, _∙_, subst, subst⁻¹, Bool, true, false, true≢false, false≢true, arith, eqb-true, eqb-false, eqb}
+use Rattle.lists.proofs.Kit.{ℕ, _%_, _≡_, refl, sym, _∙_, subst, subst⁻¹, Bool, true, false, true≢false, false≢true, arith, eqb}
 use Rattle.writing.specs.declared.KeyTarget.{KeyTarget}
 use Rattle.writing.specs.declared.KeyTarget.the-variants.{Current, ToGroup, ToIndividual}
 use Rattle.writing.specs.Writing.{bit, current}
@@ -7,22 +7,20 @@ use Rattle.tables.specs.Allowed.{TargetOk}
 use Rattle.tables.specs.Layout.{key-address}
 use Rattle.writing.specs.Ranges.{InAddress}
 use Rattle.read_fields.specs.TextsAndNumbers.{AddressRefused}
+use Rattle.settings.proofs.BodyLaws.{flag-bit}
 use Rattle.report_reading.specs.Readers.{TargetIs}
 use Rattle.report_reading.specs.declared.fixed.TargetRead.the-variants.{Target, NoTarget}
 
 -- ---- flags
 
--- a flag that the code cut is the bit that it was cut from, and the other way round
-pub flag-bit : (y : ℕ) (b : Bool) → b ≡ eqb (y % 2) 1 → y % 2 ≡ bit b
-flag-bit y true e = eqb-true (y % 2) 1 (sym e)
-flag-bit y false e = let n = eqb-false (y % 2) 1 (sym e) in omega arith
-
+-- the bit that a flag was cut from says the flag
 pub bit-flag : (y : ℕ) (b d : Bool) → b ≡ eqb (y % 2) 1 → y % 2 ≡ bit d → d ≡ b
 bit-flag y true true e k = refl
 bit-flag y true false e k = absurd (omega (arith, k, flag-bit y true e))
 bit-flag y false true e k = absurd (omega (arith, k, flag-bit y false e))
 bit-flag y false false e k = refl
 
+-- a flag that is said to be one that was cut is its bit
 pub target-bits : (y : ℕ) {b d : Bool} → b ≡ eqb (y % 2) 1 → d ≡ b → y % 2 ≡ bit d
 target-bits y {b} e k = subst⁻¹ (λ (x : Bool). y % 2 ≡ bit x) k (flag-bit y b e)
 

@@ -7,7 +7,8 @@ use Rattle.report_reading.specs.Readers.{TargetIs}
 use Rattle.report_reading.specs.declared.items.Item.the-variants.{Key}
 use Rattle.report_reading.proofs.HeadLaws.{no-head, room, no-item, the-item}
 use Rattle.report_reading.proofs.ItemHeads.{key-head}
-use Rattle.report_reading.proofs.KeyLaws.{flag-bit, bit-flag, target-bits}
+use Rattle.report_reading.proofs.KeyLaws.{bit-flag, target-bits}
+use Rattle.settings.proofs.BodyLaws.{flag-bit}
 use Rattle.report_reading.proofs.fixed.read_key.Statement.{statement}
 use Rattle.report_reading.proofs.fixed.read_key.Tie as tie
 

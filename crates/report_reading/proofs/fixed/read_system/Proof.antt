@@ -5,7 +5,7 @@ use Rattle.reports.specs.declared.Asked.the-variants.{System as ASystem}
 use Rattle.report_reading.specs.declared.items.Item.the-variants.{System}
 use Rattle.report_reading.proofs.HeadLaws.{no-head, room, no-item, the-item}
 use Rattle.report_reading.proofs.ItemHeads.{system-head}
-use Rattle.report_reading.proofs.KeyLaws.{flag-bit}
+use Rattle.settings.proofs.BodyLaws.{flag-bit}
 use Rattle.report_reading.proofs.fixed.read_system.Statement.{statement}
 use Rattle.report_reading.proofs.fixed.read_system.Tie as tie
 
