@@ -187,36 +187,32 @@ static void texts(unsigned type, unsigned least, unsigned most)
     }
 }
 
-/* The message above with one byte changed. */
-static void changed(const char *what, size_t at, unsigned byte, uint64_t answer)
+/* The message above with one byte changed: its head, and where an error may stand. */
+static const struct { const char *what; uint32_t at, byte, answer; } changes[] = {
+    {"reserved bits", 5, 0xF7, 0x0B010100}, {"no length stated", 3, 0, 0x0B010100}, {"another length", 3, 0x50, OTAP_BAD_CARRIER},
+    {"another service", 1, 3, OTAP_BAD_CARRIER}, {"a query", 6, 0x0A, OTAP_OTHER_MESSAGE}, {"a request of OTAPVer 2", 6, 0x10, OTAP_OTHER_MESSAGE},
+    {"OTAPVer 2", 6, 0x13, OTAP_BAD_VERSION}, {"coding type 0100", 5, 4, OTAP_BAD_FIELD}, {"total 0", 7, 0, OTAP_BAD_FIELD},
+    {"index 0", 8, 0, OTAP_BAD_FIELD}, {"index 2 of 1", 8, 2, OTAP_BAD_FIELD}, {"a parameter fewer", 9, 10, OTAP_BAD_FIELD},
+    {"a parameter more", 9, 12, OTAP_BAD_FIELD}, {"an error before the last", 77, 0x83, OTAP_BAD_FIELD}, {"an error in 1 of 2", 7, 2, OTAP_BAD_FIELD}
+};
+
+static void changed_heads(void)
 {
-    memcpy(said.bytes, all, sizeof all);
-    said.length = sizeof all;
-    said.bytes[at] = (uint8_t)byte;
-    same(what, answer, answer, read_said());
+    size_t each;
+    for (each = 0; each < sizeof changes / sizeof changes[0]; each++) {
+        memcpy(said.bytes, all, sizeof all);
+        said.length = sizeof all;
+        said.bytes[changes[each].at] = (uint8_t)changes[each].byte;
+        same(changes[each].what, changes[each].answer, changes[each].answer, read_said());
+    }
+    said.bytes[8] = 2;
+    same("an error in 2 of 2", 0x0B020200, read_said(), 0x0B020200);
 }
 
-/* Heads, and where an error may stand. */
+/* Messages without parameters, and the shortest and the longest. */
 static void heads(void)
 {
     static const uint8_t none[1] = {0};
-    changed("reserved bits", 5, 0xF7, 0x0B010100);
-    changed("no length stated", 3, 0, 0x0B010100);
-    changed("another length", 3, 0x50, OTAP_BAD_CARRIER);
-    changed("coding type 0100", 5, 4, OTAP_BAD_FIELD);
-    changed("OTAPVer 2", 6, 0x13, OTAP_BAD_VERSION);
-    changed("a query", 6, 0x0A, OTAP_OTHER_MESSAGE);
-    changed("a request of OTAPVer 2", 6, 0x10, OTAP_OTHER_MESSAGE);
-    changed("a carrier of another service", 1, 3, OTAP_BAD_CARRIER);
-    changed("total 0", 7, 0, OTAP_BAD_FIELD);
-    changed("index 0", 8, 0, OTAP_BAD_FIELD);
-    changed("index 2 of 1", 8, 2, OTAP_BAD_FIELD);
-    changed("a parameter fewer", 9, 10, OTAP_BAD_FIELD);
-    changed("a parameter more", 9, 12, OTAP_BAD_FIELD);
-    changed("an error in message 1 of 2", 7, 2, OTAP_BAD_FIELD);
-    said.bytes[8] = 2;
-    same("an error in message 2 of 2", 0x0B020200, read_said(), 0x0B020200);
-    changed("an error before the last", 77, 0x83, OTAP_BAD_FIELD);
     write_report(none, 0);
     same("no parameters", 0x00010100, read_said(), 0x00010100);
     said.bytes[7] = 2;
@@ -232,6 +228,23 @@ static void heads(void)
     same("the longest", 4, OTAP_BAD_FIELD, read_said());
     said.length = OTAP_MESSAGE_BYTES + 1;
     same("too long", 12, OTAP_MESSAGE_LENGTH, read_said());
+}
+
+/* A message of 255 parameters, which is as many as one can have, and of one more behind them. */
+static void most_parameters(void)
+{
+    static const uint8_t channel[] = {0x8E, 0, 0x0F, 0x10, 0};
+    unsigned each;
+    write_report(channel, sizeof channel);
+    for (each = 1; each <= 255; each++) {
+        same("so many parameters", (uint64_t)each << 24 | 0x010100, read_said(), (uint64_t)each << 24 | 0x010100);
+        memcpy(said.bytes + said.length, channel, sizeof channel);
+        said.length += sizeof channel;
+        said.bytes[9] = (uint8_t)(each + 1);
+    }
+    same("256 of them", 4, OTAP_BAD_FIELD, read_said());
+    said.bytes[9] = 255;
+    same("one behind 255", 4, OTAP_BAD_FIELD, read_said());
 }
 
 /* What is read can be walked: each parameter ends where the next starts, and the last at the end. */
@@ -303,7 +316,9 @@ int main(void)
     ranges();
     texts(0x89, 0, 16);
     texts(0x8C, 1, 23);
+    changed_heads();
     heads();
+    most_parameters();
     damaged();
     far_away();
     printf("the office reads each parameter where it stands, and nothing else\n");
