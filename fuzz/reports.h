@@ -106,7 +106,7 @@ static void check_places(const uint8_t *message, uint32_t at, uint64_t entry, ui
         must(otap_places_digits(places) >= 1 && otap_places_digits(places) <= OTAP_DIGITS && number > at, "a line has digits");
         must(number + otap_places_digits(places) / 2 + 1 == text, "a line's number ends where its text starts");
     } else {
-        must(otap_places_hash_code(places) <= OTAP_HASH_STAMPED && (number == 0) == (otap_places_hash_code(places) == 0), "a hash has its place");
+        must(otap_places_hash_code(places) <= OTAP_HASH_OF_10 && (number == 0) == (otap_places_hash_code(places) == 0), "a hash has its place");
         must(number == 0 || number + otap_places_hash_length(places) == next, "a hash value ends its parameter");
     }
 }

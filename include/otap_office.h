@@ -32,11 +32,11 @@ extern "C" {
 /* The first parameter of a message stands at this byte. */
 enum { OTAP_REPORT_FIRST = 10 };
 
-/* The HashCodes of a kept hash: how many bytes its value has is otap_places_hash_length. */
+/* The HashCodes. */
 enum {
-    OTAP_NO_HASH = 0,
-    OTAP_HASH_CRC = 1,         /* 4 bytes */
-    OTAP_HASH_STAMPED = 2      /* 10 bytes */
+    OTAP_NO_HASH = 0,          /* no hash is kept */
+    OTAP_HASH_OF_4 = 1,        /* its value has 4 bytes */
+    OTAP_HASH_OF_10 = 2        /* 10 bytes */
 };
 
 /*
@@ -314,7 +314,7 @@ static inline size_t otap_places_hash(uint64_t places)
 static inline size_t otap_places_hash_length(uint64_t places)
 {
     uint32_t code = otap_places_hash_code(places);
-    return code == OTAP_HASH_CRC ? 4 : code == OTAP_HASH_STAMPED ? 10 : 0;
+    return code == OTAP_HASH_OF_4 ? 4 : code == OTAP_HASH_OF_10 ? 10 : 0;
 }
 
 #ifdef __cplusplus

@@ -105,7 +105,7 @@ static void each_parameter(void)
     for (each = 0; each < 4; each++) {
         same("a digit", 2 + each, otap_places_digit(line, all, each), 2 + each);
     }
-    same("a hash of HashCode 1", OTAP_HASH_CRC, otap_places_hash_code(hash), 1);
+    same("a hash of HashCode 1", OTAP_HASH_OF_4, otap_places_hash_code(hash), 1);
     same("its value", 79, otap_places_hash(hash), 79);
     same("how long that is", 4, otap_places_hash_length(hash), 4);
 }
