@@ -65,40 +65,43 @@ fn by_hand() {
     assert_eq!(read_by_both(&message), 0);
 }
 
-/// What each parameter is and where its parts stand, in the bits of docs/REPORTS.md.
+/// What each parameter is, in the bits of docs/REPORTS.md.
+const ENTRIES: [u64; 11] = [
+    0x10_0004 << 32 | (3 * 64 + 4 + 2) << 8 | 0xC8,
+    0xFF_7DC8 << 32 | (8 + 4 + 2) << 8 | 0xC9,
+    (8 + 3) << 8 | 0xCA,
+    (16 + 4) << 8 | 0xCB,
+    63 << 16 | 0xCC,
+    (15 << 15 | 806 << 5) << 32 | 0xCD,
+    640 << 32 | 0xCE,
+    (0xABC << 12 | 8 << 8 | 1 << 6 | 1 << 5) << 32 | 0xCF,
+    127 << 16 | 0xD0,
+    0xFF,
+    1 << 28 | 0xD1,
+];
+
+const NONE: [u64; 4] = [0; 4];
+
+/// Where its parts stand: text, its bytes, number or hash value, digits or HashCode. An empty text stands at its end unit.
+const PARTS: [[u64; 4]; 11] = [
+    [17, 2, 0, 0],
+    [27, 2, 0, 0],
+    [37, 0, 35, 3],
+    NONE,
+    [48, 4, 0, 0],
+    NONE,
+    NONE,
+    NONE,
+    [73, 0, 0, 0],
+    [0, 0, 78, 2],
+    NONE,
+];
+
 #[test]
 fn bits_by_hand() {
     let message = message();
-    let entries: [u64; 11] = [
-        0x10_0004 << 32 | (3 * 64 + 4 + 2) << 8 | 0xC8,
-        0xFF_7DC8 << 32 | (8 + 4 + 2) << 8 | 0xC9,
-        (8 + 3) << 8 | 0xCA,
-        (16 + 4) << 8 | 0xCB,
-        63 << 16 | 0xCC,
-        (15 << 15 | 806 << 5) << 32 | 0xCD,
-        640 << 32 | 0xCE,
-        (0xABC << 12 | 8 << 8 | 1 << 6 | 1 << 5) << 32 | 0xCF,
-        127 << 16 | 0xD0,
-        0xFF,
-        1 << 28 | 0xD1,
-    ];
-    // Text, its bytes, number or hash value, digits or HashCode; an empty text stands at its end unit.
-    let none = [0; 4];
-    let parts = [
-        [17, 2, 0, 0],
-        [27, 2, 0, 0],
-        [37, 0, 35, 3],
-        none,
-        [48, 4, 0, 0],
-        none,
-        none,
-        none,
-        [73, 0, 0, 0],
-        [0, 0, 78, 2],
-        none,
-    ];
     let mut at = 10;
-    for ((entry, parts), parameter) in entries.into_iter().zip(parts).zip(parameters()) {
+    for ((entry, parts), parameter) in ENTRIES.into_iter().zip(PARTS).zip(parameters()) {
         let [text, length, number, count] = parts;
         let behind = at + parameter.len() as u64;
         let places: u64 = behind | text << 16 | length << 32 | number << 40 | count << 56;

@@ -131,11 +131,11 @@ fn to_the_last_byte() {
     let quick: Vec<_> = (0..8).map(|index| (index, "12345678901234567890123")).collect();
     assert_eq!(pair.commit(&request(&[otap_tests::quick(Replace, &quick), stamped()])), 0);
     let fits = [0xD0, 0xFF, 0xCC, 0xCD, 0xCF, 0xCD];
-    let lengths = |messages: Vec<Vec<u8>>| messages.iter().map(Vec::len).collect::<Vec<_>>();
-    assert_eq!(lengths(pair.messages_to(&fits)), [4_094]);
-    assert_eq!(lengths(pair.messages_to(&[&fits[..], &[0]].concat())), [4_096]);
-    assert_eq!(lengths(pair.messages_to(&[&fits[..], &[0xCB]].concat())), [4_094, 16]);
-    assert_read_back(&mut pair, &[&fits[..], &[0xCB, 0]].concat());
+    for (more, lengths) in [(&[][..], &[4_094][..]), (&[0], &[4_096]), (&[0xCB], &[4_094, 16])] {
+        let types = [&fits[..], more].concat();
+        assert!(pair.messages_to(&types).iter().map(Vec::len).eq(lengths.iter().copied()));
+        assert_eq!(assert_read_back(&mut pair, &types), lengths.len());
+    }
 }
 
 /// A query that is cut anywhere, its length stated as it was, stated anew or not stated.
@@ -184,6 +184,7 @@ fn refusals_in_order() {
         (&bytes("02 02 00 00 08 07 10 02 CE"), 14),
         (&bytes("02 02 00 00 08 07 12 02 CE"), 1),
         (&bytes("02 02 00 00 08 07 0A 02 CE"), 4),
+        (&bytes("02 02 00 00 08 07 0A 01 CE CE"), 4),
         (&bytes("02 02 00 00 08 07 0A 00"), 4),
         (&bytes("02 02 00 00 08 07 0A"), 4),
         (&bytes("02 02 00 00 08 07 0A 01 CE"), 16),
