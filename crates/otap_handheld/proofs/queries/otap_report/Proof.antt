@@ -1,0 +1,21 @@
+use borrow.Author.Needs.{needs}
+use Rattle.tables.specs.Limits.{handheld}
+use Rattle.packing.proofs.ReportBits.{report-packed}
+use Rattle.reporting.proofs.ReportLaws.{handheld-reportable}
+use Rattle.otap_handheld.proofs.queries.otap_report.Statement.{statement}
+use Rattle.otap_handheld.proofs.queries.otap_report.Tie as tie
+
+report-requires : tie.Need-report-requires
+report-requires c κs = search needs
+
+pack-report-requires : tie.Need-pack-report-requires
+pack-report-requires c κs = search needs
+
+same-length : tie.Need-same-length
+same-length c = search needs
+
+returns : tie.Need-returns
+returns c = ?
+
+pub otap-report-spec : {M : Type 1} → statement M
+otap-report-spec = tie.close (tie.spec report-requires pack-report-requires same-length returns)
