@@ -23,6 +23,7 @@ use Rattle.report_reading.specs.declared.items.ItemRead.{ItemRead}
 use Rattle.report_reading.specs.declared.items.ItemRead.the-variants.{Item as AnItem, NoItem}
 use Rattle.report_reading.specs.declared.messages.ReportRead.{ReportRead}
 use Rattle.report_reading.specs.Reading.{Says, TextEnds, ReadAt, ReadAs, told}
+use Rattle.report_reading.proofs.ItemDetermined.{item-determined}
 use Rattle.packing.specs.PackedValues.{PacksFields, WhereFit}
 use Rattle.packing.proofs.SideBySide.{read-back}
 use Rattle.packing_office.specs.declared.parameter.Parameter.{Parameter}
@@ -96,6 +97,11 @@ parameter-whole m at x r a packs = let f = fits x a in record { read = x; allowe
     fits (AnItem f next) (i, s, ok, _) = said-fits m next i f s ok
     fits NoItem never = parameter-fits (entry 0 0 0 0) (omega arith) (omega arith) (omega arith) (omega arith)
 
+-- PARAMETER DETERMINED: one number
+pub parameter-determined : (m : List ℕ) (at r q : ℕ) → AnswersParameter m at r → AnswersParameter m at q → r ≡ q
+parameter-determined m at r q x y =
+    x .packs .bits ∙ ap (λ (z : ItemRead). side-by-side (parameter-fields (parameter-read z))) (item-determined m at (x .read) (y .read) (x .allowed) (y .allowed)) ∙ sym (y .packs .bits)
+
 -- PARAMETER UNPACKED
 pub parameter-unpacked : (p : Parameter) (r : ℕ) → PacksFields (parameter-fields p) r
     → (r % 256 ≡ p .asked) × (r / 256 % 256 ≡ p .flags) × (r / 65536 % 4096 ≡ p .index) × (r / 268435456 % 2 ≡ bit (p .unknown))
@@ -158,6 +164,11 @@ places-whole m at x r a packs = let f = fits x a in record { read = x; allowed =
     fits : (x : ItemRead) → ReadAt m at x → All FitsField (places-fields (places-read x))
     fits (AnItem f next) (i, s, ok, _) = by f next (ltb next 65536) refl i s ok
     fits NoItem never = bare-fit 0 (omega arith)
+
+-- PLACES DETERMINED: one number
+pub places-determined : (m : List ℕ) (at r q : ℕ) → AnswersPlaces m at r → AnswersPlaces m at q → r ≡ q
+places-determined m at r q x y =
+    x .packs .bits ∙ ap (λ (z : ItemRead). side-by-side (places-fields (places-read z))) (item-determined m at (x .read) (y .read) (x .allowed) (y .allowed)) ∙ sym (y .packs .bits)
 
 -- PLACES UNPACKED
 pub places-unpacked : (p : Places) (r : ℕ) → PacksFields (places-fields p) r
