@@ -15,7 +15,9 @@ same-length : tie.Need-same-length
 same-length c = search needs
 
 returns : tie.Need-returns
-returns c = ?
+returns c =
+    let x = c .before .before .before .report in
+    report-packed handheld _ _ _ _ (λ i. (x .ensures i) .fits) handheld-reportable _ (x .result) (c .pack-report .result) (x .ensures) (c .pack-report .ensures)
 
 pub otap-report-spec : {M : Type 1} → statement M
 otap-report-spec = tie.close (tie.spec report-requires pack-report-requires same-length returns)
