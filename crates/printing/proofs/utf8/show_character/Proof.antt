@@ -1,7 +1,7 @@
--- `shift::utf8::show_character` meets its contract. Assumes nothing.
+-- `printing::utf8::show_character` meets its contract. Assumes nothing.
 use borrow.Author.Needs.{needs}
-use Rattle.shift.proofs.utf8.show_character.Statement.{statement}
-use Rattle.shift.proofs.utf8.show_character.Tie as tie
+use Rattle.printing.proofs.utf8.show_character.Statement.{statement}
+use Rattle.printing.proofs.utf8.show_character.Tie as tie
 
 encode-requires : tie.Need-encode-requires
 encode-requires c κs = search needs

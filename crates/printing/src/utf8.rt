@@ -1,10 +1,10 @@
-// A text of the screen as UTF-8.
-use super::printing::text;
+// A text of 16-bit units as UTF-8.
+use super::output::text;
 ghost use Prim.Native.Nat.{_+_, _≤_, _<_};
 ghost use mathlib.Core.Path.{_≡_};
 ghost use mathlib.Core.List.{_∷_};
 ghost use lib.ListN.{length, take, drop};
-ghost use Rattle.shift.specs.Utf8 as utf;
+ghost use Rattle.printing.specs.Utf8 as utf;
 
 // A character, and the place behind it.
 struct Character {
@@ -134,7 +134,7 @@ fn show_character(code: u32)
 }
 
 // Writes a text's characters one by one.
-pub(crate) fn show_text(units: &[u8]) {
+pub fn show_text(units: &[u8]) {
     let mut at = 0;
     while 2 <= units.len() - at {
         let c = character_at(units, at);

@@ -1,9 +1,9 @@
--- `shift::utf8::unit` meets its contract. Assumes nothing.
+-- `printing::utf8::unit` meets its contract. Assumes nothing.
 use borrow.Author.Needs.{needs}
 use native.Mathlib.Omega.{arith}
-use Rattle.shift.proofs.TextLaws.{unit-stands}
-use Rattle.shift.proofs.utf8.unit.Statement.{statement}
-use Rattle.shift.proofs.utf8.unit.Tie as tie
+use Rattle.printing.proofs.TextLaws.{unit-stands}
+use Rattle.printing.proofs.utf8.unit.Statement.{statement}
+use Rattle.printing.proofs.utf8.unit.Tie as tie
 
 add-low : tie.Need-add-low
 add-low c = search needs

@@ -1,8 +1,8 @@
--- `shift::utf8::is_pair` meets its contract. Assumes nothing.
+-- `printing::utf8::is_pair` meets its contract. Assumes nothing.
 use native.Mathlib.Omega.{arith}
-use Rattle.shift.proofs.TextLaws.{pair-second, no-pair}
-use Rattle.shift.proofs.utf8.is_pair.Statement.{statement}
-use Rattle.shift.proofs.utf8.is_pair.Tie as tie
+use Rattle.printing.proofs.TextLaws.{pair-second, no-pair}
+use Rattle.printing.proofs.utf8.is_pair.Statement.{statement}
+use Rattle.printing.proofs.utf8.is_pair.Tie as tie
 
 returns : tie.Need-returns
 returns c = pair-second (c .before .args .high) (c .before .args .low) (omega arith)

@@ -8,7 +8,7 @@ use borrow.Author.Tests.{lt-ltb, le-ltb, eq-eqb, ne-eqb}
 use lib.Dec.{eqb, ltb}
 use lib.ListN.{length, drop, getD, length-drop}
 use lib.Seq.{drop-cons}
-use Rattle.shift.specs.Utf8.{units, pair?, joined, alone, characters, following, utf8}
+use Rattle.printing.specs.Utf8.{units, pair?, joined, alone, characters, following, utf8}
 
 -- ---- units
 

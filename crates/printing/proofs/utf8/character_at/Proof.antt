@@ -1,13 +1,13 @@
--- `shift::utf8::character_at` meets its contract. Assumes nothing.
+-- `printing::utf8::character_at` meets its contract. Assumes nothing.
 use borrow.Author.Needs.{needs}
 use Prim.Native.Nat.{_+_}
 use mathlib.Core.Path.{_≡_, sym, _∙_}
 use mathlib.Core.Bool.{true, false}
 use native.Mathlib.Omega.{arith}
-use Rattle.shift.specs.Utf8.{pair?}
-use Rattle.shift.proofs.TextLaws.{last-read, no-unit, pair-read, one-read}
-use Rattle.shift.proofs.utf8.character_at.Statement.{statement}
-use Rattle.shift.proofs.utf8.character_at.Tie as tie
+use Rattle.printing.specs.Utf8.{pair?}
+use Rattle.printing.proofs.TextLaws.{last-read, no-unit, pair-read, one-read}
+use Rattle.printing.proofs.utf8.character_at.Statement.{statement}
+use Rattle.printing.proofs.utf8.character_at.Tie as tie
 
 unit-requires : tie.Need-unit-requires
 unit-requires c κs = search needs

@@ -1,8 +1,8 @@
--- `shift::utf8::alone` meets its contract. Assumes nothing.
+-- `printing::utf8::alone` meets its contract. Assumes nothing.
 use native.Mathlib.Omega.{arith}
-use Rattle.shift.proofs.TextLaws.{alone-surrogate, alone-plain}
-use Rattle.shift.proofs.utf8.alone.Statement.{statement}
-use Rattle.shift.proofs.utf8.alone.Tie as tie
+use Rattle.printing.proofs.TextLaws.{alone-surrogate, alone-plain}
+use Rattle.printing.proofs.utf8.alone.Statement.{statement}
+use Rattle.printing.proofs.utf8.alone.Tie as tie
 
 returns : tie.Need-returns
 returns c = (alone-surrogate (c .before .args .unit) (omega arith), omega arith)

@@ -1,9 +1,9 @@
--- `shift::utf8::encode` meets its contract. Assumes nothing.
+-- `printing::utf8::encode` meets its contract. Assumes nothing.
 use borrow.Author.Needs.{needs}
 use native.Mathlib.Omega.{arith}
-use Rattle.shift.proofs.TextLaws.{one-byte, two-bytes, three-bytes, four-bytes}
-use Rattle.shift.proofs.utf8.encode.Statement.{statement}
-use Rattle.shift.proofs.utf8.encode.Tie as tie
+use Rattle.printing.proofs.TextLaws.{one-byte, two-bytes, three-bytes, four-bytes}
+use Rattle.printing.proofs.utf8.encode.Statement.{statement}
+use Rattle.printing.proofs.utf8.encode.Tie as tie
 
 cast-t5 : tie.Need-cast-t5
 cast-t5 c = search needs

@@ -1,10 +1,10 @@
--- `shift::utf8::show_text` meets its contract. Assumes nothing.
+-- `printing::utf8::show_text` meets its contract. Assumes nothing.
 use borrow.Author.Needs.{needs}
 use Prim.Native.Nat.{_≤_, _-_}
 use native.Mathlib.Omega.{arith}
 use lib.ListN.{length}
-use Rattle.shift.proofs.utf8.show_text.Statement.{statement}
-use Rattle.shift.proofs.utf8.show_text.Tie as tie
+use Rattle.printing.proofs.utf8.show_text.Statement.{statement}
+use Rattle.printing.proofs.utf8.show_text.Tie as tie
 
 abbrev Inv-loop : tie.InvT-loop
 Inv-loop units at₀ at = at ≤ length units

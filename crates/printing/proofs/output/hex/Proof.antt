@@ -1,9 +1,9 @@
--- `shift::printing::hex` meets its contract. Assumes nothing.
+-- `printing::output::hex` meets its contract. Assumes nothing.
 use borrow.Author.Needs.{needs}
 use Prim.Native.Nat.{_-_}
 use lib.ListN.{length}
-use Rattle.shift.proofs.printing.hex.Statement.{statement}
-use Rattle.shift.proofs.printing.hex.Tie as tie
+use Rattle.printing.proofs.output.hex.Statement.{statement}
+use Rattle.printing.proofs.output.hex.Tie as tie
 
 abbrev Inv-loop : tie.InvT-loop
 Inv-loop bytes count i₀ i = Unit {0}
