@@ -1,5 +1,5 @@
 -- The bytes of a parameter, its head and what stands behind it, and when they were written. Assumes nothing.
-use Rattle.lists.proofs.Kit.{ℕ, _+_, _*_, _≤_, _<_, _≡_, refl, sym, ap, _∙_, false, List, [], _∷_, _++_, append-nil, arith, length}
+use Rattle.lists.proofs.Kit.{ℕ, _+_, _*_, _≤_, _<_, _≡_, refl, sym, ap, _∙_, false, List, [], _∷_, _++_, append-nil, arith, midOf, length, length-drop, length-take-le, drop, take, take-all}
 use Rattle.lists.specs.Every.{All}
 use Rattle.slots.specs.Slots.{u24}
 use Rattle.writing.specs.Canonical.{side-by-side, bytes, plain, FitsField}
@@ -9,11 +9,14 @@ use Rattle.writing.specs.Writing.{flag, text}
 use Rattle.writing.proofs.Whole.{Whole, append-whole}
 use Rattle.tables.specs.Allowed.{TextOk}
 use Rattle.tables.specs.Layout.{text-bytes}
-use Rattle.export_write.specs.Writers.{Wrote, Writes, WritesText}
+use Rattle.tables.proofs.TextCodes.{text-length}
+use Rattle.export_write.specs.Writers.{Wrote, WritesText}
 use Rattle.export_write.proofs.PlainLaws.{plain-byte, plain-some, plain-three}
 use Rattle.export_write.proofs.WroteLaws.{wrote-as, wrote-both, wrote-length}
-use Rattle.reports.specs.Items.{good}
-use Rattle.report_write.specs.ItemWriters.{WritesHeaded, item-most}
+use Rattle.reports.specs.declared.Asked.{Asked}
+use Rattle.reports.specs.Items.{good, item-bytes}
+use Rattle.reports.specs.TableSlots.{EntryOf, EntryOk, InPlaces, entry-bytes, item-at}
+use Rattle.report_write.specs.ItemWriters.{Keeps, WritesEntry, WritesHeaded, item-most}
 
 -- ---- the bytes
 
@@ -51,23 +54,38 @@ headed-wrote head kept before t after m r l f g =
       wrote = λ us k. wrote-both head (plain (text unicode16 us)) 0 m r before t after a (b .wrote us k);
     }
 
-module _ {A : Type 0} (Held : A → Type 0) (written : A → List ℕ) (r : ℕ) (before after : List ℕ) where
-  -- bytes that are those of whatever is held
-  pub bytes-writes : (bs : List ℕ) → length bs ≤ item-most → Wrote bs 0 before after r → ((x : A) → Held x → bs ≡ written x) → Writes Held written 0 item-most before after r
-  bytes-writes bs l w h = record {
-    from = omega arith;
-    most = omega (arith, w .next);
-    wrote = λ x k. wrote-as bs (written x) 0 r before after (h x k) w;
-  }
+-- bytes that are those of whatever is kept
+pub bytes-writes : (a : Asked) (slot : List ℕ) (place rank r : ℕ) (before after bs : List ℕ) → length bs ≤ item-most → Wrote bs 0 before after r
+    → ((x : EntryOf a) → Keeps a place slot x → bs ≡ item-bytes (item-at a place rank x)) → WritesEntry a slot place rank before after r
+bytes-writes a slot place rank r before after bs l w h = record {
+  from = omega arith;
+  most = omega (arith, w .next);
+  wrote = λ x k. wrote-as bs (item-bytes (item-at a place rank x)) 0 r before after (h x k) w;
+}
 
-  -- a head, and the text that is kept
-  pub headed-writes : (n : ℕ) (units : A → Text) (head kept : List ℕ) → length head + length kept + 2 ≤ item-most → WritesHeaded head kept before after r
-      → ((x : A) → Held x → TextOk n (units x) × (kept ≡ text-bytes n (units x)) × (head ++ plain (text unicode16 (units x)) ≡ written x))
-      → Writes Held written 0 item-most before after r
-  headed-writes n units head kept l w h = record {
-    from = w .from;
-    most = omega (arith, w .most);
-    wrote = λ x k.
-        let (ok, e, b) = h x k in
-        wrote-as (head ++ plain (text unicode16 (units x))) (written x) 0 r before after b (w .wrote (units x) (n, (ok, e)));
-  }
+-- a head, and the text that is kept
+pub text-writes : (a : Asked) (slot : List ℕ) (place rank r : ℕ) (before after head kept : List ℕ) (n : ℕ) (units : EntryOf a → Text)
+    → length head + length kept + 2 ≤ item-most → WritesHeaded head kept before after r
+    → ((x : EntryOf a) → Keeps a place slot x → TextOk n (units x) × (kept ≡ text-bytes n (units x)) × (head ++ plain (text unicode16 (units x)) ≡ item-bytes (item-at a place rank x)))
+    → WritesEntry a slot place rank before after r
+text-writes a slot place rank r before after head kept n units l w h = record {
+  from = w .from;
+  most = omega (arith, w .most);
+  wrote = λ x k.
+      let (ok, e, b) = h x k in
+      wrote-as (head ++ plain (text unicode16 (units x))) (item-bytes (item-at a place rank x)) 0 r before after b (w .wrote (units x) (n, (ok, e)));
+}
+
+-- where the text has 16 units, behind so many bytes of the slot
+pub short-writes : (a : Asked) (slot : List ℕ) (place rank r : ℕ) (before after : List ℕ) (at : ℕ) (units : EntryOf a → Text) (head : List ℕ → List ℕ)
+    → length slot ≡ at + 32 → length (head slot) ≤ 7 → ((x : EntryOf a) → EntryOk a x → TextOk 16 (units x) × (drop at (entry-bytes a x) ≡ text-bytes 16 (units x)))
+    → ((x : EntryOf a) → InPlaces a place → EntryOk a x → head (entry-bytes a x) ++ plain (text unicode16 (units x)) ≡ item-bytes (item-at a place rank x))
+    → WritesHeaded (head slot) (midOf at 32 slot) before after r → WritesEntry a slot place rank before after r
+short-writes a slot place rank r before after at units head l m kept is w =
+    text-writes a slot place rank r before after (head slot) (midOf at 32 slot) 16 units (omega (arith, length-take-le 32 (drop at slot) (omega (arith, length-drop at slot)))) w
+    (λ x k.
+    let (ok, e) = kept x (k .1) in (
+      ok,
+      ap (midOf at 32) (k .2) ∙ ap (take 32) e ∙ take-all 32 (text-bytes 16 (units x)) (omega (arith, text-length 16 (units x))),
+      ap (λ (s : List ℕ). head s ++ plain (text unicode16 (units x))) (k .2) ∙ is x (k .0) (k .1),
+    ))

@@ -1,5 +1,5 @@
 -- The parameters of tables with many entries are written from the entries' slots. Assumes nothing.
-use Rattle.lists.proofs.Kit.{ℕ, _+_, _*_, _/_, _%_, _≤_, _<_, _≡_, refl, sym, ap, _∙_, List, [], _∷_, _++_, arith, mid-len, midOf, length, getD, take, take-all, drop-at}
+use Rattle.lists.proofs.Kit.{ℕ, _+_, _*_, _/_, _%_, _≤_, _<_, _≡_, refl, sym, ap, _∙_, subst⁻¹, List, [], _∷_, _++_, arith, mid-len, midOf, length, getD, take, take-all, drop-at}
 use Rattle.lists.specs.Every.{All}
 use Rattle.slots.specs.Slots.{u24}
 use Rattle.writing.specs.Canonical.{side-by-side, bytes, plain, FitsField}
@@ -21,8 +21,8 @@ use Rattle.export_write.proofs.WroteLaws.{wrote-as, wrote-both, wrote-length}
 use Rattle.reports.specs.declared.Asked.the-variants.{Groups, Individuals, Lines, QuickTexts, Channels, StatusTexts}
 use Rattle.reports.specs.Items.{group, individual, line, quick, channel, status, good, item-bytes}
 use Rattle.reports.proofs.Sizes.{item-fits}
-use Rattle.report_write.specs.ItemWriters.{Ready, WritesEntry, WritesHeaded, item-most}
-use Rattle.report_write.proofs.HeadLaws.{headed-plain, three-plain, bits-plain, bytes-writes, headed-writes}
+use Rattle.report_write.specs.ItemWriters.{WritesEntry, WritesHeaded, item-most}
+use Rattle.report_write.proofs.HeadLaws.{headed-plain, three-plain, bits-plain, bytes-writes, text-writes, short-writes}
 
 -- ---- group and individual contacts
 
@@ -59,12 +59,7 @@ group-plain p g low ok =
 -- it is written from them
 pub group-writes : (s before after : List ℕ) (rank r : ℕ) → length s ≡ 36 → WritesHeaded (group-head s (rank % 16)) (midOf 4 32 s) before after r → WritesEntry Groups s 0 rank before after r
 group-writes s before after rank r l w =
-    headed-writes _ _ r before after 16 (λ g. g .text) (group-head s (rank % 16)) (midOf 4 32 s) (omega (arith, mid-len 4 36 s (omega arith))) w
-    (λ g k. (
-      k .1 .text,
-      ap (midOf 4 32) (k .2) ∙ take-all 32 (text-bytes 16 (g .text)) (omega (arith, text-length 16 (g .text))),
-      ap (λ (x : List ℕ). group-head x (rank % 16) ++ plain (text unicode16 (g .text))) (k .2) ∙ group-plain (rank % 16) g (omega arith) (k .1),
-    ))
+    short-writes Groups s 0 rank r before after 4 (λ g. g .text) (λ x. group-head x (rank % 16)) l (omega arith) (λ g ok. (ok .text, refl)) (λ g p ok. group-plain (rank % 16) g (omega arith) ok) w
 
 -- the head of an individual contact
 abbrev pub individual-head : List ℕ → ℕ → List ℕ
@@ -85,12 +80,8 @@ individual-plain p x low ok =
 pub individual-writes : (s before after : List ℕ) (rank r : ℕ) → length s ≡ 36 → WritesHeaded (individual-head s (rank % 16)) (midOf 4 32 s) before after r
     → WritesEntry Individuals s 0 rank before after r
 individual-writes s before after rank r l w =
-    headed-writes _ _ r before after 16 (λ x. x .text) (individual-head s (rank % 16)) (midOf 4 32 s) (omega (arith, mid-len 4 36 s (omega arith))) w
-    (λ x k. (
-      k .1 .text,
-      ap (midOf 4 32) (k .2) ∙ take-all 32 (text-bytes 16 (x .text)) (omega (arith, text-length 16 (x .text))),
-      ap (λ (y : List ℕ). individual-head y (rank % 16) ++ plain (text unicode16 (x .text))) (k .2) ∙ individual-plain (rank % 16) x (omega arith) (k .1),
-    ))
+    short-writes Individuals s 0 rank r before after 4 (λ x. x .text) (λ x. individual-head x (rank % 16)) l (omega arith) (λ x ok. (ok .text, refl))
+    (λ x p ok. individual-plain (rank % 16) x (omega arith) ok) w
 
 -- ---- quick texts
 
@@ -103,7 +94,7 @@ quick-plain i us low ok =
 pub quick-writes : (s before after : List ℕ) (place r : ℕ) → length s ≡ 46 → WritesHeaded (0x8C ∷ 0 ∷ (place % 64 * 4) ∷ []) s before after r
     → WritesEntry QuickTexts s place 0 before after r
 quick-writes s before after place r l w =
-    headed-writes _ _ r before after 23 (λ us. us) (0x8C ∷ 0 ∷ (place % 64 * 4) ∷ []) s (omega arith) w
+    text-writes QuickTexts s place 0 r before after (0x8C ∷ 0 ∷ (place % 64 * 4) ∷ []) s 23 (λ us. us) (omega arith) w
     (λ us k.
     let e : place % 64 ≡ place = omega (arith, k .0) in
     (k .1 .text, k .2, ap (λ (i : ℕ). (0x8C ∷ 0 ∷ (i * 4) ∷ []) ++ plain (text unicode16 us)) e ∙ quick-plain place us (k .0) (k .1)))
@@ -121,13 +112,10 @@ status-plain c p us a b low ok =
 pub status-writes : (s before after : List ℕ) (place rank r : ℕ) → length s ≡ 33 → WritesHeaded (0x90 ∷ 0 ∷ (place % 96 + 32) ∷ (rank % 256) ∷ []) (midOf 1 32 s) before after r
     → WritesEntry StatusTexts s place rank before after r
 status-writes s before after place rank r l w =
-    headed-writes _ _ r before after 16 (λ us. us) (0x90 ∷ 0 ∷ (place % 96 + 32) ∷ (rank % 256) ∷ []) (midOf 1 32 s) (omega (arith, mid-len 1 33 s (omega arith))) w
-    (λ us k.
-    let e : place % 96 + 32 ≡ place + 32 = omega (arith, k .0) in (
-      k .1,
-      ap (midOf 1 32) (k .2) ∙ take-all 32 (text-bytes 16 us) (omega (arith, text-length 16 us)),
-      ap (λ (c : ℕ). (0x90 ∷ 0 ∷ c ∷ (rank % 256) ∷ []) ++ plain (text unicode16 us)) e ∙ status-plain (place + 32) (rank % 256) us (omega arith) (omega (arith, k .0)) (omega arith) (k .1),
-    ))
+    short-writes StatusTexts s place rank r before after 1 (λ us. us) (λ x. 0x90 ∷ 0 ∷ (place % 96 + 32) ∷ (rank % 256) ∷ []) l (omega arith) (λ us ok. (ok, refl))
+    (λ us p ok.
+    let e : place % 96 + 32 ≡ place + 32 = omega arith in
+    ap (λ (c : ℕ). (0x90 ∷ 0 ∷ c ∷ (rank % 256) ∷ []) ++ plain (text unicode16 us)) e ∙ status-plain (place + 32) (rank % 256) us (omega arith) (omega arith) (omega arith) ok) w
 
 -- ---- channels
 
@@ -138,11 +126,11 @@ channel-plain n p low ok =
 pub channel-writes : (s before after : List ℕ) (rank n r : ℕ) → n ≡ getD s 0 0 * 256 + getD s 1 0 → Wrote (0x8E ∷ 0 ∷ u24 (n % 4096 * 4096 + rank % 4096)) 0 before after r
     → WritesEntry Channels s 0 rank before after r
 channel-writes s before after rank n r e w =
-    bytes-writes _ _ r before after (0x8E ∷ 0 ∷ u24 (n % 4096 * 4096 + rank % 4096)) (omega arith) w
+    bytes-writes Channels s 0 rank r before after (0x8E ∷ 0 ∷ u24 (n % 4096 * 4096 + rank % 4096)) (omega arith) w
     (λ m k.
     let d : getD s 0 0 * 256 + getD s 1 0 ≡ m / 256 * 256 + m % 256 = ap (λ (x : List ℕ). getD x 0 0 * 256 + getD x 1 0) (k .2) in
     let f : n % 4096 ≡ m = omega (arith, k .1 .1) in
-    ap (λ (x : ℕ). 0x8E ∷ 0 ∷ u24 (x * 4096 + rank % 4096)) f ∙ channel-plain m (rank % 4096) (omega arith) (k .1))
+    subst⁻¹ (λ (x : ℕ). 0x8E ∷ 0 ∷ u24 (x * 4096 + rank % 4096) ≡ item-bytes (channel m (rank % 4096))) f (channel-plain m (rank % 4096) (omega arith) (k .1)))
 
 -- ---- line contacts
 

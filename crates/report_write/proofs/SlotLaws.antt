@@ -1,7 +1,6 @@
 -- What stands in a slot, an entry or none: how many bytes, and when they are all zeros. Assumes nothing.
 use Rattle.lists.proofs.Kit.{ℕ, _≤_, _<_, _≡_, refl, sym, ap, _∙_, subst⁻¹, true, false, true≢false, _&&_, List, Option, none, some, arith, length, replicate, length-replicate}
 use Rattle.slots.specs.Slots.{zeros?}
-use Rattle.slots.proofs.Runs.{zeros-all}
 use Rattle.tables.proofs.EntryCodes.{quick-code, quick-shown, status-code, status-shown, channel-code, channel-shown, line-code, line-shown, group-code, group-shown, individual-code, individual-shown}
 use Rattle.tables.proofs.FixedCodes.{hash-code, key-code, home-code, system-code}
 use Rattle.export_write.specs.Writers.{Wrote}
@@ -14,7 +13,7 @@ use Rattle.report_write.specs.ItemWriters.{WritesEntry, WritesItem, item
 -- ---- the bytes of an entry
 
 -- they are as many as the slot has
-entry-long : (a : Asked) (x : EntryOf a) → length (entry-bytes a x) ≡ slot-width a
+pub entry-long : (a : Asked) (x : EntryOf a) → length (entry-bytes a x) ≡ slot-width a
 entry-long Groups x = group-code .long x
 entry-long Individuals x = individual-code .long x
 entry-long Lines x = line-code .long x
@@ -27,7 +26,7 @@ entry-long StatusTexts x = status-code .long x
 entry-long Hash x = hash-code .long x
 
 -- and not all zeros, where a slot can be empty
-entry-shown : (a : Asked) (x : EntryOf a) → EntryOk a x → (may-be-empty a && zeros? (entry-bytes a x)) ≡ false
+pub entry-shown : (a : Asked) (x : EntryOf a) → EntryOk a x → (may-be-empty a && zeros? (entry-bytes a x)) ≡ false
 entry-shown Groups x ok = group-shown x ok
 entry-shown Individuals x ok = individual-shown x ok
 entry-shown Lines x ok = line-shown x ok

@@ -43,7 +43,7 @@ WritesEntry a slot place rank before after r =
 abbrev pub WritesHeaded : (head slot : List ℕ) → (before after : List ℕ) → ℕ → Type 0
 WritesHeaded head slot before after r = Writes (TextIn slot) (λ us. head ++ plain (text unicode16 us)) 0 (length head + length slot + 2) before after r
 
--- an empty slot is one of a table that has empty ones
+-- MayBeEmpty as a test
 abbrev pub may-be-empty : Asked → Bool
 may-be-empty Groups = true
 may-be-empty Individuals = true

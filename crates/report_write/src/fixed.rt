@@ -2,9 +2,6 @@
 use super::heads::pair;
 use super::heads::put_bits;
 use export_write::fields::put_bytes;
-ghost use mathlib.Core.Path.{_≡_};
-ghost use Prim.Native.Nat.{_≤_};
-ghost use lib.ListN.{length};
 ghost use Rattle.reports.specs.declared.Asked.the-variants.{Key, Home, System, Hash};
 ghost use Rattle.report_write.specs.ItemWriters.{Ready, WritesEntry, ValueEnd};
 

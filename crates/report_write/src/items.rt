@@ -64,7 +64,11 @@ fn can_be_empty(asked: Asked) -> bool
 fn is_empty(asked: Asked, slot: &[u8]) -> bool
     ensures { λ r. ⌜ r ≡ (may-be-empty asked && zeros? (now (slot .entry))) ⌝ }
 {
-    if can_be_empty(asked) { is_zeros(slot) } else { false }
+    if can_be_empty(asked) {
+        is_zeros(slot)
+    } else {
+        false
+    }
 }
 
 // The parameter of the entry that a slot keeps.

@@ -13,9 +13,6 @@ use tables::places::MEMBER_SLOT;
 use tables::places::MEMBER_TEXT;
 use tables::places::STATUS_SLOT;
 use tables::places::STATUS_TEXT;
-ghost use mathlib.Core.Path.{_≡_};
-ghost use Prim.Native.Nat.{_≤_};
-ghost use lib.ListN.{length};
 ghost use Rattle.reports.specs.declared.Asked.the-variants.{Groups, Individuals, Lines, QuickTexts, Channels, StatusTexts};
 ghost use Rattle.report_write.specs.ItemWriters.{Ready, WritesEntry};
 
@@ -41,7 +38,14 @@ pub(crate) fn write_individual(buffer: &mut [u8], slot: &[u8], rank: usize) -> u
     ensures { λ r. ⌜ WritesEntry Individuals (now (slot .entry)) 0 rank (now (buffer .entry)) (now (buffer .exit)) r ⌝ }
 {
     let index = (rank % 16) as u8;
-    let head = [0x89, 0, slot[1], slot[2], slot[3], index * 16 + slot[0] % 16];
+    let head = [
+        0x89,
+        0,
+        slot[1],
+        slot[2],
+        slot[3],
+        index * 16 + slot[0] % 16,
+    ];
     put_headed(buffer, &head, &slot[MEMBER_TEXT..MEMBER_SLOT])
 }
 

@@ -1,4 +1,3 @@
-use Rattle.lists.proofs.Kit.{needs}
 use Rattle.report_write.proofs.FixedItems.{ends-five, ends-eleven}
 use Rattle.report_write.proofs.fixed.value_end.Statement.{statement}
 use Rattle.report_write.proofs.fixed.value_end.Tie as tie
