@@ -46,17 +46,21 @@ place-is lim t s h a p rank size l e = record {
 -- ---- the places of a table
 
 module _ (lim : Limits) (a : Asked) (store : List ℕ) (ask room j : ℕ) (w : Walk) where
-  -- none is passed
-  pub walked-start : Walked lim a store ask room j 0 0 w w
+  -- the places before this one are passed
+  abbrev pub WalkedTo : (place rank : ℕ) → Walk → Type 0
+  WalkedTo place rank r = Walked lim a store ask room j place (λ t more. from-here lim t a place rank more) w r
+
+  -- none is
+  pub walked-start : WalkedTo 0 0 w
   walked-start = record { grown = record { closed = omega arith; own = omega arith }; ranked = λ r. r; steps = λ t h all from more is q. q }
 
   -- under other names
-  pub walked-as : {place rank rank′ : ℕ} {v v′ : Walk} → v ≡ v′ → rank ≡ rank′ → Walked lim a store ask room j place rank′ w v′ → Walked lim a store ask room j place rank w v
-  walked-as {place} p q k = subst⁻¹ (λ (z : ℕ × Walk). Walked lim a store ask room j place (z .0) w (z .1)) (λ i. (q i, p i)) k
+  pub walked-as : {place rank rank′ : ℕ} {v v′ : Walk} → v ≡ v′ → rank ≡ rank′ → WalkedTo place rank′ v′ → WalkedTo place rank v
+  walked-as {place} p q k = subst⁻¹ (λ (z : ℕ × Walk). WalkedTo place (z .0) (z .1)) (λ i. (q i, p i)) k
 
-  module _ (place rank size : ℕ) (v : Walk) (l : place < slot-count lim a) (k : Walked lim a store ask room j place rank w v) (s : SizeIs lim a store place rank size) where
+  module _ (place rank size : ℕ) (v : Walk) (l : place < slot-count lim a) (k : WalkedTo place rank v) (s : SizeIs lim a store place rank size) where
     -- an empty one more
-    pub walked-empty : size ≡ 0 → Walked lim a store ask room j (place + 1) rank w v
+    pub walked-empty : size ≡ 0 → WalkedTo (place + 1) rank v
     walked-empty z = record {
       grown = record { closed = omega (arith, k .grown .closed); own = omega (arith, k .grown .own) };
       ranked = k .ranked;
@@ -67,8 +71,7 @@ module _ (lim : Limits) (a : Asked) (store : List ℕ) (ask room j : ℕ) (w : W
     }
 
     -- a used one more
-    pub walked-item : (r : Walk) → size ≢ 0 → rank ≤ place → Steps room j size (record { ask = ask; place = place; rank = rank }) v r
-        → Walked lim a store ask room j (place + 1) (rank + 1) w r
+    pub walked-item : (r : Walk) → size ≢ 0 → rank ≤ place → Steps room j size (record { ask = ask; place = place; rank = rank }) v r → WalkedTo (place + 1) (rank + 1) r
     walked-item r n o g = record {
       grown = record { closed = omega (arith, k .grown .closed, g .grown .closed); own = omega (arith, k .grown .own, g .grown .own) };
       ranked = λ p. g .ranked (k .ranked p) o;
@@ -82,7 +85,7 @@ module _ (lim : Limits) (a : Asked) (store : List ℕ) (ask room j : ℕ) (w : W
     }
 
   -- all are passed
-  pub walked-end : (place rank : ℕ) (v : Walk) → slot-count lim a ≤ place → place ≤ 65535 → Walked lim a store ask room j place rank w v → TableWalked lim a store ask room j w v
+  pub walked-end : (place rank : ℕ) (v : Walk) → slot-count lim a ≤ place → place ≤ 65535 → WalkedTo place rank v → TableWalked lim a store ask room j w v
   walked-end place rank v l m k = record {
     grown = record { closed = omega (arith, k .grown .closed); own = omega (arith, k .grown .own) };
     ranked = k .ranked;

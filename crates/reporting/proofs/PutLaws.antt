@@ -16,7 +16,7 @@ use Rattle.reports.proofs.Cursor.{from-here, here-end, here-empty, here-item}
 use Rattle.reporting.specs.declared.message.Spot.{Spot}
 use Rattle.reporting.specs.Plans.{from-type, from-types, items-from}
 use Rattle.reporting.specs.Walks.{place-item, PlaceWritten}
-use Rattle.reporting.specs.Written.{WroteSome, Puts, PlacePut, TablePut, TypePut}
+use Rattle.reporting.specs.Written.{WroteSome, Puts, PutsFrom, from-place, PlacePut, TablePut, TypePut}
 use Rattle.reporting.proofs.TableLaws.{slots-many, size-is}
 use Rattle.reporting.proofs.PlanTurns.{PlaceIs, place-is, from-first, at-type}
 
@@ -108,8 +108,7 @@ module _ (lim : Limits) (a : Asked) (store : List ℕ) (s : Spot) (buffer scratc
 module _ (lim : Limits) (a : Asked) (store : List ℕ) (s : Spot) (before : List ℕ) where
   -- some of its places are passed
   abbrev pub Passing : (buffer : List ℕ) → Spot → Type 0
-  Passing buffer r = (t : Tables) → Holds lim t store → (more : List Item)
-      → Puts (from-here lim t a (s .place) (s .rank) more) s (from-here lim t a (r .place) (r .rank) more) before buffer r
+  Passing buffer r = PutsFrom lim store (from-place lim a s) (from-place lim a r) s before buffer r
 
   pub passing-start : Passing before s
   passing-start t h more = puts-start (from-here lim t a (s .place) (s .rank) more) s before
@@ -149,16 +148,16 @@ module _ (lim : Limits) (b : ℕ) (store : List ℕ) (s : Spot) (before after : 
         subst⁻¹ (λ (o : Option Asked). Puts (from-type lim t b o (s .place) (s .rank) more) s more before after r) e (k .puts t h more);
   }
 
-  -- an unknown one is an error
-  pub error-put : (end : ℕ) → asked-by b ≡ none → b < 256 → 0 < s .left
+  -- an unknown one is an error, and nothing is left to write
+  pub error-put : (end left : ℕ) → left ≡ 0 → asked-by b ≡ none → b < 256 → 0 < s .left
       → (s .end + length (b ∷ 0x83 ∷ []) ≤ length before → Wrote (b ∷ 0x83 ∷ []) (s .end) before after end)
-      → TypePut lim b store s before after (record { end = end; place = 0; rank = 0; left = 0 })
-  error-put end e l low w = record {
+      → TypePut lim b store s before after (record { end = end; place = 0; rank = 0; left = left })
+  error-put end left z e l low w = record {
     first = (refl, refl);
-    puts = λ t h more. subst⁻¹ (λ (o : Option Asked). Puts (from-type lim t b o (s .place) (s .rank) more) s more before after (record { end = end; place = 0; rank = 0; left = 0 })) e (error more);
+    puts = λ t h more. subst⁻¹ (λ (o : Option Asked). Puts (from-type lim t b o (s .place) (s .rank) more) s more before after (record { end = end; place = 0; rank = 0; left = left })) e (error more);
   }
     where
-      error : (more : List Item) → Puts (unknown b ∷ []) s more before after (record { end = end; place = 0; rank = 0; left = 0 })
+      error : (more : List Item) → Puts (unknown b ∷ []) s more before after (record { end = end; place = 0; rank = 0; left = left })
       error more room =
           let m : suc (s .left - 1) ≡ s .left = omega arith in
           let g : take (s .left) (unknown b ∷ []) ≡ unknown b ∷ [] = ap (λ (z : ℕ). take z (unknown b ∷ [])) (sym m) ∙ ap (λ (x : List Item). unknown b ∷ x) (take-nil (s .left - 1)) in
@@ -166,7 +165,7 @@ module _ (lim : Limits) (b : ℕ) (store : List ℕ) (s : Spot) (before after : 
             done = unknown b ∷ [];
             wrote = wrote-as (b ∷ 0x83 ∷ []) (items-bytes (unknown b ∷ [])) (s .end) end before after (sym (error-is b l))
                 (w (omega (arith, room, ap (λ (z : List Item). length (items-bytes z)) g)));
-            whole = g;
+            whole = g ∙ ap (λ (n : ℕ). unknown b ∷ take n more) (sym z);
           }
 
 -- ---- the types

@@ -60,21 +60,17 @@ pub record Steps (room j size : ℕ) (here : Cursor) (w r : Walk) : Type 0 where
   pub steps : (all : List (List Item)) (from : Cursor → List Item) (i : Item) (rest : List Item) → item-size i ≡ size → from here ≡ i ∷ rest
       → At all room j from (i ∷ rest) w → At all room j from rest r
 
--- the parameters of the places of a table before this one
-pub record Walked (lim : Limits) (a : Asked) (store : List ℕ) (ask room j place rank : ℕ) (w r : Walk) : Type 0 where
-  pub grown : Grown place w r
+-- from the first parameter of a table up to what is left of it, past at most n places
+pub record Walked (lim : Limits) (a : Asked) (store : List ℕ) (ask room j n : ℕ) (rest : Tables → List Item → List Item) (w r : Walk) : Type 0 where
+  pub grown : Grown n w r
   pub ranked : Ranked (w .from) → Ranked (r .from)
   pub steps : (t : Tables) → Holds lim t store → (all : List (List Item)) (from : Cursor → List Item) (more : List Item)
       → ((p q : ℕ) → from (record { ask = ask; place = p; rank = q }) ≡ from-here lim t a p q more)
-      → At all room j from (from-here lim t a 0 0 more) w → At all room j from (from-here lim t a place rank more) r
+      → At all room j from (from-here lim t a 0 0 more) w → At all room j from (rest t more) r
 
--- all of its parameters
-pub record TableWalked (lim : Limits) (a : Asked) (store : List ℕ) (ask room j : ℕ) (w r : Walk) : Type 0 where
-  pub grown : Grown 65535 w r
-  pub ranked : Ranked (w .from) → Ranked (r .from)
-  pub steps : (t : Tables) → Holds lim t store → (all : List (List Item)) (from : Cursor → List Item) (more : List Item)
-      → ((p q : ℕ) → from (record { ask = ask; place = p; rank = q }) ≡ from-here lim t a p q more)
-      → At all room j from (from-here lim t a 0 0 more) w → At all room j from more r
+-- all of them
+abbrev pub TableWalked : Limits → Asked → (store : List ℕ) → (ask room j : ℕ) → Walk → Walk → Type 0
+TableWalked lim a store ask room j w r = Walked lim a store ask room j 65535 (λ t more. more) w r
 
 -- how many messages there are, and message j: as many as it has, from where it starts
 pub record PlanIs (lim : Limits) (types store : List ℕ) (room j : ℕ) (r : Walk) : Type 0 where

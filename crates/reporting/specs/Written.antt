@@ -29,21 +29,31 @@ abbrev pub Puts : (here : List Item) → Spot → (more : List Item) → (before
 Puts here s more before after r =
     s .end + length (items-bytes (take (s .left) here)) ≤ length before → WroteSome here (s .left) more (r .left) (s .end) before after (r .end)
 
+-- whatever the tables of the store, and whatever follows
+abbrev pub PutsFrom : Limits → (store : List ℕ) → (here rest : Tables → List Item → List Item) → Spot → (before after : List ℕ) → Spot → Type 0
+PutsFrom lim store here rest s before after r = (t : Tables) → Holds lim t store → (more : List Item) → Puts (here t more) s (rest t more) before after r
+
+-- from a place of a table on
+abbrev pub from-place : Limits → Asked → Spot → Tables → List Item → List Item
+from-place lim a s t more = from-here lim t a (s .place) (s .rank) more
+
 -- the parameter of a place
 pub record PlacePut (lim : Limits) (a : Asked) (store : List ℕ) (s : Spot) (before after : List ℕ) (r : Spot) : Type 0 where
   pub next : r .place ≡ s .place + 1
   pub ranked : r .rank ≤ r .place
-  pub puts : (t : Tables) → Holds lim t store → (more : List Item)
-      → Puts (from-here lim t a (s .place) (s .rank) more) s (from-here lim t a (r .place) (r .rank) more) before after r
+  pub puts : PutsFrom lim store (from-place lim a s) (from-place lim a r) s before after r
 
--- the parameters of a table, and of a type that may be unknown
-pub record TablePut (lim : Limits) (a : Asked) (store : List ℕ) (s : Spot) (before after : List ℕ) (r : Spot) : Type 0 where
+-- all parameters up to what follows, which is then to be written from its first place on
+pub record AllPut (lim : Limits) (store : List ℕ) (here : Tables → List Item → List Item) (s : Spot) (before after : List ℕ) (r : Spot) : Type 0 where
   pub first : (r .place ≡ 0) × (r .rank ≡ 0)
-  pub puts : (t : Tables) → Holds lim t store → (more : List Item) → Puts (from-here lim t a (s .place) (s .rank) more) s more before after r
+  pub puts : PutsFrom lim store here (λ t more. more) s before after r
 
-pub record TypePut (lim : Limits) (b : ℕ) (store : List ℕ) (s : Spot) (before after : List ℕ) (r : Spot) : Type 0 where
-  pub first : (r .place ≡ 0) × (r .rank ≡ 0)
-  pub puts : (t : Tables) → Holds lim t store → (more : List Item) → Puts (from-type lim t b (asked-by b) (s .place) (s .rank) more) s more before after r
+-- those of a table, and of a type that may be unknown
+abbrev pub TablePut : Limits → Asked → (store : List ℕ) → Spot → (before after : List ℕ) → Spot → Type 0
+TablePut lim a store s before after r = AllPut lim store (from-place lim a s) s before after r
+
+abbrev pub TypePut : Limits → (b : ℕ) → (store : List ℕ) → Spot → (before after : List ℕ) → Spot → Type 0
+TypePut lim b store s before after r = AllPut lim store (λ t more. from-type lim t b (asked-by b) (s .place) (s .rank) more) s before after r
 
 -- the parameters of a message, behind a report's head
 abbrev pub ItemsPut : Limits → (types store : List ℕ) → Walk → (before after : List ℕ) → ℕ → Type 0

@@ -99,11 +99,13 @@ fn put_type(buffer: &mut [u8], spot: Spot, byte: u8, store: &[u8], limits: Limit
     let Asks::Known(asked) = asked_by(byte) else {
         let error = [byte, NOT_SUPPORTED];
         let end = put_bytes(buffer, spot.end, &error);
+        // An error ends the report.
+        let left = 0;
         return Spot {
             end,
             place: 0,
             rank: 0,
-            left: 0,
+            left,
         };
     };
     put_table(buffer, spot, asked, store, limits)

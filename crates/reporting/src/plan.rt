@@ -17,7 +17,7 @@ const PARAMETERS: usize = 255;
 // The bytes of an error.
 const ERROR: usize = 2;
 
-// A place of the table of the type asked for in place ask of the query, before which so many entries stand.
+// Of the type at ask among the query's: a place of its table, before which so many entries stand.
 pub(crate) struct Cursor {
     pub ask: usize,
     pub place: usize,
@@ -92,7 +92,7 @@ fn step(w: Walk, size: usize, here: Cursor, room: usize, j: usize) -> Walk
     }
 }
 
-// The parameters of a table, which was asked for in this place of the query.
+// The parameters of the table of the type at ask among the query's.
 fn plan_table(
     walk: Walk,
     asked: Asked,

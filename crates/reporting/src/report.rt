@@ -31,8 +31,8 @@ fn room_in(message: usize) -> usize
     if message < FIRST { 0 } else { message - FIRST }
 }
 
-// The place of a message among those of its report, by its index.
-fn place_of(index: u32) -> usize
+// How many messages stand before the one of this index.
+fn messages_before(index: u32) -> usize
     ensures { λ r. ⌜ r ≡ index - 1 ⌝ }
 {
     if index < 1 { 0 } else { (index - 1) as usize }
@@ -44,7 +44,7 @@ fn report_types(types: &[u8], index: u32, store: &[u8], buffer: &mut [u8], limit
     ensures { λ r. ⌜ (Reportable limits → (query : List ℕ) → TypesOf (now (types .entry)) query → Answers (answering limits query index (now (store .entry)) (now (buffer .entry))) (record { answer = told r; buffer = now (buffer .exit) })) ⌝ }
 {
     let room = room_in(limits.message);
-    let j = place_of(index);
+    let j = messages_before(index);
     let plan = plan_report(types, store, limits, room, j);
     let total = plan.closed + 1;
     if MESSAGES < total {
@@ -53,13 +53,14 @@ fn report_types(types: &[u8], index: u32, store: &[u8], buffer: &mut [u8], limit
     if index < 1 {
         return Report::Untouched(NoReport::NoMessage);
     }
-    let last = index as usize;
-    if total < last {
+    let wanted = index as usize;
+    if total < wanted {
         return Report::Untouched(NoReport::NoMessage);
     }
     let end = put_items(buffer, types, store, limits, plan);
+    // At most 255, so that the remainder loses nothing.
     let count = (plan.own % 256) as u8;
-    let length = start_report(buffer, total as u8, last as u8, count, end);
+    let length = start_report(buffer, total as u8, wanted as u8, count, end);
     Report::Written(total as u8, length)
 }
 

@@ -14,7 +14,11 @@ add-t16 : tie.Need-add-t16
 add-t16 c = omega (arith, c .before .before .before .before .before .before .pre .2, few-places (c .before .before .before .before .before .before .args .limits) (c .before .before .before .before .before .before .pre .0) (c .before .before .before .before .before .before .args .asked))
 
 returns : tie.Need-returns
-returns c = let a = c .before .before .before .before .before .before .args in let p = c .before .before .before .before .before .before .pre in let w = c .before .before .write-place in put-empty (a .limits) (a .asked) (a .store .now) (a .spot) (a .buffer .now) _ (w .last .0) (w .result) (p .2) (p .3) (omega arith) (w .ensures) (c .if1 .taken)
+returns c =
+    let a = c .before .before .before .before .before .before .args in
+    let p = c .before .before .before .before .before .before .pre in
+    let w = c .before .before .write-place in
+    put-empty (a .limits) (a .asked) (a .store .now) (a .spot) (a .buffer .now) _ (w .last .0) (w .result) (p .2) (p .3) (omega arith) (w .ensures) (c .if1 .taken)
 
 sub-put-bytes : tie.Need-sub-put-bytes
 sub-put-bytes c = search needs
@@ -41,7 +45,11 @@ same-length : tie.Need-same-length
 same-length c = search needs
 
 returns-2 : tie.Need-returns-2
-returns-2 c = let a = c .before .before .before .before .before .before .before .before .before .before .before .before .args in let p = c .before .before .before .before .before .before .before .before .before .before .before .before .pre in let w = c .before .before .before .before .before .before .before .before .write-place in put-used (a .limits) (a .asked) (a .store .now) (a .spot) (a .buffer .now) _ (w .last .0) (w .result) (p .2) (p .3) (omega arith) (w .ensures) (c .before .before .put-bytes .last .0) (c .before .before .put-bytes .result) (c .before .before .before .before .before .before .if1 .left) (p .4) (c .before .before .put-bytes .ensures)
+returns-2 c =
+    let a = c .before .before .before .before .before .before .before .before .before .before .before .before .args in
+    let p = c .before .before .before .before .before .before .before .before .before .before .before .before .pre in
+    let w = c .before .before .before .before .before .before .before .before .write-place in
+    put-used (a .limits) (a .asked) (a .store .now) (a .spot) (a .buffer .now) _ (w .last .0) (w .result) (p .2) (p .3) (omega arith) (w .ensures) (c .before .before .put-bytes .last .0) (c .before .before .put-bytes .result) (c .before .before .before .before .before .before .if1 .left) (p .4) (c .before .before .put-bytes .ensures)
 
 pub put-place-spec : {M : Type 1} → statement M
 put-place-spec =

@@ -44,7 +44,10 @@ same-length : tie.Need-same-length
 same-length c = search needs
 
 returns-3 : tie.Need-returns-3
-returns-3 c = let a = c .before .before .before .before .before .before .before .before .args in let k = c .before .before .copy in report-headed (a .total) (a .index) (a .count) (a .end) _ (a .buffer .now) _ (omega arith) (omega arith) (omega arith) (wrote-copied _ 0 (a .buffer .now) (k .last .0) (omega arith) (k .ensures))
+returns-3 c =
+    let a = c .before .before .before .before .before .before .before .before .args in
+    let k = c .before .before .copy in
+    report-headed (a .total) (a .index) (a .count) (a .end) _ (a .buffer .now) _ (omega arith) (omega arith) (omega arith) (wrote-copied _ 0 (a .buffer .now) (k .last .0) (omega arith) (k .ensures))
 
 pub start-report-spec : {M : Type 1} → statement M
 start-report-spec =

@@ -11,7 +11,9 @@ abbrev μ-loop : tie.MeasureT-loop
 μ-loop types store limits room j w₀ ask₀ w ask = length types - ask
 
 loop-holds : tie.Need-loop-holds Inv-loop μ-loop
-loop-holds c = let a = c .before .before .args in (omega arith, planning-start (a .limits) (a .types .now) (a .store .now) (a .room) (a .j))
+loop-holds c =
+    let a = c .before .before .args in
+    (omega arith, planning-start (a .limits) (a .types .now) (a .store .now) (a .room) (a .j))
 
 shared-slice-read-asked-by : tie.Need-shared-slice-read-asked-by Inv-loop μ-loop
 shared-slice-read-asked-by c = search needs
@@ -26,13 +28,22 @@ enum-told : tie.Need-enum-told Inv-loop μ-loop
 enum-told c = search needs
 
 step-requires : tie.Need-step-requires Inv-loop μ-loop
-step-requires c κs = let p = c .before .before .before .before .before .loop .inv .1 in let m = c .before .before .before .before .before .before .before .before .pre .2 in (omega (arith, m, p .closed), omega (arith, m, p .own))
+step-requires c κs =
+    let p = c .before .before .before .before .before .loop .inv .1 in
+    let m = c .before .before .before .before .before .before .before .before .pre .2 in
+    (omega (arith, m, p .closed), omega (arith, m, p .own))
 
 returns : tie.Need-returns Inv-loop μ-loop
-returns c = let a = c .before .before .before .before .before .before .before .before .before .args in let l = c .before .before .before .before .before .before .loop in planning-unknown (a .limits) (a .types .now) (a .store .now) (a .room) (a .j) (l .ask) (l .w) (c .step .result) (omega arith) (omega (arith, c .before .before .before .before .before .before .before .before .before .pre .2)) (l .inv .1) (subst (AskedIs _) (c .before .enum-told .given .1) (c .before .before .before .asked-by .ensures)) (c .step .ensures)
+returns c =
+    let a = c .before .before .before .before .before .before .before .before .before .args in
+    let l = c .before .before .before .before .before .before .loop in
+    planning-unknown (a .limits) (a .types .now) (a .store .now) (a .room) (a .j) (l .ask) (l .w) (c .step .result) (omega arith) (omega (arith, c .before .before .before .before .before .before .before .before .before .pre .2)) (l .inv .1) (subst (AskedIs _) (c .before .enum-told .given .1) (c .before .before .before .asked-by .ensures)) (c .step .ensures)
 
 plan-table-requires : tie.Need-plan-table-requires Inv-loop μ-loop
-plan-table-requires c κs = let p = c .before .before .before .before .before .before .loop .inv .1 in let k = c .before .before .before .before .before .before .before .before .before .pre in (k .0, k .1, omega (arith, k .2, p .closed), omega (arith, k .2, p .own))
+plan-table-requires c κs =
+    let p = c .before .before .before .before .before .before .loop .inv .1 in
+    let k = c .before .before .before .before .before .before .before .before .before .pre in
+    (k .0, k .1, omega (arith, k .2, p .closed), omega (arith, k .2, p .own))
 
 add-ask : tie.Need-add-ask Inv-loop μ-loop
 add-ask c = search needs
@@ -41,10 +52,16 @@ loop-less : tie.Need-loop-less Inv-loop μ-loop
 loop-less c = search needs
 
 loop-again : tie.Need-loop-again Inv-loop μ-loop
-loop-again c = let a = c .before .before .before .before .before .before .before .before .before .before .args in let l = c .before .before .before .before .before .before .before .loop in (omega arith, planning-turn (a .limits) (a .types .now) (a .store .now) (a .room) (a .j) (l .ask) (l .w) (c .plan-table .result) _ (omega arith) (l .inv .1) (subst (AskedIs _) (c .before .before .asked .given .1) (c .before .before .before .before .asked-by .ensures)) (c .plan-table .ensures))
+loop-again c =
+    let a = c .before .before .before .before .before .before .before .before .before .before .args in
+    let l = c .before .before .before .before .before .before .before .loop in
+    (omega arith, planning-turn (a .limits) (a .types .now) (a .store .now) (a .room) (a .j) (l .ask) (l .w) (c .plan-table .result) _ (omega arith) (l .inv .1) (subst (AskedIs _) (c .before .before .asked .given .1) (c .before .before .before .before .asked-by .ensures)) (c .plan-table .ensures))
 
 returns-2 : tie.Need-returns-2 Inv-loop μ-loop
-returns-2 c = let a = c .before .before .before .before .args in let l = c .before .loop in planning-end (a .limits) (a .types .now) (a .store .now) (a .room) (a .j) (l .ask) (l .w) (omega arith) (omega (arith, c .before .before .before .before .pre .2)) (l .inv .1)
+returns-2 c =
+    let a = c .before .before .before .before .args in
+    let l = c .before .loop in
+    planning-end (a .limits) (a .types .now) (a .store .now) (a .room) (a .j) (l .ask) (l .w) (omega arith) (omega (arith, c .before .before .before .before .pre .2)) (l .inv .1)
 
 pub plan-report-spec : {M : Type 1} → statement M
 plan-report-spec =
