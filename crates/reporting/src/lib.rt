@@ -1,8 +1,8 @@
 // Answers queries: writes the message of a report that is asked for.
 pub mod answers;
-pub mod handheld;
-pub mod report;
 mod asking;
+pub mod handheld;
+mod message;
 mod plan;
+pub mod report;
 mod walk;
-mod writing;

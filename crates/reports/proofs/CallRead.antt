@@ -116,7 +116,7 @@ module _ (m : Limits) (query : List ℕ) (index : ℕ) (store buffer : List ℕ)
   written t types = report-bytes (length (messages m t types)) index (getD (messages m t types) (index - 1) [])
 
   module _ (t : Tables) (types : List ℕ) (asks : Asks m query index store buffer t types) where
-    in-total : (TooMany m query index store buffer → ⊥) → length (messages m t types) ≤ 255
+    pub in-total : (TooMany m query index store buffer → ⊥) → length (messages m t types) ≤ 255
     in-total h = go (ltb 255 (length (messages m t types))) refl
       where
         go : (b : Bool) → ltb 255 (length (messages m t types)) ≡ b → length (messages m t types) ≤ 255
@@ -124,7 +124,7 @@ module _ (m : Limits) (query : List ℕ) (index : ℕ) (store buffer : List ℕ)
             subst (λ (z : Tables × List ℕ). 255 < length (messages m (z .0) (z .1))) (λ i. (x i, y i)) (ltb-true 255 (length (messages m t types)) e)))
         go false e = omega (arith, ltb-false 255 (length (messages m t types)) e)
 
-    has-index : (NoIndex m query index store buffer → ⊥) → (1 ≤ index) × (index ≤ length (messages m t types))
+    pub has-index : (NoIndex m query index store buffer → ⊥) → (1 ≤ index) × (index ≤ length (messages m t types))
     has-index h = go (ltb 0 index) (ltb (length (messages m t types)) index) refl refl
       where
         moved : {u : Tables} {r : List ℕ} → Asks m query index store buffer u r → index ≤ length (messages m u r) → index ≤ length (messages m t types)

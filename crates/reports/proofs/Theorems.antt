@@ -1,5 +1,5 @@
 -- What is promised of the report call and of the reader together. Assumes nothing.
-use Rattle.lists.proofs.Kit.{ℕ, zero, suc, _+_, _-_, _≤_, _<_, _≡_, refl, sym, ap, _∙_, ap₂, _≢_, inl, inr, List, [], _∷_, _++_, arith, length, getD, take}
+use Rattle.lists.proofs.Kit.{ℕ, zero, suc, _+_, _-_, _≤_, _<_, _≡_, refl, sym, ap, _∙_, ap₂, subst, _≢_, inl, inr, List, [], _∷_, _++_, arith, length, getD, take}
 use Rattle.lists.specs.Every.{All}
 use Rattle.lists.specs.Ladder.{Answers}
 use Rattle.tables.specs.declared.limits.Limits.{Limits}
@@ -7,15 +7,22 @@ use Rattle.tables.specs.Limits.{handheld}
 use Rattle.tables.specs.Store.{Holds}
 use Rattle.tables.specs.Tables.{Tables}
 use Rattle.reports.specs.Asked.{asked}
-use Rattle.reports.specs.Cut.{messages}
+use Rattle.reports.specs.Cut.{messages, report-bytes}
 use Rattle.reports.specs.Reading.{Read, reading}
-use Rattle.reports.specs.Reporting.{After, Asks, Reportable, TooMany, reporting}
+use Rattle.reports.specs.Reporting.{Told, After, stays, Asks, Reportable, TooMany, reporting}
 use Rattle.reports.specs.Reports.{TypesOf}
-use Rattle.reports.proofs.CallRead.{ReadAs, report-read, types-bytes, types-few}
+use Rattle.reports.proofs.CallRead.{ReadAs, report-read, types-bytes, types-few, in-total, has-index}
 use Rattle.reports.proofs.Determined.{asks-one, reading-determined}
 use Rattle.reports.proofs.Few.{few-messages}
-use Rattle.reports.proofs.ReadBack.{whole-report}
+use Rattle.reports.proofs.ReadBack.{whole-report, message-long}
 use Rattle.reports.proofs.SplitLaws.{all}
+
+-- number and total have a byte each, and the length two
+abbrev pub Small : Told → Type 0
+Small x = (x .number < 256) × (x .total < 256) × (x .message-length < 65536)
+
+abbrev SmallRead : Read → Type 0
+SmallRead r = (r .number < 256) × (r .total < 256) × (r .index < 256) × (length (r .items) < 256)
 
 module _ (lim : Limits) (query : List ℕ) (index : ℕ) (store buffer : List ℕ) where
   -- REPORT STAYS: "All of them write nothing, 1 too"
@@ -30,6 +37,49 @@ module _ (lim : Limits) (query : List ℕ) (index : ℕ) (store buffer : List �
   report-stays a (inr (p, inr (q, inr (r, inr (s, inr (t, inr (u, inr (v, inl (w, e))))))))) n = ap (λ (x : After). x .buffer) e
   report-stays a (inr (p, inr (q, inr (r, inr (s, inr (t, inr (u, inr (v, inr (w, inl (x, e)))))))))) n = ap (λ (y : After). y .buffer) e
   report-stays a (inr (p, inr (q, inr (r, inr (s, inr (t, inr (u, inr (v, inr (w, inr (x, f)))))))))) n = absurd (n (ap (λ (y : After). y .answer .number) (f .after)))
+
+  -- REPORT SMALL: what is told fits an answer of 32 bits
+  pub report-small : All (_< 256) query → Reportable lim → (a : After) → Answers (reporting lim query index store buffer) a
+      → Small (a .answer)
+  report-small b can a ans = go ans
+    where
+      no : (n : ℕ) → n < 256 → a ≡ stays lim query index store buffer n → Small (a .answer)
+      no n l e = subst (λ (x : After). Small (x .answer)) (sym e) (l, omega arith, omega arith)
+
+      go : Answers (reporting lim query index store buffer) a → Small (a .answer)
+      go (inl (p, e)) = no 15 (omega arith) e
+      go (inr (p, inl (q, e))) = no 11 (omega arith) e
+      go (inr (p, inr (q, inl (r, e)))) = no 12 (omega arith) e
+      go (inr (p, inr (q, inr (r, inl (s, e))))) = no 13 (omega arith) e
+      go (inr (p, inr (q, inr (r, inr (s, inl (t, e)))))) = no 14 (omega arith) e
+      go (inr (p, inr (q, inr (r, inr (s, inr (t, inl (u, e))))))) = no 1 (omega arith) e
+      go (inr (p, inr (q, inr (r, inr (s, inr (t, inr (u, inl (v, e)))))))) = no 4 (omega arith) e
+      go (inr (p, inr (q, inr (r, inr (s, inr (t, inr (u, inr (v, inl (w, e))))))))) = no 4 (omega arith) e
+      go (inr (p, inr (q, inr (r, inr (s, inr (t, inr (u, inr (v, inr (w, inl (x, e)))))))))) = no 16 (omega arith) e
+      go (inr (p, inr (q, inr (r, inr (s, inr (t, inr (u, inr (v, inr (w, inr (x, f)))))))))) =
+          let n = in-total lim query index store buffer (f .tables) (f .types) (f .asks) w in
+          let (o, l) = has-index lim query index store buffer (f .tables) (f .types) (f .asks) x in
+          let e : suc (index - 1) ≡ index = omega arith in
+          let h = message-long lim (f .tables) (f .types) (f .asks .holds .0) (types-bytes b (f .asks .asks)) (can .wide) (index - 1) (omega arith) in
+          let k : length (report-bytes (length (messages lim (f .tables) (f .types))) index (getD (messages lim (f .tables) (f .types)) (index - 1) [])) ≤ lim .message
+          = subst (λ (i : ℕ). length (report-bytes (length (messages lim (f .tables) (f .types))) i (getD (messages lim (f .tables) (f .types)) (index - 1) [])) ≤ lim .message) e (h .1) in
+          subst (λ (x : After). Small (x .answer)) (sym (f .after)) (omega arith, omega arith, omega (arith, k, can .short))
+
+-- READ SMALL: what is read of a message fits an answer of 32 bits
+pub read-small : (most : ℕ) (message : List ℕ) (r : Read) → Answers (reading most message) r
+    → (r .number < 256) × (r .total < 256) × (r .index < 256) × (length (r .items) < 256)
+read-small most message r (inl (p, e)) = subst SmallRead (sym e) (omega arith, omega arith, omega arith, omega arith)
+read-small most message r (inr (p, inl (q, e))) = subst SmallRead (sym e) (omega arith, omega arith, omega arith, omega arith)
+read-small most message r (inr (p, inr (q, inl (s, e)))) = subst SmallRead (sym e) (omega arith, omega arith, omega arith, omega arith)
+read-small most message r (inr (p, inr (q, inr (s, inl (t, e))))) = subst SmallRead (sym e) (omega arith, omega arith, omega arith, omega arith)
+read-small most message r (inr (p, inr (q, inr (s, inr (t, inl (u, e)))))) = subst SmallRead (sym e) (omega arith, omega arith, omega arith, omega arith)
+read-small most message r (inr (p, inr (q, inr (s, inr (t, inr (u, f)))))) =
+    let (x1, r1, h1, l1, e1, s1) = f .report .says in
+    let (x2, r2, h2, l2, e2, s2) = s1 in
+    let (x3, r3, h3, l3, e3, s3) = s2 in
+    let (x4, r4, h4, l4, e4, s4) = s3 in
+    let (x5, r5, h5, l5, e5, s5) = s4 in
+    (omega (arith, f .good), omega (arith, h3, l3), omega (arith, h4, l4), omega (arith, h5, l5))
 
 -- NEVER TOO MANY: a hand-held never answers 4 for a report of over 255 messages
 pub never-too-many : (query : List ℕ) (index : ℕ) (store buffer : List ℕ) → All (_< 256) query → (t : Tables) (types : List ℕ)

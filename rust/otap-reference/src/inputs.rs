@@ -42,12 +42,21 @@ impl Inputs {
 
     /// The next message and a kind, which nobody judges.
     pub fn record(&mut self) -> (u16, Vec<u8>) {
-        let kind = if self.random.percent(80) {
-            self.random.within(1..=usize::from(PARTS))
+        (self.kind(), self.message())
+    }
+
+    /// The same of a message for the office's reader; the set grows meanwhile.
+    pub fn report_record(&mut self) -> (u16, Vec<u8>) {
+        self.message();
+        (self.kind(), self.report().message)
+    }
+
+    fn kind(&mut self) -> u16 {
+        if self.random.percent(80) {
+            self.random.within(1..=usize::from(PARTS)) as u16
         } else {
-            self.random.bits(16) as usize
-        };
-        (kind as u16, self.message())
+            self.random.bits(16) as u16
+        }
     }
 
     pub fn message(&mut self) -> Vec<u8> {

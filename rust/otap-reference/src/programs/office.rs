@@ -9,14 +9,16 @@ use crate::reference::settings::{EmergencyKey, GroupSlot, IndividualSlot, Line};
 #[cfg(test)]
 mod tests;
 
-/// The lines, and whether every record was whole: a cut one ends the program with 1 and has no line.
-pub fn office_prints(input: &[u8]) -> (String, bool) {
+/// The lines; a record cut short is a line of its own, the last.
+pub fn office_prints(input: &[u8]) -> String {
     let mut out = String::new();
     for record in Records::new(input) {
-        let Record::Whole { message, .. } = record else { return (out, false) };
-        out.push_str(&lines(message));
+        match record {
+            Record::Whole { message, .. } => out.push_str(&lines(message)),
+            _ => out.push_str("cut\n"),
+        }
     }
-    (out, true)
+    out
 }
 
 /// A record over 4,096 bytes is refused with 12 as its message is.
