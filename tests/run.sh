@@ -15,14 +15,16 @@ sees_outside() {
     [ $? -eq 1 ] && grep -q "a byte too many, as asked" "$built/outside"
 }
 
-# No table of constants comes back: what is left are the code's own numbers and jump tables.
+# No table of constants comes back: what is left are the code's own numbers and jump tables, at most 512 bytes of any one function.
 few_constants() {
     total=0
+    most=0
     for size in $(readelf -SW "$archive" | sed -n 's/^ *\[ *[0-9]*\] \.rodata[^ ]* *PROGBITS *[0-9a-f]* [0-9a-f]* \([0-9a-f]*\) .*/\1/p'); do
         total=$((total + 0x$size))
+        [ "$((0x$size))" -le "$most" ] || most=$((0x$size))
     done
-    echo "$total bytes, at most 1,024"
-    [ "$total" -gt 0 ] && [ "$total" -le 1024 ]
+    echo "$total bytes, at most 1,536; $most of one function, at most 512"
+    [ "$total" -gt 0 ] && [ "$total" -le 1536 ] && [ "$most" -le 512 ]
 }
 
 # functions ARCHIVE: the names that a program can link.

@@ -72,7 +72,7 @@ pub fn answer(what: &[u8], bytes: &[u8], store: &mut [u8]) {
 }
 
 // A request to this store: ParamSum and settings, behind a carrier with the true length.
-pub fn request(what: &[u8], settings: &[u8], store: &mut [u8]) {
+fn request(what: &[u8], settings: &[u8], store: &mut [u8]) {
     let size = settings.len();
     if 4089 < size {
         return;

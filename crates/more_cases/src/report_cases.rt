@@ -1,15 +1,14 @@
 // Queries and reports: what each table is reported as, cuts into messages, unknown types, and refusals; each message is read back.
+use case_lines::building::put_bytes;
 use case_lines::printing::decimal;
 use case_lines::printing::hex;
 use case_lines::printing::text;
-use case_lines::taking::request;
 use case_lines::taking::requests;
 use report_reading::handheld::read_report;
 use report_reading::messages::ReportRead;
 use reporting::answers::NoReport;
 use reporting::answers::Report;
 use reporting::handheld::report;
-use slots::bytes::copy;
 
 // The most bytes of a message that are shown.
 const SHOWN: usize = 34;
@@ -25,8 +24,7 @@ fn number_of(why: NoReport) -> u32 {
         NoReport::Carrier => 13,
         NoReport::OtherType => 14,
         NoReport::Version => 1,
-        NoReport::NoTypes => 4,
-        NoReport::TooMany => 4,
+        NoReport::BadQuery => 4,
         NoReport::NoMessage => 16,
     }
 }
@@ -94,12 +92,13 @@ fn asked(types: &[u8], index: u32, store: &[u8]) {
     if 255 < size {
         return;
     }
-    let mut query = [0u8; QUERY];
     let stated = 4 + size;
-    let end = 8 + size;
-    let head = [2, 2, (stated / 256) as u8, (stated % 256) as u8, 8, 0, 0x0A, size as u8];
-    copy(&mut query[0..8], &head);
-    copy(&mut query[8..end], types);
+    let high = (stated / 256) as u8;
+    let low = (stated % 256) as u8;
+    let head = [2, 2, high, low, 8, 0, 0x0A, size as u8];
+    let mut query = [0u8; QUERY];
+    let at = put_bytes(&mut query, 0, &head);
+    let end = put_bytes(&mut query, at, types);
     ask_bytes(&query[0..end], index, store);
 }
 
@@ -122,67 +121,47 @@ fn fresh(store: &mut [u8]) {
     asked(&[0xFF, 0xCB], 1, store);
 }
 
-fn entries(store: &mut [u8]) {
+fn numbers(store: &mut [u8]) {
     requests(b"PABX 2345: 01 CA 0009 42 01 2345FF 0000\n", store);
     asked(&[0xCA], 1, store);
-    requests(b"key on group 100001, voice, siren: 01 CB 0006 68 100001\n", store);
+    requests(
+        b"key on group 100001, voice, siren: 01 CB 0006 68 100001\n",
+        store,
+    );
     asked(&[0xCB], 1, store);
-    requests(b"quick text 5: 01 CC 0008 41 05 0041 0000\n", store);
-    asked(&[0xCC], 1, store);
-    requests(b"status texts 33 and 40: 01 D0 000C 40 02 21 0042 0000 28 0000\n", store);
-    asked(&[0xD0], 1, store);
-    requests(b"group contact 100001: 01 C8 000C 74 80 01 100001 0041 0000\n", store);
-    asked(&[0xC8], 1, store);
     requests(b"hash of code 1: 01 FF 0007 01 01020304\n", store);
     asked(&[0xFF], 1, store);
 }
 
+fn names(store: &mut [u8]) {
+    requests(b"quick text 5: 01 CC 0008 41 05 0041 0000\n", store);
+    asked(&[0xCC], 1, store);
+    requests(
+        b"status texts 33 and 40: 01 D0 000C 40 02 21 0042 0000 28 0000\n",
+        store,
+    );
+    asked(&[0xD0], 1, store);
+    requests(
+        b"group contact 100001: 01 C8 000C 74 80 01 100001 0041 0000\n",
+        store,
+    );
+    asked(&[0xC8], 1, store);
+    requests(
+        b"individual contact 1003E9: 01 C9 0009 5C 01 1003E9 0000\n",
+        store,
+    );
+    asked(&[0xC9, 0xCF], 1, store);
+}
+
 // 255 parameters fill a message long before its bytes do.
 fn many(store: &mut [u8]) {
-    requests(b"64 channels: 01 CE 0064 C040 {1F x 0F1 280} 0F1 0F1\n", store);
+    requests(
+        b"64 channels: 01 CE 0064 C040 {1F x 0F1 280} 0F1 0F1\n",
+        store,
+    );
     asked(&[0xCE; 4], 1, store);
     asked(&[0xCE; 4], 2, store);
     asked(&[0xCE; 4], 3, store);
-}
-
-// A status text of 16 units A.
-fn put_text(entry: &mut [u8], code: u8) {
-    if entry.len() != 35 {
-        return;
-    }
-    entry[0] = code;
-    let mut i = 0;
-    while i < 16 {
-        let low = 2 * i + 2;
-        entry[low] = 0x41;
-        i += 1;
-    }
-}
-
-// ParamSum 1, and a replace of all 96 status texts.
-fn put_texts(settings: &mut [u8]) {
-    if settings.len() != 3366 {
-        return;
-    }
-    copy(&mut settings[0..6], &[1, 0xD0, 0x0D, 0x24, 0xC0, 96]);
-    let mut i = 0;
-    while i < 96 {
-        let a = 6 + i * 35;
-        let e = a + 35;
-        put_text(&mut settings[a..e], (32 + i) as u8);
-        i += 1;
-    }
-}
-
-// The longest entries: whole texts that do not fit go on in the next message.
-fn long(store: &mut [u8]) {
-    let mut settings = [0u8; 3366];
-    put_texts(&mut settings);
-    request(b"96 status texts of 16 units", &settings, store);
-    asked(&[0xD0; 2], 1, store);
-    asked(&[0xD0; 2], 2, store);
-    asked(&[0xD0; 255], 229, store);
-    asked(&[0xD0; 255], 230, store);
 }
 
 fn refusals(store: &mut [u8]) {
@@ -204,8 +183,8 @@ fn refusals(store: &mut [u8]) {
 pub(crate) fn run(store: &mut [u8]) {
     channels(store);
     fresh(store);
-    entries(store);
+    numbers(store);
+    names(store);
     many(store);
-    long(store);
     refusals(store);
 }

@@ -18,8 +18,7 @@ fn number_of(why: NoReport) -> u64
         NoReport::Carrier => 13,
         NoReport::OtherType => 14,
         NoReport::Version => 1,
-        NoReport::NoTypes => 4,
-        NoReport::TooMany => 4,
+        NoReport::BadQuery => 4,
         NoReport::NoMessage => 16,
     }
 }

@@ -10,7 +10,7 @@ use Rattle.read_carrier.proofs.CarrierLaws.{wide-bytes, part-rest, carries-one,
 use Rattle.read_carrier.proofs.KindLaws.{other-kind, other-version}
 use Rattle.reports.specs.Reports.{query-head, TypesOf}
 use Rattle.reports.specs.Types.{asked-by}
-use Rattle.reporting.specs.declared.answers.NoReport.the-variants.{OtherType, Version, NoTypes as Untyped}
+use Rattle.reporting.specs.declared.answers.NoReport.the-variants.{OtherType, Version, BadQuery}
 use Rattle.reporting.specs.declared.asking.Query.the-variants.{Refused}
 use Rattle.reporting.specs.Asking.{TypesIs, QueryIs}
 
@@ -75,7 +75,7 @@ module _ (most : ℕ) (m : List ℕ) {version kind coding : ℕ} (i : InSize mos
   pub query-version : kind ≡ 2 → version ≢ 1 → QueryIs most m (Refused Version)
   query-version e n = (i, carried, λ k. k version kind coding (drop 6 m) e o, other-version o n)
 
-  pub query-none : kind ≡ 2 → version ≡ 1 → TypesIs m false → QueryIs most m (Refused Untyped)
+  pub query-none : kind ≡ 2 → version ≡ 1 → TypesIs m false → QueryIs most m (Refused BadQuery)
   query-none e v n = (i, carried, λ k. k version kind coding (drop 6 m) e o, λ k. k kind coding (drop 6 m) (opens-as v refl o), n)
 
 -- the part of a query behind its head

@@ -5,3 +5,4 @@ pub mod PutLaws
 pub mod ReportLaws
 pub mod StepLaws
 pub mod TableLaws
+pub mod ToldOne

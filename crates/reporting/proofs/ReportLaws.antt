@@ -18,7 +18,7 @@ use Rattle.reports.proofs.CallRead.{query-opens}
 use Rattle.reports.proofs.ReadBack.{items-length, queries-one, messages-fit}
 use Rattle.reports.proofs.SplitLaws.{Fit}
 use Rattle.reporting.specs.declared.answers.NoReport.{NoReport}
-use Rattle.reporting.specs.declared.answers.NoReport.the-variants.{Buffer, NotAStore, Size, Carrier, OtherType, Version, NoTypes, TooMany, NoMessage}
+use Rattle.reporting.specs.declared.answers.NoReport.the-variants.{Buffer, NotAStore, Size, Carrier, OtherType, Version, BadQuery, NoMessage}
 use Rattle.reporting.specs.declared.answers.Report.the-variants.{Written, Untouched}
 use Rattle.reporting.specs.declared.plan.Walk.{Walk}
 use Rattle.reporting.specs.Asking.{RefusedAs}
@@ -45,10 +45,9 @@ module _ (lim : Limits) (query : List ℕ) (index : ℕ) (store buffer : List �
       says-refused Carrier (i, n) = inr (λ l. omega arith, inr (λ k. k s, inr (λ k. k i, inl (n, refl))))
       says-refused OtherType (i, c, n) = inr (λ l. omega arith, inr (λ k. k s, inr (λ k. k i, inr (c, inl (n, refl)))))
       says-refused Version (i, c, o, n) = inr (λ l. omega arith, inr (λ k. k s, inr (λ k. k i, inr (c, inr (o, inl (n, refl))))))
-      says-refused NoTypes (i, c, o, v, n) = inr (λ l. omega arith, inr (λ k. k s, inr (λ k. k i, inr (c, inr (o, inr (v, inl (n, refl)))))))
+      says-refused BadQuery (i, c, o, v, n) = inr (λ l. omega arith, inr (λ k. k s, inr (λ k. k i, inr (c, inr (o, inr (v, inl (n, refl)))))))
       says-refused Buffer n = absurd n
       says-refused NotAStore n = absurd n
-      says-refused TooMany n = absurd n
       says-refused NoMessage n = absurd n
 
       -- a query goes on
@@ -89,7 +88,7 @@ module _ (lim : Limits) (query : List ℕ) (index : ℕ) (store buffer types : L
   total-is t r a = ap (λ (x : List ℕ). length (messages lim t x)) (queries-one (a .asks) q) ∙ p .total t (a .holds)
 
   -- "4"
-  pub says-many : 255 < w .closed + 1 → Answers (answering lim query index store buffer) (record { answer = told (Untouched TooMany); buffer = buffer })
+  pub says-many : 255 < w .closed + 1 → Answers (answering lim query index store buffer) (record { answer = told (Untouched BadQuery); buffer = buffer })
   says-many l = inl (λ t r a. omega (arith, total-is t r a), refl)
 
   module _ (few : w .closed + 1 ≤ 255) where

@@ -9,7 +9,7 @@ use Rattle.writing.specs.Carrier.{InSize, NothingCarried, OtherKind, OtherVersi
 use Rattle.reports.specs.Reports.{TypesOf, NoTypes}
 use Rattle.reports.specs.Types.{asked-by}
 use Rattle.reporting.specs.declared.answers.NoReport.{NoReport}
-use Rattle.reporting.specs.declared.answers.NoReport.the-variants.{Buffer, NotAStore, Size, Carrier, OtherType, Version, NoTypes as Untyped, TooMany, NoMessage}
+use Rattle.reporting.specs.declared.answers.NoReport.the-variants.{Buffer, NotAStore, Size, Carrier, OtherType, Version, BadQuery, NoMessage}
 use Rattle.reporting.specs.declared.asking.Asks.{Asks}
 use Rattle.reporting.specs.declared.asking.Asks.the-variants.{Known, Unknown}
 use Rattle.reporting.specs.declared.asking.Query.{Query}
@@ -31,10 +31,9 @@ RefusedAs most m Size = InSize most m → ⊥
 RefusedAs most m Carrier = InSize most m × NothingCarried m
 RefusedAs most m OtherType = InSize most m × (NothingCarried m → ⊥) × OtherKind (_≡ 2) m
 RefusedAs most m Version = InSize most m × (NothingCarried m → ⊥) × (OtherKind (_≡ 2) m → ⊥) × OtherVersion m
-RefusedAs most m Untyped = InSize most m × (NothingCarried m → ⊥) × (OtherKind (_≡ 2) m → ⊥) × (OtherVersion m → ⊥) × NoTypes m
+RefusedAs most m BadQuery = InSize most m × (NothingCarried m → ⊥) × (OtherKind (_≡ 2) m → ⊥) × (OtherVersion m → ⊥) × NoTypes m
 RefusedAs most m Buffer = ⊥
 RefusedAs most m NotAStore = ⊥
-RefusedAs most m TooMany = ⊥
 RefusedAs most m NoMessage = ⊥
 
 abbrev pub QueryIs : ℕ → List ℕ → Query → Type 0

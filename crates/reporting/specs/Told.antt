@@ -2,7 +2,7 @@
 use Prim.Native.Nat.{ℕ}
 use Rattle.reports.specs.Reporting.{Told}
 use Rattle.reporting.specs.declared.answers.NoReport.{NoReport}
-use Rattle.reporting.specs.declared.answers.NoReport.the-variants.{Buffer, NotAStore, Size, Carrier, OtherType, Version, NoTypes, TooMany, NoMessage}
+use Rattle.reporting.specs.declared.answers.NoReport.the-variants.{Buffer, NotAStore, Size, Carrier, OtherType, Version, BadQuery, NoMessage}
 use Rattle.reporting.specs.declared.answers.Report.{Report}
 use Rattle.reporting.specs.declared.answers.Report.the-variants.{Written, Untouched}
 
@@ -13,8 +13,7 @@ no-report Size = 12
 no-report Carrier = 13
 no-report OtherType = 14
 no-report Version = 1
-no-report NoTypes = 4
-no-report TooMany = 4
+no-report BadQuery = 4
 no-report NoMessage = 16
 
 -- each case's number, total and length

@@ -1,6 +1,6 @@
 // What the call answers.
 
-// Why nothing was reported.
+// Why nothing was reported; a bad query has no types or a false count, or its report would have over 255 messages.
 pub enum NoReport {
     Buffer,
     NotAStore,
@@ -8,8 +8,7 @@ pub enum NoReport {
     Carrier,
     OtherType,
     Version,
-    NoTypes,
-    TooMany,
+    BadQuery,
     NoMessage,
 }
 

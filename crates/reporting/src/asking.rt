@@ -77,7 +77,7 @@ pub(crate) fn read_query(m: &[u8], most: usize) -> Query
                 return Query::Refused(NoReport::Version);
             }
             if !has_types(m) {
-                return Query::Refused(NoReport::NoTypes);
+                return Query::Refused(NoReport::BadQuery);
             }
             Query::Types
         }

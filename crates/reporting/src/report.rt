@@ -48,7 +48,7 @@ fn report_types(types: &[u8], index: u32, store: &[u8], buffer: &mut [u8], limit
     let plan = plan_report(types, store, limits, room, j);
     let total = plan.closed + 1;
     if MESSAGES < total {
-        return Report::Untouched(NoReport::TooMany);
+        return Report::Untouched(NoReport::BadQuery);
     }
     if index < 1 {
         return Report::Untouched(NoReport::NoMessage);

@@ -114,8 +114,7 @@ module _ (lim : Limits) (query store : List ℕ) (b : All (_< 256) query) (can :
   message-read index a r m =
       let s : ReadAs lim query index store (m .buffer) a = report-read lim query index store (m .buffer) b (can .wide) (can .short) a (m .written) (m .good) in
       let d = reading-determined (lim .message) (take (a .answer .message-length) (a .buffer)) r _ (m .read) (s .reads) in
-      let (x, y) = asks-one lim query index store (m .buffer) (s .asks) (record { holds = holds; asks = asks }) in
-      (
+      let (x, y) = asks-one lim query index store (m .buffer) (s .asks) (record { holds = holds; asks = asks }) in (
         ap (λ (z : Read). z .number) d,
         ap (λ (z : Read). z .total) d,
         ap (λ (z : Read). z .total) d ∙ s .total ∙ (λ i. length (messages lim (x i) (y i))),
@@ -129,6 +128,6 @@ module _ (lim : Limits) (query store : List ℕ) (b : All (_< 256) query) (can :
   all-read afters reads each =
       let same : row (length (messages lim t types)) 1 (λ i. reads i .items) ≡ messages lim t types
       = row-is [] (λ i. reads i .items) 1 (messages lim t types) (λ j l.
-          let back : 1 + j - 1 ≡ j = omega arith in
-          message-read (1 + j) (afters (1 + j)) (reads (1 + j)) (each (1 + j) (omega arith) (omega arith)) .4 ∙ ap (λ k. getD (messages lim t types) k []) back) in
+      let back : 1 + j - 1 ≡ j = omega arith in
+      message-read (1 + j) (afters (1 + j)) (reads (1 + j)) (each (1 + j) (omega arith) (omega arith)) .4 ∙ ap (λ k. getD (messages lim t types) k []) back) in
       ap all same ∙ whole-report lim t types
