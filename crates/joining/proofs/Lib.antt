@@ -1,1 +1,3 @@
+pub mod CheckLaws
+pub mod JoinLaws
 pub mod Joined
