@@ -1,2 +1,4 @@
 pub mod CheckLaws
 pub mod JoinLaws
+pub mod RequestLaws
+pub mod Theorems
