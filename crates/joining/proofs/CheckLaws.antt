@@ -1,5 +1,5 @@
 -- One of the requests, as the code checks it. Assumes nothing.
-use Rattle.lists.proofs.Kit.{ℕ, suc, _+_, _-_, _≤_, _<_, _≡_, refl, sym, ap, _∙_, subst, subst⁻¹, _≢_, _⊎_, inl, inr, ⊎-elim, List, [], _∷_, _++_, Bool, true, false, Option, none, some, Option·some-ne-none, arith, not, eqb, eqb-true, eqb-false, not-true, not-false, length, drop, length-append, length-drop, drop-of-length-le, drop-cons, drop-drop, drop-at}
+use Rattle.lists.proofs.Kit.{ℕ, suc, _+_, _-_, _≤_, _<_, _≡_, refl, sym, ap, _∙_, subst, subst⁻¹, _≢_, List, [], _∷_, _++_, Bool, true, false, Option, none, some, Option·some-ne-none, arith, not, eqb, eqb-true, eqb-false, not-true, not-false, length, drop, length-append, drop-of-length-le, drop-cons, drop-drop, drop-at}
 use denote.Enum.Declared.{tagOf}
 use types.Run.{OneOf, miss}
 use Rattle.lists.specs.Bytes.{Bytes}
@@ -16,7 +16,6 @@ use Rattle.read_fields.proofs.Parts.{bytes-left}
 use Rattle.read_carrier.specs.Message.{OpenedIs, MessageIs}
 use Rattle.read_carrier.specs.declared.carrier.Message.{Message}
 use Rattle.read_carrier.specs.declared.carrier.Message.the-variants.{Size, Carrier, «Type» as AnotherType, Version, NoRequest as NotRequest, Request as ARequest, NoQuery as NotQuery, Query as AQuery}
-use Rattle.read_carrier.specs.declared.carrier.Opened.{Opened}
 use Rattle.read_carrier.specs.declared.carrier.Opened.the-variants.{Size as OutOfSize, Carrier as Uncarried, Open}
 use Rattle.read_carrier.proofs.CarrierLaws.{wide-bytes}
 use Rattle.read_carrier.proofs.KindLaws.{uncounted}

@@ -1,5 +1,5 @@
 -- What joining answers, refusal by refusal, and for a request that was written. Assumes nothing.
-use Rattle.lists.proofs.Kit.{ℕ, suc, _+_, _-_, _/_, _%_, _≤_, _<_, _≡_, refl, sym, ap, ap₂, _∙_, subst, _≢_, inl, inr, Bool, true, false, List, [], _∷_, _++_, zero-add, arith, midOf, length, drop, take-all, length-append, length-drop}
+use Rattle.lists.proofs.Kit.{ℕ, suc, _+_, _-_, _/_, _%_, _≤_, _<_, _≡_, refl, sym, ap, ap₂, _∙_, _≢_, inl, inr, Bool, true, false, List, [], _∷_, _++_, zero-add, arith, midOf, length, drop, take-all, length-append, length-drop}
 use Rattle.lists.specs.Ladder.{Ladder, Answers}
 use Rattle.slots.specs.Slots.{u16}
 use Rattle.writing.specs.declared.Coding.{Coding}
@@ -18,7 +18,7 @@ use Rattle.requests.specs.Judge.{Outcome, kept, refused}
 use Rattle.joining.specs.declared.answers.Join.{Join}
 use Rattle.joining.specs.declared.answers.Join.the-variants.{Written, Codings, TooMany, TooLong}
 use Rattle.joining.specs.declared.checks.Head.{Head}
-use Rattle.joining.specs.Joins.{After, joined-bytes, stays, writes, Comes, one-of, both-of, joining}
+use Rattle.joining.specs.Joins.{After, joined-bytes, stays, Comes, one-of, joining}
 use Rattle.joining.specs.Told.{told, CanJoin}
 use Rattle.joining.specs.Checking.{TurnsDown, Faulty, size, carrier as not-carried, other-type, other-version, no-request, at-settings, Fine, BothAre}
 

@@ -71,14 +71,16 @@ fn join_both(first: &[u8], second: &[u8], buffer: &mut [u8], most: usize, a: Hea
     if coding_byte(coding) != coding_byte(other) {
         return Join::Codings;
     }
-    if MOST - a.count < b.count {
+    let count = a.count;
+    let more = b.count;
+    if MOST - count < more {
         return Join::TooMany;
     }
     if most - first.len() < second.len() - FIRST {
         return Join::TooLong;
     }
     let head = Head {
-        count: a.count + b.count,
+        count: count + more,
         coding,
     };
     Join::Written(write_joined(buffer, head, &first[FIRST..], &second[FIRST..]))
