@@ -14,6 +14,7 @@ use Rattle.read_carrier.proofs.MessageOne.{coding-one}
 use Rattle.export_write.specs.Writers.{Wrote}
 use Rattle.export_write.proofs.PlainLaws.{plain-byte, plain-two}
 use Rattle.export_write.proofs.WroteLaws.{wrote-length, wrote-both, wrote-as}
+use Rattle.tables.specs.Limits.{handheld}
 use Rattle.requests.specs.Judge.{Outcome, kept, refused}
 use Rattle.joining.specs.declared.answers.Join.{Join}
 use Rattle.joining.specs.declared.answers.Join.the-variants.{Written, Codings, TooMany, TooLong}
@@ -155,3 +156,7 @@ module _ (most : ℕ) (first second buffer : List ℕ) (room : most ≤ length b
           sound-answers most first second buffer false first _ (f .size) (f .request) (f .sound) (f .no-ff) _ (sound-answers most first second buffer true second _ (g .size) (g .request) (g .sound) (g .no-ff) _
               (b can (f .settings) (g .settings) (f .counted) (g .counted))),
         )
+
+-- HANDHELD: its message size is one that is meant
+pub handheld-can : CanJoin (handheld .message)
+handheld-can = record { stated = omega arith }

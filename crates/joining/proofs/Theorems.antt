@@ -1,5 +1,5 @@
 -- What the contract of joining comes to, for every two messages and every buffer. Assumes nothing.
-use Rattle.lists.proofs.Kit.{ℕ, _+_, _≤_, _≡_, refl, sym, ap, _∙_, subst, subst₂, _≢_, inl, inr, Bool, true, false, List, _++_, arith, length, take, drop, take-at}
+use Rattle.lists.proofs.Kit.{ℕ, _+_, _≤_, _≡_, refl, sym, ap, _∙_, subst, subst₂, _≢_, inl, inr, Bool, true, false, List, _++_, arith, length, take, drop, length-append, take-at}
 use Rattle.lists.specs.Bytes.{Bytes}
 use Rattle.lists.specs.Ladder.{Ladder, Answers}
 use Rattle.lists.proofs.Ladder.{OneFoot, one-answer}
@@ -143,6 +143,16 @@ module _ (most : ℕ) (first second buffer : List ℕ) where
           omega (arith, ap (λ (z : After). z .answer .failed) e),
           omega (arith, ap (λ (z : After). z .answer .request-length) e, joined-length c (length l + length k) (x ++ y)),
         )
+
+    -- JOIN WITHIN: and in the buffer
+    pub join-within : a .answer .request-length ≤ length (a .buffer)
+    join-within = by (ends a allowed)
+      where
+        by : Ends a → a .answer .request-length ≤ length (a .buffer)
+        by (stayed s number failed low high small e) = omega (arith, ap (λ (z : After). z .answer .request-length) e)
+        by (joined c l k x y p q few short e) =
+            let bytes : List ℕ = joined-bytes c (length l + length k) (x ++ y) in
+            omega (arith, ap (λ (z : After). z .answer .request-length) e, ap (λ (z : After). length (z .buffer)) e, length-append bytes (drop (length bytes) buffer))
 
     -- both requests may be joined, and what was written is their joining
     pub record Joined : Type 0 where
