@@ -5,7 +5,7 @@ use Rattle.slots.specs.Slots.{u16}
 use Rattle.writing.specs.declared.Coding.{Coding}
 use Rattle.writing.specs.declared.Coding.the-variants.{Unicode16, EightBit}
 use Rattle.writing.specs.Canonical.{plain}
-use Rattle.writing.specs.Carrier.{carrier, coding-type}
+use Rattle.writing.specs.Carrier.{carrier, coding-type, RequestOf, InSize}
 use Rattle.writing.specs.Fields.{val, res}
 use Rattle.writing.specs.Settings.{Setting}
 use Rattle.writing.specs.Writing.{request-head}
@@ -14,11 +14,12 @@ use Rattle.read_carrier.proofs.MessageOne.{coding-one}
 use Rattle.export_write.specs.Writers.{Wrote}
 use Rattle.export_write.proofs.PlainLaws.{plain-byte, plain-two}
 use Rattle.export_write.proofs.WroteLaws.{wrote-length, wrote-both, wrote-as}
+use Rattle.tables.specs.Limits.{handheld}
 use Rattle.requests.specs.Judge.{Outcome, kept, refused}
 use Rattle.joining.specs.declared.answers.Join.{Join}
 use Rattle.joining.specs.declared.answers.Join.the-variants.{Written, Codings, TooMany, TooLong}
 use Rattle.joining.specs.declared.checks.Head.{Head}
-use Rattle.joining.specs.Joins.{After, joined-bytes, stays, Comes, one-of, joining}
+use Rattle.joining.specs.Joins.{After, Sound, EndsRequest, joined-bytes, stays, Comes, one-of, joining}
 use Rattle.joining.specs.Told.{told, CanJoin}
 use Rattle.joining.specs.Checking.{TurnsDown, Faulty, size, carrier as not-carried, other-type, other-version, no-request, at-settings, Fine, BothAre}
 
@@ -131,11 +132,11 @@ module _ (most : ℕ) (first second buffer : List ℕ) (in-second : Bool) (m : L
       inr (λ x. x i, inr (λ x. x _ _ (p .carried), inr (λ x. x _ _ _ _ refl p, inr (λ x. x _ _ _ p, inr (λ x. x c count settings r, (c, count, settings, r, o, s, comes-down o c settings number failed t))))))
 
   -- and one that may be joined as what is next says
-  pub fine-answers : (h : Head) (f : Fine most m h) (a : After) → Answers (next (h .coding) (f .settings) (drop 8 m)) a → Answers (one-of most first second buffer in-second m next) a
-  fine-answers h f a x =
-      let r = f .request in
+  pub sound-answers : {c : Coding} {count : ℕ} {settings : List ℕ} {l : List Setting} → InSize most m → RequestOf c count settings m → Sound c count settings (kept l tt)
+      → (EndsRequest l → ⊥) → (a : After) → Answers (next c l settings) a → Answers (one-of most first second buffer in-second m next) a
+  sound-answers {c} {count} {settings} {l} i r j f a z =
       let p = request-opens r in
-      inr (λ n. n (f .size), inr (λ n. n _ _ (p .carried), inr (λ n. n _ _ _ _ refl p, inr (λ n. n _ _ _ p, inr (λ n. n _ _ _ r, (h .coding, h .count, drop 8 m, r, kept (f .settings) tt, f .sound, inr (f .no-ff, x)))))))
+      inr (λ n. n i, inr (λ n. n _ _ (p .carried), inr (λ n. n _ _ _ _ refl p, inr (λ n. n _ _ _ p, inr (λ n. n _ _ _ r, (c, count, settings, r, kept l tt, j, inr (f, z)))))))
 
 -- ---- the call
 
@@ -145,13 +146,17 @@ module _ (most : ℕ) (first second buffer : List ℕ) (room : most ≤ length b
 
   module _ (h : Head) (f : Fine most first h) where
     pub wrong-second : {number failed : ℕ} → Faulty most second number failed → Answers (joining most first second buffer) (stays most first second buffer true number failed)
-    wrong-second z = inr (λ l. omega arith, fine-answers most first second buffer false first _ h f _ (faulty-answers most first second buffer true second _ z))
+    wrong-second z = inr (λ l. omega arith, sound-answers most first second buffer false first _ (f .size) (f .request) (f .sound) (f .no-ff) _ (faulty-answers most first second buffer true second _ z))
 
     pub joins-both : (k : Head) (g : Fine most second k) (after : List ℕ) (r : Join) → BothAre most first second buffer after h k r → CanJoin most
         → Answers (joining most first second buffer) (record { answer = told r; buffer = after })
     joins-both k g after r b can =
         inr (
           λ l. omega arith,
-          fine-answers most first second buffer false first _ h f _ (fine-answers most first second buffer true second _ k g _
+          sound-answers most first second buffer false first _ (f .size) (f .request) (f .sound) (f .no-ff) _ (sound-answers most first second buffer true second _ (g .size) (g .request) (g .sound) (g .no-ff) _
               (b can (f .settings) (g .settings) (f .counted) (g .counted))),
         )
+
+-- HANDHELD: its message size is one that is meant
+pub handheld-can : CanJoin (handheld .message)
+handheld-can = record { stated = omega arith }

@@ -1,5 +1,6 @@
 -- What a request's settings come to where every one has room, and the joined request as one. Assumes nothing.
-use Rattle.lists.proofs.Kit.{ℕ, suc, _+_, _≤_, _<_, _≡_, refl, subst, _≢_, List, [], _++_, none, some, Option·some-ne-none, arith, length}
+use Rattle.lists.proofs.Kit.{ℕ, suc, _+_, _≤_, _<_, _≡_, refl, sym, subst, _≢_, List, [], _∷_, _++_, none, some, Option·some-ne-none, arith, length}
+use Rattle.lists.specs.Bytes.{Bytes}
 use Rattle.lists.specs.Every.{All}
 use Rattle.writing.specs.declared.Coding.{Coding}
 use Rattle.writing.specs.declared.Coding.the-variants.{Unicode16, EightBit}
@@ -10,6 +11,8 @@ use Rattle.writing.specs.Ranges.{text-limits, InRange}
 use Rattle.writing.specs.Settings.{Setting, group-contacts, individual-contacts, lines, key, quick-texts, home, channels, system, status-texts, group, individual, line-slot, last}
 use Rattle.writing.specs.Writing.{WrittenAll, request-head}
 use Rattle.writing.proofs.CanonicalLaws.{plain-shows, shows-fits}
+use Rattle.read_fields.proofs.Parts.{bytes-left}
+use Rattle.read_carrier.proofs.KindLaws.{bytes-right}
 use Rattle.read_carrier.proofs.TrueLength.{plain-carries}
 use Rattle.requests.specs.Judge as Judge
 use Rattle.requests.specs.Judge.{Outcome, kept, refused, done, step, taken, over, fault}
@@ -70,6 +73,22 @@ module _ (c : Coding) where
 
   pub sound-written : {n : ℕ} {bs : List ℕ} {l : List Setting} → Sound c n bs (kept l tt) → (EndsRequest l → ⊥) → WrittenAll c l bs × All (InRange text-limits 1) l
   sound-written (taken e q) h = (runs-written q, runs-ranged q h)
+
+  -- and back, in a message of bytes
+  written-runs : (l : List Setting) (bs : List ℕ) → Bytes bs → WrittenAll c l bs → All (InRange text-limits 1) l → Runs (length l) bs l []
+  written-runs [] bs b e i = subst (λ (z : List ℕ). Runs 0 z [] []) (sym e) done
+  written-runs (s ∷ l) bs b (w, r, p, x, y) (i, j) =
+      let d : Bytes (w ++ r) = subst Bytes p b in
+      step {w = w} {s = s} p (x, bytes-left w r d) (anywhere s 1 (length l) i (λ h. h (not-ff s 1 i (omega arith)))) refl (written-runs l r (bytes-right w r d) y j)
+
+  pub written-sound : {bs : List ℕ} (l : List Setting) → Bytes bs → WrittenAll c l bs → All (InRange text-limits 1) l → Sound c (length l) bs (kept l tt)
+  written-sound {bs} l b w i = taken refl (written-runs l bs b w i)
+
+-- settings that are in range with more behind them end with no FF item
+pub ranged-no-ff : (l : List Setting) → All (InRange text-limits 1) l → EndsRequest l → ⊥
+ranged-no-ff [] i h = h
+ranged-no-ff (s ∷ []) (i, j) h = h (not-ff s 1 i (omega arith))
+ranged-no-ff (s ∷ t ∷ l) (i, j) h = ranged-no-ff (t ∷ l) j h
 
 -- ---- the request
 

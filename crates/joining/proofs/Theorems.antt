@@ -1,5 +1,6 @@
 -- What the contract of joining comes to, for every two messages and every buffer. Assumes nothing.
-use Rattle.lists.proofs.Kit.{ℕ, _+_, _≤_, _≡_, refl, sym, ap, _∙_, subst, subst₂, _≢_, inl, inr, Bool, true, false, List, _++_, arith, length, take, drop, take-at}
+use Rattle.lists.proofs.Kit.{ℕ, _+_, _≤_, _≡_, refl, sym, ap, _∙_, subst, subst₂, _≢_, inl, inr, Bool, true, false, List, _++_, arith, length, take, drop, length-append, take-at}
+use Rattle.lists.specs.Bytes.{Bytes}
 use Rattle.lists.specs.Ladder.{Ladder, Answers}
 use Rattle.lists.proofs.Ladder.{OneFoot, one-answer}
 use Rattle.slots.specs.Slots.{written-over}
@@ -7,14 +8,14 @@ use Rattle.writing.specs.declared.Coding.{Coding}
 use Rattle.writing.specs.declared.Coding.the-variants.{Unicode16, EightBit}
 use Rattle.writing.specs.Carrier.{coding-type, RequestOf, InSize}
 use Rattle.writing.specs.Settings.{Setting}
-use Rattle.read_carrier.proofs.KindLaws.{request-one, one-coding, in-size}
+use Rattle.read_carrier.proofs.KindLaws.{request-one, one-coding, request-bytes, in-size}
 use Rattle.requests.specs.Judge.{Outcome, kept, refused}
 use Rattle.joining.specs.Joining.{Joinable, JoinedAs}
 use Rattle.joining.specs.Joins.{After, Sound, EndsRequest, joined-bytes, stays, writes, Comes, one-of, both-of, joining}
 use Rattle.joining.specs.Told.{CanJoin}
 use Rattle.joining.proofs.CheckLaws.{sound-count}
-use Rattle.joining.proofs.JoinLaws.{joined-length}
-use Rattle.joining.proofs.RequestLaws.{sound-determined, sound-refused, sound-written, count-small, joined-request}
+use Rattle.joining.proofs.JoinLaws.{joined-length, sound-answers}
+use Rattle.joining.proofs.RequestLaws.{sound-determined, sound-refused, sound-written, written-sound, ranged-no-ff, count-small, joined-request}
 
 -- ---- one outcome
 
@@ -60,6 +61,15 @@ module _ (most : ℕ) where
   -- it may be joined
   sent-joinable : {m : List ℕ} {c : Coding} {l : List Setting} {settings : List ℕ} → Sent m c l settings → Joinable most c l settings m
   sent-joinable {c} z = let (w, i) = sound-written c (z .sound) (z .no-ff) in record { size = z .size; request = z .request; written = w; in-range = i }
+
+  -- and back, in a message of bytes
+  joinable-sent : {m : List ℕ} {c : Coding} {l : List Setting} {settings : List ℕ} → Bytes m → Joinable most c l settings m → Sent m c l settings
+  joinable-sent {c} {l} b z = record {
+    size = z .size;
+    request = z .request;
+    sound = written-sound c l (request-bytes (z .request) b) (z .written) (z .in-range);
+    no-ff = ranged-no-ff l (z .in-range);
+  }
 
 -- a coding that is not another one is the same
 same-coding : (c d : Coding) → (c ≢ d → ⊥) → c ≡ d
@@ -134,6 +144,16 @@ module _ (most : ℕ) (first second buffer : List ℕ) where
           omega (arith, ap (λ (z : After). z .answer .request-length) e, joined-length c (length l + length k) (x ++ y)),
         )
 
+    -- JOIN WITHIN: and in the buffer
+    pub join-within : a .answer .request-length ≤ length (a .buffer)
+    join-within = by (ends a allowed)
+      where
+        by : Ends a → a .answer .request-length ≤ length (a .buffer)
+        by (stayed s number failed low high small e) = omega (arith, ap (λ (z : After). z .answer .request-length) e)
+        by (joined c l k x y p q few short e) =
+            let bytes : List ℕ = joined-bytes c (length l + length k) (x ++ y) in
+            omega (arith, ap (λ (z : After). z .answer .request-length) e, ap (λ (z : After). length (z .buffer)) e, length-append bytes (drop (length bytes) buffer))
+
     -- both requests may be joined, and what was written is their joining
     pub record Joined : Type 0 where
       pub coding : Coding
@@ -172,3 +192,18 @@ module _ (most : ℕ) (first second buffer : List ℕ) where
               bytes-are = is;
               after = ap (λ (z : After). z .buffer) e;
             }
+
+  -- JOIN JOINS: two requests that may be joined, and may be joined together, are joined in a buffer of the message size
+  pub join-joins : {c : Coding} {l k : List Setting} {x y : List ℕ} → Bytes first → Bytes second → Joinable most c l x first → Joinable most c k y second
+      → length l + length k ≤ 255 → 8 + length (x ++ y) ≤ most → most ≤ length buffer
+      → (a : After) → Answers (joining most first second buffer) a → a ≡ writes most first second buffer (joined-bytes c (length l + length k) (x ++ y))
+  join-joins {c} {l} {k} {x} {y} b d p q few short room a z =
+      let f = joinable-sent most b p in
+      let g = joinable-sent most d q in
+      join-determined most first second buffer a (writes most first second buffer (joined-bytes c (length l + length k) (x ++ y))) z
+      (inr (
+        λ n. omega arith,
+        sound-answers most first second buffer false first _ (f .size) (f .request) (f .sound) (f .no-ff) _
+            (sound-answers most first second buffer true second _ (g .size) (g .request) (g .sound) (g .no-ff) _
+            (inr (λ n. n refl, inr (λ n. omega arith, inr (λ n. omega arith, refl))))),
+      ))

@@ -4,6 +4,7 @@ use super::checks::Head;
 use super::checks::Request;
 use super::checks::check_request;
 use export_write::fields::put_bytes;
+use export_write::writers::FIRST;
 use read_carrier::carrier::EIGHT_BIT;
 use read_carrier::carrier::MFID;
 use read_carrier::carrier::START;
@@ -22,9 +23,6 @@ ghost use Rattle.joining.specs.Told.{told, CanJoin};
 
 // OTAPVer 1 and MsgType 0.
 const REQUEST: u8 = 0b0000_1000;
-
-// Where a request's settings start, behind its head.
-const FIRST: usize = 8;
 
 // The most settings that a request can count.
 const MOST: u8 = 255;

@@ -17,7 +17,7 @@ sub-if2 : tie.Need-sub-if2
 sub-if2 c = search needs
 
 returns-2 : tie.Need-returns-2
-returns-2 c =     let a = c .before .before .before .before .before .before .before .args in
+returns-2 c = let a = c .before .before .before .before .before .before .before .args in
     both-many (a .most) (a .first .now) (a .second .now) (a .buffer .now) (a .a) (a .b) (sym (c .before .before .before .coding-byte .ensures) ∙ c .before .if1 .left ∙ c .before .before .coding-byte2 .ensures) (omega arith) (c .if2 .taken)
 
 sub-if3 : tie.Need-sub-if3
@@ -27,7 +27,7 @@ sub-if3-2 : tie.Need-sub-if3-2
 sub-if3-2 c = search needs
 
 returns-3 : tie.Need-returns-3
-returns-3 c =     let a = c .before .before .before .before .before .before .before .before .args in
+returns-3 c = let a = c .before .before .before .before .before .before .before .before .args in
     both-long (a .most) (a .first .now) (a .second .now) (a .buffer .now) (a .a) (a .b) (sym (c .before .before .before .before .coding-byte .ensures) ∙ c .before .before .if1 .left ∙ c .before .before .before .coding-byte2 .ensures) (omega arith) (omega arith) (omega arith) (omega arith) (c .before .if2 .left) (c .if3 .taken)
 
 add-t13 : tie.Need-add-t13
@@ -58,7 +58,7 @@ same-length : tie.Need-same-length
 same-length c = search needs
 
 returns-4 : tie.Need-returns-4
-returns-4 c =     let a = c .before .before .before .before .before .before .before .before .before .before .before .before .before .before .args in
+returns-4 c = let a = c .before .before .before .before .before .before .before .before .before .before .before .before .before .before .args in
     both-written (a .most) (a .first .now) (a .second .now) (a .buffer .now) (a .a) (a .b) (sym (c .before .before .before .before .before .before .before .before .before .before .coding-byte .ensures) ∙ c .before .before .before .before .before .before .before .before .if1 .left ∙ c .before .before .before .before .before .before .before .before .before .coding-byte2 .ensures) (omega arith) (omega arith) (omega arith) (omega arith) (c .before .before .before .before .before .before .before .if2 .left) _ _ (c .before .before .before .before .before .before .if3 .left) (c .before .before .write-joined .ensures)
 
 pub join-both-spec : {M : Type 1} → statement M
