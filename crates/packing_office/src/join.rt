@@ -2,7 +2,7 @@
 use joining::answers::Fault;
 use joining::answers::Join;
 use packing::bits::low;
-ghost use Prim.Native.Nat.{_+_, _*_};
+ghost use Prim.Native.Nat.{_+_, _*_, _<_};
 ghost use mathlib.Core.Path.{_≡_};
 ghost use Rattle.joining.specs.Told.{fault-number, fault-id, told};
 ghost use Rattle.packing.specs.PackedValues.{WhereFit};
@@ -10,7 +10,7 @@ ghost use Rattle.packing_office.specs.PackedJoin.{join-fields};
 
 // Bits 0 to 7 number, 8 to 15 failed ID.
 fn pack_fault(fault: Fault) -> u64
-    ensures { λ r. ⌜ r ≡ fault-id fault * 256 + fault-number fault ⌝ }
+    ensures { λ r. ⌜ (r ≡ fault-id fault * 256 + fault-number fault) × (r < 65536) ⌝ }
 {
     match fault {
         Fault::Size => 12,
