@@ -66,7 +66,7 @@ module _ (most : ℕ) (first second buffer : List ℕ) where
       (rung (OtherVersion message) (stays in-second 1 0)
       (rung (NoRequest message) (stays in-second 4 0)
       (foot (λ a. (c : Coding) × (count : ℕ) × (settings : List ℕ) × RequestOf c count settings message
-          × (o : Outcome Setting (Unit {0})) × Sound c count settings o × Comes in-second (λ l. next c l settings) o a))))))
+      × (o : Outcome Setting (Unit {0})) × Sound c count settings o × Comes in-second (λ l. next c l settings) o a))))))
 
   -- "4 for two coding types, 4 for over 255 settings together, and last 12 for a joined request over the message size"
   abbrev pub both-of : Coding → List Setting → List ℕ → Coding → List Setting → List ℕ → Ladder After
