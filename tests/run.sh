@@ -102,6 +102,8 @@ step "behind a row" build_and_run entries "$sanitizers"
 step "reports" build_and_run reports "$sanitizers"
 step "the office's reader" with_office build_and_run office "$sanitizers"
 step "reports read back" with_office build_and_run read_back "$sanitizers" && show
+step "joining requests" with_office build_and_run joining "$sanitizers"
+step "joined requests in a set" with_office build_and_run joined "$sanitizers" && show
 step "bounds of the lent bytes" build_and_run bounds -O1 && show
 step "bounds can fail" sees_outside bounds
 step "bounds of the office's reader" with_office build_and_run office_bounds -O1 && show
