@@ -4,8 +4,6 @@
  */
 #include "joins.h"
 
-enum { ALL_KINDS = 17 };
-
 static uint8_t store[OTAP_STORE_BYTES];
 
 /* What a message to a store comes to: number, and failed ID from bit 8 on. */
@@ -159,15 +157,6 @@ static void twice(void)
     both_come_to("an add that has room once", 2, 2);
 }
 
-/* One of the messages of every kind, without its FF item. */
-static void write_kind(Message *m, unsigned kind, unsigned turn)
-{
-    write_message(m, kind, turn);
-    m->length -= 14;
-    m->bytes[7]--;
-    m->bytes[2] = m->bytes[3] = 0;
-}
-
 /* Two of every kind, to full stores and to others, which go from pair to pair: all three that can come of it come often. */
 static void every_pair(void)
 {
@@ -179,10 +168,10 @@ static void every_pair(void)
             write_filling(&said, each, turn % 3 * 20);
             same("a store is filled", 0, OTAP_OK, take(&said, store));
         }
-        for (each = 0; each < ALL_KINDS * ALL_KINDS; each++, all++) {
+        for (each = 0; each < REQUEST_KINDS * REQUEST_KINDS; each++, all++) {
             uint64_t answer;
-            write_kind(&first, each % ALL_KINDS, turn + each);
-            write_kind(&second, each / ALL_KINDS, turn + each / 2);
+            write_joinable(&first, each % REQUEST_KINDS, turn + each);
+            write_joinable(&second, each / REQUEST_KINDS, turn + each / 2);
             answer = both_ways();
             same("taken, or no room", 1, answer == 0 || (answer & 0xFF) == OTAP_NO_ROOM, 1);
             taken += answer == 0;
