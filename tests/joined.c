@@ -42,17 +42,17 @@ static void fresh(void)
     same("start", 0, OTAP_OK, otap_start(store, sizeof store));
 }
 
-/* A request of one setting with a list: lines, or channels. */
-static void write_lines(Message *m, unsigned operation, unsigned count)
+/* A request of one setting of this operation with as many entries, of one of the six types that can replace. */
+static void write_list(Message *m, unsigned type, unsigned operation, unsigned count)
 {
     open_request(m, 1);
-    put_lines(m, operation, count, 0);
-}
-
-static void write_channels(Message *m, unsigned operation, unsigned count)
-{
-    open_request(m, 1);
-    put_channels(m, operation, count);
+    switch (type) {
+    case 0xCA: put_lines(m, operation, count, 0); break;
+    case 0xCC: put_quick(m, operation, 7, count, 0); break;
+    case 0xCE: put_channels(m, operation, count); break;
+    case 0xD0: put_status(m, operation, count, 0); break;
+    default: put_contacts(m, type, operation, count, 0); break;
+    }
 }
 
 /* A setting of home numbers in front, so that the list is the second of its request. */
@@ -70,21 +70,21 @@ static void rooms(void)
     write_bytes(&second, one_line, sizeof one_line);
     both_come_to("both are taken", 0, 0);
     counts_are("a line and two channels", store, 1, 2);
-    write_lines(&first, ADD, 33);
+    write_list(&first, 0xCA, ADD, 33);
     both_come_to("the first lacks room", 2, 1);
-    write_lines(&second, ADD, 33);
+    write_list(&second, 0xCA, ADD, 33);
     both_come_to("so do both", 2, 1);
     write_home_and_channels(&first, REPLACE, 60);
-    write_channels(&second, ADD, 5);
+    write_list(&second, 0xCE, ADD, 5);
     both_come_to("the second lacks room, behind two settings", 2, 3);
     counts_are("nothing was taken", store, 1, 2);
-    write_channels(&first, ADD, 62);
+    write_list(&first, 0xCE, ADD, 62);
     write_home_and_channels(&second, ADD, 1);
     both_come_to("its second setting lacks room", 2, 3);
-    write_channels(&second, REPLACE, 64);
+    write_list(&second, 0xCE, REPLACE, 64);
     both_come_to("room that a replace makes", 0, 0);
-    write_channels(&first, DELETE, 64);
-    write_channels(&second, ADD, 64);
+    write_list(&first, 0xCE, DELETE, 64);
+    write_list(&second, 0xCE, ADD, 64);
     both_come_to("room that the first makes", 0, 0);
     counts_are("64 channels again", store, 1, 64);
     write_homes(&first, 127);
@@ -113,19 +113,6 @@ static void other_stores(void)
     same("no hash", 0, store[0], store[1]);
 }
 
-/* A request of one setting of this operation, of one of the six types that can replace. */
-static void write_list(Message *m, unsigned type, unsigned operation, unsigned vary)
-{
-    open_request(m, 1);
-    switch (type) {
-    case 0xCA: put_lines(m, operation, 5, vary); break;
-    case 0xCC: put_quick(m, operation, 7, 5, vary); break;
-    case 0xCE: put_channels(m, operation, 5); break;
-    case 0xD0: put_status(m, operation, 5, vary); break;
-    default: put_contacts(m, type, operation, 5, vary); break;
-    }
-}
-
 /* What replaces leaves the same store twice as once, with an FF item too, which cannot be joined; a channel that is added is there twice. */
 static void twice(void)
 {
@@ -134,7 +121,7 @@ static void twice(void)
     size_t each;
     fresh();
     for (each = 0; each < sizeof types; each++) {
-        write_list(&first, types[each], REPLACE, 1);
+        write_list(&first, types[each], REPLACE, 5);
         second = first;
         same("a replace", 0, OTAP_OK, take(&first, store));
         memcpy(once, store, sizeof once);
@@ -148,11 +135,11 @@ static void twice(void)
         same("it leaves the same store", 0, 0, (uint64_t)(memcmp(store, once, sizeof once) != 0));
         refused("it cannot be joined", 4, 2, 0, join());
     }
-    write_channels(&first, ADD, 5);
+    write_list(&first, 0xCE, ADD, 5);
     second = first;
     both_come_to("an add twice", 0, 0);
     counts_are("5 lines, and 5 channels three times", store, 5, 15);
-    write_channels(&first, ADD, 30);
+    write_list(&first, 0xCE, ADD, 30);
     second = first;
     both_come_to("an add that has room once", 2, 2);
 }
