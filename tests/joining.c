@@ -23,6 +23,7 @@ static void by_hand(void)
     static const uint8_t turned[] = {2, 2, 0, 0x16, 8, 7, 8, 2, 0xCA, 0, 9, 0x42, 1, 0x23, 0x45, 0xFF, 0, 0, 0xCE, 0, 7, 0xC0, 2, 0x0F, 0x12, 0x80};
     static const uint8_t narrow[] = {2, 2, 0, 0, 8, 0xA4, 8, 1, 0xCD, 0, 5, 0x07, 0xE4, 0xDF}, other[] = {2, 2, 0, 0, 8, 4, 8, 1, 0xD0, 0, 7, 0x7F, 1, 32, 'A', 0};
     static const uint8_t kept[] = {2, 2, 0, 0x12, 8, 4, 8, 2, 0xCD, 0, 5, 0x07, 0xE4, 0xDF, 0xD0, 0, 7, 0x7F, 1, 32, 'A', 0};
+    static const uint8_t back[] = {2, 2, 0, 0x12, 8, 4, 8, 2, 0xD0, 0, 7, 0x7F, 1, 32, 'A', 0, 0xCD, 0, 5, 0x07, 0xE4, 0xDF};
     write_bytes(&first, two_channels, sizeof two_channels);
     write_bytes(&second, one_line, sizeof one_line);
     joined_is("channels, then a line", joined, sizeof joined);
@@ -39,6 +40,9 @@ static void by_hand(void)
     write_bytes(&first, narrow, sizeof narrow);
     write_bytes(&second, other, sizeof other);
     joined_is("coding type 0100", kept, sizeof kept);
+    write_bytes(&first, other, sizeof other);
+    write_bytes(&second, narrow, sizeof narrow);
+    joined_is("the other way round", back, sizeof back);
 }
 
 /* What is wrong with one request, in D8's order: each has faults that come later too, where it can have them. */
@@ -103,6 +107,31 @@ static void late_faults(void)
     first.bytes[2] = first.bytes[3] = 0;
     first.length = OTAP_MESSAGE_BYTES + 1;
     refused("4,097 bytes", 12, 0, 0, join());
+    second = first;
+    write_homes(&first, 1);
+    refused("4,097 bytes of the second", 12, 0, 1, join());
+}
+
+/* 65 channels lack room in every set: joining looks past them to what is behind them, and joins them where that is nothing wrong. */
+static void room_is_not_asked(void)
+{
+    static const uint8_t np_807[] = {0x07, 0xE4, 0xE0};
+    write_homes(&second, 1);
+    open_request(&first, 2);
+    put_channels(&first, ADD, 65);
+    put_bytes(&first, 0xCD, np_807, sizeof np_807);
+    refused("a fault behind them", 4, 2, 0, join());
+    first.bytes[first.length - 6] = 0xC7;
+    refused("an unknown type behind them", 3, 2, 0, join());
+    first.length -= 6;
+    put_last(&first);
+    refused("an FF item behind them", 4, 2, 0, join());
+    put(&first, 0);
+    refused("and a byte left over", 4, 0, 0, join());
+    first.length -= 15;
+    first.bytes[7] = 1;
+    second = first;
+    same("65 and 65 channels", (uint64_t)(2 * first.length - HEAD) << 16, join(), (uint64_t)(2 * first.length - HEAD) << 16);
 }
 
 /* An empty status text, as often: 5 bytes, and 3 for each. */
@@ -169,6 +198,7 @@ int main(void)
     by_hand();
     each_fault();
     late_faults();
+    room_is_not_asked();
     together();
     printf("bytes and refusals of joining are as the rules say\n");
     return 0;
