@@ -1,15 +1,16 @@
 #!/bin/sh
 # shellcheck disable=SC2086,SC2317,SC2329 # flags are several words, and steps are called by their names
-# examples/run.sh: the C header in each language, and the examples with this machine's archive; ends with 1 if a step fails.
+# examples/run.sh: the C headers in each language, and the examples with this machine's archives; ends with 1 if a step fails.
 # tests/steps.sh says what it heeds.
 set -u
 cd "$(dirname "$0")/.." || exit 1
 . tests/steps.sh
 
-# What the header itself says, seen alone: no warning in any of these languages.
+# What a header itself says, seen alone: no warning in any of these languages. The office's takes no harm from the other, before it or behind it.
 header_as() {
     language=$1 standard=$2 compiler=$3
-    echo '#include "otap.h"' | $compiler -std="$standard" $warnings -fsyntax-only -x "$language" -
+    shift 3
+    printf '#include "%s.h"\n' "$@" | $compiler -std="$standard" $warnings -fsyntax-only -x "$language" -
 }
 
 # build_and_print EXAMPLE LANGUAGE STANDARD COMPILER FLAGS: what it prints is what is stored.
@@ -29,10 +30,13 @@ snippet_quoted() {
 }
 
 for standard in c99 c11; do
-    step "header as $standard" header_as c $standard "$CC"
+    step "header as $standard" header_as c $standard "$CC" otap
+    step "office's header as $standard" header_as c $standard "$CC" otap_office
+    step "both headers as $standard" header_as c $standard "$CC" otap otap_office otap
 done
 for standard in c++98 c++11 c++17; do
-    step "header as $standard" header_as c++ $standard "$CXX"
+    step "header as $standard" header_as c++ $standard "$CXX" otap
+    step "office's header as $standard" header_as c++ $standard "$CXX" otap_office otap
 done
 step "snippet as C" $CC -std=c99 $warnings -c examples/snippet.c -o "$built/snippet.o"
 step "snippet as C++" $CXX -x c++ -std=c++98 $warnings -c examples/snippet.c -o "$built/snippet.o"
@@ -41,5 +45,7 @@ step "snippet in README.md" snippet_quoted
 need_archive
 step "firmware as C" build_and_print firmware c c99 "$CC" "$sanitizers"
 step "firmware as C++" build_and_print firmware c++ c++11 "$CXX" "$sanitizers"
+step "office as C" with_office build_and_print office c c99 "$CC" "$sanitizers"
+step "office as C++" with_office build_and_print office c++ c++11 "$CXX" "$sanitizers"
 step "PTT with two tasks" build_and_print ptt c c99 "$CC" "-pthread $sanitizers"
 exit $failed

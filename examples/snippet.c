@@ -45,7 +45,7 @@ void on_message_in_call(const uint8_t *message, size_t length)
     lock_store();
     answer = otap_judge(message, length, store, sizeof store, forecast, sizeof forecast);
     unlock_store();
-    if (otap_answer_length(answer) == 0) /* 10 to 14: nothing that could be answered, now or later */
+    if (otap_answer_length(answer) == 0) /* 10 to 14: no reply, now or later; a query is 14, and otap_report answers it */
         return;
     keep_message(message, length);
     show_waiting(otap_answer_number(answer) == OTAP_OK, otap_answer_reboot(answer));

@@ -3,25 +3,29 @@
 # fuzz/run.sh [SECONDS]: fuzzes the C functions for as long (60), with libFuzzer, else AFL++, else a driver of our own, and says which.
 # Ends with 1 on a finding, or if a check cannot fail.
 # FUZZ_WITH=libfuzzer, afl or driver asks for one; FUZZ_SEED (1) is the driver's and libFuzzer's seed. Findings are kept in target/fuzz/.
-# It links $OTAP_ARCHIVE_DIR/libotap_handheld.a, or this machine's target/archive/TARGET/libotap_handheld.a, which ./archive writes.
+# It links libotap_handheld.a and libotap_office.a of $OTAP_ARCHIVE_DIR, or of this machine's target/archive/TARGET, which ./archive writes.
 set -u
 cd "$(dirname "$0")/.." || exit 1
 seconds=${1:-60}
 seed=${FUZZ_SEED:-1}
-archive=${OTAP_ARCHIVE_DIR:-target/archive/$(uname -m)-linux}/libotap_handheld.a
+archives=${OTAP_ARCHIVE_DIR:-target/archive/$(uname -m)-linux}
+archives="$archives/libotap_handheld.a $archives/libotap_office.a"
 flags="-std=c11 -Wall -Wextra -Iinclude -g -O1"
 sanitizers="-fsanitize=address,undefined -fno-sanitize-recover=all"
 wrapped="-Wl,--wrap=otap_judge -Wl,--wrap=otap_commit -Wl,--wrap=otap_export -Wl,--wrap=otap_row_number -Wl,--wrap=otap_row_part -Wl,--wrap=otap_counts"
 wrapped="$wrapped -Wl,--wrap=otap_line_of -Wl,--wrap=otap_entry -Wl,--wrap=otap_entry_digits -Wl,--wrap=otap_channel -Wl,--wrap=otap_emergency_key"
-wrapped="$wrapped -Wl,--wrap=otap_home_numbers -Wl,--wrap=otap_system_code"
+wrapped="$wrapped -Wl,--wrap=otap_home_numbers -Wl,--wrap=otap_system_code -Wl,--wrap=otap_report -Wl,--wrap=otap_read_report"
+wrapped="$wrapped -Wl,--wrap=otap_report_entry -Wl,--wrap=otap_report_places"
+last_wrong=67
 CC=${CC:-gcc}
 # There are many short-lived buffers: a large quarantine only slows it down.
 export ASAN_OPTIONS=quarantine_size_mb=1
 
-if [ ! -f "$archive" ]; then
+for archive in $archives; do
+    [ -f "$archive" ] && continue
     echo "FAILED  no $archive: ./archive writes it"
     exit 1
-fi
+done
 work=$(mktemp -d) || exit 1
 trap 'rm -rf "$work"' EXIT
 mkdir -p target/fuzz "$work/new"
@@ -33,9 +37,9 @@ checks_can_fail() {
     $CC $flags $sanitizers -c fuzz/target.c -o "$work/target.o" || return 1
     $CC $flags $sanitizers -c fuzz/driver.c -o "$work/driver.o" || return 1
     wrong=0
-    while [ $wrong -le 41 ]; do
+    while [ $wrong -le $last_wrong ]; do
         $CC $flags -DWRONG=$wrong -c fuzz/wrong.c -o "$work/wrong.o" || return 1
-        $CC $sanitizers "$work/target.o" "$work/driver.o" "$work/wrong.o" "$archive" $wrapped -o "$work/wrong" || return 1
+        $CC $sanitizers "$work/target.o" "$work/driver.o" "$work/wrong.o" $archives $wrapped -o "$work/wrong" || return 1
         (cd "$work" && ./wrong 0 1 "$seeds"/*) > "$work/log" 2>&1
         ended=$?
         if [ $((ended == 0)) -ne $((wrong == 0)) ]; then
@@ -45,11 +49,11 @@ checks_can_fail() {
         fi
         wrong=$((wrong + 1))
     done
-    echo "ok      the checks find each of 41 wrong libraries"
+    echo "ok      the checks find each of $last_wrong wrong libraries"
 }
 
 with_libfuzzer() {
-    clang $flags -fsanitize=fuzzer $sanitizers fuzz/target.c "$archive" -o "$work/target" 2> "$work/log" || return 2
+    clang $flags -fsanitize=fuzzer $sanitizers fuzz/target.c $archives -o "$work/target" 2> "$work/log" || return 2
     echo "with libFuzzer, $seconds seconds"
     "$work/target" -max_total_time="$seconds" -seed="$seed" -max_len=4096 -len_control=10 -print_final_stats=1 \
         -artifact_prefix="$found/" "$work/new" "$seeds" > "$work/log" 2>&1
@@ -60,7 +64,7 @@ with_libfuzzer() {
 
 with_afl() {
     command -v afl-fuzz > /dev/null && command -v afl-clang-fast > /dev/null || return 2
-    AFL_USE_ASAN=1 afl-clang-fast $flags -fsanitize=fuzzer fuzz/target.c "$archive" -o "$work/target" > "$work/log" 2>&1 || return 2
+    AFL_USE_ASAN=1 afl-clang-fast $flags -fsanitize=fuzzer fuzz/target.c $archives -o "$work/target" > "$work/log" 2>&1 || return 2
     echo "with AFL++, $seconds seconds"
     AFL_SKIP_CPUFREQ=1 AFL_I_DONT_CARE_ABOUT_MISSING_CRASHES=1 AFL_NO_UI=1 \
         afl-fuzz -V "$seconds" -m none -i "$seeds" -o "$work/afl" -- "$work/target" > "$work/log" 2>&1 || { tail -5 "$work/log"; return 1; }
@@ -70,7 +74,7 @@ with_afl() {
 }
 
 with_driver() {
-    $CC $flags $sanitizers fuzz/target.c fuzz/driver.c "$archive" -o "$work/driver" || return 1
+    $CC $flags $sanitizers fuzz/target.c fuzz/driver.c $archives -o "$work/driver" || return 1
     echo "with the driver of our own, $seconds seconds; for libFuzzer install clang and its runtime (Debian: clang libclang-rt-14-dev)"
     (cd "$work" && ./driver "$seconds" "$seed" "$seeds"/*) || { cp "$work/last-input" "$found/"; return 1; }
 }

@@ -3,8 +3,8 @@
  * goes from record to record. Each message is judged and then committed, and the one before it once more after it. After each the store is still a store,
  * and at the end it is written out into a fresh one that becomes the same.
  */
+#include "asking.h"
 #include "callers.h"
-#include "entries.h"
 
 enum { MOST_RECORDS = 64 };
 
@@ -129,6 +129,7 @@ static void restore_it(void)
     check_lists(store, check_counts(store));
     check_callers(store);
     check_entries(store);
+    check_reports(store);
     must(check_counts(other) == check_counts(store), "the other store has the same counts");
 }
 
@@ -143,6 +144,7 @@ static int known_by_all(void)
     must(known == (counts_twice(store, OTAP_STORE_BYTES) != OTAP_NO_STORE), "counts know a store");
     must(known == (line_of_twice(OTAP_PABX, query, 2, store, OTAP_STORE_BYTES) != OTAP_NO_STORE), "looking up knows a store");
     must(known_behind(store, known), "each call for a value knows a store");
+    must(known == (ask_channels(store) != OTAP_NO_STORE), "a report knows a store");
     return known;
 }
 
@@ -339,6 +341,8 @@ static void one_record(Input *input)
             ask_caller(input, choice);
         } else if (choice & 32) {
             ask_value(input, store);
+        } else if (choice & 64) {
+            (choice & 128 ? read_message : ask_report)(input, store);
         } else {
             start_again(input);
         }

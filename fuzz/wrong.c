@@ -333,3 +333,5 @@ uint64_t __wrap_otap_system_code(const uint8_t *store, uint64_t store_length)
     uint64_t answer = __real_otap_system_code(store, store_length);
     return WRONG == 41 && otap_answer_number(answer) == OTAP_OK ? answer ^ 1u << 26 : answer; /* the other PAR */
 }
+
+#include "wrong_reports.h"

@@ -50,6 +50,7 @@ enum {
     OTAP_MESSAGE_BYTES = 4096, /* a message has at most as many, and at least 7 */
     OTAP_REPLY_BYTES = 20,     /* a reply buffer has at least as many */
     OTAP_EXPORT_BYTES = 4096,  /* an export buffer has at least as many */
+    OTAP_REPORT_BYTES = 4096,  /* a report buffer has at least as many */
     OTAP_SCRATCH_BYTES = 36,   /* a scratch has at least as many */
     OTAP_ROW_BYTES = 46        /* a row's part has at most as many: 23 units */
 };
@@ -69,6 +70,7 @@ enum {
     OTAP_JUDGE_STACK = 26624,    /* 26,288: it has the working copy that otap_commit has */
     OTAP_COMMIT_STACK = 26624,   /* 26,288: 24,576 of them are the working copy of the store */
     OTAP_EXPORT_STACK = 1024,    /* 896 */
+    OTAP_REPORT_STACK = 1536,    /* 984 */
     OTAP_ROW_STACK = 1024,       /* 816 otap_row_number, 896 otap_row_part */
     OTAP_COUNTS_STACK = 1024,    /* 532 */
     OTAP_LINE_OF_STACK = 1024,   /* 712 */
@@ -88,9 +90,10 @@ enum {
     OTAP_NO_STORE = 11,        /* store not 24,576 bytes, or not a store */
     OTAP_MESSAGE_LENGTH = 12,  /* message under 7 or over 4,096 bytes */
     OTAP_BAD_CARRIER = 13,     /* carrier field or length wrong */
-    OTAP_OTHER_MESSAGE = 14,   /* MsgType is neither request nor result query */
-    OTAP_SHORT_BUFFER = 15,    /* scratch under 36 bytes, export buffer under 4,096, or digits buffer under 18 */
+    OTAP_OTHER_MESSAGE = 14,   /* MsgType is neither request nor result query; of otap_report: is not query */
+    OTAP_SHORT_BUFFER = 15,    /* scratch under 36 bytes, export or report buffer under 4,096, or digits buffer under 18 */
     OTAP_NO_PART = 16,         /* export part not 1 to 10 */
+    OTAP_NO_MESSAGE = 16,      /* the same number, of otap_report: the report has no message of this index */
     OTAP_NO_ROW = 17,          /* the screen's row is absent, or a background group's */
     OTAP_NOTHING_THERE = 17,   /* the same number, of otap_entry, otap_entry_digits and otap_channel: nothing stands there */
     OTAP_OUTSIDE_PLAN = 20,    /* of a conversion: dialled number outside the plan */
@@ -152,6 +155,21 @@ enum {
     OTAP_EXPORT_PARTS = 10     /* as many: 1 to OTAP_EXPORT_PARTS */
 };
 
+/* The types that a query asks for, each for a table or a value; every other byte is unknown to it. A query has 1 to OTAP_QUERY_MOST_TYPES of them. */
+enum {
+    OTAP_ASK_GROUP_CONTACTS = 0xC8,
+    OTAP_ASK_INDIVIDUAL_CONTACTS = 0xC9,
+    OTAP_ASK_LINES = 0xCA,
+    OTAP_ASK_EMERGENCY_KEY = 0xCB,
+    OTAP_ASK_QUICK_TEXTS = 0xCC,
+    OTAP_ASK_HOME_NUMBERS = 0xCD,
+    OTAP_ASK_CHANNELS = 0xCE,
+    OTAP_ASK_SYSTEM_CODE = 0xCF,
+    OTAP_ASK_STATUS_TEXTS = 0xD0,
+    OTAP_ASK_HASH = 0xFF,
+    OTAP_QUERY_MOST_TYPES = 255
+};
+
 /*
  * Makes a fresh store of any OTAP_STORE_BYTES bytes: empty tables, no hash kept.
  *   0   every byte of the store is written
@@ -209,6 +227,26 @@ uint64_t otap_commit(const uint8_t *message, uint64_t message_length,
  * Unpack with otap_answer_number, otap_export_length.
  */
 uint64_t otap_export(uint32_t part,
+                     const uint8_t *store, uint64_t store_length,
+                     uint8_t *buffer, uint64_t buffer_length);
+
+/*
+ * Answers a query of the office: writes one message of the report to it at the buffer's start, docs/REPORTS.md. Ask with index 1, then with each up to the
+ * total, 231 at most. It is one report while the store stays: where a message is committed in between, ask again from index 1.
+ *   0   the message is written; bytes of the buffer past its length stay
+ *   15  buffer_length is under OTAP_REPORT_BYTES
+ *   11  not a store
+ *   12  OTAP_MESSAGE_LENGTH, of the query; 13 its carrier is wrong; 14 it is no query (MsgType 2); 1 its OTAPVer is not 1
+ *   4   no types, or their count does not match the query's bytes
+ *   16  OTAP_NO_MESSAGE: index is 0, or more than the total
+ * The first that applies, in this order: 15, 11, 12, 13, 14, 1, 4, 16; a refusal has total 0 and length 0, and touches no byte, 1 too: there is no reply
+ * to be sent. Query and store are only read; otap_judge and otap_commit refuse a query with 14.
+ * The report has an entry for each that the tables asked for hold, background groups too, in the order of the types asked; a type asked twice is answered
+ * twice. The slots cannot be asked for. The first type that is none of OTAP_ASK_GROUP_CONTACTS and its like is answered as unknown, and ends the report.
+ * In the answer, bits 0 to 7 are the number, 8 to 15 the total of messages, 16 to 31 the length; all others are 0.
+ * Unpack with otap_answer_number, otap_report_total, otap_report_length. The office reads it with otap_office.h.
+ */
+uint64_t otap_report(const uint8_t *query, uint64_t query_length, uint32_t index,
                      const uint8_t *store, uint64_t store_length,
                      uint8_t *buffer, uint64_t buffer_length);
 

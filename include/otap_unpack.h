@@ -10,7 +10,7 @@
 extern "C" {
 #endif
 
-/* The number of every answer of 64 bits, but for that of otap_row_part, which has none. */
+/* The number of every answer of 64 bits, but for those of otap_row_part, otap_report_entry and otap_report_places, which have none. */
 static inline uint32_t otap_answer_number(uint64_t answer)
 {
     return (uint32_t)(answer & 0xFFu);
@@ -42,6 +42,18 @@ static inline size_t otap_answer_length(uint64_t answer)
 
 /* How many bytes of the buffer are the request. */
 static inline size_t otap_export_length(uint64_t answer)
+{
+    return (size_t)((answer >> 16) & 0xFFFFu);
+}
+
+/* How many messages the report has, 1 to 231; 0 of a refusal. */
+static inline uint32_t otap_report_total(uint64_t answer)
+{
+    return (uint32_t)((answer >> 8) & 0xFFu);
+}
+
+/* How many bytes of the buffer are the message of the report. */
+static inline size_t otap_report_length(uint64_t answer)
 {
     return (size_t)((answer >> 16) & 0xFFFFu);
 }

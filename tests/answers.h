@@ -49,6 +49,7 @@ static inline void no_store(const char *what, uint8_t *bytes)
     same(what, 11, OTAP_NO_STORE, otap_home_numbers(bytes, OTAP_STORE_BYTES));
     same(what, 11, OTAP_NO_STORE, otap_system_code(bytes, OTAP_STORE_BYTES));
     same(what, 11, OTAP_NO_STORE, otap_export(1, bytes, OTAP_STORE_BYTES, buffer, sizeof buffer));
+    same(what, 11, OTAP_NO_STORE, otap_report(reply, 0, 1, bytes, OTAP_STORE_BYTES, buffer, sizeof buffer));
     same(what, 11, OTAP_NO_STORE, otap_row_number(OTAP_GROUPS, 0, bytes, OTAP_STORE_BYTES, scratch, sizeof scratch));
     write_query(&said, 0);
     same(what, 11, OTAP_NO_STORE, judge_and_commit(said.bytes, said.length, bytes, OTAP_STORE_BYTES, reply, sizeof reply));

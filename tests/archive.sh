@@ -20,6 +20,7 @@ cat > "$work/kit/bin/rt" << 'END'
 [ "$1" != version ] || { echo "${VERSION:-rattle-kit-5b logic 064da1ca440f63e7}"; exit; }
 mkdir -p target/staticlib && touch target/staticlib/libotap_handheld.a module.bc
 case $RT in
+    "not $2") echo "fn read: no proof: of what it ensures"; exit 1 ;;
     unproved) echo "fn commit: no proof: of what it ensures"; exit 1 ;;
     silent) ;;
     *) "$RATTLE_HOME/on/$(uname -m)/toolchain/bin/clang" module.bc ;;
@@ -50,14 +51,16 @@ define noundef i64 @otap_commit(ptr noundef %a0, i64 noundef %a1) #0 {
 END
 }
 
-# ends STATUS WORDS TARGET: how ./archive ends, and what its one line says.
+# ends STATUS WORDS TARGET: how ./archive ends, and what its one line says; a line for each crate where it ends with 0.
 ends() {
     status=$1 words=$2
     shift 2
     rm -rf "$work/repo/target/archive"
     PATH=$path "$work/repo/archive" "$@" > "$work/out" 2>&1
     ended=$?
-    if [ $ended -ne "$status" ] || [ "$(wc -l < "$work/out")" -ne 1 ] || ! grep -q -- "$words" "$work/out"; then
+    lines=1
+    [ "$status" -ne 0 ] || lines=$(wc -l < "$work/repo/crates.txt")
+    if [ $ended -ne "$status" ] || [ "$(wc -l < "$work/out")" -ne "$lines" ] || ! tr '\n' ' ' < "$work/out" | grep -q -- "$words"; then
         echo "FAILED  $words: ended with $ended, and said:"
         cat "$work/out"
         failed=1
@@ -72,7 +75,7 @@ path=$work/bare
 ends 2 "rt is not here" cortex-m4
 path=$work/kit/bin:$PATH
 export RT=whole
-ends 0 "^target/archive/cortex-m4/libotap_handheld.a$" cortex-m4
+ends 0 "^target/archive/cortex-m4/libotap_handheld.a $" cortex-m4
 ends 2 "no such target: cortex-m9; there are: x86_64-linux" cortex-m9
 RT=unproved ends 1 "otap_handheld is not proved, so nothing is written: fn commit: no proof" cortex-m4
 RT=silent ends 1 "compiled 0 modules" cortex-m4
@@ -90,5 +93,11 @@ done << 'END'
 %r1 = add <4 x i32> zeroinitializer, zeroinitializer
 %r1 = call i64 asm "rdtsc", "=r"()
 END
+
+# Of two crates each has an archive; where the second is not proved, the first has none either.
+module ""
+echo 'otap_office: otap_handheld' >> "$work/repo/crates.txt"
+ends 0 "^target/archive/cortex-m4/libotap_handheld.a target/archive/cortex-m4/libotap_office.a $" cortex-m4
+RT="not otap_office" ends 1 "otap_office is not proved, so nothing is written: fn read: no proof" cortex-m4
 [ $failed -ne 0 ] || echo "ok      wrong use of ./archive"
 exit $failed

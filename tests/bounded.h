@@ -4,20 +4,9 @@
 
 #include "otap.h"
 #include "messages.h"
+#include "must.h"
 
-#include <stdio.h>
-#include <stdlib.h>
 #include <string.h>
-
-static const char *volatile current = "nothing";
-
-static void must(int holds, const char *what)
-{
-    if (!holds) {
-        fprintf(stderr, "%s: %s\n", current, what);
-        exit(1);
-    }
-}
 
 #ifdef __unix__
 #include "pages.h"
@@ -30,7 +19,7 @@ enum { TIMES = 1 }; /* an emulator is slow */
 enum { LONGEST = 32768 };
 
 static Lent message, store, buffer;
-static unsigned long calls, seen[256];
+static unsigned long calls, seen[256], reports_seen[256];
 static uint8_t filled[OTAP_STORE_BYTES + 1];
 static uint8_t copy_of_store[LONGEST], copy_of_buffer[LONGEST], forecast[LONGEST];
 
@@ -260,6 +249,30 @@ static void export_at(int at_end, uint32_t part, const uint8_t *bytes, size_t st
     must(otap_answer_number(answer) == expected || (bytes != filled && answer == OTAP_NO_STORE), "number");
     must(otap_answer_number(answer) == OTAP_OK || otap_export_length(answer) == 0, "a refusal has a length");
     must(otap_export_length(answer) <= length && buffer_stays(otap_export_length(answer)), "bytes past the request changed");
+}
+
+/* A message of a report, or none; what is refused is asked for again, of a buffer that cannot be written. */
+static void report_at(int at_end, const Message *query, uint32_t index, const uint8_t *bytes, size_t store_length, size_t length)
+{
+    uint32_t expected = length < OTAP_REPORT_BYTES ? OTAP_SHORT_BUFFER : store_length != OTAP_STORE_BYTES ? OTAP_NO_STORE
+                      : query->length < 7 || query->length > OTAP_MESSAGE_BYTES ? OTAP_MESSAGE_LENGTH : OTAP_OK;
+    uint64_t answer;
+    current = "otap_report";
+    lend(&message, at_end, query->bytes, query->length, 0);
+    lend(&store, at_end, bytes, store_length, 0);
+    lend(&buffer, at_end, filled, length, 1);
+    remember();
+    answer = otap_report(message.bytes, message.length, index, store.bytes, store_length, buffer.bytes, length);
+    nothing_outside();
+    must(expected == OTAP_OK || answer == expected || (bytes != filled && answer == OTAP_NO_STORE), "number");
+    must(otap_report_length(answer) <= length && buffer_stays(otap_report_length(answer)), "bytes past the message changed");
+    reports_seen[otap_answer_number(answer)]++;
+    if (otap_answer_number(answer) != OTAP_OK) {
+        must(answer == otap_answer_number(answer), "a refusal has a total or a length");
+        seal(&buffer);
+        must(answer == otap_report(message.bytes, message.length, index, store.bytes, store_length, buffer.bytes, length), "another answer");
+        nothing_outside();
+    }
 }
 
 static void row_at(int at_end, uint32_t table, uint32_t row, const uint8_t *bytes, size_t store_length, size_t length)

@@ -200,6 +200,44 @@ static void digits_sizes(void)
     }
 }
 
+/* Queries of few types and of many, cut at every byte and damaged; each message of the report, and indexes that it has not. */
+static void report_all(void)
+{
+    static Message query;
+    size_t length;
+    uint32_t index;
+    write_asking_all(&query, 10, 0);
+    for (index = 0; index <= 6; index++) {
+        report_at((int)(index % 2), &query, index, filled, OTAP_STORE_BYTES, OTAP_REPORT_BYTES);
+    }
+    for (length = query.length; length-- > 0;) {
+        query.length = length;
+        report_at(1, &query, 1, filled, OTAP_STORE_BYTES, OTAP_REPORT_BYTES);
+    }
+    for (index = 0; index < 20 * TIMES; index++) {
+        write_asking_all(&query, 1 + index % 40, index % 13);
+        report_at((int)(index % 2), &query, 1 + index % 7, filled, OTAP_STORE_BYTES, OTAP_REPORT_BYTES + index % 3);
+        damage(query.bytes, query.length, 1 + random_below(3));
+        report_at((int)(index % 2), &query, 1, filled, OTAP_STORE_BYTES, OTAP_REPORT_BYTES);
+    }
+}
+
+static void report_sizes(void)
+{
+    static Message query;
+    unsigned turn;
+    for (turn = 0; turn < 50; turn++) {
+        size_t store_length, length;
+        int at_end = sizes_of(turn, OTAP_REPORT_BYTES, &store_length, &length);
+        write_asking_all(&query, OTAP_QUERY_MOST_TYPES, 0);
+        report_at(at_end, &query, 1 + turn, filled, store_length, length);
+        report_at(at_end, &query, 0xFFFFFFFFu, filled, store_length, length);
+        memset(query.bytes + query.length, OTAP_ASK_LINES, OTAP_MESSAGE_BYTES + 1 - query.length);
+        query.length = OTAP_MESSAGE_BYTES + turn % 2;
+        report_at(at_end, &query, 1, filled, store_length, length);
+    }
+}
+
 static void row_all(void)
 {
     uint32_t each;
@@ -220,6 +258,8 @@ static void damaged_stores(unsigned turns)
         damage(bytes, sizeof bytes, 1 + random_below(3));
         export_at((int)(turn % 2), 1 + turn % OTAP_EXPORT_PARTS, bytes, sizeof bytes, OTAP_EXPORT_BYTES);
         row_at((int)(turn % 2), 1 + turn % OTAP_TABLES, random_below(OTAP_STATUS_LAST + 1), bytes, sizeof bytes, OTAP_SCRATCH_BYTES);
+        write_asking_all(&said, 3, turn % 10);
+        report_at((int)(turn % 2), &said, 1, bytes, sizeof bytes, OTAP_REPORT_BYTES);
         counts_at((int)(turn % 2), bytes, sizeof bytes);
         called = key_of(filled, turn % OTAP_LINE_ROWS);
         line_of_at((int)(turn % 2), called.id_type, called.digits, called.length, bytes, sizeof bytes);
@@ -260,6 +300,7 @@ static void every_length(void)
         line_of_sizes();
         line_of_all();
         entry_all();
+        report_all();
         for (part = 1; part <= 2 * OTAP_EXPORT_PARTS; part++) {
             export_at((int)(part % 2), (part + 1) / 2, filled, OTAP_STORE_BYTES, OTAP_EXPORT_BYTES);
         }
@@ -267,11 +308,16 @@ static void every_length(void)
     }
 }
 
-/* These messages come to every number that a message can come to. */
+/* These messages come to every number that a message can come to, and the queries to every number of a report. */
 static void all_seen(void)
 {
+    static const uint8_t of_reports[] = {OTAP_OK, OTAP_BAD_VERSION, OTAP_BAD_FIELD, OTAP_NO_STORE, OTAP_MESSAGE_LENGTH, OTAP_BAD_CARRIER,
+                                         OTAP_OTHER_MESSAGE, OTAP_SHORT_BUFFER, OTAP_NO_MESSAGE};
     unsigned number;
     current = "the messages of this test";
+    for (number = 0; number < sizeof of_reports; number++) {
+        must(reports_seen[of_reports[number]] > 0, "a number of a report never came");
+    }
     for (number = OTAP_OK; number <= OTAP_OTHER_MESSAGE; number++) {
         must(seen[number] > 0 || (number > OTAP_NO_MATCH && number < OTAP_SHORT_REPLY), "a number never came");
     }
@@ -302,6 +348,7 @@ int main(int count, char **words)
     commit_damaged(2000 * TIMES);
     commit_random(1000 * TIMES);
     export_sizes();
+    report_sizes();
     row_sizes();
     row_all();
     every_length();

@@ -209,6 +209,31 @@ static inline void write_query(Message *m, unsigned code)
     }
 }
 
+/* A query for reports of these types, 255 at most; its coding type is none that a request may have. */
+static inline void write_asking(Message *m, const uint8_t *types, size_t count)
+{
+    static const uint8_t head[] = {0x02, 0x02, 0x00, 0x00, 0x08, 0x00, 0x0A};
+    memcpy(m->bytes, head, sizeof head);
+    m->length = sizeof head;
+    put(m, (unsigned)count);
+    memcpy(m->bytes + m->length, types, count);
+    m->length += count;
+    m->bytes[2] = (uint8_t)((m->length - 4) >> 8);
+    m->bytes[3] = (uint8_t)(m->length - 4);
+}
+
+/* A query for as many types, each that asks in turn; with `vary` 0 none is unknown, with another every `vary`-th is. */
+static inline void write_asking_all(Message *m, size_t count, unsigned vary)
+{
+    uint8_t types[OTAP_QUERY_MOST_TYPES];
+    size_t each;
+    for (each = 0; each < count; each++) {
+        size_t type = (each + vary) % 10;
+        types[each] = (uint8_t)(vary > 0 && each % vary == vary - 1 ? 0xD1 : type == 9 ? OTAP_ASK_HASH : OTAP_ASK_GROUP_CONTACTS + type);
+    }
+    write_asking(m, types, count);
+}
+
 /* A message of each kind; turn varies the operation where there is one, and whether the length is stated. */
 static inline void write_message(Message *m, unsigned kind, unsigned turn)
 {

@@ -80,6 +80,33 @@ static void exported(void)
     same("part", 16, OTAP_NO_PART, otap_export(0, store, OTAP_STORE_BYTES, buffer, OTAP_EXPORT_BYTES));
 }
 
+/* A full store reports 388 entries in three messages; the bytes of each are in reports.c. */
+static void reported(void)
+{
+    uint32_t index, entries = 0;
+    write_asking_all(&said, 10, 0);
+    for (index = 1; index <= 3; index++) {
+        uint64_t answer = otap_report(said.bytes, said.length, index, store, OTAP_STORE_BYTES, buffer, sizeof buffer);
+        same("report", 0, OTAP_OK, otap_answer_number(answer));
+        same("messages", 3, otap_report_total(answer), answer >> 8 & 0xFF);
+        same("a message's length", otap_report_length(answer), buffer[2] * 256u + buffer[3] + 4u, answer >> 16);
+        entries += buffer[9];
+    }
+    same("entries", 64 + 64 + 32 + 64 + 64 + 96 + 4, entries, entries);
+    same("message", 16, OTAP_NO_MESSAGE, otap_report(said.bytes, said.length, 4, store, OTAP_STORE_BYTES, buffer, OTAP_REPORT_BYTES));
+    same("message", 16, OTAP_NO_MESSAGE, otap_report(said.bytes, said.length, 0, store, OTAP_STORE_BYTES, buffer, OTAP_REPORT_BYTES));
+    same("short buffer", 15, OTAP_SHORT_BUFFER, otap_report(said.bytes, said.length, 1, store, OTAP_STORE_BYTES, buffer, OTAP_REPORT_BYTES - 1));
+    said.bytes[3] = 0; /* its length is not stated */
+    same("no types", 4, OTAP_BAD_FIELD, otap_report(said.bytes, 7, 1, store, OTAP_STORE_BYTES, buffer, OTAP_REPORT_BYTES));
+    said.bytes[6] = 0x12;
+    same("version", 1, OTAP_BAD_VERSION, otap_report(said.bytes, said.length, 1, store, OTAP_STORE_BYTES, buffer, OTAP_REPORT_BYTES));
+    said.bytes[6] = 0x08;
+    same("a request", 14, OTAP_OTHER_MESSAGE, otap_report(said.bytes, said.length, 1, store, OTAP_STORE_BYTES, buffer, OTAP_REPORT_BYTES));
+    said.bytes[0] = 3;
+    same("carrier", 13, OTAP_BAD_CARRIER, otap_report(said.bytes, said.length, 1, store, OTAP_STORE_BYTES, buffer, OTAP_REPORT_BYTES));
+    same("short query", 12, OTAP_MESSAGE_LENGTH, otap_report(said.bytes, 6, 1, store, OTAP_STORE_BYTES, buffer, OTAP_REPORT_BYTES));
+}
+
 static uint32_t row(uint32_t table, uint32_t at)
 {
     return otap_row_number(table, at, store, OTAP_STORE_BYTES, scratch, sizeof scratch);
@@ -298,6 +325,7 @@ int main(void)
     replied();
     untouched();
     exported();
+    reported();
     rows();
     numbers_shown();
     asked_of_stores();

@@ -1,6 +1,6 @@
 #!/bin/sh
 # shellcheck disable=SC2086,SC2317,SC2329 # flags are several words, and steps are called by their names
-# tests/run.sh: the archive of this machine as C sees it, one named step after the other; ends with 1 if one fails. tests/steps.sh says what it heeds.
+# tests/run.sh: the archives of this machine as C sees them, one named step after the other; ends with 1 if one fails. tests/steps.sh says what it heeds.
 set -u
 cd "$(dirname "$0")/.." || exit 1
 . tests/steps.sh
@@ -9,20 +9,42 @@ build_and_run() {
     build "$1" c c99 "$CC" "$2" "tests/$1.c" && run_built "$1"
 }
 
-# The test of the bounds sees a byte too many: it ends with 1, and says so.
+# A test of the bounds sees a byte too many: it ends with 1, and says so.
 sees_outside() {
-    run_built bounds outside > "$built/outside" 2>&1
+    run_built "$1" outside > "$built/outside" 2>&1
     [ $? -eq 1 ] && grep -q "a byte too many, as asked" "$built/outside"
 }
 
-# No table of constants comes back: what is left are the code's own numbers and jump tables.
+# No table of constants comes back: what is left are the code's own numbers and jump tables, at most 512 bytes of any one function.
 few_constants() {
     total=0
+    most=0
     for size in $(readelf -SW "$archive" | sed -n 's/^ *\[ *[0-9]*\] \.rodata[^ ]* *PROGBITS *[0-9a-f]* [0-9a-f]* \([0-9a-f]*\) .*/\1/p'); do
         total=$((total + 0x$size))
+        [ "$((0x$size))" -le "$most" ] || most=$((0x$size))
     done
-    echo "$total bytes, at most 1,024"
-    [ "$total" -gt 0 ] && [ "$total" -le 1024 ]
+    echo "$total bytes, at most 1,536; $most of one function, at most 512"
+    [ "$total" -gt 0 ] && [ "$total" -le 1536 ] && [ "$most" -le 512 ]
+}
+
+# functions ARCHIVE: the names that a program can link.
+functions() {
+    readelf -sW "$1" | awk '$4 == "FUNC" && $5 == "GLOBAL" && $7 != "UND" { print $8 }' | sort -u
+}
+
+# declared HEADER: the functions that it declares, but not those that it defines.
+declared() {
+    sed -n 's/^uint[0-9]*_t \(otap_[a-z_]*\)(.*/\1/p' "$1" | sort -u
+}
+
+# Each archive has the functions of its header, and no other: firmware does not carry the office's.
+own_functions() {
+    for pair in "$archive include/otap.h" "$office include/otap_office.h"; do
+        functions "${pair% *}" > "$built/has"
+        declared "${pair#* }" > "$built/declares"
+        [ -s "$built/declares" ] || return 1
+        diff "$built/declares" "$built/has" || return 1
+    done
 }
 
 build_and_run_banks() {
@@ -79,14 +101,20 @@ step "judging and committing" build_and_run judging "$sanitizers"
 step "contacts and slots" build_and_run contacts "$sanitizers"
 step "who is calling" build_and_run callers "$sanitizers"
 step "behind a row" build_and_run entries "$sanitizers"
+step "reports" build_and_run reports "$sanitizers"
+step "the office's reader" with_office build_and_run office "$sanitizers"
+step "reports read back" with_office build_and_run read_back "$sanitizers" && show
 step "bounds of the lent bytes" build_and_run bounds -O1 && show
-step "bounds can fail" sees_outside
+step "bounds can fail" sees_outside bounds
+step "bounds of the office's reader" with_office build_and_run office_bounds -O1 && show
+step "its bounds can fail" sees_outside office_bounds
 step "two banks, cut at every byte" build_and_run_banks && show
 step "banks can fail" banks_can_fail && show
 step "stack" build_and_run stack -O1 && show
 step "constants" few_constants && show
+step "what each archive has" own_functions
 [ -z "$emulator" ] || exit $failed
-if [ ! -f target/archive/wasm32/otap_handheld.wasm ]; then
+if [ ! -f target/archive/wasm32/otap_handheld.wasm ] || [ ! -f target/archive/wasm32/otap_office.wasm ]; then
     echo "left out  wasm32: ./archive wasm32 was not run"
 elif ! command -v node > /dev/null; then
     echo "left out  wasm32: node is not here"

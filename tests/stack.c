@@ -15,19 +15,19 @@ enum { STACK = 256 * 1024 };
 enum { STACK = 32 * 1024 };
 #endif
 
-enum { PAINT = 0xA5, CALLS = 15 };
+enum { PAINT = 0xA5, CALLS = 16 };
 
 /* The header's ceiling for each; it has what was measured beside them, and docs/TESTING.md too. */
 static const unsigned long most[CALLS] = {OTAP_START_STACK, OTAP_JUDGE_STACK, OTAP_COMMIT_STACK, OTAP_EXPORT_STACK, OTAP_ROW_STACK, OTAP_ROW_STACK,
                                           OTAP_COUNTS_STACK, OTAP_LINE_OF_STACK, OTAP_VALUE_STACK, OTAP_VALUE_STACK, OTAP_VALUE_STACK,
-                                          OTAP_VALUE_STACK, OTAP_VALUE_STACK, OTAP_VALUE_STACK, OTAP_CONVERSION_STACK};
+                                          OTAP_VALUE_STACK, OTAP_VALUE_STACK, OTAP_VALUE_STACK, OTAP_REPORT_STACK, OTAP_CONVERSION_STACK};
 static const char *const names[CALLS] = {"otap_start", "otap_judge", "otap_commit", "otap_export", "otap_row_number", "otap_row_part", "otap_counts",
                                          "otap_line_of", "otap_entry", "otap_entry_digits", "otap_channel", "otap_emergency_key", "otap_home_numbers",
-                                         "otap_system_code", "a conversion"};
+                                         "otap_system_code", "otap_report", "a conversion"};
 
 static uint8_t stack[STACK], store[OTAP_STORE_BYTES], filled[OTAP_STORE_BYTES];
 static uint8_t buffer[OTAP_EXPORT_BYTES];
-static Message message;
+static Message message, query;
 static Key caller;
 static unsigned which, turn;
 static uint64_t answer;
@@ -56,7 +56,8 @@ static void call(void)
     case 11: answer = otap_emergency_key(store, sizeof store); break;
     case 12: answer = otap_home_numbers(store, sizeof store); break;
     case 13: answer = otap_system_code(store, sizeof store); break;
-    case 14: convert(turn); break;
+    case 14: answer = otap_report(query.bytes, query.length, 1 + turn % 4, store, sizeof store, buffer, sizeof buffer); break;
+    case 15: convert(turn); break;
     default: break; /* nothing, for what the switch of stacks itself takes */
     }
 }
@@ -101,6 +102,7 @@ static unsigned long deepest(void)
     unsigned long deep = 0, now;
     for (turn = 0; turn < OTAP_TABLES * (OTAP_STATUS_LAST + 1); turn++) {
         write_message(&message, turn % MESSAGE_KINDS, turn / MESSAGE_KINDS);
+        write_asking_all(&query, 1 + turn % 20, turn % 11);
         caller = key_of(filled, turn % OTAP_LINE_ROWS);
         caller.length -= turn / OTAP_LINE_ROWS % 2; /* a line's own number, or one digit fewer, which no line has */
         now = depth();

@@ -1,9 +1,10 @@
 # shellcheck shell=sh disable=SC2086,SC2034,SC2329 # flags are several words; the scripts that read this use what it sets
-# What examples/run.sh and tests/run.sh share, from the repository's root: the archive and compilers of the target, and named steps.
-# OTAP_TARGET names another Linux of ./archive than this machine's; OTAP_ARCHIVE_DIR another folder of the archive; CC and CXX the compilers.
+# What examples/run.sh and tests/run.sh share, from the repository's root: the archives and compilers of the target, and named steps.
+# OTAP_TARGET names another Linux of ./archive than this machine's; OTAP_ARCHIVE_DIR another folder of the archives; CC and CXX the compilers.
 machine=$(uname -m)-linux
 target=${OTAP_TARGET:-$machine}
 archive=${OTAP_ARCHIVE_DIR:-target/archive/$target}/libotap_handheld.a
+office=${OTAP_ARCHIVE_DIR:-target/archive/$target}/libotap_office.a
 CC=${CC:-gcc}
 CXX=${CXX:-g++}
 warnings="-Wall -Wextra -Wpedantic -Wconversion -Wshadow -Werror -Iinclude -Iexamples -Itests"
@@ -32,11 +33,21 @@ show() {
     sed 's/^/        /' "$built/log"
 }
 
-# build OUTPUT LANGUAGE STANDARD COMPILER FLAGS SOURCE..
+# build OUTPUT LANGUAGE STANDARD COMPILER FLAGS SOURCE..: with the set's archive, and with what else $beside names.
+beside=
 build() {
     output=$1 language=$2 standard=$3 compiler=$4 flags=$5
     shift 5
-    $compiler -x "$language" -std="$standard" $warnings $flags "$@" -x none "$archive" -o "$built/$output"
+    $compiler -x "$language" -std="$standard" $warnings $flags "$@" -x none "$archive" $beside -o "$built/$output"
+}
+
+# with_office COMMAND..: it builds with the office's archive too.
+with_office() {
+    beside=$office
+    "$@"
+    ended=$?
+    beside=
+    return $ended
 }
 
 run_built() {
@@ -56,7 +67,9 @@ need_archive() {
             exit $failed
         done
     fi
-    [ -f "$archive" ] && return
-    echo "FAILED  no $archive: ./archive $target writes it"
-    exit 1
+    for file in "$archive" "$office"; do
+        [ -f "$file" ] && continue
+        echo "FAILED  no $file: ./archive $target writes it"
+        exit 1
+    done
 }

@@ -1,12 +1,15 @@
-// tests/wasm.mjs: the module for wasm32 in node: no imports; the stored inputs of the programs `take` and `put`, judged and committed, come to their
-// stored outputs; callers are found; and what stands behind a row is answered.
+// tests/wasm.mjs: the modules for wasm32 in node: no imports; the stored inputs of the programs `take` and `put`, judged and committed, come to their
+// stored outputs; callers are found; what stands behind a row is answered; and what a set reports, the office's module reads.
 import { readFileSync } from "node:fs";
 import { fileURLToPath } from "node:url";
 
 const root = fileURLToPath(new URL("..", import.meta.url));
-const module = new WebAssembly.Module(readFileSync(`${root}/target/archive/wasm32/otap_handheld.wasm`));
-if (WebAssembly.Module.imports(module).length > 0) throw new Error("the module imports something");
-const { exports } = new WebAssembly.Instance(module);
+const exportsOf = (name) => {
+    const module = new WebAssembly.Module(readFileSync(`${root}/target/archive/wasm32/${name}.wasm`));
+    if (WebAssembly.Module.imports(module).length > 0) throw new Error(`${name} imports something`);
+    return new WebAssembly.Instance(module).exports;
+};
+const exports = exportsOf("otap_handheld");
 
 // The buffers, one behind the other from __heap_base on: pointers are numbers, lengths and packed answers BigInts.
 const sizes = { store: 24576, message: 65536, reply: 20, buffer: 4096, digits: 19 };
@@ -77,6 +80,28 @@ function digitsOf(table, index) {
     return (answer & 0xffn) === 0n ? [...memory.subarray(at.digits, at.digits + Number(answer >> 8n))].join("") : `refused ${answer}`;
 }
 
+// The message of this index of the report to these types; the answer without one is a refusal.
+function report(types, index) {
+    const query = [2, 2, 0, 0, 8, 0, 0x0a, types.length, ...types];
+    memory.set(query, at.message);
+    const answer = exports.otap_report(...lent("message", query.length), index, ...lent("store"), ...lent("buffer"));
+    return { answer, message: memory.slice(at.buffer, at.buffer + Number((answer >> 16n) & 0xffffn)) };
+}
+
+// What the office reads of a message: the answer, then the entry and the places of each parameter.
+function officeReads(message) {
+    const office = exportsOf("otap_office");
+    const from = office.__heap_base.value;
+    office.memory.grow(1);
+    new Uint8Array(office.memory.buffer).set(message, from);
+    const ask = (name, ...place) => office[name](from, BigInt(message.length), ...place);
+    const read = [ask("otap_read_report")];
+    for (let place = 10; place < message.length; place = Number(read[read.length - 1] & 0xffffn)) {
+        read.push(ask("otap_report_entry", place), ask("otap_report_places", place));
+    }
+    return read;
+}
+
 function same(what, got, wanted) {
     if (!got.equals(wanted)) throw new Error(`${what}: not the bytes that it must be`);
 }
@@ -102,5 +127,14 @@ const wanted = [1n << 32n, 0x100002n << 8n | 2n << 35n | 3n << 37n, 17n, 17n, 0x
     0xabcn << 8n | 8n << 20n | 1n << 24n | 1n << 26n, 241n << 8n, 640n << 8n, 17n, "3", "2345", "refused 17"];
 const found = [...behind, ...fixed, ...tuned, digitsOf(1, 0), digitsOf(1, 1), digitsOf(8, 0)];
 if (found.join() !== wanted.join()) throw new Error(`behind a row: ${found}`);
+// The two lines and the key in one message, and what the office reads of it.
+const told = report([0xca, 0xcb], 1);
+same("a report", Buffer.from(told.message), Buffer.from([2, 2, 0, 0x1c, 8, 7, 0x0b, 1, 1, 3, 0x8a, 0, 0x80, 0, 0x3f, 0, 0,
+    0x8a, 0, 0x80, 1, 0x23, 0x45, 0xff, 0, 0, 0x8b, 0, 0x20, 0x10, 0, 1]));
+if (told.answer !== (1n << 8n | 32n << 16n) || report([0xca], 2).answer !== 16n) throw new Error("the answers of reports");
+const office = officeReads(told.message);
+const lines = [0x03010100n, 0x10can, 17n | 15n << 16n | 14n << 40n | 1n << 56n, 0x110can, 26n | 24n << 16n | 21n << 40n | 4n << 56n];
+const key = [0x100001n << 32n | 0x4cbn, 32n];
+if (office.join() !== [...lines, ...key].join()) throw new Error(`the office reads ${office}`);
 if (exports.otap_transmit(640) !== 3560000n << 8n) throw new Error("transmit");
-console.log("no imports; take and put, judged and committed, as stored; callers are found, and what stands behind a row");
+console.log("no imports; take and put, judged and committed, as stored; callers are found, what stands behind a row, and what is reported and read");

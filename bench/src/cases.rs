@@ -2,6 +2,7 @@
 
 use crate::conversions;
 use crate::messages;
+use crate::reports;
 use crate::sides::{Call, Checked, Plain, Rattle, Side};
 use crate::values;
 use otap::{Part, Table};
@@ -70,6 +71,12 @@ pub fn all() -> Vec<Case> {
     }
     for value in values::ALL {
         cases.push(case(value.name().into(), Call::Value(value), 0));
+    }
+    for (name, asked) in reports::queries() {
+        cases.push(case(format!("report-{name}"), Call::Report(asked), 0));
+    }
+    for (name, message) in reports::messages() {
+        cases.push(case(format!("read-report-{name}"), Call::ReadReport(message), 0));
     }
     for (which, conversion) in conversions::ALL.iter().enumerate() {
         cases.push(case(format!("{}-x100", conversion.name), Call::Convert(which), 0));

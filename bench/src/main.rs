@@ -6,6 +6,7 @@ mod check;
 mod conversions;
 mod messages;
 mod program;
+mod reports;
 mod sides;
 mod stack;
 mod timing;

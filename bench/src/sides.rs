@@ -1,6 +1,7 @@
 //! The same calls to the archive and to plain Rust.
 
 use crate::conversions;
+use crate::reports::{plain_reads, rattle_reads, Asked};
 use crate::values::Value;
 use otap::{Part, Store, Table, EXPORT_ROOM, PSTN, REPLY_ROOM, SCRATCH_ROOM, STORE_SIZE};
 use otap_reference::layout;
@@ -25,6 +26,9 @@ pub enum Call {
         row: Option<u32>,
     },
     Value(Value),
+    Report(Asked),
+    /// The office reads a message with all of its parameters.
+    ReadReport(Vec<u8>),
     /// A hundred conversions, named by their place in `conversions::ALL`.
     Convert(usize),
 }
@@ -78,8 +82,9 @@ impl Checked {
 
 impl Side for Checked {
     fn call(&mut self, call: &Call) -> u8 {
-        // A conversion has no store.
-        if matches!(call, Call::Convert(_)) || layout::is_store(black_box(&self.bytes)) {
+        // A conversion has no store, and the office has none.
+        let has_none = matches!(call, Call::Convert(_) | Call::ReadReport(_));
+        if has_none || layout::is_store(black_box(&self.bytes)) {
             self.plain.call(call)
         } else {
             11
@@ -114,6 +119,8 @@ impl Side for Rattle {
                 answered(black_box(found).map_err(otap::Refusal::number), *row)
             }
             Call::Value(value) => value.rattle(&store, &mut self.buffer),
+            Call::Report(asked) => asked.rattle(&store, &mut self.buffer),
+            Call::ReadReport(message) => rattle_reads(message),
             Call::Convert(which) => {
                 conversions::ALL[*which].rattle();
                 0
@@ -144,6 +151,8 @@ impl Side for Plain {
                 answered(black_box(line_of(PSTN, black_box(digits), true, &self.set)), *row)
             }
             Call::Value(value) => value.plain(black_box(&self.set), &mut self.buffer),
+            Call::Report(asked) => asked.plain(black_box(&self.set), &mut self.buffer),
+            Call::ReadReport(message) => plain_reads(message),
             Call::Convert(which) => {
                 conversions::ALL[*which].plain();
                 0

@@ -51,6 +51,8 @@ fn call_name(call: &Call) -> &'static str {
         Call::Counts => "counts",
         Call::LineOf { .. } => "line-of",
         Call::Value(value) => value.name(),
+        Call::Report(_) => "report",
+        Call::ReadReport(_) => "read-report",
         Call::Convert(which) => conversions::ALL[*which].name,
     }
 }

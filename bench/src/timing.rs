@@ -18,6 +18,7 @@ pub fn table() {
     println!("Every call leaves what it found, so each repetition starts from the same store without a copy.");
     println!("Plain works on tables, not on bytes: it reads bit by bit, allocates each text, clones its tables for a request.");
     println!("The 32 line numbers differ only in their last two digits and the addresses of 64 contacts in their last byte, the worst for finding one.");
+    println!("Plain writes every message of a report and gives one of them.");
     println!("Plain finds a channel by search, and a caller too: in the lines from the first on, where Rattle halves their order.");
     println!();
     println!("| call | message | Rattle ns | plain ns | checked ns | to plain | to checked |");
@@ -34,7 +35,10 @@ pub fn table() {
 
 fn message_length(case: &Case) -> Option<usize> {
     match &case.call {
-        Call::Judge(message) | Call::Commit(message) => Some(message.len()),
+        Call::Judge(message) | Call::Commit(message) | Call::ReadReport(message) => {
+            Some(message.len())
+        }
+        Call::Report(asked) => Some(asked.query.len()),
         _ => None,
     }
 }

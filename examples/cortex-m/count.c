@@ -32,6 +32,11 @@ static void export_part(void)
     answer = otap_export(which, store, sizeof store, buffer, sizeof buffer);
 }
 
+static void report(void)
+{
+    answer = otap_report(said.bytes, said.length, which, store, sizeof store, buffer, sizeof buffer);
+}
+
 static void show_row(void)
 {
     answer = otap_row_part(which, row, store, sizeof store, buffer, sizeof buffer);
@@ -109,6 +114,20 @@ static void fill(void)
     }
 }
 
+/* What the office asks for: all that the set holds, and one table of it. */
+static void count_reports(void)
+{
+    static const uint8_t channels[] = {OTAP_ASK_CHANNELS};
+    write_asking_all(&said, 10, 0);
+    which = 1;
+    count("report, all types, the first of three messages", report);
+    which = 3;
+    count("report, all types, the last", report);
+    write_asking(&said, channels, sizeof channels);
+    which = 1;
+    count("report, 64 channels", report);
+}
+
 /* What the screen, PTT and the radio ask for. */
 static void count_reads(void)
 {
@@ -163,6 +182,7 @@ int main(void)
         which = each + 1;
         count(parts[each], export_part);
     }
+    count_reports();
     count_reads();
     count("individual of dialled", individual);
     count("transmit", transmit);

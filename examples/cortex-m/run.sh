@@ -71,6 +71,7 @@ for each in cortex-m4 cortex-m4f cortex-m33 cortex-m33f; do
     step "$each: contacts and slots" bare "" tests/contacts.c
     step "$each: who is calling" bare "" tests/callers.c
     step "$each: behind a row" bare "" tests/entries.c
+    step "$each: reports" bare "" tests/reports.c
 done
 for each in cortex-m4 cortex-m33; do
     on $each

@@ -1,11 +1,9 @@
-//! Finds the verified archive of the target and links it.
+//! Finds the verified archives of the target and links them: the set's, and with the feature `office` the office's too.
 
 use std::env;
 use std::path::{Path, PathBuf};
 
-const ARCHIVE: &str = "libotap_handheld.a";
-
-/// Where `./archive` writes it: Rust's target, its target.
+/// Where `./archive` writes them: Rust's target, its target.
 const TARGETS: [(&str, &str); 6] = [
     ("x86_64-unknown-linux-gnu", "x86_64-linux"),
     ("aarch64-unknown-linux-gnu", "aarch64-linux"),
@@ -38,12 +36,15 @@ fn main() {
 fn link(directory: &Path, advice: &str) {
     // Cargo runs this in the package's own directory, but links elsewhere.
     let directory = directory.canonicalize().unwrap_or_else(|_| directory.to_path_buf());
-    let archive = directory.join(ARCHIVE);
-    println!("cargo::rerun-if-changed={}", archive.display());
-    if archive.is_file() {
-        println!("cargo::rustc-link-search=native={}", directory.display());
-        println!("cargo::rustc-link-lib=static=otap_handheld");
-    } else {
-        println!("cargo::error=there is no {}: {advice}", archive.display());
+    println!("cargo::rustc-link-search=native={}", directory.display());
+    let office = env::var_os("CARGO_FEATURE_OFFICE").map(|_| "otap_office");
+    for name in ["otap_handheld"].into_iter().chain(office) {
+        let archive = directory.join(format!("lib{name}.a"));
+        println!("cargo::rerun-if-changed={}", archive.display());
+        if archive.is_file() {
+            println!("cargo::rustc-link-lib=static={name}");
+        } else {
+            println!("cargo::error=there is no {}: {advice}", archive.display());
+        }
     }
 }

@@ -30,7 +30,7 @@ fn digit(c: u8) -> u8 {
 }
 
 // Puts bytes from a place on, where they fit; the place after them.
-pub(crate) fn put_bytes(m: &mut [u8], at: usize, bytes: &[u8]) -> usize
+pub fn put_bytes(m: &mut [u8], at: usize, bytes: &[u8]) -> usize
     ensures { λ r. ⌜ r ≤ length (now (m .exit)) ⌝ }
 {
     let size = m.len();

@@ -2,6 +2,7 @@
 pub mod channels;
 pub mod contacts;
 mod entries;
+pub mod fields;
 pub mod fixed;
 pub mod line_slots;
 pub mod lines;

@@ -8,6 +8,7 @@ mod count_cases;
 mod eight_bit_cases;
 mod line_cases;
 mod line_slot_cases;
+mod report_cases;
 mod screen_cases;
 mod slot_cases;
 mod text_cases;
@@ -28,4 +29,5 @@ fn main() {
     eight_bit_cases::run(&mut store);
     screen_cases::run(&mut store);
     value_cases::run(&mut store);
+    report_cases::run(&mut store);
 }

@@ -5,5 +5,6 @@ mod counts;
 mod entries;
 mod exports;
 mod messages;
+mod queries;
 mod radio;
 mod rows;

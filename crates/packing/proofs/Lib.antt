@@ -1,6 +1,7 @@
 pub mod CallerBits
 pub mod ExportBits
 pub mod Packed
+pub mod ReportBits
 pub mod RowBits
 pub mod ShownPart
 pub mod SideBySide

@@ -1,2 +1,3 @@
+pub mod PackedReports
 pub mod PackedValues
 pub mod Packing

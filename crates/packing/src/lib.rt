@@ -1,5 +1,5 @@
 // What C answers are packed as, for sets of any limits.
-mod bits;
+pub mod bits;
 pub mod caller;
 pub mod conversions;
 pub mod counts;
@@ -8,5 +8,6 @@ pub mod entries;
 pub mod exports;
 pub mod fixed;
 pub mod messages;
+pub mod report;
 pub mod rows;
 pub mod tuning;

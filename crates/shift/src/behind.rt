@@ -1,19 +1,13 @@
 // What stands behind a row, in parentheses: an address in six hexadecimal digits, or a line's IDtype and digits.
-use super::printing::decimal;
-use super::printing::hex_pair;
-use super::printing::text;
+use printing::output::address;
+use printing::output::decimal;
+use printing::output::text;
 use screen::rows::row_of;
 use values::answers::Digits;
 use values::answers::Entry;
 use values::answers::Target;
 use values::handheld::entry;
 use values::handheld::entry_digits;
-
-fn address(a: u32) {
-    hex_pair((a / 65536 % 256) as u8);
-    hex_pair((a / 256 % 256) as u8);
-    hex_pair((a % 256) as u8);
-}
 
 fn wide(digit: u8) -> u64 {
     digit as u64

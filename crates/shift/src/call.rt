@@ -1,8 +1,8 @@
 // Who calls from PSTN 2346, on one line: the row of that number, and what the screen shows there.
-use super::printing::text;
 use super::rows::row;
 use callers::handheld::line_of;
 use callers::lookup::Caller;
+use printing::output::text;
 
 pub(crate) fn call(store: &[u8]) {
     text(b"  call from 2346       ");

@@ -2,14 +2,12 @@
 mod behind;
 mod call;
 mod messages;
-mod printing;
 mod room;
 mod rows;
-mod utf8;
 
 use call::call;
 use messages::tell;
-use printing::text;
+use printing::output::text;
 use records::Record;
 use records::read_record;
 use room::room;

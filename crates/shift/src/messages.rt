@@ -1,7 +1,7 @@
 // What a message comes to, in words.
-use super::printing::decimal;
-use super::printing::hex;
-use super::printing::text;
+use printing::output::decimal;
+use printing::output::hex;
+use printing::output::text;
 use station::answers::Answer;
 use station::answers::Reply;
 use station::answers::failed_id;

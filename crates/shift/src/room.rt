@@ -1,8 +1,8 @@
 // How much of the room for lines and channels is taken, on one line.
-use super::printing::decimal;
-use super::printing::text;
 use menu::counting::Counts;
 use menu::handheld::counts;
+use printing::output::decimal;
+use printing::output::text;
 use tables::limits::HANDHELD;
 
 // So many of so many.

@@ -1,8 +1,8 @@
 // The rows of the screen that are there, a line for each table that has one.
 use super::behind::behind;
-use super::printing::decimal;
-use super::printing::text;
-use super::utf8::show_text;
+use printing::output::decimal;
+use printing::output::text;
+use printing::utf8::show_text;
 use screen::answers::number_of;
 use screen::handheld::row_number;
 use screen::handheld::row_part;

@@ -2,11 +2,13 @@
 
 pub mod callers;
 pub mod calls;
+pub mod carriers;
 pub mod damage;
 pub mod draft;
 pub mod maker;
 pub mod pokes;
 pub mod random;
+pub mod reports;
 pub mod requests;
 pub mod sweep;
 pub mod values;
@@ -19,6 +21,7 @@ use callers::Caller;
 use draft::{restate, Draft};
 use maker::pool_hash;
 use random::Random;
+use reports::{ReportCall, ReportInput};
 use values::Value;
 
 /// Longest message ever made, a little over the longest allowed.
@@ -37,12 +40,21 @@ impl Inputs {
 
     /// The next message and a kind, which nobody judges.
     pub fn record(&mut self) -> (u16, Vec<u8>) {
-        let kind = if self.random.percent(80) {
-            self.random.within(1..=usize::from(PARTS))
+        (self.kind(), self.message())
+    }
+
+    /// The same of a message for the office's reader; the set grows meanwhile.
+    pub fn report_record(&mut self) -> (u16, Vec<u8>) {
+        self.message();
+        (self.kind(), self.report().message)
+    }
+
+    fn kind(&mut self) -> u16 {
+        if self.random.percent(80) {
+            self.random.within(1..=usize::from(PARTS)) as u16
         } else {
-            self.random.bits(16) as usize
-        };
-        (kind as u16, self.message())
+            self.random.bits(16) as u16
+        }
     }
 
     pub fn message(&mut self) -> Vec<u8> {
@@ -67,6 +79,21 @@ impl Inputs {
     /// What is asked for behind a row or of the settings: mostly where the set holds something.
     pub fn value(&mut self) -> Value {
         values::value(&mut self.random, &self.set.tables)
+    }
+
+    /// A query with an index: mostly of a message that its report has.
+    pub fn report_call(&mut self) -> ReportCall {
+        reports::call(&mut self.random, &self.set)
+    }
+
+    /// A message for the office's reader: of the set's own reports, made up, or damaged.
+    pub fn report(&mut self) -> ReportInput {
+        reports::report(&mut self.random, &self.set)
+    }
+
+    /// A byte of such a message at which to look for a parameter.
+    pub fn report_place(&mut self, message: &[u8]) -> u32 {
+        reports::place(&mut self.random, message)
     }
 
     fn request(&mut self) -> Draft {
@@ -107,30 +134,9 @@ impl Inputs {
         let query_first = self.random.percent(30);
         let mut message = if query_first { self.query() } else { self.request().bytes() };
         for _ in 0..self.random.pick(&[1, 1, 1, 2]) {
-            match self.random.below(8) {
-                0 => message[0] = self.random.pick(&[0, 1, 3, 0x82, 0x20]),
-                1 => message[1] = self.random.pick(&[0, 1, 3, 0x82, 0x20]),
-                2 => message[4] = self.random.pick(&[0, 7, 9, 0x88, 0x80]),
-                3 => self.misstate(&mut message),
-                4 | 5 => message[6] = message[6] & 0xF8 | self.random.bits(3) as u8,
-                _ => message[6] = message[6] & 0x07 | (self.random.bits(5) as u8) << 3,
-            }
+            carriers::damage(&mut self.random, &mut message);
         }
         message
-    }
-
-    /// A stated length that is a little off, byte-swapped, or anything.
-    fn misstate(&mut self, message: &mut [u8]) {
-        let truth = (message.len() - 4) as u16;
-        let stated = match self.random.below(6) {
-            0 => truth + 1,
-            1 => truth - 1,
-            2 => truth + 4,
-            3 => truth.swap_bytes(),
-            4 => truth - 2,
-            _ => self.random.bits(16) as u16,
-        };
-        message[2..4].copy_from_slice(&stated.to_be_bytes());
     }
 
     /// Fewer than 7 bytes, just 7 or 8, or more than the longest allowed.

@@ -1,4 +1,6 @@
-//! What document 01's programs `take` and `put` must write for an input; they judge each message, and commit it where that comes to 0.
+//! What the programs must write for an input: `take` and `put`, which judge each message and commit it where that comes to 0, and `office`.
+
+pub mod office;
 
 use crate::records::{push_record, Record, Records};
 use crate::reference::commit::{judge_and_commit, REPLY_ROOM};

@@ -1,5 +1,6 @@
 //! The stored tests of the verified programs are what the reference says: what they write is compared with them by the gate.
 
+use otap_reference::programs::office::office_prints;
 use otap_reference::programs::{put_writes, take_prints};
 use std::fs::read;
 
@@ -16,6 +17,11 @@ fn take_prints_what_is_stored() {
 #[test]
 fn put_writes_what_is_stored() {
     assert!(put_writes(&stored("put", "stdin")) == stored("put", "stdout"));
+}
+
+#[test]
+fn office_prints_what_is_stored() {
+    assert_eq!(office_prints(&stored("office", "stdin")).as_bytes(), stored("office", "stdout"));
 }
 
 /// `put | take` prints ten lines of 0.

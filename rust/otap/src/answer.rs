@@ -6,6 +6,10 @@ use core::fmt;
 #[derive(Clone, Copy, Debug, PartialEq, Eq)]
 #[non_exhaustive]
 pub enum Refusal {
+    /// 1 of a query or of a report: OTAPVer is not 1. Of a commit it is an [`Outcome`], which has a reply.
+    WrongVersion,
+    /// 4 of a query or of a report: a field, a length or a count is wrong.
+    BadField,
     /// 10: the reply buffer has fewer than 20 bytes.
     ReplyShort,
     /// 11: the bytes lent are not 24,576, or not a store.
@@ -14,12 +18,14 @@ pub enum Refusal {
     MessageLength,
     /// 13: a carrier field or the stated length is wrong.
     WrongCarrier,
-    /// 14: the message is neither a request nor a result query.
+    /// 14: the message is not of the type that the call takes: a request or a result query to commit, a query to report on, a report to read.
     WrongMessageType,
-    /// 15: the scratch has fewer than 36 bytes, the export buffer fewer than 4,096, or the digits buffer fewer than 18.
+    /// 15: the scratch has fewer than 36 bytes, the export or report buffer fewer than 4,096, or the digits buffer fewer than 18.
     BufferShort,
-    /// 16: there is no such part to export; a [`Part`](crate::Part) is always one.
+    /// 16 of an export: there is no such part; a [`Part`](crate::Part) is always one.
     NoSuchPart,
+    /// 16 of [`Store::report`](crate::Store::report): the report has no message of this index.
+    NoSuchMessage,
     /// 17 of the screen: there is no such row, or it is a background group's, which is not shown.
     NoSuchRow,
     /// 17 of [`Store::entry`](crate::Store::entry), its digits and a channel: nothing stands there.
@@ -36,14 +42,17 @@ pub enum Refusal {
     Unlisted(u8),
 }
 
-const LISTED: [(u8, Refusal, &str); 13] = [
+const LISTED: [(u8, Refusal, &str); 16] = [
+    (1, Refusal::WrongVersion, "OTAPVer is not 1"),
+    (4, Refusal::BadField, "a field, a length or a count is wrong"),
     (10, Refusal::ReplyShort, "the reply buffer is under 20 bytes"),
     (11, Refusal::NotAStore, "the bytes lent are not a store"),
     (12, Refusal::MessageLength, "the message is under 7 or over 4,096 bytes"),
     (13, Refusal::WrongCarrier, "a carrier field or the length is wrong"),
-    (14, Refusal::WrongMessageType, "the message is neither a request nor a result query"),
+    (14, Refusal::WrongMessageType, "the message is not of the type that the call takes"),
     (15, Refusal::BufferShort, "the buffer lent is too short"),
     (16, Refusal::NoSuchPart, "there is no such part"),
+    (16, Refusal::NoSuchMessage, "the report has no such message"),
     (17, Refusal::NoSuchRow, "there is no such row"),
     (17, Refusal::NothingThere, "nothing stands there"),
     (20, Refusal::OutsidePlan, "the dialled number is outside the plan"),

@@ -1,4 +1,4 @@
-//! The C functions of the verified archive, and all of this crate's unsafe code.
+//! The C functions of the verified archives, and all of this crate's unsafe code.
 //!
 //! What each bit of an answer means is said in crate `packing`; the contracts of `otap_handheld` determine
 //! every byte that a call writes. Every call takes slices of any length and content.
@@ -66,6 +66,15 @@ unsafe extern "C" {
     fn otap_emergency_key(store: *const u8, store_length: u64) -> u64;
     fn otap_home_numbers(store: *const u8, store_length: u64) -> u64;
     fn otap_system_code(store: *const u8, store_length: u64) -> u64;
+    fn otap_report(
+        query: *const u8,
+        query_length: u64,
+        index: u32,
+        store: *const u8,
+        store_length: u64,
+        buffer: *mut u8,
+        buffer_length: u64,
+    ) -> u64;
     // These have no buffers, so that every call is sound.
     pub safe fn otap_individual_of_dialled(dialled: u32) -> u64;
     pub safe fn otap_group_of_dialled(dialled: u32) -> u64;
@@ -74,6 +83,13 @@ unsafe extern "C" {
     pub safe fn otap_transmit(channel: u32) -> u64;
     pub safe fn otap_receive(channel: u32) -> u64;
     pub safe fn otap_channel_of_transmit(frequency: u32) -> u64;
+}
+
+#[cfg(feature = "office")]
+unsafe extern "C" {
+    fn otap_read_report(message: *const u8, message_length: u64) -> u64;
+    fn otap_report_entry(message: *const u8, message_length: u64, at: u32) -> u64;
+    fn otap_report_places(message: *const u8, message_length: u64, at: u32) -> u64;
 }
 
 /// The archive takes every length as 64 bits, on every processor.
@@ -156,4 +172,28 @@ pub fn home_numbers(store: &[u8]) -> u64 {
 pub fn system_code(store: &[u8]) -> u64 {
     // SAFETY: as above.
     unsafe { otap_system_code(store.as_ptr(), length(store)) }
+}
+
+pub fn report(query: &[u8], index: u32, store: &[u8], buffer: &mut [u8]) -> u64 {
+    let (q, s, b) = (query.as_ptr(), store.as_ptr(), buffer.as_mut_ptr());
+    // SAFETY: the slices are live for the call, and the query and the store, only read, do not overlap the buffer.
+    unsafe { otap_report(q, length(query), index, s, length(store), b, length(buffer)) }
+}
+
+#[cfg(feature = "office")]
+pub fn read_report(message: &[u8]) -> u64 {
+    // SAFETY: the slice is live for the call, which only reads it.
+    unsafe { otap_read_report(message.as_ptr(), length(message)) }
+}
+
+#[cfg(feature = "office")]
+pub fn report_entry(message: &[u8], at: u32) -> u64 {
+    // SAFETY: as above.
+    unsafe { otap_report_entry(message.as_ptr(), length(message), at) }
+}
+
+#[cfg(feature = "office")]
+pub fn report_places(message: &[u8], at: u32) -> u64 {
+    // SAFETY: as above.
+    unsafe { otap_report_places(message.as_ptr(), length(message), at) }
 }

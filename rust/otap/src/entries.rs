@@ -72,7 +72,7 @@ impl Entry {
         match table {
             Table::Groups | Table::GroupContacts => Entry::Group {
                 address: GroupAddress(bits(packed, 8, 24)),
-                attribute: Attribute::unpack(packed),
+                attribute: Attribute::of(bits(packed, 37, 2)),
                 broadcast: bit(packed, 39),
                 ovcm: bit(packed, 40),
                 flags,
@@ -87,8 +87,8 @@ impl Entry {
 }
 
 impl Attribute {
-    fn unpack(packed: u64) -> Attribute {
-        match bits(packed, 37, 2) {
+    pub(crate) fn of(number: u32) -> Attribute {
+        match number {
             1 => Attribute::Background,
             2 => Attribute::Response,
             // No group has 00.

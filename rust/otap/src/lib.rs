@@ -4,6 +4,8 @@
 //! addresses and channels need none. No std, no allocation, no panic. `build.rs` finds the archive of the
 //! target where `./archive` writes it, or in the folder that `OTAP_ARCHIVE_DIR` names.
 //!
+//! Firmware links `libotap_handheld.a` alone: what the office reads, `report`, is behind the feature `office`, off by default, which links `libotap_office.a` too.
+//!
 //! ```
 //! # fn main() -> Result<(), otap::Refusal> {
 //! let mut bytes = [0; otap::STORE_SIZE];
@@ -25,6 +27,9 @@ mod conversions;
 mod counts;
 mod drawn;
 mod entries;
+#[cfg(feature = "office")]
+pub mod report;
+mod reporting;
 mod row;
 mod settings;
 mod store;
@@ -38,6 +43,7 @@ pub use conversions::{
 pub use counts::{Counts, MOST_CHANNELS, MOST_LINES};
 pub use drawn::{DrawnRow, Rows};
 pub use entries::{Attribute, CallFlags, Entries, Entry};
+pub use reporting::{Report, REPORT_ROOM};
 pub use row::{Row, Slice, Table, CONTACT_ROWS};
 pub use settings::{Channels, EmergencyKey, HomeNumbers, KeyTarget, SystemCode};
 pub use store::{Part, Store, EXPORT_ROOM, LONGEST_MESSAGE, REPLY_ROOM, SCRATCH_ROOM, STORE_SIZE};

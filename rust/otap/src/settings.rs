@@ -37,13 +37,16 @@ pub struct EmergencyKey {
 impl EmergencyKey {
     /// 8 to 31 address, 32 current, 33 group, 34 voice, 35 status, 36 siren.
     fn unpack(packed: u64) -> EmergencyKey {
-        let address = bits(packed, 8, 24);
-        let target = match (bit(packed, 32), bit(packed, 33)) {
+        EmergencyKey::of(bits(packed, 8, 24), [32, 33, 34, 35, 36].map(|place| bit(packed, place)))
+    }
+
+    pub(crate) fn of(address: u32, flags: [bool; 5]) -> EmergencyKey {
+        let [current, group, voice, status, siren] = flags;
+        let target = match (current, group) {
             (true, group) => KeyTarget::Current { group },
             (false, true) => KeyTarget::Group(GroupAddress(address)),
             (false, false) => KeyTarget::Individual(IndividualAddress(address)),
         };
-        let (voice, status, siren) = (bit(packed, 34), bit(packed, 35), bit(packed, 36));
         EmergencyKey { target, voice, status, siren }
     }
 }

@@ -3,6 +3,7 @@
 
 pub mod pair;
 pub mod raw;
+pub mod reports;
 pub mod values;
 
 use otap_reference::reference::commit::{judge_and_commit, REPLY_ROOM};

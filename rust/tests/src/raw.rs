@@ -46,6 +46,18 @@ unsafe extern "C" {
     fn otap_emergency_key(store: *const u8, store_length: u64) -> u64;
     fn otap_home_numbers(store: *const u8, store_length: u64) -> u64;
     fn otap_system_code(store: *const u8, store_length: u64) -> u64;
+    fn otap_report(
+        query: *const u8,
+        query_length: u64,
+        index: u32,
+        store: *const u8,
+        store_length: u64,
+        buffer: *mut u8,
+        length: u64,
+    ) -> u64;
+    fn otap_read_report(message: *const u8, length: u64) -> u64;
+    fn otap_report_entry(message: *const u8, length: u64, at: u32) -> u64;
+    fn otap_report_places(message: *const u8, length: u64, at: u32) -> u64;
 }
 
 pub fn export(part: u32, store: &[u8], buffer: &mut [u8]) -> u64 {
@@ -107,4 +119,27 @@ pub fn home_numbers(store: &[u8]) -> u64 {
 pub fn system_code(store: &[u8]) -> u64 {
     // SAFETY: as above.
     unsafe { otap_system_code(store.as_ptr(), store.len() as u64) }
+}
+
+pub fn report(query: &[u8], index: u32, store: &[u8], buffer: &mut [u8]) -> u64 {
+    let (query_length, store_length) = (query.len() as u64, store.len() as u64);
+    let (query, store, length) = (query.as_ptr(), store.as_ptr(), buffer.len() as u64);
+    let buffer = buffer.as_mut_ptr();
+    // SAFETY: the slices are live for the call and do not overlap.
+    unsafe { otap_report(query, query_length, index, store, store_length, buffer, length) }
+}
+
+pub fn read_report(message: &[u8]) -> u64 {
+    // SAFETY: the slice is live for the call, which only reads it.
+    unsafe { otap_read_report(message.as_ptr(), message.len() as u64) }
+}
+
+pub fn report_entry(message: &[u8], at: u32) -> u64 {
+    // SAFETY: as above.
+    unsafe { otap_report_entry(message.as_ptr(), message.len() as u64, at) }
+}
+
+pub fn report_places(message: &[u8], at: u32) -> u64 {
+    // SAFETY: as above.
+    unsafe { otap_report_places(message.as_ptr(), message.len() as u64, at) }
 }

@@ -19,7 +19,7 @@ use otap_reference::reference::values::{self, Entry};
 const PLACES: u32 = 66;
 
 impl Pair {
-    fn is_store(&self) -> bool {
+    pub(crate) fn is_store(&self) -> bool {
         self.bytes.len() == STORE_SIZE
     }
 
@@ -186,7 +186,7 @@ pub fn refused_by_all(bytes: &mut [u8]) {
     assert_eq!(lists, [11; 4]);
 }
 
-fn number<T>(answer: Result<T, u8>) -> u8 {
+pub(crate) fn number<T>(answer: Result<T, u8>) -> u8 {
     answer.map_or_else(|number| number, |_| 0)
 }
 

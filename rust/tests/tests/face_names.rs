@@ -1,7 +1,7 @@
 //! Every outcome and refusal by its name and its number in document 01, each from a call made by hand.
 
-use otap::{Outcome, Part, Refusal, Store, Table};
-use otap::{EXPORT_ROOM, MOST_DIGITS, REPLY_ROOM, SCRATCH_ROOM, STORE_SIZE};
+use otap::{report, Outcome, Part, Refusal, Store, Table};
+use otap::{EXPORT_ROOM, MOST_DIGITS, REPLY_ROOM, REPORT_ROOM, SCRATCH_ROOM, STORE_SIZE};
 use otap_tests::pair::commit_judged;
 use otap_tests::raw;
 
@@ -89,6 +89,39 @@ fn refusals_of_stores_exports_and_rows() {
     assert_eq!(refused(store.line_of(0, &[])), (Refusal::BadNumber, 20));
     let said = Refusal::BadNumber.to_string();
     assert_eq!(said, "20: the caller's number is not 1 to 18 digits");
+}
+
+/// A query for the scan channels, of which a fresh store has none.
+const CHANNELS: [u8; 9] = [2, 2, 0, 5, 8, 7, 0x0A, 1, 0xCE];
+
+#[test]
+fn refusals_of_reports() {
+    let mut bytes = vec![0; STORE_SIZE];
+    let store = Store::start(&mut bytes).expect("the size is right");
+    let mut buffer = [0; REPORT_ROOM];
+    let mut changed = |place: usize, byte, index| {
+        let mut query = CHANNELS;
+        query[place] = byte;
+        refused(store.report(&query, index, &mut buffer))
+    };
+    assert_eq!(changed(0, 2, 2), (Refusal::NoSuchMessage, 16));
+    assert_eq!(changed(7, 2, 1), (Refusal::BadField, 4));
+    assert_eq!(changed(6, 0x12, 1), (Refusal::WrongVersion, 1));
+    assert_eq!(changed(6, 8, 1), (Refusal::WrongMessageType, 14));
+    assert_eq!(changed(4, 9, 1), (Refusal::WrongCarrier, 13));
+    assert_eq!(refused(store.report(&[], 1, &mut buffer)), (Refusal::MessageLength, 12));
+    let short = store.report(&CHANNELS, 1, &mut buffer[1..]);
+    assert_eq!(refused(short), (Refusal::BufferShort, 15));
+    let nowhere = Store::lent(&mut [0; 3]).report(&CHANNELS, 1, &mut buffer);
+    assert_eq!(refused(nowhere), (Refusal::NotAStore, 11));
+    assert_eq!(refused(report::read(&CHANNELS)), (Refusal::WrongMessageType, 14));
+    let says = [Refusal::NoSuchMessage, Refusal::BadField, Refusal::WrongVersion];
+    let said = [
+        "16: the report has no such message",
+        "4: a field, a length or a count is wrong",
+        "1: OTAPVer is not 1",
+    ];
+    assert_eq!(says.map(|refusal| refusal.to_string()), said);
 }
 
 #[test]

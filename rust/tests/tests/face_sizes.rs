@@ -1,8 +1,10 @@
 //! Buffers of a wrong size: the number, the order of the refusals, and that nothing is touched.
 
-use otap::{Store, EXPORT_ROOM, MOST_DIGITS, REPLY_ROOM, SCRATCH_ROOM, STORE_SIZE};
+use otap::{Store, EXPORT_ROOM, MOST_DIGITS, REPLY_ROOM, REPORT_ROOM, SCRATCH_ROOM, STORE_SIZE};
 use otap_reference::inputs::calls::{Call, Calls};
+use otap_reference::inputs::reports::ReportCall;
 use otap_reference::inputs::values::Value;
+use otap_reference::reference::queries::query;
 use otap_tests::pair::{number_of, patterned, Pair};
 use otap_tests::values::refused_by_all;
 use std::collections::BTreeMap;
@@ -39,7 +41,7 @@ fn calls_of_every_kind_and_size() {
     for seed in 4_000..4_200 {
         let mut calls = Calls::new(seed);
         let mut pair = Pair::fresh();
-        for _ in 0..200 {
+        for turn in 0..200 {
             let size = calls.store_size(STORE_SIZE);
             let mut other = Pair { bytes: pair.bytes.clone(), set: pair.set.clone() };
             other.bytes.resize(size, 0);
@@ -48,7 +50,13 @@ fn calls_of_every_kind_and_size() {
             let caller = calls.caller();
             let called = lent.call_from(caller.id_type, &caller.digits);
             let asked = lent.ask(calls.value());
-            for number in [number, called.map_or_else(|refusal| refusal, |_| 0), asked] {
+            // Less often, since a query may ask for all that the set holds, 255 times.
+            let reported = (turn % 20 == 0).then(|| {
+                let (ReportCall { query, index }, room) = calls.report();
+                lent.report_into(&query, index, room).err().unwrap_or(0)
+            });
+            let called = called.err().unwrap_or(0);
+            for number in [number, called, asked].into_iter().chain(reported) {
                 *counts.entry(number).or_default() += 1;
             }
         }
@@ -81,6 +89,7 @@ fn a_store_of_another_size_is_none() {
         pair.bytes.resize(size, 0);
         assert_eq!(pair.commit(&otap_tests::hex_request(&["CD 00 05 07 E4 C0"])), 11);
         assert_eq!(pair.export_into(1, EXPORT_ROOM), 11);
+        assert_eq!(pair.report_into(&query(&[0xCE]), 1, REPORT_ROOM), Err(11));
         assert_eq!(pair.show_into(1, 0, SCRATCH_ROOM), 11);
         assert_eq!(pair.count(), 11);
         assert_eq!(pair.call_from(otap::PSTN, &[3]), Err(11));
@@ -102,6 +111,7 @@ fn short_buffers_come_first() {
             }
             for room in (0..EXPORT_ROOM).step_by(97).chain([EXPORT_ROOM - 1]) {
                 assert_eq!(pair.export_into(u32::MAX, room), 15);
+                assert_eq!(pair.report_into(message, u32::MAX, room), Err(15));
             }
             for room in 0..SCRATCH_ROOM {
                 assert_eq!(pair.show_into(u32::MAX, 9, room), 15);

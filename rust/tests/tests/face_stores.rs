@@ -1,12 +1,13 @@
 //! Which bytes are a store: those that messages make, those that docs/STORE.md allows, and no others.
 
 use otap::{Outcome, Part, Store, Table};
-use otap::{EXPORT_ROOM, MOST_DIGITS, REPLY_ROOM, SCRATCH_ROOM, STORE_SIZE};
+use otap::{EXPORT_ROOM, MOST_DIGITS, REPLY_ROOM, REPORT_ROOM, SCRATCH_ROOM, STORE_SIZE};
 use otap_reference::inputs::pokes::{poke_count, poke_line_slot, poke_list, poke_order};
 use otap_reference::inputs::random::Random;
 use otap_reference::inputs::Inputs;
 use otap_reference::layout;
 use otap_reference::reference::message::{query, request, Hash};
+use otap_reference::reference::queries;
 use otap_reference::reference::settings::{LastItem, Setting};
 use otap_tests::pair::{commit_judged, number_of, patterned, Pair};
 
@@ -22,6 +23,8 @@ fn is_store(bytes: &mut [u8]) -> bool {
     let checked = number_of(&store.check_row(Table::Lines, 40, &[0; SCRATCH_ROOM]));
     let counted = number_of(&store.counts());
     let called = number_of(&store.line_of(otap::PABX, &[1]));
+    let types = queries::query(&[0xCD]);
+    let reported = number_of(&store.report(&types, 1, &mut [0; REPORT_ROOM]));
     let behind = [
         number_of(&store.entry(Table::Lines, 40)),
         number_of(&store.entry_digits(Table::Lines, 40, &mut [0; MOST_DIGITS])),
@@ -35,7 +38,7 @@ fn is_store(bytes: &mut [u8]) -> bool {
     let opened = number_of(&Store::open(bytes));
     let (done, number) = if taken == 11 { (11, 11) } else { (0, 17) };
     assert_eq!((exports, shown, checked), (vec![done; Part::ALL.len()], number, number));
-    assert_eq!((counted, called, opened), (done, done, done));
+    assert_eq!([counted, called, reported, opened], [done; 4]);
     assert_eq!((behind, fixed), ([number; 3], [done; 3]));
     assert!(*bytes == before, "none of these calls changes the bytes");
     assert_eq!(taken, if layout::is_store(bytes) { 5 } else { 11 });

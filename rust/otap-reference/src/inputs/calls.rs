@@ -2,10 +2,12 @@
 
 use super::callers::Caller;
 use super::random::Random;
+use super::reports::ReportCall;
 use super::values::Value;
 use super::Inputs;
 use crate::reference::commit::REPLY_ROOM;
 use crate::reference::export::{EXPORT_ROOM, PARTS};
+use crate::reference::reports::REPORT_ROOM;
 use crate::reference::screen::SCRATCH_ROOM;
 
 /// For each table of the screen, the first row to ask for and how many.
@@ -55,6 +57,11 @@ impl Calls {
     /// What stands behind a row or a setting, to be asked between the others too.
     pub fn value(&mut self) -> Value {
         self.inputs.value()
+    }
+
+    /// A query to answer, and the room of the buffer for its report.
+    pub fn report(&mut self) -> (ReportCall, usize) {
+        (self.inputs.report_call(), self.room(REPORT_ROOM))
     }
 
     fn judged(&mut self) -> Vec<u8> {

@@ -2,6 +2,7 @@
 
 pub mod contacts;
 pub mod lines;
+pub mod parameters;
 mod slots;
 
 use super::random::Random;
@@ -228,13 +229,17 @@ impl Maker<'_> {
 
     fn home(&mut self) -> Vec<u8> {
         let mut bits = BitWriter::new();
-        self.flags(&mut bits, 9);
+        self.home_fields(&mut bits);
+        setting(0xCD, bits)
+    }
+
+    fn home_fields(&mut self, bits: &mut BitWriter) {
+        self.flags(bits, 9);
         let edge = self.random.pick(&[0, 328, 806]);
         let good = if self.random.flag() { edge } else { self.random.within(0..=806) as u32 };
         let np = self.ranged(good, &[807, 808, 1_023]);
         bits.bits(np, 10);
-        self.reserved(&mut bits, 5);
-        setting(0xCD, bits)
+        self.reserved(bits, 5);
     }
 
     fn channel(&mut self, keys: Keys) -> u32 {
@@ -285,16 +290,20 @@ impl Maker<'_> {
 
     fn system(&mut self) -> Vec<u8> {
         let mut bits = BitWriter::new();
-        self.flags(&mut bits, 12);
+        self.system_fields(&mut bits);
+        setting(0xCF, bits)
+    }
+
+    fn system_fields(&mut self, bits: &mut BitWriter) {
+        self.flags(bits, 12);
         let good = self.random.below(9) as u32;
         let la = self.ranged(good, &[9, 10, 15]);
         let good = self.random.below(3) as u32;
         let roaming = self.ranged(good, &[3]);
         bits.bits(la, 4);
         bits.bits(roaming, 2);
-        self.flags(&mut bits, 1);
-        self.reserved(&mut bits, 5);
-        setting(0xCF, bits)
+        self.flags(bits, 1);
+        self.reserved(bits, 5);
     }
 
     fn status_texts(&mut self, size: Size) -> Vec<u8> {

@@ -1,7 +1,9 @@
 //! What the cases worked by hand share.
 
 use super::commit::{commit, judge, REPLY_ROOM};
-use super::message::request;
+use super::message::{request, LONGEST};
+use super::queries::query;
+use super::reports::{report, REPORT_HEAD};
 use super::screen::{row_part, Row, Shown, SCRATCH_ROOM};
 use super::tables::Set;
 
@@ -46,3 +48,51 @@ pub fn stored(text: &str) -> Shown {
 pub fn scratch(number: &str) -> Shown {
     Shown::Scratch(number.encode_utf16().collect())
 }
+
+/// The first message of the report to these types, asked by a call.
+pub fn reported(set: &Set, types: &str) -> Vec<u8> {
+    let mut buffer = [0xEE; LONGEST];
+    let told = report(&query(&bytes(types)), 1, true, set, &mut buffer).expect("a good query");
+    buffer[..told.length].to_vec()
+}
+
+/// Its count of parameters and their bytes.
+pub fn parameters(set: &Set, types: &str) -> (u8, Vec<u8>) {
+    let message = reported(set, types);
+    (message[REPORT_HEAD - 1], message[REPORT_HEAD..].to_vec())
+}
+
+/// A report of one message with so many parameters, in hex.
+pub fn report_of(count: u8, parameters: &str) -> Vec<u8> {
+    let parameters = bytes(parameters);
+    let length = (parameters.len() + 6) as u8;
+    [vec![2, 2, 0, length, 8, 7, 0x0B, 1, 1, count], parameters].concat()
+}
+
+/// One entry of every table that is asked for, and a kept hash.
+pub const EVERY_TABLE: [&str; 10] = [
+    "C8 00 0C 54 80 01 10 00 01 00 41 00 00",
+    "C9 00 09 5C 01 10 03 E9 00 00",
+    "CA 00 0B 42 01 23 45 FF 00 41 00 00",
+    "CB 00 06 68 10 00 01",
+    "CC 00 08 41 05 00 41 00 00",
+    "CD 00 05 00 E4 C0",
+    "CE 00 06 40 01 0F 1F",
+    "CF 00 05 00 18 A0",
+    "D0 00 09 40 01 21 00 42 00 00",
+    "FF 00 07 01 01 02 03 04",
+];
+
+/// What it reports of these, by the byte asked.
+pub const EVERY_PARAMETER: [(u8, &str); 10] = [
+    (0xC8, "88 00 10 00 01 05 20 00 41 00 00"),
+    (0xC9, "89 00 10 03 E9 07 00 00"),
+    (0xCA, "8A 00 80 00 23 45 FF 00 41 00 00"),
+    (0xCB, "8B 00 A8 10 00 01"),
+    (0xCC, "8C 00 14 00 41 00 00"),
+    (0xCD, "8D 00 00 E4 C0"),
+    (0xCE, "8E 00 0F 10 00"),
+    (0xCF, "8F 00 00 18 A0"),
+    (0xD0, "90 00 21 00 00 42 00 00"),
+    (0xFF, "BF 01 01 01 02 03 04"),
+];

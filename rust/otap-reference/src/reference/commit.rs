@@ -1,6 +1,6 @@
 //! Judging and committing one message (document 02, A6): the order of judgement, the answer and the reply.
 
-use super::message::{self, asked, open, Hash, Opened};
+use super::message::{self, admitted, asked, Hash, Opened};
 use super::numbers::*;
 use super::settings::{parse, Fault, LastItem, Setting};
 use super::tables::{NoRoom, Set};
@@ -89,14 +89,7 @@ fn admit(message: &[u8], is_store: bool, reply_room: usize) -> Result<Opened<'_>
     if !is_store {
         return Err(NOT_A_STORE);
     }
-    if !(message::SHORTEST..=message::LONGEST).contains(&message.len()) {
-        return Err(MESSAGE_LENGTH);
-    }
-    let opened = open(message).ok_or(WRONG_CARRIER)?;
-    match opened.kind {
-        message::REQUEST | message::QUERY => Ok(opened),
-        _ => Err(WRONG_MESSAGE_TYPE),
-    }
+    admitted(message, &[message::REQUEST, message::QUERY])
 }
 
 /// What a message comes to; a request that is taken changes the set.

@@ -120,7 +120,7 @@ fn status_texts(tables: &Tables) -> Setting {
 }
 
 /// The texts held, by rising key.
-fn held(texts: &[Option<Text>], first: u8) -> Vec<TextEntry> {
+pub(super) fn held(texts: &[Option<Text>], first: u8) -> Vec<TextEntry> {
     (first..)
         .zip(texts)
         .filter_map(|(key, text)| text.clone().map(|text| TextEntry { key, text }))

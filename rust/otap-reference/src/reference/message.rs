@@ -1,6 +1,7 @@
-//! The carrier and the three messages in it: request, result query, reply.
+//! The carrier and the messages in it: request, result query and reply; `queries` and `reports` have the other two.
 
 use super::bits::{BitReader, BitWriter};
+use super::numbers::{MESSAGE_LENGTH, WRONG_CARRIER, WRONG_MESSAGE_TYPE, WRONG_VERSION};
 use super::texts::Coding;
 
 pub const START: [u8; 2] = [0x02, 0x02];
@@ -8,6 +9,9 @@ pub const MFID: u8 = 0x08;
 pub const VERSION: u8 = 1;
 pub const REQUEST: u8 = 0;
 pub const REPLY: u8 = 1;
+/// A query of types (document 02, A8), and the report that answers it.
+pub const TYPE_QUERY: u8 = 2;
+pub const REPORT: u8 = 3;
 pub const QUERY: u8 = 5;
 pub const CODING_BINARY: u8 = 0;
 pub const SHORTEST: usize = 7;
@@ -41,7 +45,13 @@ impl Hash {
 
     /// Reads 6 bits of code and the value the code calls for.
     pub fn read(bits: &mut BitReader) -> Option<Hash> {
-        match bits.bits(6)? {
+        let code = bits.bits(6)?;
+        Hash::read_value(code, bits)
+    }
+
+    /// Reads the value that a code calls for.
+    pub fn read_value(code: u32, bits: &mut BitReader) -> Option<Hash> {
+        match code {
             0 => Some(Hash::Nothing),
             1 => read_bytes(bits).map(Hash::Crc),
             2 => read_bytes(bits).map(Hash::Stamped),
@@ -87,6 +97,29 @@ pub fn open(message: &[u8]) -> Option<Opened<'_>> {
     })
 }
 
+/// Opens a message of one of these MsgTypes; or 12, 13 or 14, in this order.
+pub fn admitted<'a>(message: &'a [u8], kinds: &[u8]) -> Result<Opened<'a>, u8> {
+    if !(SHORTEST..=LONGEST).contains(&message.len()) {
+        return Err(MESSAGE_LENGTH);
+    }
+    let opened = open(message).ok_or(WRONG_CARRIER)?;
+    if kinds.contains(&opened.kind) {
+        Ok(opened)
+    } else {
+        Err(WRONG_MESSAGE_TYPE)
+    }
+}
+
+/// As `admitted`, of one MsgType and version 1; another version is 1, last.
+pub fn of_kind(message: &[u8], kind: u8) -> Result<Opened<'_>, u8> {
+    let opened = admitted(message, &[kind])?;
+    if opened.version == VERSION {
+        Ok(opened)
+    } else {
+        Err(WRONG_VERSION)
+    }
+}
+
 /// The hash a result query asks for; nothing when the query is malformed.
 pub fn asked(body: &[u8]) -> Option<Hash> {
     let mut bits = BitReader::new(body);
@@ -126,7 +159,8 @@ pub fn first_byte(kind: u8) -> u8 {
     VERSION << 3 | kind
 }
 
-fn carry(coding: u8, data: &[u8]) -> Vec<u8> {
+/// A message with its true length and reserved bits 0.
+pub(super) fn carry(coding: u8, data: &[u8]) -> Vec<u8> {
     let length = (data.len() + 2) as u16;
     let mut message = START.to_vec();
     message.extend(length.to_be_bytes());

@@ -12,6 +12,7 @@ pub const MESSAGE_LENGTH: u8 = 12;
 pub const WRONG_CARRIER: u8 = 13;
 pub const WRONG_MESSAGE_TYPE: u8 = 14;
 pub const BUFFER_SHORT: u8 = 15;
+/// Also of a message that a report does not have (document 02, A8).
 pub const NO_SUCH_PART: u8 = 16;
 /// Also where nothing stands behind a row, or no channel at a position.
 pub const NO_SUCH_ROW: u8 = 17;

@@ -1,11 +1,16 @@
-//! The answers of `values` in 64 bits, as the C functions give them.
+//! The answers of `values`, of the report call and of the office's reader in 64 bits, as the C functions give them.
 
 use super::numbers::TAKEN;
 use super::settings::{EmergencyKey, HomeNumbers, SystemCode};
 use super::values::Entry;
 
 #[cfg(test)]
+mod report_tests;
+mod reports;
+#[cfg(test)]
 mod tests;
+
+pub use reports::{packed_read_report, packed_report, packed_report_entry, packed_report_places};
 
 /// A value and its lowest bit.
 type Field = (u32, u32);

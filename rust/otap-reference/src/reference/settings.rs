@@ -1,6 +1,6 @@
 //! The thirteen settings, the DataLengths that they may have, and reading one.
 
-mod readers;
+pub(super) mod readers;
 #[cfg(test)]
 mod tests;
 

@@ -150,7 +150,7 @@ fn write_quick_texts(
     Some(0xCC)
 }
 
-fn write_home(bits: &mut BitWriter, home: &HomeNumbers) -> u8 {
+pub(super) fn write_home(bits: &mut BitWriter, home: &HomeNumbers) -> u8 {
     bits.bits(u32::from(home.nzi), 9);
     bits.bits(u32::from(home.np), 10);
     bits.bits(0, 5);
@@ -170,7 +170,7 @@ fn write_channels(bits: &mut BitWriter, operation: Operation, channels: &[u16]) 
     0xCE
 }
 
-fn write_system(bits: &mut BitWriter, code: &SystemCode) -> u8 {
+pub(super) fn write_system(bits: &mut BitWriter, code: &SystemCode) -> u8 {
     bits.bits(u32::from(code.lai), 12);
     bits.bits(u32::from(code.la), 4);
     bits.bits(u32::from(code.roaming), 2);
@@ -256,7 +256,7 @@ fn slot_operation<T>(slot: Option<&T>) -> Operation {
     }
 }
 
-fn write_group_flags(bits: &mut BitWriter, flags: &GroupFlags) {
+pub(super) fn write_group_flags(bits: &mut BitWriter, flags: &GroupFlags) {
     bits.bits(u32::from(flags.attribute), 2);
     for flag in [flags.broadcast, flags.encryption, flags.ovcm, flags.emergency] {
         bits.flag(flag);
@@ -264,7 +264,7 @@ fn write_group_flags(bits: &mut BitWriter, flags: &GroupFlags) {
     bits.bits(u32::from(flags.priority), 2);
 }
 
-fn write_individual_flags(bits: &mut BitWriter, flags: &IndividualFlags) {
+pub(super) fn write_individual_flags(bits: &mut BitWriter, flags: &IndividualFlags) {
     bits.flag(flags.encryption);
     bits.flag(flags.emergency);
     bits.bits(u32::from(flags.priority), 2);
@@ -286,7 +286,7 @@ fn write_operation(bits: &mut BitWriter, operation: Operation) {
     bits.bits(value, 2);
 }
 
-fn write_digits(bits: &mut BitWriter, digits: &[u8]) {
+pub(super) fn write_digits(bits: &mut BitWriter, digits: &[u8]) {
     digits.iter().for_each(|&digit| bits.bits(u32::from(digit), 4));
     bits.bits(0b1111, 4);
     if !bits.is_whole() {

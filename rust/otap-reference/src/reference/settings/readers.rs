@@ -10,9 +10,9 @@ pub fn read_body(kind: u8, coding: Coding, bits: &mut BitReader) -> Option<Setti
         0xCA => read_lines(coding, bits),
         0xCB => read_emergency(bits),
         0xCC => read_quick_texts(coding, bits),
-        0xCD => read_home(bits),
+        0xCD => read_home(bits).map(Setting::Home),
         0xCE => read_channels(bits),
-        0xCF => read_system(bits),
+        0xCF => read_system(bits).map(Setting::System),
         0xD0 => read_status_texts(coding, bits),
         0xD1 => read_group(coding, bits),
         0xD2 => read_individual(coding, bits),
@@ -101,26 +101,28 @@ fn read_quick_texts(coding: Coding, bits: &mut BitReader) -> Option<Setting> {
     Some(Setting::QuickTexts { operation, entries })
 }
 
-fn read_home(bits: &mut BitReader) -> Option<Setting> {
+pub fn read_home(bits: &mut BitReader) -> Option<HomeNumbers> {
     let home = HomeNumbers { nzi: bits.bits(9)? as u16, np: bits.bits(10)? as u16 };
     bits.bits(5)?;
-    (home.np <= 806).then_some(Setting::Home(home))
+    (home.np <= 806).then_some(home)
 }
 
 fn read_channels(bits: &mut BitReader) -> Option<Setting> {
     let operation = read_operation(bits)?;
     bits.bits(4)?;
     let count = bits.bits(10)?;
-    let channels = (0..count)
-        .map(|_| bits.bits(12).map(|channel| channel as u16).filter(|c| (241..=640).contains(c)))
-        .collect::<Option<_>>()?;
+    let channels = (0..count).map(|_| read_channel(bits)).collect::<Option<_>>()?;
     if count % 2 == 1 && bits.bits(4)? != 0b1111 {
         return None;
     }
     Some(Setting::Channels { operation, channels })
 }
 
-fn read_system(bits: &mut BitReader) -> Option<Setting> {
+pub fn read_channel(bits: &mut BitReader) -> Option<u16> {
+    bits.bits(12).map(|channel| channel as u16).filter(|channel| (241..=640).contains(channel))
+}
+
+pub fn read_system(bits: &mut BitReader) -> Option<SystemCode> {
     let code = SystemCode {
         lai: bits.bits(12)? as u16,
         la: bits.bits(4)? as u8,
@@ -128,7 +130,7 @@ fn read_system(bits: &mut BitReader) -> Option<Setting> {
         par: bits.flag()?,
     };
     bits.bits(5)?;
-    (code.la <= 8 && code.roaming != 0b11).then_some(Setting::System(code))
+    (code.la <= 8 && code.roaming != 0b11).then_some(code)
 }
 
 fn read_status_texts(coding: Coding, bits: &mut BitReader) -> Option<Setting> {
@@ -137,11 +139,16 @@ fn read_status_texts(coding: Coding, bits: &mut BitReader) -> Option<Setting> {
     let count = bits.bits(8)?;
     let entries = (0..count)
         .map(|_| {
-            let key = bits.byte().filter(|code| (32..=127).contains(code))?;
+            let key = read_code(bits)?;
             Some(TextEntry { key, text: coding.read_text(bits, SHORT_TEXT)? })
         })
         .collect::<Option<_>>()?;
     Some(Setting::StatusTexts { operation, entries })
+}
+
+/// Of a status text.
+pub fn read_code(bits: &mut BitReader) -> Option<u8> {
+    bits.byte().filter(|code| (32..=127).contains(code))
 }
 
 fn read_group(coding: Coding, bits: &mut BitReader) -> Option<Setting> {
@@ -209,7 +216,7 @@ fn read_slot_operation(bits: &mut BitReader) -> Option<Operation> {
     read_operation(bits).filter(|&operation| operation != Operation::Replace)
 }
 
-fn read_group_flags(bits: &mut BitReader) -> Option<GroupFlags> {
+pub fn read_group_flags(bits: &mut BitReader) -> Option<GroupFlags> {
     Some(GroupFlags {
         attribute: bits.bits(2)? as u8,
         broadcast: bits.flag()?,
@@ -220,7 +227,7 @@ fn read_group_flags(bits: &mut BitReader) -> Option<GroupFlags> {
     })
 }
 
-fn read_individual_flags(bits: &mut BitReader) -> Option<IndividualFlags> {
+pub fn read_individual_flags(bits: &mut BitReader) -> Option<IndividualFlags> {
     Some(IndividualFlags {
         encryption: bits.flag()?,
         emergency: bits.flag()?,
@@ -237,7 +244,7 @@ fn read_line_flags(bits: &mut BitReader) -> Option<LineFlags> {
     })
 }
 
-fn read_digits(bits: &mut BitReader) -> Option<Vec<u8>> {
+pub fn read_digits(bits: &mut BitReader) -> Option<Vec<u8>> {
     let mut digits = Vec::new();
     loop {
         match bits.bits(4)? as u8 {
@@ -253,7 +260,7 @@ fn read_digits(bits: &mut BitReader) -> Option<Vec<u8>> {
     Some(digits)
 }
 
-fn read_address(bits: &mut BitReader) -> Option<u32> {
+pub fn read_address(bits: &mut BitReader) -> Option<u32> {
     bits.bits(24).filter(|&address| is_address(address))
 }
 

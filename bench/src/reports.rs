@@ -1,0 +1,92 @@
+//! Queries to a full store, and messages for the office's reader: by the archives and by plain Rust.
+
+use crate::messages::filling;
+use otap::{Refusal, Store, REPLY_ROOM};
+use otap_reference::reference::commit::commit;
+use otap_reference::reference::message::LONGEST;
+use otap_reference::reference::queries::query;
+use otap_reference::reference::report_reading::read;
+use otap_reference::reference::reports::{self, report};
+use otap_reference::reference::tables::Set;
+use std::hint::black_box;
+
+/// Each table by what asks for it.
+const TABLES: [(&str, u8); 10] = [
+    ("group-contacts", 0xC8),
+    ("individual-contacts", 0xC9),
+    ("lines", 0xCA),
+    ("emergency-key", 0xCB),
+    ("quick-texts", 0xCC),
+    ("home-numbers", 0xCD),
+    ("channels", 0xCE),
+    ("system-code", 0xCF),
+    ("status-texts", 0xD0),
+    ("hash", 0xFF),
+];
+
+/// A query, which message of its report is asked for, and how many it has to have.
+#[derive(Clone)]
+pub struct Asked {
+    pub query: Vec<u8>,
+    index: u32,
+    total: u32,
+}
+
+impl Asked {
+    /// The number, by the face.
+    pub fn rattle(&self, store: &Store, buffer: &mut [u8]) -> u8 {
+        let report = store.report(black_box(&self.query), black_box(self.index), buffer);
+        self.answered(black_box(report).map(|report| report.total).map_err(Refusal::number))
+    }
+
+    /// The same, by the reference.
+    pub fn plain(&self, set: &Set, buffer: &mut [u8]) -> u8 {
+        let told = report(black_box(&self.query), black_box(self.index), true, set, buffer);
+        self.answered(black_box(told).map(|told| told.total.into()))
+    }
+
+    /// The number, and that of no call where the total is another.
+    fn answered(&self, total: Result<u32, u8>) -> u8 {
+        total.map_or_else(|number| number, |total| if total == self.total { 0 } else { u8::MAX })
+    }
+}
+
+/// A name for each query: every table by itself, which is one message; all ten, and status texts as often as can be asked, by their first and last message.
+pub fn queries() -> Vec<(String, Asked)> {
+    let asked = |types: &[u8], index, total| Asked { query: query(types), index, total };
+    let one = |(name, byte): (&str, u8)| (name.to_string(), asked(&[byte], 1, 1));
+    let mut queries: Vec<_> = TABLES.into_iter().map(one).collect();
+    let all = TABLES.map(|(_, byte)| byte);
+    for (name, types, total) in [("all", &all[..], 4), ("longest", &[0xD0; 255], 229)] {
+        queries.push((format!("{name}-first"), asked(types, 1, total)));
+        queries.push((format!("{name}-last"), asked(types, total, total)));
+    }
+    queries
+}
+
+/// Messages of a full set's reports: one with the most bytes, and one with the most parameters.
+pub fn messages() -> [(&'static str, Vec<u8>); 2] {
+    let mut set = Set::default();
+    for message in filling() {
+        assert_eq!(commit(&message, &mut set, &mut [0; REPLY_ROOM]).number, 0);
+    }
+    let first = |types: &[u8]| {
+        let messages = reports::messages(types, &set, LONGEST).expect("at most 231 messages");
+        messages.into_iter().next().expect("a report has a message")
+    };
+    [("status-texts", first(&[0xD0; 2])), ("channels", first(&[0xCE; 4]))]
+}
+
+/// Reads a message and every parameter of it: the number, by the face.
+pub fn rattle_reads(message: &[u8]) -> u8 {
+    let read = otap::report::read(black_box(message));
+    read.map_or_else(Refusal::number, |read| {
+        read.entries().map(black_box).for_each(|_| ());
+        0
+    })
+}
+
+/// The same, by the reference.
+pub fn plain_reads(message: &[u8]) -> u8 {
+    black_box(read(black_box(message))).map_or_else(|number| number, |_| 0)
+}

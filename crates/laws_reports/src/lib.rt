@@ -1,0 +1,1 @@
+// Queries, reports and taking together: laws only.

@@ -1,0 +1,4 @@
+// What the office's C answers are packed as.
+pub mod message;
+pub mod parameter;
+pub mod places;

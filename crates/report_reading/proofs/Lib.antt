@@ -1,0 +1,11 @@
+pub mod ErrorLaws
+pub mod HeadLaws
+pub mod ItemDetermined
+pub mod ItemHeads
+pub mod KeyLaws
+pub mod KeptLaws
+pub mod LineLaws
+pub mod MessageLaws
+pub mod ReportDetermined
+pub mod TypeLaws
+pub mod WalkLaws

@@ -1,0 +1,4 @@
+pub mod FixedItems
+pub mod HeadLaws
+pub mod ListedItems
+pub mod SlotLaws

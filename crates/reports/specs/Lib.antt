@@ -1,0 +1,9 @@
+pub mod Asked
+pub mod Contents
+pub mod Cut
+pub mod Items
+pub mod Reading
+pub mod Reporting
+pub mod Reports
+pub mod TableSlots
+pub mod Types
