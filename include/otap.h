@@ -70,7 +70,7 @@ enum {
     OTAP_JUDGE_STACK = 26624,    /* 26,288: it has the working copy that otap_commit has */
     OTAP_COMMIT_STACK = 26624,   /* 26,288: 24,576 of them are the working copy of the store */
     OTAP_EXPORT_STACK = 1024,    /* 896 */
-    OTAP_REPORT_STACK = 2048,    /* 800 on x86-64; on the others not measured yet */
+    OTAP_REPORT_STACK = 1536,    /* 984 */
     OTAP_ROW_STACK = 1024,       /* 816 otap_row_number, 896 otap_row_part */
     OTAP_COUNTS_STACK = 1024,    /* 532 */
     OTAP_LINE_OF_STACK = 1024,   /* 712 */
