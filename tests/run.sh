@@ -15,7 +15,7 @@ sees_outside() {
     [ $? -eq 1 ] && grep -q "a byte too many, as asked" "$built/outside"
 }
 
-# No table of constants comes back: what is left are the code's own numbers and jump tables, at most 512 bytes of any one function.
+# No table of constants comes back: what is left are the code's own numbers and jump tables, in any one section fewer than a byte for each channel.
 few_constants() {
     total=0
     most=0
@@ -23,8 +23,8 @@ few_constants() {
         total=$((total + 0x$size))
         [ "$((0x$size))" -le "$most" ] || most=$((0x$size))
     done
-    echo "$total bytes, at most 1,536; $most of one function, at most 512"
-    [ "$total" -gt 0 ] && [ "$total" -le 1536 ] && [ "$most" -le 512 ]
+    echo "$total bytes, at most 1,536; $most in one section, under 640"
+    [ "$total" -gt 0 ] && [ "$total" -le 1536 ] && [ "$most" -lt 640 ]
 }
 
 # functions ARCHIVE: the names that a program can link.
