@@ -15,8 +15,8 @@ sanitizers="-fsanitize=address,undefined -fno-sanitize-recover=all"
 wrapped="-Wl,--wrap=otap_judge -Wl,--wrap=otap_commit -Wl,--wrap=otap_export -Wl,--wrap=otap_row_number -Wl,--wrap=otap_row_part -Wl,--wrap=otap_counts"
 wrapped="$wrapped -Wl,--wrap=otap_line_of -Wl,--wrap=otap_entry -Wl,--wrap=otap_entry_digits -Wl,--wrap=otap_channel -Wl,--wrap=otap_emergency_key"
 wrapped="$wrapped -Wl,--wrap=otap_home_numbers -Wl,--wrap=otap_system_code -Wl,--wrap=otap_report -Wl,--wrap=otap_read_report"
-wrapped="$wrapped -Wl,--wrap=otap_report_entry -Wl,--wrap=otap_report_places"
-last_wrong=67
+wrapped="$wrapped -Wl,--wrap=otap_report_entry -Wl,--wrap=otap_report_places -Wl,--wrap=otap_join"
+last_wrong=92
 CC=${CC:-gcc}
 # There are many short-lived buffers: a large quarantine only slows it down.
 export ASAN_OPTIONS=quarantine_size_mb=1

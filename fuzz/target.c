@@ -1,10 +1,11 @@
 /*
  * The entry of a fuzzer over the C functions. An input is records, each a byte that chooses the call and the sizes, then what the call needs; one store
- * goes from record to record. Each message is judged and then committed, and the one before it once more after it. After each the store is still a store,
- * and at the end it is written out into a fresh one that becomes the same.
+ * goes from record to record. Each message is judged and then committed, and the one before it once more after it; the two are joined too. After each the
+ * store is still a store, and at the end it is written out into a fresh one that becomes the same.
  */
 #include "asking.h"
 #include "callers.h"
+#include "joining.h"
 
 enum { MOST_RECORDS = 64 };
 
@@ -36,12 +37,21 @@ static void note(uint64_t answer)
     }
 }
 
+/* The message before and this one, joined: which numbers it came to, of the first or of the second. */
+static void join_message(const uint8_t *message, size_t length, unsigned choice)
+{
+    Request first = {waiting, waiting_length}, second = {message, length};
+    uint64_t answer = check_joined(&first, &second, chosen_size(choice, OTAP_JOIN_BYTES), store);
+    reached[2016 + otap_answer_number(answer) + 16 * otap_join_second_at_fault(answer)] = 1;
+}
+
 static void commit_message(const uint8_t *message, size_t length, unsigned choice)
 {
     size_t store_length = chosen_store(choice);
     uint64_t answer = commit_twice(message, length, store, store_length, chosen_size(choice, OTAP_REPLY_BYTES), after);
     if (waiting_length > 0) {
         commit_late(waiting, waiting_length, message, length, store);
+        join_message(message, length, choice);
     }
     memcpy(waiting, message, length);
     waiting_length = length;
@@ -130,6 +140,7 @@ static void restore_it(void)
     check_callers(store);
     check_entries(store);
     check_reports(store);
+    join_exports(store);
     must(check_counts(other) == check_counts(store), "the other store has the same counts");
 }
 

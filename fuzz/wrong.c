@@ -1,11 +1,11 @@
 /* Wrong libraries, to see that the checks of target.c can fail: the linker puts these before the archive's functions (--wrap). WRONG says which. */
 #include "orders.h"
+#include "wrong_sets.h"
 
 #ifndef WRONG
 #define WRONG 0
 #endif
 
-uint64_t __real_otap_judge(const uint8_t *, uint64_t, const uint8_t *, uint64_t, uint8_t *, uint64_t);
 uint64_t __real_otap_commit(const uint8_t *, uint64_t, uint8_t *, uint64_t, uint8_t *, uint64_t);
 uint64_t __real_otap_export(uint32_t, const uint8_t *, uint64_t, uint8_t *, uint64_t);
 uint32_t __real_otap_row_number(uint32_t, uint32_t, const uint8_t *, uint64_t, const uint8_t *, uint64_t);
@@ -142,7 +142,14 @@ static uint64_t with_kept_hash(const uint8_t *store, uint8_t *reply, uint64_t an
 uint64_t __wrap_otap_judge(const uint8_t *message, uint64_t message_length, const uint8_t *store, uint64_t store_length, uint8_t *reply,
                            uint64_t reply_length)
 {
-    uint64_t answer = __real_otap_judge(message, message_length, store, store_length, reply, reply_length);
+    uint64_t answer = WRONG == 92 ? refuse_late(message, message_length, store, store_length, reply, reply_length) : 0;
+    if (answer != 0) {
+        return answer;
+    }
+    answer = __real_otap_judge(message, message_length, store, store_length, reply, reply_length);
+    if (WRONG == 90) {
+        return early_failed(reply, answer);
+    }
     if (WRONG == 22 && otap_answer_number(answer) == OTAP_OK) {
         ((uint8_t *)(uintptr_t)store)[0] ^= 1; /* judging changes a byte of the store */
     }
@@ -155,12 +162,28 @@ uint64_t __wrap_otap_judge(const uint8_t *message, uint64_t message_length, cons
     return answer;
 }
 
+/* What is wrong with a message that was taken. */
+static void wrong_taken(const uint8_t *message, const uint8_t *before, uint8_t *store, uint8_t *reply, uint64_t reply_length)
+{
+    switch (WRONG) {
+    case 2: reply[reply_length] = 0; break; /* one byte after the reply buffer */
+    case 3: store[20000] = 1; break; /* not a store any more */
+    case 16: wipe(store); break; /* lines by their digits alone */
+    case 18: add_twice(before, store); break; /* a known address added twice */
+    case 91: lose_late(message, before, store); break;
+    default: break;
+    }
+}
+
 uint64_t __wrap_otap_commit(const uint8_t *message, uint64_t message_length, uint8_t *store, uint64_t store_length, uint8_t *reply,
                             uint64_t reply_length)
 {
     static uint8_t before[OTAP_STORE_BYTES];
-    uint64_t answer;
+    uint64_t answer = WRONG == 92 ? refuse_late(message, message_length, store, store_length, reply, reply_length) : 0;
     uint32_t number;
+    if (answer != 0) {
+        return answer;
+    }
     if (WRONG == 23 && store_length == OTAP_STORE_BYTES && reply_length >= OTAP_REPLY_BYTES && message_length > 0 && message_length == verdict.length
         && memcmp(message, verdict.message, message_length) == 0) {
         return trust(store, reply); /* committing trusts an earlier verdict */
@@ -171,20 +194,14 @@ uint64_t __wrap_otap_commit(const uint8_t *message, uint64_t message_length, uin
     if (WRONG == 1 && number == OTAP_BAD_FIELD) {
         store[6138] = (uint8_t)(store[6138] + 1); /* the setting before the fault was applied */
     }
-    if (WRONG == 2 && number == OTAP_OK && reply_length == OTAP_REPLY_BYTES) {
-        reply[reply_length] = 0; /* one byte after the reply buffer */
-    }
-    if (WRONG == 3 && number == OTAP_OK) {
-        store[20000] = 1; /* not a store any more */
-    }
     if (WRONG == 4 && number == OTAP_NO_ROOM) {
         answer -= answer & 0xFF00; /* the setting at fault is not named */
     }
-    if (WRONG == 16 && number == OTAP_OK) {
-        wipe(store); /* lines by their digits alone */
+    if (number == OTAP_OK) {
+        wrong_taken(message, before, store, reply, reply_length);
     }
-    if (WRONG == 18 && number == OTAP_OK) {
-        add_twice(before, store); /* a known address added twice */
+    if (WRONG == 90) {
+        return early_failed(reply, answer);
     }
     return WRONG == 5 && number == OTAP_BAD_CARRIER ? answer + 0x10000 : answer; /* sends what there is not */
 }
@@ -335,3 +352,4 @@ uint64_t __wrap_otap_system_code(const uint8_t *store, uint64_t store_length)
 }
 
 #include "wrong_reports.h"
+#include "wrong_joining.h"

@@ -90,8 +90,8 @@ enum {
     OTAP_NO_STORE = 11,        /* store not 24,576 bytes, or not a store */
     OTAP_MESSAGE_LENGTH = 12,  /* message under 7 or over 4,096 bytes */
     OTAP_BAD_CARRIER = 13,     /* carrier field or length wrong */
-    OTAP_OTHER_MESSAGE = 14,   /* MsgType is neither request nor result query; of otap_report: is not query */
-    OTAP_SHORT_BUFFER = 15,    /* scratch under 36 bytes, export or report buffer under 4,096, or digits buffer under 18 */
+    OTAP_OTHER_MESSAGE = 14,   /* MsgType is neither request nor result query; of otap_report: is not query; of otap_join: is not request */
+    OTAP_SHORT_BUFFER = 15,    /* scratch under 36 bytes, export, report or join buffer under 4,096, or digits buffer under 18 */
     OTAP_NO_PART = 16,         /* export part not 1 to 10 */
     OTAP_NO_MESSAGE = 16,      /* the same number, of otap_report: the report has no message of this index */
     OTAP_NO_ROW = 17,          /* the screen's row is absent, or a background group's */

@@ -1,9 +1,9 @@
 /*
- * otap_office.h: the C functions of libotap_office.a, for the software of the network office, which reads the reports of a PDT hand-held. docs/REPORTS.md
- * has their bytes. Firmware needs none of it: a set writes its reports with otap_report of libotap_handheld.a.
+ * otap_office.h: the C functions of libotap_office.a, for the software of the network office: it reads the reports of a PDT hand-held, whose bytes are in
+ * docs/REPORTS.md, and joins requests that wait to be sent. Firmware needs none of it: a set writes its reports with otap_report of libotap_handheld.a.
  *
  * otap.h is included for the numbers, the types asked, IDtypes and attributes; the functions that it declares are not in this archive. What it says of
- * pointers, lengths and memcpy holds here too. No call writes a byte, allocates or waits, and anything may be lent as a message.
+ * pointers, lengths, overlap and memcpy holds here too. No call allocates or waits, none but otap_join writes a byte, and anything may be lent as a message.
  *
  * A report has one or more messages, and each is read by itself:
  *
@@ -38,6 +38,9 @@ enum {
     OTAP_HASH_OF_4 = 1,        /* its value has 4 bytes */
     OTAP_HASH_OF_10 = 2        /* 10 bytes */
 };
+
+/* A buffer for a joined request has at least as many bytes: any that a set takes fits. */
+enum { OTAP_JOIN_BYTES = 4096 };
 
 /*
  * Reads one message of a report, without the query that it answers.
@@ -83,6 +86,44 @@ uint64_t otap_report_entry(const uint8_t *message, uint64_t message_length, uint
  * otap_places_digits, otap_places_digit; of OTAP_ASK_HASH otap_places_hash_code, otap_places_hash, otap_places_hash_length.
  */
 uint64_t otap_report_places(const uint8_t *message, uint64_t message_length, uint32_t at);
+
+/*
+ * Joins two requests that wait for the same set under one header, which saves air time: the first's settings and then the second's, byte for byte.
+ *   0   the joined request is written at the buffer's start, with its true length and reserved bits of its header 0; bytes of the buffer past it stay
+ *   15  OTAP_SHORT_BUFFER: buffer_length is under OTAP_JOIN_BYTES
+ *   12  OTAP_MESSAGE_LENGTH: a request is under 7 or over OTAP_MESSAGE_BYTES bytes; or, last of all, the joined one would be over that
+ *   13  OTAP_BAD_CARRIER
+ *   14  OTAP_OTHER_MESSAGE: MsgType is not request (0), so a result query too
+ *   1   OTAP_BAD_VERSION
+ *   3   OTAP_UNKNOWN_TYPE, with the failed ID of the setting
+ *   4   OTAP_BAD_FIELD: with failed ID 0 its count is 0, its coding type is neither 0100 nor 0111, or bytes are left over; else that setting is at fault, or
+ *       is an FF item; or, with failed ID 0, the two have two coding types, or over 255 settings together
+ * The first that applies: 15; then of the first request 12, 13, 14, 1, its count or coding, setting by setting 3 or 4 as otap_commit has them where all have
+ * room, bytes left over, an FF item; then the same of the second; then two coding types, over 255 settings, over the length. A refusal writes nothing and has
+ * length 0. Its failed ID is counted in the request that is at fault: the second where otap_join_second_at_fault is 1, else the first, or neither by itself.
+ * A request with an FF item asks for a restart, for a reply or to keep a hash: it is sent alone. Room in the set's tables is not asked for here.
+ * What the set makes of the joined request: where it would take the first and then the second, it takes the joined one, and its store is the same. Where
+ * the first lacks room, or the second does behind the first, it refuses the joined one whole, with OTAP_NO_ROOM and the failed ID counted through: IDs above
+ * the first's count of settings are the second's. There is no other case. So the first is not taken either where only the second lacks room: dispatch that
+ * wants the first alone sends it alone.
+ * In the answer, bits 0 to 7 are the number, 8 to 15 the failed ID, 16 to 31 the length, 32 is set where the second request is at fault; all others are 0.
+ * Unpack with otap_answer_number, otap_answer_failed, otap_join_length, otap_join_second_at_fault.
+ */
+uint64_t otap_join(const uint8_t *first, uint64_t first_length,
+                   const uint8_t *second, uint64_t second_length,
+                   uint8_t *buffer, uint64_t buffer_length);
+
+/* Of an answer of otap_join: how many bytes of the buffer are the joined request; 0 of a refusal. */
+static inline size_t otap_join_length(uint64_t answer)
+{
+    return (size_t)((answer >> 16) & 0xFFFFu);
+}
+
+/* 1 if the second request is at fault; 0 if the first is, or neither by itself, or if they were joined. */
+static inline int otap_join_second_at_fault(uint64_t answer)
+{
+    return (int)((answer >> 32) & 1u);
+}
 
 /* Of an answer of otap_read_report: how many messages the report has; 0 of a refusal. */
 static inline uint32_t otap_read_total(uint64_t answer)

@@ -16,7 +16,7 @@ static inline uint32_t otap_answer_number(uint64_t answer)
     return (uint32_t)(answer & 0xFFu);
 }
 
-/* Of an answer of otap_judge or otap_commit: the place, from 1, of the first setting at fault; 0 if it is none of them. */
+/* Of an answer of otap_judge, otap_commit or otap_join: the place, from 1, of the first setting at fault; 0 if it is none of them. */
 static inline uint32_t otap_answer_failed(uint64_t answer)
 {
     return (uint32_t)((answer >> 8) & 0xFFu);

@@ -11,7 +11,7 @@ typedef struct {
     size_t length;
 } Message;
 
-enum { MESSAGE_KINDS = 20, FILLING_MESSAGES = 11 };
+enum { MESSAGE_KINDS = 20, REQUEST_KINDS = 17, FILLING_MESSAGES = 11 };
 
 static uint64_t random_state = 0x9E3779B97F4A7C15u;
 
@@ -257,14 +257,23 @@ static inline void write_message(Message *m, unsigned kind, unsigned turn)
     case 14: put_line_slot(m, 2, turn % 16, turn / 16); break;
     case 15: put_contacts(m, 0xC8, 3, 65, turn); break;
     case 16: put_contacts(m, 0xC9, 3, 65, turn); break;
-    default: write_query(m, kind - 17); break;
+    default: write_query(m, kind - REQUEST_KINDS); break;
     }
-    if (kind <= 16) {
+    if (kind < REQUEST_KINDS) {
         put_last(m);
     }
     i = (unsigned)(m->length - 4) * (turn % 2);
     m->bytes[2] = (uint8_t)(i >> 8);
     m->bytes[3] = (uint8_t)i;
+}
+
+/* A request of each kind that may be joined: without its FF item, which has 14 bytes, and its length not stated. */
+static inline void write_joinable(Message *m, unsigned kind, unsigned turn)
+{
+    write_message(m, kind, turn);
+    m->length -= 14;
+    m->bytes[7]--;
+    m->bytes[2] = m->bytes[3] = 0;
 }
 
 /* One of the messages that together leave no place of a fresh store empty, with `vary` 0; with another, some of the lists are shorter. */

@@ -1,6 +1,7 @@
 /*
- * No call of the office's reader leaves the message that it was lent, or writes a byte of it: reports of full stores and of others, cut at every byte and
- * damaged, stand at both ends of pages that can only be read (pages.h). With the word "outside" a call is lent one byte too many, to see the fault.
+ * No call of the office leaves the bytes that it was lent, or writes a message: reports of full stores and of others, and requests to be joined, cut at every
+ * byte and damaged, stand at both ends of pages that can only be read (pages.h), and the buffer of joining at those of its own. With the word "outside" a call
+ * is lent one byte too many, of the buffer that a second word names, to see the fault.
  */
 #define _DEFAULT_SOURCE
 #include "otap_office.h"
@@ -10,9 +11,9 @@
 
 enum { LONGEST = 73728 };
 
-static Lent message;
-static uint8_t store[OTAP_STORE_BYTES], report[LONGEST];
-static unsigned long calls, good, refused;
+static Lent message, one, two, buffer;
+static uint8_t store[OTAP_STORE_BYTES], report[LONGEST], held[2 * PAGE];
+static unsigned long calls, good, refused, joined, unjoined;
 
 /* The two calls at a byte: both know a parameter, or none does, and it ends within the message. */
 static uint64_t parameter_at(uint32_t at)
@@ -92,14 +93,108 @@ static void read_all(unsigned vary, uint32_t index)
     }
 }
 
+/* Two requests in a buffer of this size; what is refused is joined again, into a buffer that cannot be written. */
+static uint64_t join_at(int at_end, const Message *first, const Message *second, size_t length)
+{
+    uint64_t answer;
+    size_t wrote;
+    current = "otap_join";
+    lend(&one, at_end, first->bytes, first->length, 0);
+    lend(&two, at_end, second->bytes, second->length, 0);
+    lend(&buffer, at_end, held, length, 1);
+    answer = otap_join(one.bytes, one.length, two.bytes, two.length, buffer.bytes, length);
+    wrote = otap_join_length(answer);
+    calls++;
+    must(answer >> 33 == 0 && (otap_answer_number(answer) == OTAP_SHORT_BUFFER) == (length < OTAP_JOIN_BYTES), "number");
+    must(wrote <= length && memcmp(buffer.bytes + wrote, held + wrote, length - wrote) == 0, "bytes past the joined request changed");
+    if (otap_answer_number(answer) == OTAP_OK) {
+        must(answer == (uint64_t)(first->length + second->length - 8) << 16, "another length than both have");
+        joined++;
+    } else {
+        must(wrote == 0, "a refusal has a length");
+        seal(&buffer);
+        must(answer == otap_join(one.bytes, one.length, two.bytes, two.length, buffer.bytes, length), "another answer");
+        unjoined++;
+    }
+    return answer;
+}
+
+/* A request cut at every byte, and damaged, as the first and as the second. */
+static void join_wrong(const Message *whole, const Message *other)
+{
+    static Message wrong;
+    unsigned turn;
+    wrong = *whole;
+    for (wrong.length = 0; wrong.length < whole->length; wrong.length++) {
+        must(otap_answer_number(join_at(1, &wrong, other, OTAP_JOIN_BYTES)) != OTAP_OK, "a cut request is joined");
+        must(otap_join_second_at_fault(join_at(1, other, &wrong, OTAP_JOIN_BYTES)), "a cut second is not at fault");
+    }
+    for (turn = 0; turn < 50; turn++) {
+        wrong = *whole;
+        damage(wrong.bytes, wrong.length, 1 + turn % 2);
+        join_at((int)(turn % 2), &wrong, other, OTAP_JOIN_BYTES);
+        join_at((int)(turn % 2), other, &wrong, OTAP_JOIN_BYTES);
+    }
+}
+
+/* Every two kinds, in buffers of every size that matters; then wrong ones, random ones, and the longest. */
+static void join_all(void)
+{
+    static const size_t sizes[] = {0, 1, OTAP_JOIN_BYTES - 1, OTAP_JOIN_BYTES, OTAP_JOIN_BYTES + 1, sizeof held};
+    static Message first, second;
+    unsigned pair, turn;
+    for (pair = 0; pair < REQUEST_KINDS * REQUEST_KINDS; pair++) {
+        write_joinable(&first, pair % REQUEST_KINDS, pair);
+        write_joinable(&second, pair / REQUEST_KINDS, pair / 2);
+        for (turn = 0; turn < sizeof sizes / sizeof sizes[0]; turn++) {
+            join_at((int)(pair + turn) % 2, &first, &second, sizes[turn]);
+        }
+        if (pair / REQUEST_KINDS == 4) {
+            join_wrong(&first, &second);
+        }
+    }
+    for (turn = 0; turn < 5000; turn++) {
+        write_random(&first);
+        write_random(&second);
+        join_at((int)(turn % 2), turn % 3 == 0 ? &second : &first, &second, OTAP_JOIN_BYTES);
+    }
+    for (turn = 0; turn < 6; turn++) {
+        write_filling(&first, turn % 2 == 0 ? 1 : 3, 0);
+        write_long(&second, OTAP_MESSAGE_BYTES - 2 + turn);
+        join_at(1, &first, &second, OTAP_JOIN_BYTES);
+        join_at(1, &second, &first, OTAP_JOIN_BYTES);
+        join_at(1, &first, &first, OTAP_JOIN_BYTES);
+    }
+}
+
+/* Good requests, and less of one buffer than the call is told: it comes to the byte that is not there. */
+static void join_outside(const char *which)
+{
+    static Message first, second;
+    write_joinable(&first, 0, 0);
+    write_joinable(&second, 4, 5);
+    lend(&one, 1, first.bytes, first.length - (strcmp(which, "first") == 0), 0);
+    lend(&two, 1, second.bytes, second.length - (strcmp(which, "second") == 0), 0);
+    lend(&buffer, 1, held, strcmp(which, "buffer") == 0 ? first.length + second.length - 9 : OTAP_JOIN_BYTES, 1);
+    otap_join(one.bytes, first.length, two.bytes, second.length, buffer.bytes, OTAP_JOIN_BYTES);
+}
+
 int main(int count, char **words)
 {
     unsigned vary;
     size_t length = write_own(0, 1);
     make_room(&message, LONGEST);
+    make_room(&one, sizeof held);
+    make_room(&two, sizeof held);
+    make_room(&buffer, sizeof held);
+    memset(held, 0xA5, sizeof held);
     if (count > 1 && strcmp(words[1], "outside") == 0) {
         lend(&message, 1, report, length, 0);
         current = "a byte too many, as asked";
+        if (count > 2) {
+            join_outside(words[2]);
+            return 3;
+        }
         otap_report_entry(message.bytes + 1, message.length, (uint32_t)message.length - 1);
         otap_read_report(message.bytes + 1, message.length);
         return 3;
@@ -113,6 +208,8 @@ int main(int count, char **words)
     }
     read_at(1, report, sizeof report);
     must(good > 100 && refused > 1000, "too few reports, or too few that are none");
-    printf("no call left its message: %lu calls, %lu reports\n", calls, good);
+    join_all();
+    must(joined > 1000 && unjoined > 1000, "too few requests that are joined, or too few that are not");
+    printf("no call left its bytes: %lu calls, %lu reports, %lu joined requests\n", calls, good, joined);
     return 0;
 }

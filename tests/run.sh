@@ -9,9 +9,9 @@ build_and_run() {
     build "$1" c c99 "$CC" "$2" "tests/$1.c" && run_built "$1"
 }
 
-# A test of the bounds sees a byte too many: it ends with 1, and says so.
+# sees_outside TEST [BUFFER]: a test of the bounds sees a byte too many: it ends with 1, and says so.
 sees_outside() {
-    run_built "$1" outside > "$built/outside" 2>&1
+    run_built "$1" outside ${2-} > "$built/outside" 2>&1
     [ $? -eq 1 ] && grep -q "a byte too many, as asked" "$built/outside"
 }
 
@@ -104,10 +104,15 @@ step "behind a row" build_and_run entries "$sanitizers"
 step "reports" build_and_run reports "$sanitizers"
 step "the office's reader" with_office build_and_run office "$sanitizers"
 step "reports read back" with_office build_and_run read_back "$sanitizers" && show
+step "joining requests" with_office build_and_run joining "$sanitizers"
+step "joined requests in a set" with_office build_and_run joined "$sanitizers" && show
 step "bounds of the lent bytes" build_and_run bounds -O1 && show
 step "bounds can fail" sees_outside bounds
-step "bounds of the office's reader" with_office build_and_run office_bounds -O1 && show
+step "bounds of the office's calls" with_office build_and_run office_bounds -O1 && show
 step "its bounds can fail" sees_outside office_bounds
+for lent in first second buffer; do
+    step "its bounds can fail, of joining the $lent" sees_outside office_bounds $lent
+done
 step "two banks, cut at every byte" build_and_run_banks && show
 step "banks can fail" banks_can_fail && show
 step "stack" build_and_run stack -O1 && show

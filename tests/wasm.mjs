@@ -1,5 +1,5 @@
 // tests/wasm.mjs: the modules for wasm32 in node: no imports; the stored inputs of the programs `take` and `put`, judged and committed, come to their
-// stored outputs; callers are found; what stands behind a row is answered; and what a set reports, the office's module reads.
+// stored outputs; callers are found; what stands behind a row is answered; what a set reports, the office's module reads; and what it joins, the set takes.
 import { readFileSync } from "node:fs";
 import { fileURLToPath } from "node:url";
 
@@ -88,18 +88,36 @@ function report(types, index) {
     return { answer, message: memory.slice(at.buffer, at.buffer + Number((answer >> 16n) & 0xffffn)) };
 }
 
+// The office's module with these messages in its memory: its functions, the places of the messages as they are lent, and a buffer of 4,096 bytes behind them.
+function officeWith(...messages) {
+    const office = exportsOf("otap_office");
+    let from = office.__heap_base.value;
+    office.memory.grow(1);
+    const bytes = new Uint8Array(office.memory.buffer);
+    const places = messages.map((message) => {
+        bytes.set(message, from);
+        from += message.length;
+        return [from - message.length, BigInt(message.length)];
+    });
+    return { office, places, bytes, buffer: [from, 4096n] };
+}
+
 // What the office reads of a message: the answer, then the entry and the places of each parameter.
 function officeReads(message) {
-    const office = exportsOf("otap_office");
-    const from = office.__heap_base.value;
-    office.memory.grow(1);
-    new Uint8Array(office.memory.buffer).set(message, from);
-    const ask = (name, ...place) => office[name](from, BigInt(message.length), ...place);
+    const { office, places } = officeWith(message);
+    const ask = (name, ...place) => office[name](...places[0], ...place);
     const read = [ask("otap_read_report")];
     for (let place = 10; place < message.length; place = Number(read[read.length - 1] & 0xffffn)) {
         read.push(ask("otap_report_entry", place), ask("otap_report_places", place));
     }
     return read;
+}
+
+// The two requests under one header; the answer without one is a refusal.
+function officeJoins(first, second) {
+    const { office, places, bytes, buffer } = officeWith(first, second);
+    const answer = office.otap_join(...places[0], ...places[1], ...buffer);
+    return { answer, message: bytes.slice(buffer[0], buffer[0] + Number((answer >> 16n) & 0xffffn)) };
 }
 
 function same(what, got, wanted) {
@@ -136,5 +154,12 @@ const office = officeReads(told.message);
 const lines = [0x03010100n, 0x10can, 17n | 15n << 16n | 14n << 40n | 1n << 56n, 0x110can, 26n | 24n << 16n | 21n << 40n | 4n << 56n];
 const key = [0x100001n << 32n | 0x4cbn, 32n];
 if (office.join() !== [...lines, ...key].join()) throw new Error(`the office reads ${office}`);
+// Two channels and a line under one header, which the set takes; with an FF item the second is at fault.
+const [channels, line] = [[2, 2, 0, 0, 8, 0xf7, 8, 1, 0xce, 0, 7, 0xc0, 2, 0x0f, 0x12, 0x80], [2, 2, 0, 0, 8, 7, 8, 1, 0xca, 0, 7, 0x42, 1, 0x4f, 0, 0]];
+const joined = officeJoins(channels, line);
+same("a joined request", Buffer.from(joined.message), Buffer.from([2, 2, 0, 0x14, 8, 7, 8, 2, ...channels.slice(8), ...line.slice(8)]));
+const unjoined = officeJoins(channels, [2, 2, 0, 0, 8, 7, 8, 1, 0xff, 0, 3, 0]).answer;
+if (joined.answer !== 24n << 16n || unjoined !== (4n | 1n << 8n | 1n << 32n)) throw new Error(`joining: ${joined.answer}, ${unjoined}`);
+if ((take(joined.message) & 0xffn) !== 0n || lineOf(1, [4]) !== 0x20100n) throw new Error("taking the joined request");
 if (exports.otap_transmit(640) !== 3560000n << 8n) throw new Error("transmit");
-console.log("no imports; take and put, judged and committed, as stored; callers are found, what stands behind a row, and what is reported and read");
+console.log("no imports; take and put, judged and committed, as stored; callers are found, what stands behind a row, what is reported and read, and joined");

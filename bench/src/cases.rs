@@ -1,6 +1,7 @@
 //! What is measured: a name, a call, and the number that it must answer.
 
 use crate::conversions;
+use crate::joining;
 use crate::messages;
 use crate::reports;
 use crate::sides::{Call, Checked, Plain, Rattle, Side};
@@ -77,6 +78,9 @@ pub fn all() -> Vec<Case> {
     }
     for (name, message) in reports::messages() {
         cases.push(case(format!("read-report-{name}"), Call::ReadReport(message), 0));
+    }
+    for (name, pair, number) in joining::pairs() {
+        cases.push(case(format!("join-{name}"), Call::Join(pair), number));
     }
     for (which, conversion) in conversions::ALL.iter().enumerate() {
         cases.push(case(format!("{}-x100", conversion.name), Call::Convert(which), 0));

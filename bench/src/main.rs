@@ -4,6 +4,7 @@
 mod cases;
 mod check;
 mod conversions;
+mod joining;
 mod messages;
 mod program;
 mod reports;

@@ -28,7 +28,7 @@ pub fn of_each_kind() -> Vec<(&'static str, Vec<u8>)> {
         ("system-code", full(|count| repeated(count, system()))),
         ("status-texts", full(|count| vec![status_texts(count, text(16)).write()])),
         ("status-texts-8", full_as(Coding::Eight, narrow_status_texts)),
-        ("groups", full(|count| (0..count).map(|place| group(place, 16)).collect())),
+        ("groups", of_groups()),
         ("individuals", full(|count| (0..count).map(|place| individual(place, 16)).collect())),
         ("group-contacts", full(|count| vec![group_contacts(Operation::Replace, count)])),
         ("individual-contacts", full(|count| vec![individual_contacts(Operation::Replace, count)])),
@@ -40,9 +40,20 @@ pub fn of_each_kind() -> Vec<(&'static str, Vec<u8>)> {
     ]
 }
 
+pub fn of_groups() -> Vec<u8> {
+    full(groups)
+}
+
+/// Two requests that are `of_groups` when joined.
+pub fn groups_in_halves() -> [Vec<u8>; 2] {
+    let settings = groups(of_groups()[HEAD - 1].into());
+    let (first, second) = settings.split_at(settings.len() / 2);
+    [request(first), request(second)]
+}
+
 /// As the request full of groups, with a fault in the last one.
 pub fn refused() -> Vec<u8> {
-    let mut message = full(|count| (0..count).map(|place| group(place, 16)).collect());
+    let mut message = of_groups();
     let operation = message.len() - group(0, 16).len() + 3;
     // Attribute 00 is out of range.
     message[operation] &= 0b1100_1111;
@@ -184,6 +195,10 @@ fn status_texts(count: usize, text: Text) -> Setting {
 fn narrow_status_texts(count: usize) -> Vec<Vec<u8>> {
     let setting = status_texts(count, (0xC0..0xD0).collect());
     vec![setting.write_as(Coding::Eight).expect("every unit is below 256")]
+}
+
+fn groups(count: usize) -> Vec<Vec<u8>> {
+    (0..count).map(|place| group(place, 16)).collect()
 }
 
 fn group(place: usize, units: usize) -> Vec<u8> {

@@ -1,6 +1,7 @@
 //! Queries to a full store, and messages for the office's reader: by the archives and by plain Rust.
 
 use crate::messages::filling;
+use crate::sides::answered;
 use otap::{Refusal, Store, REPLY_ROOM};
 use otap_reference::reference::commit::commit;
 use otap_reference::reference::message::LONGEST;
@@ -36,18 +37,13 @@ impl Asked {
     /// The number, by the face.
     pub fn rattle(&self, store: &Store, buffer: &mut [u8]) -> u8 {
         let report = store.report(black_box(&self.query), black_box(self.index), buffer);
-        self.answered(black_box(report).map(|report| report.total).map_err(Refusal::number))
+        answered(black_box(report).map(|report| report.total).map_err(Refusal::number), self.total)
     }
 
     /// The same, by the reference.
     pub fn plain(&self, set: &Set, buffer: &mut [u8]) -> u8 {
         let told = report(black_box(&self.query), black_box(self.index), true, set, buffer);
-        self.answered(black_box(told).map(|told| told.total.into()))
-    }
-
-    /// The number, and that of no call where the total is another.
-    fn answered(&self, total: Result<u32, u8>) -> u8 {
-        total.map_or_else(|number| number, |total| if total == self.total { 0 } else { u8::MAX })
+        answered(black_box(told).map(|told| told.total.into()), self.total)
     }
 }
 

@@ -1,6 +1,7 @@
 //! The same calls to the archive and to plain Rust.
 
 use crate::conversions;
+use crate::joining::Pair;
 use crate::reports::{plain_reads, rattle_reads, Asked};
 use crate::values::Value;
 use otap::{Part, Store, Table, EXPORT_ROOM, PSTN, REPLY_ROOM, SCRATCH_ROOM, STORE_SIZE};
@@ -29,6 +30,8 @@ pub enum Call {
     Report(Asked),
     /// The office reads a message with all of its parameters.
     ReadReport(Vec<u8>),
+    /// The office joins two requests.
+    Join(Pair),
     /// A hundred conversions, named by their place in `conversions::ALL`.
     Convert(usize),
 }
@@ -83,7 +86,7 @@ impl Checked {
 impl Side for Checked {
     fn call(&mut self, call: &Call) -> u8 {
         // A conversion has no store, and the office has none.
-        let has_none = matches!(call, Call::Convert(_) | Call::ReadReport(_));
+        let has_none = matches!(call, Call::Convert(_) | Call::ReadReport(_) | Call::Join(_));
         if has_none || layout::is_store(black_box(&self.bytes)) {
             self.plain.call(call)
         } else {
@@ -121,6 +124,7 @@ impl Side for Rattle {
             Call::Value(value) => value.rattle(&store, &mut self.buffer),
             Call::Report(asked) => asked.rattle(&store, &mut self.buffer),
             Call::ReadReport(message) => rattle_reads(message),
+            Call::Join(pair) => pair.rattle(&mut self.buffer),
             Call::Convert(which) => {
                 conversions::ALL[*which].rattle();
                 0
@@ -153,6 +157,7 @@ impl Side for Plain {
             Call::Value(value) => value.plain(black_box(&self.set), &mut self.buffer),
             Call::Report(asked) => asked.plain(black_box(&self.set), &mut self.buffer),
             Call::ReadReport(message) => plain_reads(message),
+            Call::Join(pair) => pair.plain(&mut self.buffer),
             Call::Convert(which) => {
                 conversions::ALL[*which].plain();
                 0
@@ -161,9 +166,9 @@ impl Side for Plain {
     }
 }
 
-/// The number of a caller, and that of no call where it is another row than it has to be.
-fn answered(answer: Result<Option<u32>, u8>, row: Option<u32>) -> u8 {
-    answer.map_or_else(|number| number, |found| if found == row { 0 } else { u8::MAX })
+/// The number, and that of no call where the answer is another than it has to be.
+pub fn answered<T: PartialEq>(answer: Result<T, u8>, wanted: T) -> u8 {
+    answer.map_or_else(|number| number, |answer| if answer == wanted { 0 } else { u8::MAX })
 }
 
 fn named(table: Table, row: usize) -> Row {

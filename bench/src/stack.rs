@@ -53,6 +53,7 @@ fn call_name(call: &Call) -> &'static str {
         Call::Value(value) => value.name(),
         Call::Report(_) => "report",
         Call::ReadReport(_) => "read-report",
+        Call::Join(_) => "join",
         Call::Convert(which) => conversions::ALL[*which].name,
     }
 }

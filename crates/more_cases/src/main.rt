@@ -6,6 +6,7 @@ mod channel_cases;
 mod contact_cases;
 mod count_cases;
 mod eight_bit_cases;
+mod join_cases;
 mod line_cases;
 mod line_slot_cases;
 mod report_cases;
@@ -30,4 +31,5 @@ fn main() {
     screen_cases::run(&mut store);
     value_cases::run(&mut store);
     report_cases::run(&mut store);
+    join_cases::run(&mut store);
 }

@@ -1,2 +1,3 @@
+pub mod JoinBits
 pub mod Packing
 pub mod Theorems

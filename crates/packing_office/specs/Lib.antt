@@ -1,1 +1,2 @@
+pub mod PackedJoin
 pub mod PackedReading

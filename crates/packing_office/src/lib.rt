@@ -1,4 +1,5 @@
 // What the office's C answers are packed as.
+pub mod join;
 pub mod message;
 pub mod parameter;
 pub mod places;

@@ -5,6 +5,7 @@ pub mod calls;
 pub mod carriers;
 pub mod damage;
 pub mod draft;
+pub mod joining;
 pub mod maker;
 pub mod pokes;
 pub mod random;
@@ -19,6 +20,7 @@ use crate::reference::message::{first_byte, Hash, LONGEST, QUERY, SHORTEST};
 use crate::reference::tables::Set;
 use callers::Caller;
 use draft::{restate, Draft};
+use joining::JoinInput;
 use maker::pool_hash;
 use random::Random;
 use reports::{ReportCall, ReportInput};
@@ -94,6 +96,11 @@ impl Inputs {
     /// A byte of such a message at which to look for a parameter.
     pub fn report_place(&mut self, message: &[u8]) -> u32 {
         reports::place(&mut self.random, message)
+    }
+
+    /// Two requests to join: such as may be, with one thing wrong, or changed anywhere.
+    pub fn join(&mut self) -> JoinInput {
+        joining::input(&mut self.random, &self.set.tables)
     }
 
     fn request(&mut self) -> Draft {

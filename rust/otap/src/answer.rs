@@ -6,21 +6,23 @@ use core::fmt;
 #[derive(Clone, Copy, Debug, PartialEq, Eq)]
 #[non_exhaustive]
 pub enum Refusal {
-    /// 1 of a query or of a report: OTAPVer is not 1. Of a commit it is an [`Outcome`], which has a reply.
+    /// 1 of a query, of a report or of a request to join: OTAPVer is not 1. Of a commit it is an [`Outcome`], which has a reply, and so are 3 and 4.
     WrongVersion,
-    /// 4 of a query or of a report: a field, a length or a count is wrong.
+    /// 3 of a request to join: a setting's type is not among the thirteen.
+    UnknownType,
+    /// 4 of a query, of a report or of requests to join: a field, a length or a count is wrong.
     BadField,
     /// 10: the reply buffer has fewer than 20 bytes.
     ReplyShort,
     /// 11: the bytes lent are not 24,576, or not a store.
     NotAStore,
-    /// 12: the message has fewer than 7 or more than 4,096 bytes.
+    /// 12: the message has fewer than 7 or more than 4,096 bytes, or two would have more when joined.
     MessageLength,
     /// 13: a carrier field or the stated length is wrong.
     WrongCarrier,
-    /// 14: the message is not of the type that the call takes: a request or a result query to commit, a query to report on, a report to read.
+    /// 14: the message is not of the type that the call takes: a request or a result query to commit, a query to report on, a report to read, a request to join.
     WrongMessageType,
-    /// 15: the scratch has fewer than 36 bytes, the export or report buffer fewer than 4,096, or the digits buffer fewer than 18.
+    /// 15: the scratch has fewer than 36 bytes, the export, report or join buffer fewer than 4,096, or the digits buffer fewer than 18.
     BufferShort,
     /// 16 of an export: there is no such part; a [`Part`](crate::Part) is always one.
     NoSuchPart,
@@ -42,8 +44,9 @@ pub enum Refusal {
     Unlisted(u8),
 }
 
-const LISTED: [(u8, Refusal, &str); 16] = [
+const LISTED: [(u8, Refusal, &str); 17] = [
     (1, Refusal::WrongVersion, "OTAPVer is not 1"),
+    (3, Refusal::UnknownType, "a setting's type is not known"),
     (4, Refusal::BadField, "a field, a length or a count is wrong"),
     (10, Refusal::ReplyShort, "the reply buffer is under 20 bytes"),
     (11, Refusal::NotAStore, "the bytes lent are not a store"),

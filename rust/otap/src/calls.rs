@@ -90,6 +90,14 @@ unsafe extern "C" {
     fn otap_read_report(message: *const u8, message_length: u64) -> u64;
     fn otap_report_entry(message: *const u8, message_length: u64, at: u32) -> u64;
     fn otap_report_places(message: *const u8, message_length: u64, at: u32) -> u64;
+    fn otap_join(
+        first: *const u8,
+        first_length: u64,
+        second: *const u8,
+        second_length: u64,
+        buffer: *mut u8,
+        buffer_length: u64,
+    ) -> u64;
 }
 
 /// The archive takes every length as 64 bits, on every processor.
@@ -196,4 +204,11 @@ pub fn report_entry(message: &[u8], at: u32) -> u64 {
 pub fn report_places(message: &[u8], at: u32) -> u64 {
     // SAFETY: as above.
     unsafe { otap_report_places(message.as_ptr(), length(message), at) }
+}
+
+#[cfg(feature = "office")]
+pub fn join(first: &[u8], second: &[u8], buffer: &mut [u8]) -> u64 {
+    let (f, s, b) = (first.as_ptr(), second.as_ptr(), buffer.as_mut_ptr());
+    // SAFETY: the slices are live for the call, and the two requests, only read, do not overlap the buffer.
+    unsafe { otap_join(f, length(first), s, length(second), b, length(buffer)) }
 }

@@ -4,7 +4,7 @@
 //! addresses and channels need none. No std, no allocation, no panic. `build.rs` finds the archive of the
 //! target where `./archive` writes it, or in the folder that `OTAP_ARCHIVE_DIR` names.
 //!
-//! Firmware links `libotap_handheld.a` alone: what the office reads, `report`, is behind the feature `office`, off by default, which links `libotap_office.a` too.
+//! Firmware links `libotap_handheld.a` alone: what is the office's, `report` and `join`, is behind the feature `office`, off by default, which links `libotap_office.a` too.
 //!
 //! ```
 //! # fn main() -> Result<(), otap::Refusal> {
@@ -28,6 +28,8 @@ mod counts;
 mod drawn;
 mod entries;
 #[cfg(feature = "office")]
+mod joining;
+#[cfg(feature = "office")]
 pub mod report;
 mod reporting;
 mod row;
@@ -43,6 +45,8 @@ pub use conversions::{
 pub use counts::{Counts, MOST_CHANNELS, MOST_LINES};
 pub use drawn::{DrawnRow, Rows};
 pub use entries::{Attribute, CallFlags, Entries, Entry};
+#[cfg(feature = "office")]
+pub use joining::{join, NotJoined, JOIN_ROOM};
 pub use reporting::{Report, REPORT_ROOM};
 pub use row::{Row, Slice, Table, CONTACT_ROWS};
 pub use settings::{Channels, EmergencyKey, HomeNumbers, KeyTarget, SystemCode};

@@ -1,6 +1,7 @@
 //! Small helpers shared by the tests.
 #![deny(unsafe_code)]
 
+pub mod joining;
 pub mod pair;
 pub mod raw;
 pub mod reports;

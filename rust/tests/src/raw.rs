@@ -58,6 +58,14 @@ unsafe extern "C" {
     fn otap_read_report(message: *const u8, length: u64) -> u64;
     fn otap_report_entry(message: *const u8, length: u64, at: u32) -> u64;
     fn otap_report_places(message: *const u8, length: u64, at: u32) -> u64;
+    fn otap_join(
+        first: *const u8,
+        first_length: u64,
+        second: *const u8,
+        second_length: u64,
+        buffer: *mut u8,
+        length: u64,
+    ) -> u64;
 }
 
 pub fn export(part: u32, store: &[u8], buffer: &mut [u8]) -> u64 {
@@ -142,4 +150,12 @@ pub fn report_entry(message: &[u8], at: u32) -> u64 {
 pub fn report_places(message: &[u8], at: u32) -> u64 {
     // SAFETY: as above.
     unsafe { otap_report_places(message.as_ptr(), message.len() as u64, at) }
+}
+
+pub fn join(first: &[u8], second: &[u8], buffer: &mut [u8]) -> u64 {
+    let (first_length, second_length) = (first.len() as u64, second.len() as u64);
+    let (first, second, length) = (first.as_ptr(), second.as_ptr(), buffer.len() as u64);
+    let buffer = buffer.as_mut_ptr();
+    // SAFETY: the slices are live for the call, and the buffer overlaps neither request.
+    unsafe { otap_join(first, first_length, second, second_length, buffer, length) }
 }

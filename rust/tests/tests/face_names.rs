@@ -1,7 +1,9 @@
 //! Every outcome and refusal by its name and its number in document 01, each from a call made by hand.
 
-use otap::{report, Outcome, Part, Refusal, Store, Table};
-use otap::{EXPORT_ROOM, MOST_DIGITS, REPLY_ROOM, REPORT_ROOM, SCRATCH_ROOM, STORE_SIZE};
+use otap::{join, report, NotJoined, Outcome, Part, Refusal, Store, Table};
+use otap::{
+    EXPORT_ROOM, JOIN_ROOM, MOST_DIGITS, REPLY_ROOM, REPORT_ROOM, SCRATCH_ROOM, STORE_SIZE,
+};
 use otap_tests::pair::commit_judged;
 use otap_tests::raw;
 
@@ -122,6 +124,31 @@ fn refusals_of_reports() {
         "1: OTAPVer is not 1",
     ];
     assert_eq!(says.map(|refusal| refusal.to_string()), said);
+}
+
+#[test]
+fn refusals_of_joins() {
+    let mut buffer = [0; JOIN_ROOM];
+    let mut joined = |first: &[u8], second: &[u8]| {
+        let refused = join(first, second, &mut buffer).expect_err("the call is refused");
+        (refused.refusal, refused.refusal.number())
+    };
+    assert_eq!(joined(&HOME[..6], &HOME), (Refusal::MessageLength, 12));
+    assert_eq!(joined(&changed(4, 9), &HOME), (Refusal::WrongCarrier, 13));
+    assert_eq!(joined(&HOME, &changed(6, 9)), (Refusal::WrongMessageType, 14));
+    assert_eq!(joined(&HOME, &changed(6, 0x10)), (Refusal::WrongVersion, 1));
+    assert_eq!(joined(&HOME, &changed(8, 0xD4)), (Refusal::UnknownType, 3));
+    assert_eq!(joined(&HOME, &changed(13, 0xE0)), (Refusal::BadField, 4));
+    let short = join(&HOME, &HOME, &mut buffer[1..]).map_err(|no| no.refusal);
+    assert_eq!(refused(short), (Refusal::BufferShort, 15));
+    let said = |failed_id, second| {
+        NotJoined { refusal: Refusal::UnknownType, failed_id, second }.to_string()
+    };
+    assert_eq!(said(0, false), "3: a setting's type is not known");
+    assert_eq!(said(7, false), "3: a setting's type is not known, in setting 7");
+    assert_eq!(said(0, true), "3: a setting's type is not known, of the second request");
+    let both = "3: a setting's type is not known, in setting 7, of the second request";
+    assert_eq!(said(7, true), both);
 }
 
 #[test]

@@ -1,12 +1,14 @@
 //! Calls of every kind for one set as it grows, at times with buffers of a wrong size.
 
 use super::callers::Caller;
+use super::joining::JoinInput;
 use super::random::Random;
 use super::reports::ReportCall;
 use super::values::Value;
 use super::Inputs;
 use crate::reference::commit::REPLY_ROOM;
 use crate::reference::export::{EXPORT_ROOM, PARTS};
+use crate::reference::joining::JOIN_ROOM;
 use crate::reference::reports::REPORT_ROOM;
 use crate::reference::screen::SCRATCH_ROOM;
 
@@ -62,6 +64,11 @@ impl Calls {
     /// A query to answer, and the room of the buffer for its report.
     pub fn report(&mut self) -> (ReportCall, usize) {
         (self.inputs.report_call(), self.room(REPORT_ROOM))
+    }
+
+    /// Two requests to join, and the room of the buffer for the joined one.
+    pub fn join(&mut self) -> (JoinInput, usize) {
+        (self.inputs.join(), self.room(JOIN_ROOM))
     }
 
     fn judged(&mut self) -> Vec<u8> {

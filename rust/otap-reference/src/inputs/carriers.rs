@@ -27,3 +27,25 @@ pub fn misstate(random: &mut Random, message: &mut [u8]) {
     };
     message[2..4].copy_from_slice(&stated.to_be_bytes());
 }
+
+/// One bit of a start byte or of the MFID.
+pub fn wrong_byte(random: &mut Random, message: &mut [u8]) {
+    message[random.pick(&[0, 1, 4])] ^= 1 << random.below(8);
+}
+
+/// Neither the true length nor 0.
+pub fn wrong_length(random: &mut Random, message: &mut [u8]) {
+    let truth = (message.len() - 4) as u16;
+    // What is put there may be true by chance, or say that it isn't stated.
+    while [0, truth].contains(&u16::from_be_bytes([message[2], message[3]])) {
+        misstate(random, message);
+    }
+}
+
+pub fn other_type(random: &mut Random, message: &mut [u8]) {
+    message[6] ^= random.within(1..=7) as u8;
+}
+
+pub fn other_version(random: &mut Random, message: &mut [u8]) {
+    message[6] ^= (random.within(1..=31) as u8) << 3;
+}

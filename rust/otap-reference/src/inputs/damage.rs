@@ -1,10 +1,13 @@
 //! Requests damaged in one place, at times in two.
 
 use super::draft::{restate, Draft};
-use super::maker::{Maker, Size, TYPES};
+use super::maker::{slipped, Maker, Size, TYPES};
 use super::random::Random;
 use crate::reference::tables::Tables;
 use crate::reference::texts::Coding;
+
+/// Types that no setting has, some of them close to one.
+pub const UNKNOWN_TYPES: [u8; 9] = [0x00, 0xC7, 0xD4, 0xD5, 0xD6, 0xFE, 0x88, 0xC0, 0x4A];
 
 pub fn damaged(random: &mut Random, tables: &Tables, mut draft: Draft) -> Vec<u8> {
     for _ in 0..random.pick(&[0, 1, 1, 1, 1, 2]) {
@@ -106,20 +109,12 @@ fn out_of_range(random: &mut Random, tables: &Tables, draft: &mut Draft) {
     let place = random.below(draft.settings.len());
     let is_last = place + 1 == draft.settings.len();
     let kind = if is_last && random.percent(20) { 0xFF } else { random.pick(&TYPES) };
-    // Small settings may have fewer values than were to stay good: then once more.
-    loop {
-        let slip_after = Some(random.below(6));
-        let mut maker = Maker { random, tables, coding: draft.coding, slip_after };
-        let setting = maker.of_type(kind, Size::Small);
-        if maker.slip_after.is_none() {
-            draft.settings[place] = setting;
-            return;
-        }
-    }
+    let make = |maker: &mut Maker| maker.of_type(kind, Size::Small);
+    draft.settings[place] = slipped(random, tables, draft.coding, make);
 }
 
 fn unknown_type(random: &mut Random, draft: &mut Draft, place: usize) {
-    let unknown = random.pick(&[0x00, 0xC7, 0xD4, 0xD5, 0xD6, 0xFE, 0x88, 0xC0, 0x4A]);
+    let unknown = random.pick(&UNKNOWN_TYPES);
     match random.below(3) {
         0 => draft.settings[place] = vec![unknown],
         1 => {

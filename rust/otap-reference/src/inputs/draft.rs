@@ -1,7 +1,7 @@
 //! A request still in pieces, so that it can be damaged where it hurts.
 
 use super::random::Random;
-use crate::reference::message::{first_byte, LONGEST, MFID, REQUEST, START};
+use crate::reference::message::{first_byte, LONGEST, MFID, REQUEST, REQUEST_HEAD, START};
 use crate::reference::texts::Coding;
 
 pub struct Draft {
@@ -20,13 +20,17 @@ impl Draft {
     /// No settings yet, and either coding type.
     pub fn new(random: &mut Random) -> Self {
         let coding = random.pick(&Coding::ALL);
+        Draft::of(random, coding)
+    }
+
+    pub fn of(random: &mut Random, coding: Coding) -> Self {
         let stated = random.percent(70);
         Draft { settings: Vec::new(), sum: None, coding, coding_byte: coding.number(), stated }
     }
 
     /// Bytes the request takes.
     pub fn size(&self) -> usize {
-        8 + self.settings.iter().map(Vec::len).sum::<usize>()
+        REQUEST_HEAD + self.settings.iter().map(Vec::len).sum::<usize>()
     }
 
     pub fn push_if_room(&mut self, setting: Vec<u8>) {

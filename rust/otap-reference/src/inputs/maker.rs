@@ -68,6 +68,24 @@ fn setting(kind: u8, fields: BitWriter) -> Vec<u8> {
     bytes
 }
 
+/// Made with one value out of its range, whichever of them.
+pub fn slipped(
+    random: &mut Random,
+    tables: &Tables,
+    coding: Coding,
+    make: impl Fn(&mut Maker) -> Vec<u8>,
+) -> Vec<u8> {
+    // It may have fewer values than were to stay good: then once more.
+    loop {
+        let slip_after = Some(random.below(6));
+        let mut maker = Maker { random, tables, coding, slip_after };
+        let made = make(&mut maker);
+        if maker.slip_after.is_none() {
+            return made;
+        }
+    }
+}
+
 impl Maker<'_> {
     pub fn any(&mut self, size: Size) -> Vec<u8> {
         let kind = self.random.pick(&TYPES);

@@ -25,7 +25,7 @@ pub fn request(random: &mut Random, tables: &Tables) -> Draft {
     }
 }
 
-fn maker<'a>(random: &'a mut Random, tables: &'a Tables, draft: &Draft) -> Maker<'a> {
+pub fn maker<'a>(random: &'a mut Random, tables: &'a Tables, draft: &Draft) -> Maker<'a> {
     Maker { random, tables, coding: draft.coding, slip_after: None }
 }
 
@@ -81,12 +81,17 @@ pub fn long(random: &mut Random, tables: &Tables, length: usize) -> Draft {
     }
     let last = random.flag().then(|| maker(random, tables, &draft).last());
     let kept = last.as_ref().map_or(0, Vec::len);
-    while draft.size() + kept < length {
-        let left = length - draft.size() - kept;
-        draft.settings.push(filler(random, tables, &draft, left));
-    }
+    fill(random, tables, &mut draft, length - kept);
     draft.settings.extend(last);
     draft
+}
+
+/// Adds settings up to exactly `length` bytes, which are at least 4 more, or none.
+pub fn fill(random: &mut Random, tables: &Tables, draft: &mut Draft, length: usize) {
+    while draft.size() < length {
+        let left = length - draft.size();
+        draft.settings.push(filler(random, tables, draft, left));
+    }
 }
 
 /// A setting that nearly always has room, of a size that leaves nothing or at least 4 bytes.

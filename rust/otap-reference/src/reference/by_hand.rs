@@ -1,6 +1,7 @@
 //! What the cases worked by hand share.
 
 use super::commit::{commit, judge, REPLY_ROOM};
+use super::joining::{join, Refused, JOIN_ROOM};
 use super::message::{request, LONGEST};
 use super::queries::query;
 use super::reports::{report, REPORT_HEAD};
@@ -22,10 +23,14 @@ pub fn number(set: &mut Set, message: &[u8]) -> (u8, u8) {
     (answer.number, answer.failed)
 }
 
-/// The same of a request under 0111 with these settings in hex.
+/// A request under 0111 with these settings in hex.
+pub fn request_of(settings: &[&str]) -> Vec<u8> {
+    request(&settings.iter().map(|setting| bytes(setting)).collect::<Vec<_>>())
+}
+
+/// Number and failed ID of such a request.
 pub fn number_of(set: &mut Set, settings: &[&str]) -> (u8, u8) {
-    let settings: Vec<Vec<u8>> = settings.iter().map(|setting| bytes(setting)).collect();
-    number(set, &request(&settings))
+    number(set, &request_of(settings))
 }
 
 /// A fresh set after one such request, which must be taken.
@@ -67,6 +72,41 @@ pub fn report_of(count: u8, parameters: &str) -> Vec<u8> {
     let parameters = bytes(parameters);
     let length = (parameters.len() + 6) as u8;
     [vec![2, 2, 0, length, 8, 7, 0x0B, 1, 1, count], parameters].concat()
+}
+
+/// Two requests joined by a call: what it wrote over other bytes, which must stay behind that, or wherever it is refused.
+pub fn joined(first: &[u8], second: &[u8]) -> Result<Vec<u8>, Refused> {
+    let mut buffer = [0xEE; JOIN_ROOM + 10];
+    let answer = join(first, second, &mut buffer);
+    let (written, rest) = buffer.split_at(answer.unwrap_or(0));
+    assert!(rest.iter().all(|&byte| byte == 0xEE), "{first:02X?} {second:02X?}");
+    answer.map(|_| written.to_vec())
+}
+
+/// Settings that are in range and take just so many bytes, at least 9.
+pub fn settings_of_size(size: usize) -> Vec<Vec<u8>> {
+    let mut settings = Vec::new();
+    let mut left = size;
+    while left > 700 {
+        settings.push(empty_status_texts(200));
+        left -= 605;
+    }
+    // A status text takes three bytes: what is over goes to a key, or to no contacts.
+    match left % 3 {
+        0 => settings.push(bytes("CB 00 03 80")),
+        1 => settings.push(bytes("C9 00 04 40 00")),
+        _ => {}
+    }
+    let taken: usize = settings.iter().map(Vec::len).sum();
+    settings.push(empty_status_texts((size - taken - 5) / 3));
+    settings
+}
+
+/// Code 33 again and again.
+fn empty_status_texts(count: usize) -> Vec<u8> {
+    let length = (count * 3 + 4) as u16;
+    let head = [&[0xD0], &length.to_be_bytes()[..], &[0x40, count as u8]].concat();
+    [head, [0x21, 0, 0].repeat(count)].concat()
 }
 
 /// One entry of every table that is asked for, and a kept hash.

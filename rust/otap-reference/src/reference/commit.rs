@@ -121,25 +121,37 @@ fn answer_query(body: &[u8], set: &Set) -> Verdict {
 
 /// The set after the request and its last item, or the number and failed ID.
 fn read_request(opened: &Opened, set: &Set) -> Result<(Set, Option<LastItem>), (u8, u8)> {
+    let mut tables = set.tables.clone();
+    let mut last = None;
+    each_setting(opened, |setting| {
+        if let Setting::Last(item) = &setting {
+            last = Some(item.clone());
+        }
+        tables.apply(setting)
+    })?;
+    let hash = last.as_ref().map_or(Hash::Nothing, |item| item.hash.clone());
+    Ok((Set { tables, hash }, last))
+}
+
+/// Hands on each setting of a request in turn, to be given room or not; or the number and failed ID of what is wrong first.
+pub(super) fn each_setting(
+    opened: &Opened,
+    mut give_room: impl FnMut(Setting) -> Result<(), NoRoom>,
+) -> Result<(), (u8, u8)> {
     let sum = *opened.body.first().unwrap_or(&0);
     let coding = Coding::from_number(opened.coding).filter(|_| sum != 0).ok_or((BAD_FIELD, 0))?;
     let mut rest = &opened.body[1..];
-    let mut tables = set.tables.clone();
-    let mut last = None;
     for place in 1..=sum {
         let (setting, length) =
             parse(rest, coding, place == sum).map_err(|fault| (fault_number(fault), place))?;
         rest = &rest[length..];
-        if let Setting::Last(item) = &setting {
-            last = Some(item.clone());
-        }
-        tables.apply(setting).map_err(|NoRoom| (NO_ROOM, place))?;
+        give_room(setting).map_err(|NoRoom| (NO_ROOM, place))?;
     }
-    if !rest.is_empty() {
-        return Err((BAD_FIELD, 0));
+    if rest.is_empty() {
+        Ok(())
+    } else {
+        Err((BAD_FIELD, 0))
     }
-    let hash = last.as_ref().map_or(Hash::Nothing, |item| item.hash.clone());
-    Ok((Set { tables, hash }, last))
 }
 
 fn fault_number(fault: Fault) -> u8 {

@@ -16,6 +16,8 @@ pub const QUERY: u8 = 5;
 pub const CODING_BINARY: u8 = 0;
 pub const SHORTEST: usize = 7;
 pub const LONGEST: usize = 4_096;
+/// The bytes of a request before its first setting.
+pub const REQUEST_HEAD: usize = 8;
 
 /// A hash code and its value; code 0 stands for none.
 #[derive(Clone, Debug, Default, PartialEq, Eq)]

@@ -6,6 +6,7 @@ mod by_hand;
 pub mod callers;
 pub mod commit;
 pub mod export;
+pub mod joining;
 pub mod menu;
 pub mod message;
 pub mod numbers;

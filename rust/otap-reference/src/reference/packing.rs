@@ -1,15 +1,19 @@
-//! The answers of `values`, of the report call and of the office's reader in 64 bits, as the C functions give them.
+//! The answers of `values`, of the report call, of the office's reader and of the join call in 64 bits, as the C functions give them.
 
 use super::numbers::TAKEN;
 use super::settings::{EmergencyKey, HomeNumbers, SystemCode};
 use super::values::Entry;
 
 #[cfg(test)]
+mod join_tests;
+mod joining;
+#[cfg(test)]
 mod report_tests;
 mod reports;
 #[cfg(test)]
 mod tests;
 
+pub use joining::packed_join;
 pub use reports::{packed_read_report, packed_report, packed_report_entry, packed_report_places};
 
 /// A value and its lowest bit.
@@ -17,10 +21,13 @@ type Field = (u32, u32);
 
 /// The number in bits 0 to 7 and the fields behind it; a refusal has its number alone.
 fn packed<T>(answer: Result<T, u8>, fields: impl FnOnce(T) -> Vec<Field>) -> u64 {
-    let (number, fields) = match answer {
-        Ok(value) => (TAKEN, fields(value)),
-        Err(number) => (number, Vec::new()),
-    };
+    match answer {
+        Ok(value) => numbered(TAKEN, fields(value)),
+        Err(number) => numbered(number, Vec::new()),
+    }
+}
+
+fn numbered(number: u8, fields: Vec<Field>) -> u64 {
     fields.into_iter().fold(number.into(), |bits, (value, place)| bits | u64::from(value) << place)
 }
 

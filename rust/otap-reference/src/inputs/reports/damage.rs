@@ -1,9 +1,9 @@
 //! A message of a report still in pieces, and every way to break one of its rules and no other.
 
-use crate::inputs::carriers::misstate;
+use crate::inputs::carriers::{other_type, other_version, wrong_byte, wrong_length};
 use crate::inputs::draft::carried;
 use crate::inputs::maker::parameters::ASKED;
-use crate::inputs::maker::Maker;
+use crate::inputs::maker::{slipped, Maker};
 use crate::inputs::random::Random;
 use crate::reference::message::{first_byte, LONGEST, REPORT, SHORTEST};
 use crate::reference::numbers::{
@@ -12,6 +12,9 @@ use crate::reference::numbers::{
 use crate::reference::reports::REPORT_HEAD;
 use crate::reference::tables::Tables;
 use crate::reference::texts::Coding;
+
+/// The one that a report may have.
+const CODING: Coding = Coding::Unicode;
 
 /// What the reader is strict about.
 #[derive(Clone, Copy, Debug, PartialEq, Eq)]
@@ -93,7 +96,7 @@ impl ReportDraft {
         let total = random.pick(&[1, 1, 1, 2, 3, 229, 255]);
         let index = if random.flag() { total } else { random.within(1..=total.into()) as u8 };
         let reserved = if random.percent(75) { 0 } else { random.bits(4) as u8 };
-        let coding_byte = reserved << 4 | Coding::Unicode.number();
+        let coding_byte = reserved << 4 | CODING.number();
         let stated = random.percent(70);
         let mut draft =
             ReportDraft { total, index, parameters: Vec::new(), sum: None, coding_byte, stated };
@@ -144,7 +147,7 @@ impl ReportDraft {
 }
 
 fn maker<'a>(random: &'a mut Random, tables: &'a Tables) -> Maker<'a> {
-    Maker { random, tables, coding: Coding::Unicode, slip_after: None }
+    Maker { random, tables, coding: CODING, slip_after: None }
 }
 
 /// A message that is a report but for this.
@@ -168,11 +171,11 @@ pub fn damaged(random: &mut Random, tables: &Tables, damage: Damage) -> Vec<u8> 
         }
         Damage::Error => {
             draft.index = draft.total;
-            draft.end_with(slipped(random, tables, |maker| maker.error()));
+            draft.end_with(slipped(random, tables, CODING, |maker| maker.error()));
         }
         Damage::Parameter => {
             let asked = random.pick(&ASKED);
-            let parameter = slipped(random, tables, |maker| maker.parameter(asked));
+            let parameter = slipped(random, tables, CODING, |maker| maker.parameter(asked));
             draft.put(random, parameter);
         }
         _ => return damaged_bytes(random, &draft, damage),
@@ -185,16 +188,10 @@ fn damaged_bytes(random: &mut Random, draft: &ReportDraft, damage: Damage) -> Ve
     let mut message = draft.bytes();
     match damage {
         Damage::Size => wrong_size(random, draft, &mut message),
-        Damage::Carrier => message[random.pick(&[0, 1, 4])] ^= 1 << random.below(8),
-        Damage::StatedLength => {
-            let truth = (message.len() - 4) as u16;
-            // What is put there may be true by chance, or say that it isn't stated.
-            while [0, truth].contains(&u16::from_be_bytes([message[2], message[3]])) {
-                misstate(random, &mut message);
-            }
-        }
-        Damage::MessageType => message[6] ^= random.within(1..=7) as u8,
-        Damage::Version => message[6] ^= (random.within(1..=31) as u8) << 3,
+        Damage::Carrier => wrong_byte(random, &mut message),
+        Damage::StatedLength => wrong_length(random, &mut message),
+        Damage::MessageType => other_type(random, &mut message),
+        Damage::Version => other_version(random, &mut message),
         Damage::Head => {
             let left = random.within(1..=3);
             message = carried(draft.coding_byte, &draft.data()[..left], draft.stated);
@@ -256,17 +253,4 @@ fn early_error(random: &mut Random, tables: &Tables, draft: &mut ReportDraft) {
     }
     let place = random.below(draft.parameters.len());
     draft.parameters.insert(place, maker(random, tables).error());
-}
-
-/// Made with one value out of its range, whichever of them.
-fn slipped(random: &mut Random, tables: &Tables, make: impl Fn(&mut Maker) -> Vec<u8>) -> Vec<u8> {
-    // It may have fewer values than were to stay good: then once more.
-    loop {
-        let slip_after = Some(random.below(6));
-        let mut maker = Maker { random, tables, coding: Coding::Unicode, slip_after };
-        let made = make(&mut maker);
-        if maker.slip_after.is_none() {
-            return made;
-        }
-    }
 }

@@ -2,8 +2,8 @@
 
 use super::*;
 use crate::inputs::Inputs;
-use crate::reference::by_hand::{bytes, number_of};
-use crate::reference::message::{query, request};
+use crate::reference::by_hand::{bytes, number_of, request_of as of};
+use crate::reference::message::query;
 
 /// Asks for a restart and a reply, and leaves a hash of code 1.
 const LAST: &str = "FF 00 07 C1 12 34 56 78";
@@ -13,10 +13,6 @@ const HOME: &str = "CD 00 05 07 E4 C0";
 const NP_807: &str = "CD 00 05 07 E4 E0";
 /// Adds channel 241.
 const ONE_CHANNEL: &str = "CE 00 06 40 01 0F 1F";
-
-fn of(settings: &[&str]) -> Vec<u8> {
-    request(&settings.iter().map(|setting| bytes(setting)).collect::<Vec<_>>())
-}
 
 /// What judging answers, and the whole buffer after it, which held EE.
 fn judged(message: &[u8], set: &Set) -> (Answer, [u8; REPLY_ROOM]) {

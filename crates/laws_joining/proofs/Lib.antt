@@ -1,0 +1,4 @@
+pub mod Added
+pub mod Joined
+pub mod OneRequest
+pub mod Twice

@@ -1,0 +1,1 @@
+// Two requests under one header, and a request sent twice: laws only.
