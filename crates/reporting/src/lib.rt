@@ -6,3 +6,4 @@ mod message;
 mod plan;
 pub mod report;
 mod walk;
+pub mod vehicle;

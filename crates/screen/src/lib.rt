@@ -5,3 +5,4 @@ pub mod names;
 mod numbers;
 pub mod rows;
 mod show;
+pub mod vehicle;

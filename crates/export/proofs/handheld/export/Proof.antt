@@ -1,7 +1,7 @@
 use Rattle.lists.proofs.Kit.{needs}
 use Rattle.export.proofs.RequestLaws.{handheld-exportable}
-use Rattle.export.proofs.exporting.export.Statement.{statement}
-use Rattle.export.proofs.exporting.export.Tie as tie
+use Rattle.export.proofs.handheld.export.Statement.{statement}
+use Rattle.export.proofs.handheld.export.Tie as tie
 
 export-in-requires : tie.Need-export-in-requires
 export-in-requires c κs = search needs

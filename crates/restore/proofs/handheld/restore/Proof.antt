@@ -1,7 +1,7 @@
 use Rattle.lists.proofs.Kit.{needs}
 use Rattle.export.proofs.RequestLaws.{handheld-exportable}
-use Rattle.restore.proofs.restore.restore.Statement.{statement}
-use Rattle.restore.proofs.restore.restore.Tie as tie
+use Rattle.restore.proofs.handheld.restore.Statement.{statement}
+use Rattle.restore.proofs.handheld.restore.Tie as tie
 
 slice-aggregate-restore-in : tie.Need-slice-aggregate-restore-in
 slice-aggregate-restore-in c = search needs
