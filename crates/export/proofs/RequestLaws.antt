@@ -58,6 +58,6 @@ request-headed count end r before after c within w = (omega (arith, wrote-length
 pub handheld-exportable : Exportable handheld
 handheld-exportable = record { counted = omega arith; channels = omega arith; status = omega arith; lines = omega arith }
 
--- VEHICLE: and so is every part of a vehicle set's
+-- VEHICLE: and every part of a vehicle's tables is
 pub vehicle-exportable : Exportable vehicle
 vehicle-exportable = record { counted = omega arith; channels = omega arith; status = omega arith; lines = omega arith }

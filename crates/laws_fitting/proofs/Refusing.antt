@@ -1,9 +1,9 @@
 -- Taking a part that does not fit: 12 where its request is too long, else 2 at the first entry without a place. Assumes nothing.
-use Rattle.lists.proofs.Kit.{ℕ, suc, _+_, _≤_, _<_, _≡_, refl, sym, ap, _∙_, subst, subst⁻¹, inl, inr, List, [], _∷_, _++_, map, map-append, none, some, arith, length, take, drop, getD, length-map, length-take-le, split-at}
+use Rattle.lists.proofs.Kit.{ℕ, suc, _+_, _≤_, _<_, _≡_, refl, ap, _∙_, subst, subst⁻¹, inl, inr, List, [], _∷_, _++_, map, map-append, none, some, arith, length, take, drop, getD, length-map, length-take-le, split-at}
 use native.Mathlib.Decide.{decLe}
-use Rattle.lists.proofs.Bytes.{all-bytes}
-use Rattle.lists.specs.Every.{All}
-use Rattle.lists.proofs.Every.{all-append, all-left, all-turn}
+use Rattle.lists.specs.Bytes.{Bytes}
+use Rattle.lists.proofs.Bytes.{all-bytes, bytes-append}
+use Rattle.lists.proofs.Every.{all-left, all-turn}
 use Rattle.lists.specs.Ladder.{Answers}
 use Rattle.counted_lists.specs.Counted.{Distinct}
 use Rattle.counted_lists.proofs.KeyedLists.{others-without}
@@ -23,7 +23,7 @@ use Rattle.tables.specs.Store.{Holds}
 use Rattle.tables.specs.Tables.{Line, line-key, Tables}
 use Rattle.tables.proofs.LayoutLaws.{holds-store}
 use Rattle.tables.proofs.RoomSentences.{Stuck, no-room, line-no-room, channel-no-room}
-use Rattle.requests.specs.Judge.{refused}
+use Rattle.requests.specs.Judge.{Outcome, refused}
 use Rattle.requests.specs.Requests.{Judged, forget}
 use Rattle.station.specs.Taking.{AfterTaking, stays, settled, taken}
 use Rattle.station.proofs.TakeLaws.{request-answers}
@@ -98,7 +98,6 @@ module _ (to : Limits) (t u : Tables) where
   channels-lack h =
       let o : Over (to .channels) (t .channels) = over (to .channels) (t .channels) h in
       let few : length (o .placed) ≤ to .channels = omega (arith, o .many) in
-      let step : ℕ → List ℕ → _ = channel-step (to .channels) Add in
       let full : in-turn (channel-step (to .channels) Add) (t .channels) [] ≡ none
       = no-room (channel-step (to .channels) Add) (t .channels) [] .1 (record {
         done = o .placed;
@@ -138,9 +137,10 @@ module _ (to : Limits) (t u : Tables) where
 -- ---- what it is answered
 
 -- settings are written in bytes
-all-small : (ss : List Setting) → All (_< 256) (canonical-all unicode16 ss)
-all-small [] = tt
-all-small (s ∷ ss) = all-append (_< 256) (canonical unicode16 s) (canonical-all unicode16 ss) (plain-bytes (fields unicode16 s)) (all-small ss)
+in-bytes : (ss : List Setting) → Bytes (canonical-all unicode16 ss)
+in-bytes [] = all-bytes [] tt
+in-bytes (s ∷ ss) =
+    bytes-append (canonical unicode16 s) (canonical-all unicode16 ss) (all-bytes (canonical unicode16 s) (plain-bytes (fields unicode16 s))) (in-bytes ss)
 
 module _ (from to : Limits) (x : Exportable from) (room : Roomy to) (t : Tables) (ok : Allowed from t) (u : Tables) (store : List ℕ) (holds : Holds to u store)
     (reply : List ℕ) (long : 20 ≤ length reply) (p : Part) (misfit : PartFits to t p → ⊥) where
@@ -156,20 +156,25 @@ module _ (from to : Limits) (x : Exportable from) (room : Roomy to) (t : Tables)
     record { too-long = λ _. (refl, refl); no-room = λ l. absurd (omega (arith, l, h)); stays = refl },
   )
 
-  -- a request that is not
+  -- where a setting lacks room after those that had, the request is refused there
+  judged-there : (s : Stuck (apply to) (exported p t) (forget u))
+      → Judged unicode16 to (length (exported p t)) (forget u) (canonical-all unicode16 (exported p t)) (refused 2 (length (s .done) + 1))
+  judged-there =
+      let r : AllReadable _ (exported p t) = exported-readable from x t ok p in
+      stuck-judged unicode16 to (exported p t) (forget u) (canonical-all unicode16 (exported p t)) (in-bytes (exported p t))
+      (canonical-all-written unicode16 (exported p t) (r .fits))
+      (all-turn (λ s. (left : ℕ) → InRange text-limits left s) (InRange text-limits 1) (λ s i. i 1) (exported p t) (r .ranged))
+
+  -- a request that is not too long
   no-places : length (request-bytes (exported p t)) ≤ to .message → Answered
   no-places l =
-      let ss : List Setting = exported p t in
       let (s, n) = lacks to t (forget u) (ok .distinct) p (λ h. misfit (record { request = l; places = h })) in
-      let r : AllReadable _ (exported p t) = exported-readable from x t ok p in
-      let j : Judged unicode16 to (length (exported p t)) (forget u) (canonical-all unicode16 (exported p t)) (refused 2 (length (s .done) + 1))
-      = stuck-judged unicode16 to (exported p t) (forget u) (canonical-all unicode16 (exported p t)) (all-bytes _ (all-small (exported p t))) (canonical-all-written unicode16 (exported p t) (r .fits))
-      (all-turn (λ s. (left : ℕ) → InRange text-limits left s) (InRange text-limits 1) (λ s i. i 1) (exported p t) (r .ranged)) s in
-      let a : AfterTaking = settled to (request-bytes (exported p t)) store reply (refused 2 (length (s .done) + 1)) in
+      let o : Outcome Setting Tables = refused 2 (length (s .done) + 1) in
+      let a : AfterTaking = settled to (request-bytes (exported p t)) store reply o in
       (
         a,
         request-answers to (request-bytes (exported p t)) store reply a long (holds-store to u store room holds) u holds (request-in-size (to .message) (exported p t) l)
-        (unicode16, length (exported p t), canonical-all unicode16 (exported p t), exported-is from x t ok p, refused 2 (length (s .done) + 1), j, refl),
+        (unicode16, length (exported p t), canonical-all unicode16 (exported p t), exported-is from x t ok p, o, judged-there s, refl),
         record { too-long = λ h. absurd (omega (arith, l, h)); no-room = λ _. (refl, n); stays = refl },
       )
 
