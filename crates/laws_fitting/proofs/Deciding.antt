@@ -1,5 +1,5 @@
 -- Whether an export fits another set, and the first of its parts that does not: decided, and in one way. Assumes nothing.
-use Rattle.lists.proofs.Kit.{_≤_, _≡_, refl, ap, subst, subst⁻¹, _⊎_, inl, inr, List, [], _∷_, _++_, head-eq-of-cons-eq, tail-eq-of-cons-eq, length}
+use Rattle.lists.proofs.Kit.{_≤_, _≡_, refl, ap, subst, subst⁻¹, _⊎_, inl, inr, List, [], _∷_, _++_, head-eq-of-cons-eq, tail-eq-of-cons-eq, arith, length}
 use native.Mathlib.Decide.{decLe}
 use Rattle.lists.specs.Every.{All}
 use Rattle.tables.specs.declared.limits.Limits.{Limits}
@@ -80,13 +80,13 @@ module _ (to : Limits) (t : Tables) where
 
   -- what fits, fits part by part
   pub fits-each : FitsIn to t → (p : Part) → PartFits to t p
-  fits-each f p = record { request = f .requests p; places = places-for to t (f .lines) (f .channels) p }
+  fits-each f p = record { request = f .requests p; places = places-for to t (omega (arith, f .lines)) (omega (arith, f .channels)) p }
 
   -- and back
   pub each-fits : All (PartFits to t) ten → FitsIn to t
   each-fits h =
       let each : (p : Part) → PartFits to t p = each-part (PartFits to t) h in
-      record { lines = each Lines .places; channels = each Channels .places; requests = λ p. each p .request }
+      record { lines = omega (arith, each Lines .places); channels = omega (arith, each Channels .places); requests = λ p. each p .request }
 
   -- all ten fit, or there is a first that does not
   pub first-misfit : All (PartFits to t) ten ⊎ FirstWithout (PartFits to t) ten

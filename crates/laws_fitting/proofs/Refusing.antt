@@ -78,8 +78,7 @@ module _ (to : Limits) (t u : Tables) where
       let o : Over (to .lines) (t .lines) = over (to .lines) (t .lines) h in
       let clear : Setting = lines Replace no-line-flags [] in
       let apart : Distinct line-key (o .placed ++ o .next ∷ o .behind) = subst (Distinct line-key) (o .parts) d in
-      let few : length (o .placed) ≤ to .lines = omega (arith, o .many) in
-      (
+      let few : length (o .placed) ≤ to .lines = omega (arith, o .many) in (
         record {
           done = clear ∷ map line-add (o .placed);
           entry = line-add (o .next);
@@ -107,8 +106,7 @@ module _ (to : Limits) (t u : Tables) where
         table = o .placed;
         came = channels-turn (to .channels) [] (o .placed) (omega (arith, few));
         full = channel-no-room (to .channels) (o .next) (o .placed) few .1 (o .many);
-      }) in
-      (
+      }) in (
         record {
           done = [];
           entry = channels Replace (t .channels);
@@ -170,11 +168,10 @@ module _ (from to : Limits) (x : Exportable from) (room : Roomy to) (t : Tables)
   no-places l =
       let (s, n) = lacks to t (forget u) (ok .distinct) p (λ h. misfit (record { request = l; places = h })) in
       let o : Outcome Setting Tables = refused 2 (length (s .done) + 1) in
-      let a : AfterTaking = settled to (request-bytes (exported p t)) store reply o in
-      (
+      let a : AfterTaking = settled to (request-bytes (exported p t)) store reply o in (
         a,
         request-answers to (request-bytes (exported p t)) store reply a long (holds-store to u store room holds) u holds (request-in-size (to .message) (exported p t) l)
-        (unicode16, length (exported p t), canonical-all unicode16 (exported p t), exported-is from x t ok p, o, judged-there s, refl),
+            (unicode16, length (exported p t), canonical-all unicode16 (exported p t), exported-is from x t ok p, o, judged-there s, refl),
         record { too-long = λ h. absurd (omega (arith, l, h)); no-room = λ _. (refl, n); stays = refl },
       )
 

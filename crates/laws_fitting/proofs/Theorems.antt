@@ -1,5 +1,5 @@
 -- When one set takes what another has exported, and where it stops otherwise: docs/RULES.md, Y3 to Y7, for any two sets. Assumes nothing.
-use Rattle.lists.proofs.Kit.{ℕ, _≤_, _≡_, sym, ap, _∙_, _↔_, _⊎_, inl, inr, List, [], _∷_, arith, length, replicate}
+use Rattle.lists.proofs.Kit.{ℕ, _≤_, _≡_, sym, ap, _∙_, _↔_, Iff·trans, _⊎_, inl, inr, List, [], _∷_, arith, length, replicate}
 use Rattle.lists.specs.Every.{All}
 use Rattle.lists.proofs.Every.{all-any}
 use Rattle.lists.specs.Ladder.{Answers}
@@ -9,12 +9,13 @@ use Rattle.tables.specs.Layout.{layout, Roomy}
 use Rattle.tables.specs.Limits.{handheld, vehicle}
 use Rattle.tables.specs.Store.{Holds}
 use Rattle.tables.specs.Tables.{Tables}
+use Rattle.tables.proofs.RoomyLaws.{handheld-roomy, vehicle-roomy}
 use Rattle.requests.specs.Requests.{forget}
 use Rattle.station.specs.Taking.{AfterTaking, taken}
 use Rattle.export.specs.declared.parts.Part.{Part}
 use Rattle.export.specs.Exportable.{Exportable}
 use Rattle.export.specs.Exported.{ten, exported, request-bytes}
-use Rattle.export.proofs.RequestLaws.{vehicle-exportable}
+use Rattle.export.proofs.RequestLaws.{handheld-exportable, vehicle-exportable}
 use Rattle.restore.specs.Restored.{with-part, requests, TakenInTurn, PartFits}
 use Rattle.restore.proofs.Requests.{exported-in-size}
 use Rattle.restore.proofs.Restored.{with-parts, part-taken, after-holds, parts-taken, parts-takable}
@@ -119,8 +120,7 @@ module _ (from to : Limits) (x : Exportable from) (room : Roomy to) (t : Tables)
         by (inr r) =
             let took : TakenInTurn to (requests t (r .before)) store (left-by (r .before)) = left-taken (r .before) (r .have) in
             let now : Holds to (with-parts t (r .before) u) (left-by (r .before))
-            = parts-taken from to x room t ok (r .before) (r .have) u store (left-by (r .before)) holds took in
-            (
+            = parts-taken from to x room t ok (r .before) (r .have) u store (left-by (r .before)) holds took in (
               r .element,
               record {
                 before = r .before;
@@ -151,14 +151,29 @@ pub idle-size : (from to : Limits) → Exportable to → (t : Tables) → Allowe
     → (p : Part) → length (request-bytes (exported p t)) ≤ to .message
 idle-size from to x t ok l c p = exported-in-size to x t (allowed-in from to t ok l c) p .1
 
--- so they fit
-room-fits : (from to : Limits) → Exportable to → (t : Tables) → Allowed from t → length (t .lines) ≤ to .lines → length (t .channels) ≤ to .channels → FitsIn to t
-room-fits from to x t ok l c = record { lines = l; channels = c; requests = idle-size from to x t ok l c }
+-- ROOM FITS: so an export fits such a set exactly if its lines and channels have room
+pub room-fits : (from to : Limits) → Exportable to → (t : Tables) → Allowed from t → FitsIn to t ↔ ((length (t .lines) ≤ to .lines) × (length (t .channels) ≤ to .channels))
+room-fits from to x t ok = (
+  λ f. (omega (arith, f .lines), omega (arith, f .channels)),
+  λ (l, c). record { lines = omega (arith, l); channels = omega (arith, c); requests = idle-size from to x t ok l c },
+)
 
 -- OWN KIND: every set's export fits its own kind
 pub own-kind : (lim : Limits) → Exportable lim → (t : Tables) → Allowed lim t → FitsIn lim t
-own-kind lim x t ok = room-fits lim lim x t ok (ok .lines .0) (ok .channels .0)
+own-kind lim x t ok = room-fits lim lim x t ok .1 (ok .lines .0, ok .channels .0)
+
+-- ---- the two sets
 
 -- HANDHELD IN VEHICLE: every hand-held's export fits a vehicle set
 pub handheld-in-vehicle : (t : Tables) → Allowed handheld t → FitsIn vehicle t
-handheld-in-vehicle t ok = room-fits handheld vehicle vehicle-exportable t ok (omega (arith, ok .lines .0)) (omega (arith, ok .channels .0))
+handheld-in-vehicle t ok = room-fits handheld vehicle vehicle-exportable t ok .1 (omega (arith, ok .lines .0), omega (arith, ok .channels .0))
+
+-- HANDHELD TO VEHICLE: and is taken by it, whatever it held
+pub handheld-to-vehicle : (t : Tables) → Allowed handheld t → (u : Tables) (store : List ℕ) → Holds vehicle u store → (after : List ℕ) × AllTaken vehicle (requests t ten) store after
+handheld-to-vehicle t ok u store holds = taken-exactly-when handheld vehicle handheld-exportable vehicle-roomy t ok u store holds .1 (handheld-in-vehicle t ok)
+
+-- VEHICLE TO HANDHELD: a vehicle's export is taken by a hand-held exactly if it has at most 32 lines and 64 channels
+pub vehicle-to-handheld : (t : Tables) → Allowed vehicle t → (u : Tables) (store : List ℕ) → Holds handheld u store
+    → ((after : List ℕ) × AllTaken handheld (requests t ten) store after) ↔ ((length (t .lines) ≤ 32) × (length (t .channels) ≤ 64))
+vehicle-to-handheld t ok u store holds =
+    Iff·trans (taken-exactly-when vehicle handheld vehicle-exportable handheld-roomy t ok u store holds) (room-fits vehicle handheld handheld-exportable t ok)

@@ -27,7 +27,8 @@ AllTaken lim (message ∷ messages) store after =
 
 -- ---- "may be refused by a handheld with 2 or 12": at which part
 
--- the place of a part's first setting without room: of lines a replace and an add for each place come before it; channels are one setting
+-- the place of a part's first setting without room: of lines a replace and an add for each place come before it; channels are one setting, and the other parts always
+-- have places
 abbrev pub first-without : Limits → Part → ℕ
 first-without to Lines = to .lines + 2
 first-without to Fixed = 1
