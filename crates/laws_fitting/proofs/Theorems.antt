@@ -57,9 +57,9 @@ fits-or-not to t = by (first-misfit to t)
 -- ---- taken
 
 -- messages that were all answered 0 were taken in turn
-in-turn : (lim : Limits) (messages : List (List ℕ)) (store after : List ℕ) → AllTaken lim messages store after → TakenInTurn lim messages store after
-in-turn lim [] store after h = h
-in-turn lim (m ∷ ms) store after (reply, a, long, h, z, more) = (reply, a, long, h, in-turn lim ms (a .store) after more)
+taken-in-turn : (lim : Limits) (messages : List (List ℕ)) (store after : List ℕ) → AllTaken lim messages store after → TakenInTurn lim messages store after
+taken-in-turn lim [] store after h = h
+taken-in-turn lim (m ∷ ms) store after (reply, a, long, h, z, more) = (reply, a, long, h, taken-in-turn lim ms (a .store) after more)
 
 module _ (from to : Limits) (x : Exportable from) (room : Roomy to) (t : Tables) (ok : Allowed from t) where
   -- the tables after a part that was taken
@@ -105,7 +105,7 @@ module _ (from to : Limits) (x : Exportable from) (room : Roomy to) (t : Tables)
 
     -- TAKEN THEN SAME: and then the other set has the same tables, the kept hash aside
     pub taken-then-same : (after : List ℕ) → AllTaken to (requests t ten) store after → after ≡ layout to (forget t)
-    taken-then-same after h = parts-taken from to x room t ok ten (taken-fit ten u store after holds h) u store after holds (in-turn to (requests t ten) store after h) .1
+    taken-then-same after h = parts-taken from to x room t ok ten (taken-fit ten u store after holds h) u store after holds (taken-in-turn to (requests t ten) store after h) .1
 
     -- TAKEN WHATEVER: an export that fits is answered 0 at every part, whatever reply buffers are lent
     pub taken-whatever : (after : List ℕ) → FitsIn to t → TakenInTurn to (requests t ten) store after → AllTaken to (requests t ten) store after

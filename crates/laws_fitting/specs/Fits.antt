@@ -27,8 +27,7 @@ AllTaken lim (message ∷ messages) store after =
 
 -- ---- "may be refused by a handheld with 2 or 12": at which part
 
--- the place of a part's first setting without room: of lines a replace and an add for each place come before it; channels are one setting, and the other parts always
--- have places
+-- the place of a part's first setting without room: of lines a replace and an add for each place come before it, channels are one setting, and no other part lacks places
 abbrev pub first-without : Limits → Part → ℕ
 first-without to Lines = to .lines + 2
 first-without to Fixed = 1
@@ -47,7 +46,7 @@ pub record Refuses (to : Limits) (t : Tables) (p : Part) (store : List ℕ) (a :
   pub no-room : length (request-bytes (exported p t)) ≤ to .message → (a .answer .number ≡ 2) × (a .answer .failed ≡ first-without to p)
   pub stays : a .store ≡ store
 
--- the parts before one that does not fit are taken, and it is refused, whatever reply buffer is lent
+-- the parts before one that does not fit are taken, and it is refused: each answer that taking allows is so, whatever reply buffer is lent, and there is one
 pub record StopsAt (to : Limits) (t : Tables) (p : Part) (store : List ℕ) : Type 0 where
   pub before : List Part
   pub behind : List Part
