@@ -42,33 +42,33 @@ fn send(set: Set, part: u32, request: &[u8], to: &mut [u8]) {
 }
 
 // Exports a part into this buffer, and sends it.
-fn move_by(of: Set, set: Set, part: u32, from: &[u8], to: &mut [u8], buffer: &mut [u8]) {
-    let written = export_of(of, part, from, buffer);
+fn move_by(sender: Set, taker: Set, part: u32, from: &[u8], to: &mut [u8], buffer: &mut [u8]) {
+    let written = export_of(sender, part, from, buffer);
     let Export::Written(length) = written else {
         return;
     };
     if buffer.len() < length {
         return;
     }
-    send(set, part, &buffer[0..length], to);
+    send(taker, part, &buffer[0..length], to);
 }
 
-pub(crate) fn move_part(of: Set, set: Set, part: u32, from: &[u8], to: &mut [u8]) {
+pub(crate) fn move_part(sender: Set, taker: Set, part: u32, from: &[u8], to: &mut [u8]) {
     let mut buffer = [0u8; 8192];
-    move_by(of, set, part, from, to, &mut buffer);
+    move_by(sender, taker, part, from, to, &mut buffer);
 }
 
 // All parts in order.
-fn move_parts(of: Set, set: Set, from: &[u8], to: &mut [u8]) {
+fn move_parts(sender: Set, taker: Set, from: &[u8], to: &mut [u8]) {
     let mut part = 1;
     while part <= PARTS {
-        move_part(of, set, part, from, to);
+        move_part(sender, taker, part, from, to);
         part += 1;
     }
 }
 
 // All parts, and the counts after them.
-pub(crate) fn move_all(of: Set, set: Set, from: &[u8], to: &mut [u8]) {
-    move_parts(of, set, from, to);
-    held(set, to);
+pub(crate) fn move_all(sender: Set, taker: Set, from: &[u8], to: &mut [u8]) {
+    move_parts(sender, taker, from, to);
+    held(taker, to);
 }
