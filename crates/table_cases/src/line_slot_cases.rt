@@ -1,5 +1,5 @@
 // Line slots: a number and a text by index, whose deletes hold every field to its range.
-use super::screen_cases::row;
+use case_answers::row_lines::row;
 use case_lines::taking::requests;
 
 pub(crate) fn run(store: &mut [u8]) {

@@ -1,5 +1,5 @@
 // Texts of eight-bit characters, by whole messages: coding type 0100 beside 0111.
-use super::screen_cases::row;
+use case_answers::row_lines::row;
 use case_lines::taking::messages;
 
 fn groups(store: &mut [u8]) {

@@ -1,20 +1,15 @@
-// Runs cases that were worked out by hand, of the tables, their counts and order, and the screen's rows: a line each, with the number answered and what was left behind.
+// Runs cases that were worked out by hand, of the tables, their counts and their room: a line each, with the number answered and what was left behind.
 use tables::limits::HANDHELD_SIZE;
 
-mod caller_cases;
 mod channel_cases;
 mod contact_cases;
 mod count_cases;
 mod eight_bit_cases;
-mod join_cases;
 mod line_cases;
 mod line_slot_cases;
-mod report_cases;
-mod screen_cases;
 mod slot_cases;
 mod text_cases;
 mod type_cases;
-mod value_cases;
 
 fn main() {
     let mut store = [0u8; HANDHELD_SIZE];
@@ -22,14 +17,9 @@ fn main() {
     type_cases::run(&mut store);
     channel_cases::run(&mut store);
     count_cases::run(&mut store);
-    caller_cases::run(&mut store);
     text_cases::run(&mut store);
     slot_cases::run(&mut store);
     contact_cases::run(&mut store);
     line_slot_cases::run(&mut store);
     eight_bit_cases::run(&mut store);
-    screen_cases::run(&mut store);
-    value_cases::run(&mut store);
-    report_cases::run(&mut store);
-    join_cases::run(&mut store);
 }

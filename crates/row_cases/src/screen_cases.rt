@@ -1,13 +1,10 @@
 // Rows of the screen: with a text, without, outside the plan, absent.
-use case_lines::printing::decimal;
-use case_lines::printing::hex;
+use case_answers::row_lines::row;
+use case_answers::row_lines::show;
 use case_lines::printing::text;
+use case_lines::sets::Set;
 use case_lines::taking::requests;
-use screen::answers::number_of;
-use screen::handheld::row_number;
-use screen::handheld::row_part;
 use screen::rows::Row;
-use screen::rows::row_of;
 
 // A table and a place for each row that is shown.
 const ROWS: [[u32; 2]; 21] = [
@@ -51,24 +48,6 @@ fn fill(store: &mut [u8]) {
     );
 }
 
-// What a row shows: its number, and the bytes of its part.
-fn show(store: &[u8], row: Row, scratch: &mut [u8]) {
-    text(b": ");
-    decimal(number_of(row_number(store, scratch, row)) as u32);
-    text(b", shows");
-    let part = row_part(store, scratch, row);
-    hex(part, part.len());
-}
-
-pub(crate) fn row(store: &[u8], table: u32, place: u32) {
-    text(b"row of table ");
-    decimal(table);
-    text(b", place ");
-    decimal(place);
-    let mut scratch = [0xEEu8; 36];
-    show(store, row_of(table, place), &mut scratch);
-}
-
 fn rows(store: &[u8]) {
     let mut i = 0;
     while i < 21 {
@@ -81,11 +60,11 @@ fn rows(store: &[u8]) {
 fn refused(store: &[u8]) {
     let mut short = [0xEEu8; 35];
     text(b"line 1 with a scratch of 35 bytes");
-    show(store, Row::Line(1), &mut short);
+    show(Set::Handheld, store, Row::Line(1), &mut short);
     let mut scratch = [0xEEu8; 36];
     let bytes = [0u8; 36];
     text(b"line 1 of what is no store");
-    show(&bytes, Row::Line(1), &mut scratch);
+    show(Set::Handheld, &bytes, Row::Line(1), &mut scratch);
 }
 
 pub(crate) fn run(store: &mut [u8]) {

@@ -1,8 +1,8 @@
 // Lines of the two IDtypes with one number: each is overwritten and deleted alone, both are exported, and a replace removes both.
-use super::screen_cases::row;
+use case_answers::row_lines::row;
 use case_lines::printing::text;
 use case_lines::taking::requests;
-use restore::restore::restore;
+use restore::handheld::restore;
 use station::handheld::start;
 use tables::limits::HANDHELD_SIZE;
 

@@ -1,8 +1,8 @@
 // Group and individual contacts, which go by their address: fields, room for 64 each, and background groups, which have no row.
-use super::screen_cases::row;
+use case_answers::row_lines::row;
 use case_lines::printing::text;
 use case_lines::taking::requests;
-use restore::restore::restore;
+use restore::handheld::restore;
 use station::handheld::start;
 use tables::limits::HANDHELD_SIZE;
 

@@ -1,6 +1,6 @@
 use Rattle.lists.proofs.Kit.{needs, arith, _-_, length}
-use Rattle.more_cases.proofs.caller_cases.each.Statement.{statement}
-use Rattle.more_cases.proofs.caller_cases.each.Tie as tie
+use Rattle.row_cases.proofs.caller_cases.each.Statement.{statement}
+use Rattle.row_cases.proofs.caller_cases.each.Tie as tie
 
 abbrev Inv-loop : tie.InvT-loop
 Inv-loop bytes i₀ t3 i = Unit {0}

@@ -1,33 +1,14 @@
 // How many lines and channels a store holds: after what changes it and what does not, and where a count is wrong.
+use case_answers::count_lines::held;
 use case_lines::printing::decimal;
 use case_lines::printing::text;
+use case_lines::sets::Set;
 use case_lines::taking::requests;
-use menu::counting::Counts;
-use menu::handheld::counts;
-
-fn tell(number: u32, lines: u32, channels: u32) {
-    text(b"  counts: ");
-    decimal(number);
-    text(b", lines ");
-    decimal(lines);
-    text(b", channels ");
-    decimal(channels);
-    text(b"\n");
-}
-
-// The counts' line.
-fn held(store: &[u8]) {
-    let answer = counts(store);
-    match answer {
-        Counts::Held(lines, channels) => tell(0, lines as u32, channels as u32),
-        Counts::NotAStore => tell(11, 0, 0),
-    }
-}
 
 // A case, and the counts after it.
 fn after(case: &[u8], store: &mut [u8]) {
     requests(case, store);
-    held(store);
+    held(Set::Handheld, store);
 }
 
 fn put_1(store: &mut [u8], at: usize) {
@@ -44,7 +25,7 @@ fn wrong(at: usize, store: &mut [u8]) {
     text(b"a fresh store with a 1 at ");
     decimal((at % 65536) as u32);
     text(b"\n");
-    held(store);
+    held(Set::Handheld, store);
 }
 
 fn lines(store: &mut [u8]) {

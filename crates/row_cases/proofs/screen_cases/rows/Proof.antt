@@ -1,15 +1,6 @@
-use borrow.Author.Needs.{needs}
-use Prim.Native.Nat.{ℕ, zero, suc, _≤_, _<_, _-_, _+_, _*_, _/_, _%_}
-use mathlib.Core.Path.{_≡_, refl, sym, ap, _∙_}
-use mathlib.Core.Bool.{Bool, true, false, cond}
-use mathlib.Core.List.{List, [], _∷_, _++_}
-use native.Mathlib.Omega.{arith}
-use lib.ListN.{length, getD, drop, take, set, replicate}
-use Rattle.more_cases.proofs.screen_cases.rows.Statement.{statement}
-use Rattle.more_cases.proofs.screen_cases.rows.Tie as tie
-use Rattle.more_cases.proofs.screen_cases.rows.Reads as reads
-use Rattle.more_cases.proofs.screen_cases.rows.Lts as lts
-use Rattle.more_cases.proofs.screen_cases.row.Reads as row-reads
+use Rattle.lists.proofs.Kit.{needs, arith, _-_, _≤_}
+use Rattle.row_cases.proofs.screen_cases.rows.Statement.{statement}
+use Rattle.row_cases.proofs.screen_cases.rows.Tie as tie
 
 abbrev Inv-loop : tie.InvT-loop
 Inv-loop store i₀ i =
