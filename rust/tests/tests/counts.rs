@@ -1,8 +1,9 @@
 //! The generator reaches every number a message can come to, and every table's edge.
 
-use otap_reference::inputs::{Inputs, LONGEST_INPUT};
+use otap_reference::inputs::{longest_input, Inputs};
 use otap_reference::reference::commit::{judge_and_commit, REPLY_ROOM};
-use otap_reference::reference::message::{first_byte, LONGEST, REQUEST};
+use otap_reference::reference::limits::HANDHELD;
+use otap_reference::reference::message::{first_byte, REQUEST};
 use otap_reference::reference::numbers::BAD_FIELD;
 use otap_reference::reference::settings::{GroupSlot, BACKGROUND};
 use otap_reference::reference::tables::{Line, Set};
@@ -18,8 +19,8 @@ fn every_number_comes_often() {
     let mut counts: BTreeMap<u8, usize> = BTreeMap::new();
     let mut later_places = BTreeMap::new();
     for seed in 0..SEEDS {
-        let mut inputs = Inputs::new(seed);
-        let mut set = Set::default();
+        let mut inputs = Inputs::new(seed, HANDHELD);
+        let mut set = Set::fresh(HANDHELD);
         for _ in 0..MESSAGES {
             let answer = judge_and_commit(&inputs.message(), &mut set, &mut [0; REPLY_ROOM]);
             *counts.entry(answer.number).or_default() += 1;
@@ -40,14 +41,14 @@ fn every_number_comes_often() {
 fn tables_fill_and_messages_grow_long() {
     let (mut lines, mut channels, mut quick, mut longest, mut over) = (0, 0, 0, 0, 0);
     for seed in 0..SEEDS {
-        let mut inputs = Inputs::new(seed);
-        let mut set = Set::default();
+        let mut inputs = Inputs::new(seed, HANDHELD);
+        let mut set = Set::fresh(HANDHELD);
         for _ in 0..MESSAGES {
             let message = inputs.message();
             let answer = judge_and_commit(&message, &mut set, &mut [0; REPLY_ROOM]);
-            assert!(message.len() <= LONGEST_INPUT);
-            longest += usize::from(message.len() == LONGEST && answer.number == 0);
-            over += usize::from(message.len() > LONGEST);
+            assert!(message.len() <= longest_input(HANDHELD));
+            longest += usize::from(message.len() == HANDHELD.message && answer.number == 0);
+            over += usize::from(message.len() > HANDHELD.message);
             lines += usize::from(set.tables.lines.len() == 32);
             channels += usize::from(set.tables.channels.len() == 64);
             quick += usize::from(set.tables.quick_texts.iter().all(Option::is_some));
@@ -63,8 +64,8 @@ fn tables_fill_and_messages_grow_long() {
 fn contacts_and_line_slots_come_often() {
     let (mut full, mut overwritten, mut deleted, mut hidden, mut slots) = ([0; 2], 0, 0, 0, 0);
     for seed in 0..SEEDS {
-        let mut inputs = Inputs::new(seed);
-        let mut set = Set::default();
+        let mut inputs = Inputs::new(seed, HANDHELD);
+        let mut set = Set::fresh(HANDHELD);
         for _ in 0..MESSAGES {
             let slots_before = set.tables.line_slots.clone();
             let before = set.tables.group_contacts.clone();
@@ -91,8 +92,8 @@ fn contacts_and_line_slots_come_often() {
 fn numbers_of_both_idtypes_come_often() {
     let (mut full, mut overwritten, mut deleted) = (0, 0, 0);
     for seed in 0..SEEDS {
-        let mut inputs = Inputs::new(seed);
-        let mut set = Set::default();
+        let mut inputs = Inputs::new(seed, HANDHELD);
+        let mut set = Set::fresh(HANDHELD);
         for _ in 0..MESSAGES {
             let before = set.tables.lines.clone();
             judge_and_commit(&inputs.message(), &mut set, &mut [0; REPLY_ROOM]);
@@ -126,8 +127,8 @@ fn of_both_idtypes(lines: &[Line]) -> Vec<[Line; 2]> {
 fn every_coding_type_comes_often() {
     let (mut changed, mut refused) = ([0; 16], [[0; 2]; 16]);
     for seed in 0..SEEDS {
-        let mut inputs = Inputs::new(seed);
-        let mut set = Set::default();
+        let mut inputs = Inputs::new(seed, HANDHELD);
+        let mut set = Set::fresh(HANDHELD);
         for _ in 0..MESSAGES {
             let message = inputs.message();
             let before = names(&set);
@@ -167,8 +168,8 @@ fn names(set: &Set) -> Vec<Text> {
 
 #[test]
 fn the_same_seed_gives_the_same_messages() {
-    let mut first = Inputs::new(3);
-    let mut second = Inputs::new(3);
+    let mut first = Inputs::new(3, HANDHELD);
+    let mut second = Inputs::new(3, HANDHELD);
     for _ in 0..50 {
         assert_eq!(first.record(), second.record());
     }

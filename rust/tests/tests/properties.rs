@@ -3,8 +3,9 @@
 use otap_reference::inputs::random::Random;
 use otap_reference::inputs::Inputs;
 use otap_reference::reference::commit::{commit, judge, judge_and_commit, REPLY_ROOM};
-use otap_reference::reference::export::{export, part_bytes, Exported, EXPORT_ROOM, PARTS};
-use otap_reference::reference::message::{request_as, LONGEST};
+use otap_reference::reference::export::{export, part_bytes, Exported, PARTS};
+use otap_reference::reference::limits::HANDHELD;
+use otap_reference::reference::message::request_as;
 use otap_reference::reference::numbers::*;
 use otap_reference::reference::plan::*;
 use otap_reference::reference::screen::{row_number, row_part, Row, Shown, SCRATCH_ROOM};
@@ -74,8 +75,8 @@ fn every_channel_and_back() {
 /// Reaches a state from random messages, and hands it on after each.
 fn for_each_state(seeds: u64, messages: usize, mut check: impl FnMut(&Set)) {
     for seed in 0..seeds {
-        let mut inputs = Inputs::new(seed);
-        let mut set = Set::default();
+        let mut inputs = Inputs::new(seed, HANDHELD);
+        let mut set = Set::fresh(HANDHELD);
         for _ in 0..messages {
             judge_and_commit(&inputs.message(), &mut set, &mut [0; REPLY_ROOM]);
             check(&set);
@@ -86,18 +87,18 @@ fn for_each_state(seeds: u64, messages: usize, mut check: impl FnMut(&Set)) {
 fn commit_exports(from: &Set, into: &mut Set) {
     for part in 1..=PARTS {
         let message = part_bytes(part, from).unwrap();
-        assert!(message.len() <= LONGEST);
+        assert!(message.len() <= HANDHELD.message);
         assert_eq!(number_in(&message, into), (TAKEN, 0));
     }
 }
 
 #[test]
 fn the_ten_exports_give_the_same_tables() {
-    let mut other = Set::default();
+    let mut other = Set::fresh(HANDHELD);
     for_each_state(30, 100, |set| {
         commit_exports(set, &mut other);
         assert_eq!(other.tables, set.tables);
-        let mut fresh = Set::default();
+        let mut fresh = Set::fresh(HANDHELD);
         commit_exports(set, &mut fresh);
         assert_eq!(fresh.tables, set.tables);
     });
@@ -116,14 +117,14 @@ fn a_full_set_is_exported_whole() {
     assert_eq!(number_in(&request(&[status]), &mut set), (TAKEN, 0));
     let part = part_bytes(3, &set).unwrap();
     assert_eq!((part.len(), part[7]), (8 + 4 + 63 * 49 + 4 + 49, 2));
-    let mut other = Set::default();
+    let mut other = Set::fresh(HANDHELD);
     commit_exports(&set, &mut other);
     assert_eq!(other.tables, set.tables);
 }
 
 #[test]
 fn exports_of_a_fresh_set() {
-    let set = Set::default();
+    let set = Set::fresh(HANDHELD);
     let expected = [
         (1, "02 02 00 09 08 07 08 01 CA 00 04 C0 00"),
         (2, "02 02 00 14 08 07 08 03 CB 00 03 80 CD 00 05 00 00 00 CF 00 05 00 00 00"),
@@ -152,9 +153,9 @@ fn exports_of_a_fresh_set() {
 
 #[test]
 fn export_refusals_touch_nothing() {
-    let set = Set::default();
+    let set = Set::fresh(HANDHELD);
     let refused = |number| Exported { number, length: 0 };
-    let mut buffer = vec![0xEE; EXPORT_ROOM];
+    let mut buffer = vec![0xEE; HANDHELD.message];
     assert_eq!(export(PARTS + 2, false, &set, &mut buffer[1..]), refused(BUFFER_SHORT));
     assert_eq!(export(PARTS + 2, false, &set, &mut buffer), refused(NOT_A_STORE));
     assert_eq!(export(0, true, &set, &mut buffer), refused(NO_SUCH_PART));
@@ -190,7 +191,7 @@ fn has_texts(setting: &Setting) -> bool {
 
 fn for_each_message(seeds: u64, messages: usize, mut check: impl FnMut(&[u8])) {
     for seed in 0..seeds {
-        let mut inputs = Inputs::new(seed);
+        let mut inputs = Inputs::new(seed, HANDHELD);
         (0..messages).for_each(|_| check(&inputs.message()));
     }
 }
@@ -241,14 +242,14 @@ fn bytes_of_texts_are_read_one_way() {
 fn rewritten(settings: &[(Setting, &[u8])], coding: Coding) -> Option<Vec<u8>> {
     let written = settings.iter().map(|(setting, _)| setting.write_as(coding));
     let message = request_as(coding, &written.collect::<Option<Vec<_>>>()?);
-    let allowed = (1..=255).contains(&settings.len()) && message.len() <= LONGEST;
+    let allowed = (1..=255).contains(&settings.len()) && message.len() <= HANDHELD.message;
     allowed.then_some(message)
 }
 
 /// The same settings under both coding types come to the same number, failed ID and set.
 #[test]
 fn both_coding_types_leave_the_same_set() {
-    let (mut set, mut changed, mut refused) = (Set::default(), 0, 0);
+    let (mut set, mut changed, mut refused) = (Set::fresh(HANDHELD), 0, 0);
     for_each_message(60, 60, |message| {
         for settings in Coding::ALL.map(|coding| settings_of(message, coding)) {
             let both = Coding::ALL.map(|coding| rewritten(&settings, coding));
@@ -271,8 +272,8 @@ fn both_coding_types_leave_the_same_set() {
 fn only_a_taken_request_changes_the_set() {
     let mut random = Random::new(7);
     for seed in 0..20 {
-        let mut inputs = Inputs::new(seed);
-        let mut set = Set::default();
+        let mut inputs = Inputs::new(seed, HANDHELD);
+        let mut set = Set::fresh(HANDHELD);
         for _ in 0..100 {
             let before = set.clone();
             let message = inputs.message();
@@ -293,8 +294,8 @@ fn only_a_taken_request_changes_the_set() {
 fn any_reply_buffer() {
     let mut random = Random::new(6);
     for seed in 100..120 {
-        let mut inputs = Inputs::new(seed);
-        let mut set = Set::default();
+        let mut inputs = Inputs::new(seed, HANDHELD);
+        let mut set = Set::fresh(HANDHELD);
         for _ in 0..100 {
             let message = inputs.message();
             let mut buffer = || [random.bytes_up_to(30), vec![0xEE; REPLY_ROOM]].concat();
