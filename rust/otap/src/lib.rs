@@ -32,6 +32,7 @@ mod entries;
 #[cfg(feature = "office")]
 mod joining;
 mod kinds;
+mod part;
 #[cfg(feature = "office")]
 pub mod report;
 mod reporting;
@@ -51,14 +52,13 @@ pub use entries::{Attribute, CallFlags, Entries, Entry};
 #[cfg(feature = "office")]
 pub use joining::{join, join_vehicle, NotJoined, JOIN_ROOM, VEHICLE_JOIN_ROOM};
 pub use kinds::{Handheld, Kind, Sizes, Vehicle};
+pub use part::Part;
 pub use reporting::{Report, REPORT_ROOM};
 pub use row::{Row, Slice, Table, CONTACT_ROWS};
 pub use settings::{Channels, EmergencyKey, HomeNumbers, KeyTarget, SystemCode};
 #[cfg(feature = "vehicle")]
 pub use store::VehicleStore;
-pub use store::{
-    Part, Set, Store, EXPORT_ROOM, LONGEST_MESSAGE, REPLY_ROOM, SCRATCH_ROOM, STORE_SIZE,
-};
+pub use store::{Set, Store, EXPORT_ROOM, LONGEST_MESSAGE, REPLY_ROOM, SCRATCH_ROOM, STORE_SIZE};
 
 // The README's snippet is compiled and run with the doc examples.
 #[cfg(doctest)]
