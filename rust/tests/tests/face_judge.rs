@@ -85,7 +85,7 @@ fn a_restart_is_foreseen<K: Tried>() {
 
 /// Each list has one place left. What was judged good has none when another request took it, and nothing of it is applied.
 fn another_request_comes_between<K: Tried>() {
-    let (room, last) = (vec![241; K::MOST_CHANNELS - 1], K::MOST_LINES - 1);
+    let (all_but_one, last) = (vec![241; K::MOST_CHANNELS - 1], K::MOST_LINES - 1);
     let digits = |key: u8| vec![key / 100, key / 10 % 10, key % 10];
     let keys: Vec<Vec<u8>> = (0..=K::MOST_LINES as u8).map(digits).collect();
     let keys: Vec<&[u8]> = keys.iter().map(Vec::as_slice).collect();
@@ -93,7 +93,7 @@ fn another_request_comes_between<K: Tried>() {
     let members = |places: &[(u32, &'static str)]| group_contacts(Add, 3, places);
     let people = |places: &[(u32, &'static str)]| individual_contacts(Add, places);
     let cases = [
-        (channels(Replace, &room), channels(Add, &[640]), channels(Add, &[640])),
+        (channels(Replace, &all_but_one), channels(Add, &[640]), channels(Add, &[640])),
         (lines_add(&keys[..last]), lines_add(&keys[last..=last]), lines_add(&keys[last + 1..])),
         (members(&addresses[..63]), members(&addresses[63..64]), members(&addresses[64..])),
         (people(&addresses[..63]), people(&addresses[63..64]), people(&addresses[64..])),

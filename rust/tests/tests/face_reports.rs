@@ -22,6 +22,7 @@ for_both_sets!(
     by_hand,
     every_type,
     full_stores,
+    asked_255_times,
     counts_of_messages,
     to_the_last_byte,
     every_cut_of_a_query,
@@ -125,7 +126,7 @@ fn totals<K: Tried>() -> [(u8, Option<usize>); 5] {
     [(0xD0, d0), (0xCC, cc), (0xC8, c8), (0xCD, cd), (0xCE, ce)]
 }
 
-/// Of the ten tables in one report, and of one table as often as a query can ask.
+/// Of each table by itself and of the ten in one report.
 fn full_stores<K: Tried>() {
     let mut pair = full::<K>();
     let (lines, channels) = (48 * K::MOST_LINES, 5 * K::MOST_CHANNELS);
@@ -133,20 +134,29 @@ fn full_stores<K: Tried>() {
     for (byte, length) in ASKED.into_iter().zip(lengths) {
         let messages = pair.messages_to(&[byte]);
         let parameters: usize = messages.iter().map(|message| message.len() - 10).sum();
-        assert_eq!(parameters, length, "{byte:02X}");
         // 256 channels are one more than a message counts.
-        assert_eq!(messages.len(), 1 + length / 1_280 * usize::from(byte == 0xCE), "{byte:02X}");
+        let is_cut = byte == 0xCE && K::MOST_CHANNELS == 256;
+        assert_eq!(
+            (parameters, messages.len()),
+            (length, if is_cut { 2 } else { 1 }),
+            "{byte:02X}"
+        );
     }
     assert_eq!(assert_read_back(&mut pair, &ASKED), if K::LIMITS == HANDHELD { 4 } else { 3 });
+}
+
+/// Of one table as often as a query can ask: a report with its last message and none behind it, or refused with 4.
+fn asked_255_times<K: Tried>() {
+    let mut pair = full::<K>();
     for (byte, total) in totals::<K>() {
         let types = [byte; 255];
-        let total = total
-            .inspect(|&total| assert_eq!(assert_read_back(&mut pair, &types), total))
-            .unwrap_or(0);
-        for index in [0, 1, 2, total, total + 1, total + 256].map(|index| index as u32) {
+        if let Some(total) = total {
+            assert_eq!(assert_read_back(&mut pair, &types), total, "{byte:02X}");
+        }
+        let (total, number) = total.map_or((0, 4), |total| (total as u32, 16));
+        for index in [0, 1, 2, total, total + 1, total + 256] {
             let told = pair.report_into(&query(&types), index, K::LONGEST_MESSAGE);
-            let there = (1..=total as u32).contains(&index);
-            let number = if total == 0 { 4 } else { 16 };
+            let there = (1..=total).contains(&index);
             assert_eq!(told.err(), (!there).then_some(number), "{byte:02X} {index}");
         }
     }
@@ -167,7 +177,7 @@ fn counts_of_messages<K: Tried>() {
     }
 }
 
-/// Every message of a report is as full as it can be, up to the last byte: after these quick texts and lines, to these types, two bytes are left.
+/// Every message of a report is as full as it can be, up to the last byte.
 fn to_the_last_byte<K: Tried>() {
     let mut pair = full::<K>();
     // 96 status texts, a hash and eight quick texts leave 17 bytes of a hand-held's, which CD, CF and CD fill but for two; with 64 quick texts
