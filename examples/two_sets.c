@@ -1,7 +1,8 @@
 /*
  * A vehicle and its hand-held in one program, which links libotap_handheld.a and libotap_vehicle.a. What the vehicle exports is handed on part by part: as long
  * as it fits the hand-held's room it is taken whole, and both have the same tables. Then the vehicle gets more lines than the hand-held has room for, and the
- * first part is refused. What the hand-held exports the vehicle takes. examples/two_sets.out is what it prints. The first answer that is not what it must be ends it with 1.
+ * first part is refused. What the hand-held exports the vehicle takes. examples/two_sets.out is what it prints. The first answer that is not what it must be
+ * ends it with 1.
  */
 #include "otap_vehicle.h"
 #include "text.h"

@@ -19,7 +19,10 @@ static size_t waiting_length;
 #if defined(__clang__) && defined(__linux__)
 __attribute__((section("__libfuzzer_extra_counters")))
 #endif
-static uint8_t reached[2048];
+static uint8_t reached[2560];
+
+/* Where in it the slots of the tables are, the channels first, and then what else records come to. */
+enum { SLOTS = 1024, EACH_TABLE = 144, OTHERS = SLOTS + EACH_TABLE * (OTAP_TABLES + 1) };
 
 int LLVMFuzzerTestOneInput(const uint8_t *data, size_t size);
 
@@ -27,13 +30,13 @@ static void note(uint64_t answer)
 {
     unsigned failed = otap_answer_failed(answer), table;
     reached[otap_answer_number(answer) * 32 + (failed < 31 ? failed : 31)] = 1;
-    reached[1024 + store[12731] % 65] = 1; /* channels, which have no row */
+    reached[SLOTS + (store[CHANNEL_COUNT_AT] * 256 + store[CHANNEL_COUNT_AT + 1]) / 2] = 1; /* channels, which have no row */
     for (table = 1; table <= OTAP_TABLES; table++) {
         uint32_t row, used = 0;
         for (row = 0; row < layout[table].rows; row++) {
             used += (unsigned)held(store, table, layout[table].from + row);
         }
-        reached[1024 + table * 100 + used] = 1;
+        reached[SLOTS + EACH_TABLE * table + used] = 1;
     }
 }
 
@@ -42,7 +45,7 @@ static void join_message(const uint8_t *message, size_t length, unsigned choice)
 {
     Request first = {waiting, waiting_length}, second = {message, length};
     uint64_t answer = check_joined(&first, &second, chosen_size(choice, OTAP_JOIN_BYTES), store);
-    reached[2016 + otap_answer_number(answer) + 16 * otap_join_second_at_fault(answer)] = 1;
+    reached[OTHERS + 16 + otap_answer_number(answer) + 16 * otap_join_second_at_fault(answer)] = 1;
 }
 
 static void commit_message(const uint8_t *message, size_t length, unsigned choice)
@@ -171,7 +174,7 @@ static void poke(Input *input)
         store[at] = (uint8_t)next_byte(input);
     }
     known = known_by_all();
-    reached[2000 + known] = 1;
+    reached[OTHERS + known] = 1;
     if (!known) {
         memcpy(store, other, OTAP_STORE_BYTES);
     } else {
@@ -182,7 +185,7 @@ static void poke(Input *input)
 /* A count of the store with any value: it is a store only with its own. */
 static void poke_count(Input *input)
 {
-    static const size_t counts[] = {12730, 12860, 8118, 10424}; /* channels, lines, group contacts, individual contacts */
+    static const size_t counts[] = {CHANNEL_COUNT_AT, LINE_COUNT_AT, 8118, 10424}; /* channels, lines, group contacts, individual contacts */
     size_t at = counts[next_byte(input) % 4];
     int own;
     memcpy(other, store, OTAP_STORE_BYTES);
@@ -190,7 +193,7 @@ static void poke_count(Input *input)
     store[at + 1] = (uint8_t)next_byte(input);
     own = same_bytes(other, store, OTAP_STORE_BYTES);
     must(known_by_all() == own, "a false count is no store");
-    reached[2002 + own] = 1;
+    reached[OTHERS + 2 + own] = 1;
     memcpy(store, other, OTAP_STORE_BYTES);
 }
 
@@ -209,7 +212,7 @@ static void poke_order(Input *input)
     }
     own = same_bytes(other, store, OTAP_STORE_BYTES);
     must(known_by_all() == own, "a false order is no store");
-    reached[2006 + own] = 1;
+    reached[OTHERS + 6 + own] = 1;
     memcpy(store, other, OTAP_STORE_BYTES);
 }
 
@@ -244,7 +247,7 @@ static void poke_entry(Input *input)
         order_lines(store);
     }
     must(known_by_all() == good, "an entry's key is its own: IDtype and number, or the address");
-    reached[2004 + good] = 1;
+    reached[OTHERS + 4 + good] = 1;
     if (!good) {
         memcpy(store, other, OTAP_STORE_BYTES);
     } else {
@@ -284,8 +287,8 @@ static void ask_caller(Input *input, unsigned choice)
     uint32_t id_type = like % 4;
     size_t length, at, store_length = chosen_store(choice);
     uint64_t answer;
-    if (like < 192 && store[LINE_COUNT_AT] > 0) {
-        length = near_line(input, like % store[LINE_COUNT_AT], &id_type, digits);
+    if (like < 192 && store[LINES_HELD_AT] > 0) {
+        length = near_line(input, like % store[LINES_HELD_AT], &id_type, digits);
     } else {
         length = next_bytes(input, next_byte(input) % (sizeof digits + 1), digits);
         for (at = 0; at < length; at++) {
@@ -295,7 +298,7 @@ static void ask_caller(Input *input, unsigned choice)
     answer = line_of_twice(id_type, digits, length, store, store_length);
     if (store_length == OTAP_STORE_BYTES) {
         check_caller(store, id_type, digits, length, answer);
-        reached[2008 + otap_line_found(answer)] = 1;
+        reached[OTHERS + 8 + otap_line_found(answer)] = 1;
     }
 }
 

@@ -76,13 +76,19 @@ static void fill_handheld(void)
     }
 }
 
+/* A part of the vehicle, left in `large`: how long it is. */
+static size_t part_length(uint32_t part)
+{
+    return otap_export_length(otap_vehicle_export(part, vehicle, sizeof vehicle, large, sizeof large));
+}
+
 /* The vehicle's parts, in turn to the hand-held, up to the first that is refused: which that is, 11 if none, and what it comes to. */
 static void handheld_takes(const char *what, uint32_t stops_at, uint64_t number, uint64_t failed)
 {
     uint64_t answer = OTAP_OK;
     uint32_t part = 0;
     while (answer == OTAP_OK && part < OTAP_EXPORT_PARTS) {
-        size_t length = otap_export_length(otap_vehicle_export(++part, vehicle, sizeof vehicle, large, sizeof large));
+        size_t length = part_length(++part);
         answer = take_in_handheld(large, length);
     }
     same(what, stops_at, answer == OTAP_OK ? part + 1 : part, stops_at);
@@ -112,10 +118,10 @@ static void vehicle_to_handheld(void)
     handheld_takes("33 lines", OTAP_EXPORT_LINES, 2, 34);
     counts_are("nothing of them is there", handheld, 32, 64);
     fill_vehicle(83, 64);
-    same("a part of 83 lines", 8 + REPLACE_LINES + 83 * EXPORTED_LINE, 4080, otap_export_length(otap_vehicle_export(1, vehicle, sizeof vehicle, large, sizeof large)));
+    same("a part of 83 lines", 8 + REPLACE_LINES + 83 * EXPORTED_LINE, 4080, part_length(OTAP_EXPORT_LINES));
     handheld_takes("83 lines", OTAP_EXPORT_LINES, 2, 34);
     give_lines(83, 1);
-    same("a part of 84 lines", 8 + REPLACE_LINES + 84 * EXPORTED_LINE, 4129, otap_export_length(otap_vehicle_export(1, vehicle, sizeof vehicle, large, sizeof large)));
+    same("a part of 84 lines", 8 + REPLACE_LINES + 84 * EXPORTED_LINE, 4129, part_length(OTAP_EXPORT_LINES));
     handheld_takes("84 lines", OTAP_EXPORT_LINES, 12, 0);
     fill_vehicle(128, 256);
     handheld_takes("a full vehicle", OTAP_EXPORT_LINES, 12, 0);
