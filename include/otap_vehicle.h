@@ -8,10 +8,11 @@
  * The conversions of otap.h are no set's, and stand in libotap_handheld.a alone: firmware that needs them links both archives. Only what is used comes into
  * a program, and no name is in both.
  *
- * A store is one set's: either set refuses the other's with 11, and takes what the other has exported. A hand-held's export is taken by every vehicle. A
- * vehicle's is taken by a hand-held, all ten parts, exactly if it has at most OTAP_LINE_ROWS lines and OTAP_CHANNEL_PLACES channels, and no part has more than
- * OTAP_MESSAGE_BYTES bytes. Otherwise the first part that does not fit is refused, and what was taken of the parts before it stays: with OTAP_MESSAGE_LENGTH
- * where it is too long, else with OTAP_NO_ROOM, which of lines has the failed ID OTAP_LINE_ROWS + 2 and of channels 1.
+ * A store is one set's: either set refuses the other's with 11. What goes from one to the other is an export. A hand-held's is taken by every vehicle. A
+ * vehicle's is taken by a hand-held, all ten parts in order, exactly if it has at most OTAP_LINE_ROWS lines and OTAP_CHANNEL_PLACES channels and none of its
+ * parts is longer than OTAP_MESSAGE_BYTES; whatever the hand-held held, both then have the same tables. Otherwise the parts before the first one that does
+ * not fit are taken, and that one is refused: with OTAP_MESSAGE_LENGTH if it is too long; else with OTAP_NO_ROOM, for lines with the failed ID
+ * OTAP_LINE_ROWS + 2, since a replace and one add for each line that has room come before, for channels with 1.
  */
 #ifndef OTAP_VEHICLE_H
 #define OTAP_VEHICLE_H
@@ -59,9 +60,9 @@ uint64_t otap_vehicle_export(uint32_t part,
                              uint8_t *buffer, uint64_t buffer_length);
 
 /*
- * As otap_report: 15 goes by OTAP_VEHICLE_REPORT_BYTES, 12 by OTAP_VEHICLE_MESSAGE_BYTES, and a message of the report has up to as many bytes. A total has
- * eight bits, and a vehicle can hold more than that: a report of over 255 messages is refused with 4, before 16. The channels asked for 255 times are one,
- * where there are 256 of them. No hand-held's comes so far. The office reads it with otap_vehicle_read_report of otap_office.h.
+ * As otap_report: 15 goes by OTAP_VEHICLE_REPORT_BYTES, 12 by OTAP_VEHICLE_MESSAGE_BYTES, and a message of the report has up to as many bytes. The total is
+ * 255 at most. A report of more messages, which no hand-held has, is refused with 4, before 16: so are 256 channels that are asked for 255 times. The office
+ * reads it with otap_vehicle_read_report of otap_office.h.
  */
 uint64_t otap_vehicle_report(const uint8_t *query, uint64_t query_length, uint32_t index,
                              const uint8_t *store, uint64_t store_length,

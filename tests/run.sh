@@ -5,8 +5,9 @@ set -u
 cd "$(dirname "$0")/.." || exit 1
 . tests/steps.sh
 
-# build_and_run TEST FLAGS: of the set at hand, which `for_vehicle` names where it is not the hand-held.
+# build_and_run TEST FLAGS: of the set at hand. Where that is the vehicle, `for_vehicle` says so, and `before` puts its names before an example's.
 for_vehicle=
+before=
 build_and_run() {
     build "$1" c c99 "$CC" "$2 $for_vehicle" "tests/$1.c" && run_built "$1"
 }
@@ -29,9 +30,9 @@ few_constants() {
     [ "$total" -gt 0 ] && [ "$total" -le 1536 ] && [ "$most" -lt 640 ]
 }
 
-# functions ARCHIVE: the names that a program can link.
-functions() {
-    readelf -sW "$1" | awk '$4 == "FUNC" && $5 == "GLOBAL" && $7 != "UND" { print $8 }' | sort -u
+# names ARCHIVE: those that a program can link, of functions and of anything else.
+names() {
+    readelf -sW "$1" | awk '($5 == "GLOBAL" || $5 == "WEAK") && $7 != "UND" { print $8 }' | sort -u
 }
 
 # declared HEADER: the functions that it declares, but not those that it defines.
@@ -43,7 +44,7 @@ declared() {
 own_functions() {
     : > "$built/all"
     for pair in "$handheld include/otap.h" "$vehicle include/otap_vehicle.h" "$office include/otap_office.h"; do
-        functions "${pair% *}" > "$built/has"
+        names "${pair% *}" > "$built/has"
         declared "${pair#* }" > "$built/declares"
         [ -s "$built/declares" ] || return 1
         diff "$built/declares" "$built/has" || return 1
@@ -53,9 +54,8 @@ own_functions() {
     [ ! -s "$built/twice" ] || { cat "$built/twice"; return 1; }
 }
 
-# banks.c is an example, and has the hand-held's names unless the vehicle's are put before it.
 build_and_run_banks() {
-    build banks c c99 "$CC" "-O2 $sanitizers $for_vehicle ${for_vehicle:+-include tests/set.h}" tests/banks_test.c examples/banks.c && run_built banks
+    build banks c c99 "$CC" "-O2 $sanitizers $for_vehicle $before" tests/banks_test.c examples/banks.c && run_built banks
 }
 
 # sees_wrong_banks PART EDIT: banks.c with the edit is wrong; this part of the test ends with 1, and says what it found.
@@ -103,6 +103,7 @@ EDITS
 
 # Every test of C, of the set at hand.
 suites() {
+    step "$1: snippet at work" build_and_run snippet_test "$sanitizers $before"
     step "$1: numbers and constants" with "$handheld" build_and_run numbers "$sanitizers" # the conversions are there alone
     step "$1: room and sizes at their edges" build_and_run edges "$sanitizers"
     step "$1: judging and committing" build_and_run judging "$sanitizers"
@@ -126,12 +127,11 @@ suites() {
 }
 
 need_archive
-step "snippet at work" build_and_run snippet_test "$sanitizers"
 step "banks can fail" banks_can_fail && show
 suites hand-held
-archive=$vehicle for_vehicle=-DVEHICLE
+archive=$vehicle for_vehicle=-DVEHICLE before="-include tests/set.h"
 suites vehicle
-archive=$handheld for_vehicle=
+archive=$handheld for_vehicle='' before=''
 step "two sets in one program" with "$vehicle" build_and_run two_sets "$sanitizers"
 for file in "$handheld" "$vehicle" "$office"; do
     step "constants of ${file##*/}" few_constants "$file" && show
