@@ -5,7 +5,7 @@ set -u
 cd "$(dirname "$0")/.." || exit 1
 . tests/steps.sh
 
-# build_and_run TEST FLAGS: of the set at hand. Where that is the vehicle, `for_vehicle` says so, and `before` puts its names before an example's.
+# build_and_run TEST FLAGS: of the set at hand. Where that is the vehicle, `for_vehicle` says so, and `before` puts its names before the snippet's.
 for_vehicle=
 before=
 build_and_run() {
@@ -55,7 +55,7 @@ own_functions() {
 }
 
 build_and_run_banks() {
-    build banks c c99 "$CC" "-O2 $sanitizers $for_vehicle $before" tests/banks_test.c examples/banks.c && run_built banks
+    build banks c c99 "$CC" "-O2 $sanitizers" tests/banks_test.c examples/banks.c && run_built banks
 }
 
 # sees_wrong_banks PART EDIT: banks.c with the edit is wrong; this part of the test ends with 1, and says what it found.
@@ -101,7 +101,7 @@ rest /banks->sequence = head/d
 EDITS
 }
 
-# Every test of C, of the set at hand.
+# Every test of C, of the set at hand; but not the banks, an example that keeps a hand-held's store, and whose cuts take a minute.
 suites() {
     step "$1: snippet at work" build_and_run snippet_test "$sanitizers $before"
     step "$1: numbers and constants" with "$handheld" build_and_run numbers "$sanitizers" # the conversions are there alone
@@ -122,11 +122,11 @@ suites() {
     for lent in first second buffer; do
         step "$1: its bounds can fail, of joining the $lent" sees_outside office_bounds $lent
     done
-    step "$1: two banks, cut at every byte" build_and_run_banks && show
     step "$1: stack" with "$handheld" build_and_run stack -O1 && show
 }
 
 need_archive
+step "two banks, cut at every byte" build_and_run_banks && show
 step "banks can fail" banks_can_fail && show
 suites hand-held
 archive=$vehicle for_vehicle=-DVEHICLE before="-include tests/set.h"
