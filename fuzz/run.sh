@@ -11,23 +11,23 @@ seed=${FUZZ_SEED:-1}
 folder=${OTAP_ARCHIVE_DIR:-target/archive/$(uname -m)-linux}
 sanitizers="-fsanitize=address,undefined -fno-sanitize-recover=all"
 calls="judge commit export row_number row_part counts line_of entry entry_digits channel emergency_key home_numbers system_code report read_report join"
-last_wrong=100
+sources="fuzz/target.c fuzz/fitting.c"
 CC=${CC:-gcc}
 # There are many short-lived buffers: a large quarantine only slows it down.
 export ASAN_OPTIONS=quarantine_size_mb=1
 
-for archive in handheld vehicle office; do
-    [ -f "$folder/libotap_$archive.a" ] && continue
-    echo "FAILED  no $folder/libotap_$archive.a: ./archive writes it"
+archives="$folder/libotap_handheld.a $folder/libotap_vehicle.a $folder/libotap_office.a"
+for archive in $archives; do
+    [ -f "$archive" ] && continue
+    echo "FAILED  no $archive: ./archive writes it"
     exit 1
 done
 
-# of SET: flags and archives of its build, and of the wrong libraries before its calls. A vehicle's has the conversions of the hand-held's archive.
+# of SET: the flags of its build, and of the wrong libraries before its calls and before the other set's.
 of() {
-    flags="-std=c11 -Wall -Wextra -Iinclude -Itests -g -O1" archives="$folder/libotap_handheld.a $folder/libotap_office.a"
-    wrapped="-Wl,--wrap=otap_report_entry -Wl,--wrap=otap_report_places" named=
-    prefix=otap_
-    [ "$1" = hand-held ] || { flags="$flags -DVEHICLE" archives="$folder/libotap_vehicle.a $archives" prefix=otap_vehicle_; }
+    flags="-std=c11 -Wall -Wextra -Iinclude -Itests -g -O1" prefix=otap_ other=otap_vehicle_ last_wrong=101
+    [ "$1" = hand-held ] || { flags="$flags -DVEHICLE" prefix=otap_vehicle_ other=otap_ last_wrong=104; }
+    wrapped="-Wl,--wrap=otap_report_entry -Wl,--wrap=otap_report_places -Wl,--wrap=${other}commit" named=
     for call in $calls; do
         wrapped="$wrapped -Wl,--wrap=$prefix$call"
         named="$named -D__wrap_otap_$call=__wrap_$prefix$call -D__real_otap_$call=__real_$prefix$call"
@@ -40,14 +40,16 @@ mkdir -p target/fuzz "$work/new"
 found=$(pwd)/target/fuzz
 seeds=$(pwd)/fuzz/corpus
 
-# Every wrong library of wrong.c has to be found on the seeds alone; number 0 is the right one and has to pass.
+# Every wrong library of wrong.c and wrong_other.c has to be found on the seeds alone; number 0 is the right one and has to pass.
 checks_can_fail() {
-    $CC $flags $sanitizers -c fuzz/target.c -o "$work/target.o" || return 1
-    $CC $flags $sanitizers -c fuzz/driver.c -o "$work/driver.o" || return 1
+    for file in target fitting driver; do
+        $CC $flags $sanitizers -c "fuzz/$file.c" -o "$work/$file.o" || return 1
+    done
     wrong=0
     while [ $wrong -le $last_wrong ]; do
         $CC $flags $named -DWRONG=$wrong -c fuzz/wrong.c -o "$work/wrong.o" || return 1
-        $CC $sanitizers "$work/target.o" "$work/driver.o" "$work/wrong.o" $archives $wrapped -o "$work/wrong" || return 1
+        $CC $flags -DWRONG=$wrong -c fuzz/wrong_other.c -o "$work/wrong_other.o" || return 1
+        $CC $sanitizers "$work"/*.o $archives $wrapped -o "$work/wrong" || return 1
         (cd "$work" && ./wrong 0 1 "$seeds"/*) > "$work/log" 2>&1
         ended=$?
         if [ $((ended == 0)) -ne $((wrong == 0)) ]; then
@@ -61,7 +63,7 @@ checks_can_fail() {
 }
 
 with_libfuzzer() {
-    clang $flags -fsanitize=fuzzer $sanitizers fuzz/target.c $archives -o "$work/target" 2> "$work/log" || return 2
+    clang $flags -fsanitize=fuzzer $sanitizers $sources $archives -o "$work/target" 2> "$work/log" || return 2
     echo "with libFuzzer, $seconds seconds"
     "$work/target" -max_total_time="$seconds" -seed="$seed" -max_len=4096 -len_control=10 -print_final_stats=1 \
         -artifact_prefix="$found/" "$work/new" "$seeds" > "$work/log" 2>&1
@@ -72,7 +74,7 @@ with_libfuzzer() {
 
 with_afl() {
     command -v afl-fuzz > /dev/null && command -v afl-clang-fast > /dev/null || return 2
-    AFL_USE_ASAN=1 afl-clang-fast $flags -fsanitize=fuzzer fuzz/target.c $archives -o "$work/target" > "$work/log" 2>&1 || return 2
+    AFL_USE_ASAN=1 afl-clang-fast $flags -fsanitize=fuzzer $sources $archives -o "$work/target" > "$work/log" 2>&1 || return 2
     echo "with AFL++, $seconds seconds"
     AFL_SKIP_CPUFREQ=1 AFL_I_DONT_CARE_ABOUT_MISSING_CRASHES=1 AFL_NO_UI=1 \
         afl-fuzz -V "$seconds" -m none -i "$seeds" -o "$work/afl" -- "$work/target" > "$work/log" 2>&1 || { tail -5 "$work/log"; return 1; }
@@ -82,7 +84,7 @@ with_afl() {
 }
 
 with_driver() {
-    $CC $flags $sanitizers fuzz/target.c fuzz/driver.c $archives -o "$work/driver" || return 1
+    $CC $flags $sanitizers $sources fuzz/driver.c $archives -o "$work/driver" || return 1
     echo "with the driver of our own, $seconds seconds; for libFuzzer install clang and its runtime (Debian: clang libclang-rt-14-dev)"
     (cd "$work" && ./driver "$seconds" "$seed" "$seeds"/*) || { cp "$work/last-input" "$found/"; return 1; }
 }

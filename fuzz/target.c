@@ -1,10 +1,12 @@
 /*
  * The entry of a fuzzer over the C functions. An input is records, each a byte that chooses the call and the sizes, then what the call needs; one store
  * goes from record to record. Each message is judged and then committed, and the one before it once more after it; the two are joined too. After each the
- * store is still a store, and at the end it is written out into a fresh one that becomes the same.
+ * store is still a store, and at the end it is written out into a fresh one that becomes the same, and to the other set as far as it fits there.
  */
 #include "asking.h"
 #include "callers.h"
+#include "conversions.h"
+#include "fitting.h"
 #include "joining.h"
 
 enum { MOST_RECORDS = 64 };
@@ -145,6 +147,24 @@ static void restore_it(void)
     check_reports(store);
     join_exports(store);
     must(check_counts(other) == check_counts(store), "the other store has the same counts");
+}
+
+/* The ten parts in order to the other set, up to the first that does not fit; if all do, it exports the same. */
+static void hand_on(void)
+{
+    static uint8_t request[OTAP_EXPORT_BYTES];
+    uint64_t counts = counts_once(store, OTAP_STORE_BYTES, 0);
+    uint32_t turn;
+    int taken = 1;
+    for (turn = 0; turn < 2 * OTAP_EXPORT_PARTS && taken; turn++) {
+        uint32_t part = 1 + turn % OTAP_EXPORT_PARTS;
+        size_t length = otap_export_length(export_once(part, store, OTAP_STORE_BYTES, OTAP_EXPORT_BYTES, 0, request));
+        if (turn < OTAP_EXPORT_PARTS) {
+            taken = other_takes(part, request, length, otap_counts_lines(counts), otap_counts_channels(counts));
+        } else {
+            check_other_part(part, request, length);
+        }
+    }
 }
 
 /* Whether the store is one, on which every call agrees. */
@@ -302,29 +322,6 @@ static void ask_caller(Input *input, unsigned choice)
     }
 }
 
-/* What one way gives, the other takes back. */
-static void there_and_back(uint64_t answer, uint32_t refusal, uint32_t from, uint64_t (*back)(uint32_t))
-{
-    must(answer >> 40 == 0, "bits of a conversion that must be 0");
-    must(answer == refusal || otap_answer_number(answer) == OTAP_OK, "a conversion answers or refuses with value 0");
-    must(answer == refusal || back(otap_value(answer)) == (uint64_t)from << 8, "a conversion goes both ways");
-}
-
-static void convert(Input *input)
-{
-    uint32_t value = next_byte(input);
-    value = value << 8 | next_byte(input);
-    value = value << 8 | next_byte(input);
-    value = value << 8 | next_byte(input);
-    there_and_back(otap_individual_of_dialled(value), OTAP_OUTSIDE_PLAN, value, otap_dialled_of_individual);
-    there_and_back(otap_group_of_dialled(value), OTAP_OUTSIDE_PLAN, value, otap_dialled_of_group);
-    there_and_back(otap_dialled_of_individual(value), OTAP_OUTSIDE_KIND, value, otap_individual_of_dialled);
-    there_and_back(otap_dialled_of_group(value), OTAP_OUTSIDE_KIND, value, otap_group_of_dialled);
-    there_and_back(otap_transmit(value % 700), OTAP_NO_CHANNEL, value % 700, otap_channel_of_transmit);
-    there_and_back(otap_channel_of_transmit(value), OTAP_NO_CHANNEL, value, otap_transmit);
-    must(otap_answer_number(otap_receive(value)) == otap_answer_number(otap_transmit(value)), "both frequencies or none");
-}
-
 static void start_again(Input *input)
 {
     static const size_t sizes[] = {0, 1, OTAP_STORE_BYTES - 1, OTAP_STORE_BYTES, OTAP_STORE_BYTES + 1};
@@ -377,5 +374,6 @@ int LLVMFuzzerTestOneInput(const uint8_t *data, size_t size)
         one_record(&input);
     }
     restore_it();
+    hand_on();
     return 0;
 }
