@@ -186,7 +186,7 @@ static void indexes(void)
 /* All channels, of a hand-held asked for four times: 256 parameters, of which a message takes 255. */
 static void cut_by_count(void)
 {
-    static const uint8_t types[] = {0xD2, OTAP_ASK_CHANNELS, OTAP_ASK_CHANNELS, OTAP_ASK_CHANNELS, OTAP_ASK_CHANNELS, 0xD2};
+    static const uint8_t types[] = {OTAP_ASK_CHANNELS, OTAP_ASK_CHANNELS, OTAP_ASK_CHANNELS, OTAP_ASK_CHANNELS, 0xD2};
     static uint8_t bytes[256 * 5 + 2];
     const size_t times = 256 / CHANNEL_ROOM;
     unsigned each;
@@ -198,11 +198,11 @@ static void cut_by_count(void)
     }
     bytes[256 * 5] = 0xD2;
     bytes[256 * 5 + 1] = 0x83;
-    write_asking(&said, types + 1, times);
+    write_asking(&said, types, times);
     message_is("255 of them", 1, 2, 255, bytes, 255 * 5);
     message_is("the last one", 2, 2, 1, bytes + 255 * 5, 5);
     same("index 3", 16, OTAP_NO_MESSAGE, ask(3));
-    write_asking(&said, types + 5 - times, times + 1);
+    write_asking(&said, types + 4 - times, times + 1);
     message_is("255 of them", 1, 2, 255, bytes, 255 * 5);
     message_is("the last one, and an unknown type", 2, 2, 2, bytes + 255 * 5, 7);
 }
