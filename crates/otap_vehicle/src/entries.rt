@@ -15,7 +15,12 @@ pub extern "C" fn otap_vehicle_entry(table: u32, index: u32, store: &[u8]) -> u6
 
 // Number, and how many digits of a line or a line slot stand, one a byte, at the start of a buffer of 18 bytes or more. 15, 11, 17 refuse, and the buffer stays.
 #[no_mangle]
-pub extern "C" fn otap_vehicle_entry_digits(table: u32, index: u32, store: &[u8], digits: &mut [u8]) -> u64
+pub extern "C" fn otap_vehicle_entry_digits(
+    table: u32,
+    index: u32,
+    store: &[u8],
+    digits: &mut [u8],
+) -> u64
     ensures { λ r. ⌜ WritesDigits vehicle table index (now (store .entry)) (now (digits .entry)) (now (digits .exit)) r ⌝ }
 {
     packed_digits(table, index, store, digits, VEHICLE)

@@ -15,7 +15,12 @@ pub extern "C" fn otap_vehicle_row_number(table: u32, row: u32, store: &[u8], sc
 
 // Whether it is a part of the store or of the scratch, where it starts and its length; 0 on a refusal.
 #[no_mangle]
-pub extern "C" fn otap_vehicle_row_part(table: u32, row: u32, store: &[u8], scratch: &mut [u8]) -> u64
+pub extern "C" fn otap_vehicle_row_part(
+    table: u32,
+    row: u32,
+    store: &[u8],
+    scratch: &mut [u8],
+) -> u64
     ensures { λ r. ⌜ AnswersPart vehicle table row (now (store .entry)) (now (scratch .entry)) (now (scratch .exit)) r ⌝ }
 {
     packed_part(table, row, store, scratch, VEHICLE)

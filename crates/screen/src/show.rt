@@ -59,12 +59,7 @@ fn pick<'a>(store: &'a [u8], scratch: &'a [u8], place: Place) -> &'a [u8]
 }
 
 // The part of one of the two slices that shows the row.
-pub fn part_in<'a>(
-    store: &'a [u8],
-    scratch: &'a mut [u8],
-    row: Row,
-    limits: Limits,
-) -> &'a [u8]
+pub fn part_in<'a>(store: &'a [u8], scratch: &'a mut [u8], row: Row, limits: Limits) -> &'a [u8]
     ensures { λ r. ⌜ PartGiven limits (store .entry) (scratch .entry) row r ⌝ }
 {
     let place = place_in(store, scratch, row, limits);

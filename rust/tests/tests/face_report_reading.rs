@@ -21,7 +21,6 @@ use std::collections::BTreeMap;
 
 for_both_sets!(
     by_hand,
-    bits_by_hand,
     every_cut,
     refusals_in_order,
     every_byte,
@@ -109,7 +108,8 @@ const PARTS: [[u64; 4]; 11] = [
     NONE,
 ];
 
-fn bits_by_hand<K: Tried>() {
+#[test]
+fn bits_by_hand() {
     let message = message();
     let mut at = 10;
     for ((entry, parts), parameter) in ENTRIES.into_iter().zip(PARTS).zip(parameters()) {
