@@ -5,8 +5,8 @@
  * without vehicle_: what is said there, of pointers, overlap, the lock and the stack too, holds here, with the sizes below in place of the hand-held's.
  * Answers are packed alike and unpacked by the functions of otap_unpack.h, but for what is free of a store's room: see the end of this file.
  *
- * The conversions of otap.h are no set's, and stand in libotap_handheld.a alone: firmware that needs them links both archives. Only what is used comes into
- * a program, and no name is in both.
+ * The conversions of otap.h are no set's, and stand in libotap_handheld.a alone: firmware that needs them links both archives. No name is in both, and each
+ * function is a section of its own, so that a linker can drop what is not called (--gc-sections).
  *
  * A store is one set's: either set refuses the other's with 11. What goes from one to the other is an export. A hand-held's is taken by every vehicle. A
  * vehicle's is taken by a hand-held, all ten parts in order, exactly if it has at most OTAP_LINE_ROWS lines and OTAP_CHANNEL_PLACES channels and none of its
