@@ -9,7 +9,7 @@ use otap_reference::reference::settings::Operation::Replace;
 use otap_reference::reference::settings::{LineEntry, LineFlags, Setting};
 use otap_tests::pair::{number_of, patterned, Pair};
 use otap_tests::sets::Tried;
-use otap_tests::{channels, hex_request, quick, request, status};
+use otap_tests::{channels, hex_request, lines_add, quick, request, status};
 
 /// A part that is not taken: its number, and the number and failed ID of the answer.
 type Stopped = Option<(u32, u8, u8)>;
@@ -109,6 +109,20 @@ fn lines_that_fit_and_lines_that_do_not() {
     }
 }
 
+/// As many lines as a vehicle has room for, but short ones, of which a request has under 4,096 bytes: 2, and not 12.
+#[test]
+fn short_lines_have_no_room_either() {
+    let numbers: Vec<[u8; 3]> = (0..128).map(|at: u8| [at / 100, at / 10 % 10, at % 10]).collect();
+    let numbers: Vec<&[u8]> = numbers.iter().map(|digits| &digits[..]).collect();
+    let mut from = Pair::<Vehicle>::fresh();
+    assert_eq!(from.told(&request(&[lines_add(&numbers)])), (0, 0));
+    assert_eq!(exported(&mut from)[0].1.len(), 1_165);
+    let mut to = other();
+    let before = to.bytes.clone();
+    assert_eq!(stops(&mut from, &mut to), Some((1, 2, 34)));
+    assert!(to.bytes == before);
+}
+
 /// 83 of the longest lines are the most that 4,096 bytes hold.
 #[test]
 fn how_long_part_1_is() {
@@ -198,10 +212,23 @@ fn each_kind_has_its_own_bytes() {
         assert_eq!(number_of(&VehicleStore::start(&mut bytes)), 11, "{size}");
         assert!(bytes == patterned(size));
     }
+    every_call_refuses::<Vehicle>(small);
+    every_call_refuses::<Handheld>(large);
     // With as many bytes as the other's it is none either: they are all 0 behind the tables, and the lines stand elsewhere.
     let mut full = holding::<Handheld>(32, 64).bytes;
     full.resize(49_152, 0);
     assert_eq!(number_of(&VehicleStore::open(&mut full)), 11);
+}
+
+/// The calls of a kind on another's store.
+fn every_call_refuses<K: Tried>(store: Vec<u8>) {
+    let mut pair = Pair::<K>::of(store, otap_reference::reference::tables::Set::fresh(K::LIMITS));
+    let home = hex_request(&["CD 00 05 07 E4 C0"]);
+    assert_eq!([pair.judge(&home), pair.commit(&home), pair.count()], [11; 3]);
+    assert_eq!(pair.export_into(1, K::LONGEST_MESSAGE), 11);
+    assert_eq!(pair.show_into(1, 0, otap::SCRATCH_ROOM), 11);
+    assert_eq!(pair.call_from(otap::PSTN, &[3]), Err(11));
+    assert_eq!(pair.report_into(&query(&[0xCE]), 1, K::LONGEST_MESSAGE), Err(11));
 }
 
 /// The sizes of the face are those of the reference.
