@@ -5,10 +5,19 @@ use otap::report::{self, ReadReport};
 use otap::{Handheld, Kind, NotJoined, Refusal, Vehicle};
 use otap_reference::reference::limits::{Limits, HANDHELD, VEHICLE};
 use std::fmt::Debug;
+use std::ops::Range;
 
 /// What a suite needs of a kind: its face, its limits in the reference, its C functions, and what the office has for it.
 pub trait Tried: Kind + Raw + Copy + Debug {
     const LIMITS: Limits;
+
+    /// The long suites make one run of so many: a vehicle's calls take twice as long, and are the hand-held's with other limits.
+    const SHARE: usize;
+
+    /// The seeds of a long suite.
+    fn seeds(first: u64, many: u64) -> Range<u64> {
+        first..first + many / Self::SHARE as u64
+    }
 
     fn read(message: &[u8]) -> Result<ReadReport<'_>, Refusal>;
 
@@ -16,9 +25,10 @@ pub trait Tried: Kind + Raw + Copy + Debug {
 }
 
 macro_rules! tried {
-    ($kind:ty, $limits:expr, $read:path, $join:path) => {
+    ($kind:ty, $limits:expr, $share:expr, $read:path, $join:path) => {
         impl Tried for $kind {
             const LIMITS: Limits = $limits;
+            const SHARE: usize = $share;
 
             fn read(message: &[u8]) -> Result<ReadReport<'_>, Refusal> {
                 $read(message)
@@ -35,8 +45,8 @@ macro_rules! tried {
     };
 }
 
-tried!(Handheld, HANDHELD, report::read, otap::join);
-tried!(Vehicle, VEHICLE, report::read_vehicle, otap::join_vehicle);
+tried!(Handheld, HANDHELD, 1, report::read, otap::join);
+tried!(Vehicle, VEHICLE, 3, report::read_vehicle, otap::join_vehicle);
 
 /// Makes two tests of each function, which is generic over the kind of set.
 #[macro_export]

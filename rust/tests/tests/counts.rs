@@ -27,7 +27,7 @@ const NUMBERS: [u8; 9] = [0, 1, 2, 3, 4, 5, 12, 13, 14];
 fn every_number_comes_often<K: Tried>() {
     let mut counts: BTreeMap<u8, usize> = BTreeMap::new();
     let mut later_places = BTreeMap::new();
-    for seed in 0..SEEDS {
+    for seed in K::seeds(0, SEEDS) {
         let mut inputs = Inputs::new(seed, K::LIMITS);
         let mut set = Set::fresh(K::LIMITS);
         for _ in 0..MESSAGES {
@@ -39,16 +39,19 @@ fn every_number_comes_often<K: Tried>() {
     println!("{counts:?}");
     println!("number, failed ID (2 for all above): {later_places:?}");
     for number in NUMBERS {
-        assert!(counts.get(&number).is_some_and(|&count| count > 400), "number {number}");
+        assert!(
+            counts.get(&number).is_some_and(|&count| count > 400 / K::SHARE),
+            "number {number}"
+        );
     }
     for place in [(2, 1), (2, 2), (3, 1), (3, 2), (4, 0), (4, 1), (4, 2)] {
-        assert!(later_places.get(&place).is_some_and(|&count| count > 100), "{place:?}");
+        assert!(later_places.get(&place).is_some_and(|&count| count > 100 / K::SHARE), "{place:?}");
     }
 }
 
 fn tables_fill_and_messages_grow_long<K: Tried>() {
     let (mut lines, mut channels, mut quick, mut longest, mut over) = (0, 0, 0, 0, 0);
-    for seed in 0..SEEDS {
+    for seed in K::seeds(0, SEEDS) {
         let mut inputs = Inputs::new(seed, K::LIMITS);
         let mut set = Set::fresh(K::LIMITS);
         for _ in 0..MESSAGES {
@@ -64,13 +67,19 @@ fn tables_fill_and_messages_grow_long<K: Tried>() {
     }
     println!("states: {lines} full lines, {channels} full channels, {quick} full quick texts");
     println!("messages: {longest} taken of 4,096 bytes, {over} longer");
-    assert!(lines > 1_000 && channels > 1_000 && quick > 100 && longest > 100 && over > 100);
+    assert!(
+        lines > 1_000 / K::SHARE
+            && channels > 1_000 / K::SHARE
+            && quick > 100 / K::SHARE
+            && longest > 100 / K::SHARE
+            && over > 100 / K::SHARE
+    );
 }
 
 /// Both lists of contacts are often full, with a known address overwritten then, and one in the middle deleted; line slots often change.
 fn contacts_and_line_slots_come_often<K: Tried>() {
     let (mut full, mut overwritten, mut deleted, mut hidden, mut slots) = ([0; 2], 0, 0, 0, 0);
-    for seed in 0..SEEDS {
+    for seed in K::seeds(0, SEEDS) {
         let mut inputs = Inputs::new(seed, K::LIMITS);
         let mut set = Set::fresh(K::LIMITS);
         for _ in 0..MESSAGES {
@@ -90,14 +99,18 @@ fn contacts_and_line_slots_come_often<K: Tried>() {
     }
     println!("{full:?} full lists, {overwritten} changed when full, {deleted} with one deleted");
     println!("{hidden} with background groups among others, {slots} with other line slots");
-    assert!(full.iter().all(|&full| full > 1_000) && overwritten > 200 && deleted > 200);
-    assert!(hidden > 1_000 && slots > 1_000);
+    assert!(
+        full.iter().all(|&full| full > 1_000 / K::SHARE)
+            && overwritten > 200 / K::SHARE
+            && deleted > 200 / K::SHARE
+    );
+    assert!(hidden > 1_000 / K::SHARE && slots > 1_000 / K::SHARE);
 }
 
 /// One number often stands with both IDtypes, in full tables too, and each of the two lines is overwritten and deleted alone.
 fn numbers_of_both_idtypes_come_often<K: Tried>() {
     let (mut full, mut overwritten, mut deleted) = (0, 0, 0);
-    for seed in 0..SEEDS {
+    for seed in K::seeds(0, SEEDS) {
         let mut inputs = Inputs::new(seed, K::LIMITS);
         let mut set = Set::fresh(K::LIMITS);
         for _ in 0..MESSAGES {
@@ -115,7 +128,9 @@ fn numbers_of_both_idtypes_come_often<K: Tried>() {
         }
     }
     println!("{full} full tables, {overwritten} overwritten and {deleted} deleted alone");
-    assert!(full > 1_000 && overwritten > 1_000 && deleted > 1_000);
+    assert!(
+        full > 1_000 / K::SHARE && overwritten > 1_000 / K::SHARE && deleted > 1_000 / K::SHARE
+    );
 }
 
 /// Each two lines with one number, PSTN first.
@@ -131,7 +146,7 @@ fn of_both_idtypes(lines: &[Line]) -> Vec<[Line; 2]> {
 /// Both coding types change texts often. The others are refused as such, and no setting is looked at.
 fn every_coding_type_comes_often<K: Tried>() {
     let (mut changed, mut refused) = ([0; 16], [[0; 2]; 16]);
-    for seed in 0..SEEDS {
+    for seed in K::seeds(0, SEEDS) {
         let mut inputs = Inputs::new(seed, K::LIMITS);
         let mut set = Set::fresh(K::LIMITS);
         for _ in 0..MESSAGES {
@@ -152,9 +167,9 @@ fn every_coding_type_comes_often<K: Tried>() {
     for coding in 0..16 {
         let [without_place, with_place] = refused[coding];
         let known = matches!(coding, 4 | 7);
-        assert_eq!((changed[coding] > 2_000, changed[coding] > 0), (known, known));
-        assert_eq!((with_place > 2_000, with_place > 0), (known, known), "{coding}");
-        assert!(without_place > 10, "{coding}");
+        assert_eq!((changed[coding] > 2_000 / K::SHARE, changed[coding] > 0), (known, known));
+        assert_eq!((with_place > 2_000 / K::SHARE, with_place > 0), (known, known), "{coding}");
+        assert!(without_place > 10 / K::SHARE, "{coding}");
     }
 }
 

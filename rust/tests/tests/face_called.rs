@@ -148,7 +148,7 @@ fn shown_as_sent<K: Tried>(store: &Set<K>, last: &Last) -> usize {
 
 fn names_and_targets_were_sent_together<K: Tried>() {
     let mut rows = 0;
-    for seed in 8_200..8_260 {
+    for seed in K::seeds(8_200, 60) {
         let mut inputs = Inputs::new(seed, K::LIMITS);
         let (mut pair, mut last) = (Pair::<K>::fresh(), Last::new());
         for turn in 0..60 {
@@ -165,13 +165,13 @@ fn names_and_targets_were_sent_together<K: Tried>() {
         }
     }
     println!("{rows} rows");
-    assert!(rows > 10_000);
+    assert!(rows > 10_000 / K::SHARE);
 }
 
 /// Rows that are kept while messages come: each stays as it was drawn, and what is drawn anew is of the store by then.
 fn drawn_rows_stay<K: Tried>() {
     let mut other = 0;
-    for seed in 8_300..8_330 {
+    for seed in K::seeds(8_300, 30) {
         let mut inputs = Inputs::new(seed, K::LIMITS);
         let mut pair = Pair::<K>::fresh();
         let mut screen = Vec::new();
@@ -192,7 +192,7 @@ fn drawn_rows_stay<K: Tried>() {
         }
     }
     println!("{other} rows were another's, or none, by then");
-    assert!(other > 1_000);
+    assert!(other > 1_000 / K::SHARE);
 }
 
 /// Two groups change places between drawing and PTT: what was drawn is called.

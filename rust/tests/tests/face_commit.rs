@@ -19,7 +19,7 @@ const MESSAGES: usize = 150;
 
 fn sequences_of_messages<K: Tried>() {
     let mut counts: BTreeMap<u8, usize> = BTreeMap::new();
-    for seed in 1_000..1_000 + SEEDS {
+    for seed in K::seeds(1_000, SEEDS) {
         let mut inputs = Inputs::new(seed, K::LIMITS);
         let mut pair = Pair::<K>::fresh();
         for place in 0..MESSAGES {
@@ -31,7 +31,10 @@ fn sequences_of_messages<K: Tried>() {
     }
     println!("{counts:?}");
     for number in [0, 1, 2, 3, 4, 5, 12, 13, 14] {
-        assert!(counts.get(&number).is_some_and(|&count| count > 200), "number {number}");
+        assert!(
+            counts.get(&number).is_some_and(|&count| count > 200 / K::SHARE),
+            "number {number}"
+        );
     }
 }
 
@@ -49,7 +52,7 @@ fn changes_of_one_byte<K: Tried>() {
 /// A message of any length is cut at every place, with the length left out so that it is judged on.
 fn long_messages_cut_anywhere<K: Tried>() {
     let mut cuts = 0;
-    for seed in 0..400 {
+    for seed in K::seeds(0, 400) {
         let mut inputs = Inputs::new(seed, K::LIMITS);
         let mut message = inputs.message();
         if !(3_000..=K::LONGEST_MESSAGE).contains(&message.len()) {
@@ -64,7 +67,7 @@ fn long_messages_cut_anywhere<K: Tried>() {
         pair.commit(&message);
         pair.compare_exports();
     }
-    assert!(cuts > 500, "{cuts} cuts");
+    assert!(cuts > 500 / K::SHARE, "{cuts} cuts");
 }
 
 /// The longest message is taken or judged; one byte more is not read at all.

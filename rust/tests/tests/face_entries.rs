@@ -160,7 +160,7 @@ fn far_outside<K: Tried>() {
 
 fn every_value_of_many_stores<K: Tried>() {
     let (mut entries, mut numbers) = (0, BTreeMap::new());
-    for seed in 8_000..8_040 {
+    for seed in K::seeds(8_000, 40) {
         let mut inputs = Inputs::new(seed, K::LIMITS);
         let mut pair = Pair::<K>::fresh();
         for turn in 0..40 {
@@ -174,8 +174,10 @@ fn every_value_of_many_stores<K: Tried>() {
         }
     }
     println!("{entries} entries; {numbers:?}");
-    assert!(entries > 3_000);
-    assert!([0, 15, 17].iter().all(|number| numbers.get(number).is_some_and(|&times| times > 500)));
+    assert!(entries > 3_000 / K::SHARE);
+    assert!([0, 15, 17]
+        .iter()
+        .all(|number| numbers.get(number).is_some_and(|&times| times > 500 / K::SHARE)));
 }
 
 fn another_length_is_no_store<K: Tried>() {
@@ -208,7 +210,7 @@ fn told_by<K: Tried>(bytes: Vec<u8>) -> Pair<K> {
 fn poked_stores<K: Tried>() {
     let mut random = Random::new(24);
     let (mut stores, mut refused) = (0, 0);
-    for seed in 8_100..8_120 {
+    for seed in K::seeds(8_100, 20) {
         let mut inputs = Inputs::new(seed, K::LIMITS);
         let mut pair = Pair::<K>::fresh();
         for _ in 0..30 {
@@ -233,5 +235,5 @@ fn poked_stores<K: Tried>() {
         }
     }
     println!("{stores} still a store, {refused} refused");
-    assert!(stores > 150 && refused > 150);
+    assert!(stores > 150 / K::SHARE && refused > 150 / K::SHARE);
 }

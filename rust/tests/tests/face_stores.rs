@@ -99,7 +99,7 @@ fn grown<K: Tried>(seed: u64, messages: usize) -> Pair<K> {
 }
 
 fn what_messages_make_is_a_store_and_made_again<K: Tried>() {
-    for seed in 5_000..5_100 {
+    for seed in K::seeds(5_000, 100) {
         let mut pair = grown::<K>(seed, 30);
         assert!(is_store::<K>(&mut pair.bytes));
         assert!(made_again::<K>(&mut pair.bytes) == pair.bytes, "seed {seed}");
@@ -110,7 +110,7 @@ fn what_messages_make_is_a_store_and_made_again<K: Tried>() {
 fn damaged_bytes_are_refused_or_are_a_store<K: Tried>() {
     let mut random = Random::new(5);
     let (mut stores, mut refused) = (0, 0);
-    for seed in 5_200..5_230 {
+    for seed in K::seeds(5_200, 30) {
         let pair = grown::<K>(seed, 40);
         for _ in 0..1_000 {
             let mut bytes = pair.bytes.clone();
@@ -130,7 +130,7 @@ fn damaged_bytes_are_refused_or_are_a_store<K: Tried>() {
         }
     }
     println!("{stores} still a store, {refused} refused");
-    assert!(stores > 1_000 && refused > 1_000);
+    assert!(stores > 1_000 / K::SHARE && refused > 1_000 / K::SHARE);
 }
 
 /// First slot, slots and size of each region that has slots; those of contacts, channels and lines stand behind their count.
@@ -152,7 +152,7 @@ fn slots<K: Tried>() -> [(usize, usize, usize); 9] {
 fn damaged_slots_are_refused_or_are_a_store<K: Tried>() {
     let mut random = Random::new(6);
     let (mut stores, mut refused) = (0, 0);
-    for seed in 5_300..5_330 {
+    for seed in K::seeds(5_300, 30) {
         let pair = grown::<K>(seed, 40);
         for _ in 0..300 {
             let mut bytes = pair.bytes.clone();
@@ -176,14 +176,14 @@ fn damaged_slots_are_refused_or_are_a_store<K: Tried>() {
         }
     }
     println!("{stores} still a store, {refused} refused");
-    assert!(stores > 1_000 && refused > 500);
+    assert!(stores > 1_000 / K::SHARE && refused > 500 / K::SHARE);
 }
 
 /// A false count is refused by every call, of whatever list; the list may change only together with its count.
 fn poked_counts_are_refused<K: Tried>() {
     let mut random = Random::new(7);
     let (mut stores, mut refused) = (0, 0);
-    for seed in 5_400..5_430 {
+    for seed in K::seeds(5_400, 30) {
         let pair = grown::<K>(seed, 40);
         for turn in 0..300 {
             let mut bytes = pair.bytes.clone();
@@ -206,14 +206,14 @@ fn poked_counts_are_refused<K: Tried>() {
         }
     }
     println!("{stores} still a store, {refused} refused");
-    assert!(stores > 500 && refused > 500);
+    assert!(stores > 500 / K::SHARE && refused > 500 / K::SHARE);
 }
 
 /// The lines have one order, and with another every call refuses the bytes.
 fn poked_orders_are_refused<K: Tried>() {
     let mut random = Random::new(9);
     let (mut stores, mut refused) = (0, 0);
-    for seed in 5_600..5_630 {
+    for seed in K::seeds(5_600, 30) {
         let pair = grown::<K>(seed, 40);
         for turn in 0..300 {
             let mut bytes = pair.bytes.clone();
@@ -224,14 +224,14 @@ fn poked_orders_are_refused<K: Tried>() {
         }
     }
     println!("{stores} still a store, {refused} refused");
-    assert!(stores > 200 && refused > 5_000);
+    assert!(stores > 200 / K::SHARE && refused > 5_000 / K::SHARE);
 }
 
 /// Line slots copied from others or from a line contact, emptied, or changed in a byte.
 fn poked_line_slots_are_refused_or_are_a_store<K: Tried>() {
     let mut random = Random::new(8);
     let (mut stores, mut refused) = (0, 0);
-    for seed in 5_500..5_530 {
+    for seed in K::seeds(5_500, 30) {
         let pair = grown::<K>(seed, 40);
         for turn in 0..300 {
             let mut bytes = pair.bytes.clone();
@@ -245,7 +245,7 @@ fn poked_line_slots_are_refused_or_are_a_store<K: Tried>() {
         }
     }
     println!("{stores} still a store, {refused} refused");
-    assert!(stores > 1_000 && refused > 500);
+    assert!(stores > 1_000 / K::SHARE && refused > 500 / K::SHARE);
 }
 
 /// Every byte of a store; of a vehicle's 29,122 behind the tables, which are alike, every 31st and the last.
