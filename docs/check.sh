@@ -151,7 +151,7 @@ fenced {
     next
 }
 strict && /^##/ { outline[FILENAME] = outline[FILENAME] $0 "\n" }
-strict && /^\| [C-EG-X][0-9]+ / {
+strict && /^\| [C-EG-Y][0-9]+ / {
     rules[FILENAME]++
     outline[FILENAME] = outline[FILENAME] $2 "\n"
     before = names[FILENAME]

@@ -18,7 +18,6 @@ use read_carrier::carrier::START;
 use read_carrier::carrier::UNICODE16;
 use slots::bytes::copy;
 use store_check::checks::is_store;
-use tables::limits::HANDHELD;
 use tables::limits::Limits;
 use tables::members::Members;
 use tables::places::CHANNEL_SLOT;
@@ -38,7 +37,6 @@ ghost use Prim.Native.Nat.{_+_, _≤_, _<_};
 ghost use lib.ListN.{length};
 ghost use Rattle.lists.specs.Ladder.{Answers};
 ghost use Rattle.tables.specs.Layout.{Roomy, count-size, channels-at};
-ghost use Rattle.tables.specs.Limits.{handheld};
 ghost use Rattle.export.specs.Exportable.{Exportable};
 ghost use Rattle.export.specs.Exporting.{exporting, told};
 ghost use Rattle.export.specs.PartWriters.{FoundAs, part-from, part-to, WritesPart, PartWritten, Headed};
@@ -172,11 +170,4 @@ pub fn export_in(part: u32, store: &[u8], buffer: &mut [u8], limits: Limits) -> 
     };
     let settings = write_part(buffer, which, store, limits);
     Export::Written(start_request(buffer, settings.count, settings.end))
-}
-
-// The same for a hand-held.
-pub fn export(part: u32, store: &[u8], buffer: &mut [u8]) -> Export
-    ensures { λ r. ⌜ Answers (exporting handheld part (now (store .entry)) (now (buffer .entry))) (record { answer = told r; buffer = now (buffer .exit) }) ⌝ }
-{
-    export_in(part, store, buffer, HANDHELD)
 }

@@ -3,3 +3,4 @@ pub mod answers;
 mod checks;
 pub mod handheld;
 pub mod joins;
+pub mod vehicle;

@@ -7,3 +7,4 @@ pub mod items;
 pub mod messages;
 mod texts;
 pub mod types;
+pub mod vehicle;

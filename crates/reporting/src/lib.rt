@@ -5,4 +5,5 @@ pub mod handheld;
 mod message;
 mod plan;
 pub mod report;
+pub mod vehicle;
 mod walk;

@@ -4,13 +4,10 @@ use export::parts::Export;
 use export::parts::PARTS;
 use station::commit::commit_for;
 use store_check::checks::is_store;
-use tables::limits::HANDHELD;
-use tables::limits::HANDHELD_SIZE;
 use tables::limits::Limits;
 ghost use mathlib.Core.Path.{_≡_};
 ghost use lib.ListN.{length};
 ghost use Rattle.lists.specs.Ladder.{Answers};
-ghost use Rattle.tables.specs.Limits.{handheld};
 ghost use Rattle.export.specs.Exportable.{Exportable};
 ghost use Rattle.restore.specs.Restoring.{number, restoring, Moved, AllMoved};
 
@@ -83,12 +80,4 @@ pub fn restore_in(
     }
     move_parts(from, to, buffer, reply, limits, work);
     Restored::Same
-}
-
-// The same for hand-helds. The buffer has 4,096 bytes, the reply buffer 20.
-pub fn restore(from: &[u8], to: &mut [u8], buffer: &mut [u8], reply: &mut [u8]) -> Restored
-    ensures { λ r. ⌜ Answers (restoring handheld (now (from .entry)) (now (to .entry)) (now (buffer .entry)) (now (reply .entry))) (record { answer = number r; to = now (to .exit); buffer = now (buffer .exit); reply = now (reply .exit) }) ⌝ }
-{
-    let mut work = [0u8; HANDHELD_SIZE];
-    restore_in(from, to, buffer, reply, HANDHELD, &mut work)
 }

@@ -1,8 +1,7 @@
 // The calls of the handheld, which owns the working copy.
 use super::answers::Answer;
 use super::commit::commit_in;
-use super::judge::answer_of;
-use super::judge::judge_in;
+use super::judge::judge_for;
 use tables::limits::HANDHELD;
 use tables::limits::HANDHELD_SIZE;
 use tables::start::Started;
@@ -26,7 +25,7 @@ pub fn judge(message: &[u8], store: &[u8], reply: &mut [u8]) -> Answer
     ensures { λ r. ⌜ Judges handheld (now (message .entry)) (now (store .entry)) (now (reply .entry)) (said r) (now (reply .exit)) ⌝ }
 {
     let mut work = [0u8; HANDHELD_SIZE];
-    answer_of(judge_in(message, store, reply, HANDHELD, &mut work))
+    judge_for(message, store, reply, HANDHELD, &mut work)
 }
 
 // Commits a message, which it judges again: the reply is written for 0 to 5, and only a taken request changes the store.

@@ -23,7 +23,9 @@ ghost use Prim.Native.Nat.{_≤_};
 ghost use mathlib.Core.Path.{_≡_};
 ghost use lib.ListN.{length};
 ghost use Rattle.tables.specs.Store.{StoreOf};
+ghost use Rattle.station.specs.Answers.{said};
 ghost use Rattle.station.specs.Handling.{TurnedDown, Queried, RequestJudged, Accepted, Weighed, VerdictIs, answer-of};
+ghost use Rattle.station.specs.Judging.{Judges};
 
 // What a message comes to: nothing is touched, a reply is written and the store stays, or the working copy has what the store becomes.
 pub(crate) enum Verdict {
@@ -155,4 +157,18 @@ pub(crate) fn answer_of(verdict: Verdict) -> Answer
         Verdict::Answered(reply) => Answer::Replied(reply),
         Verdict::Taken(reply) => Answer::Replied(reply),
     }
+}
+
+// Judging alone, for a set with these limits: the answer that committing would give.
+pub(crate) fn judge_for(
+    m: &[u8],
+    store: &[u8],
+    reply: &mut [u8],
+    limits: Limits,
+    work: &mut [u8],
+) -> Answer
+    requires { ⌜ length (now work) ≡ limits .size ⌝ }
+    ensures { λ r. ⌜ Judges limits (now (m .entry)) (now (store .entry)) (now (reply .entry)) (said r) (now (reply .exit)) ⌝ }
+{
+    answer_of(judge_in(m, store, reply, limits, work))
 }

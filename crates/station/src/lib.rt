@@ -5,3 +5,4 @@ pub mod handheld;
 mod judge;
 mod queries;
 pub mod replies;
+pub mod vehicle;

@@ -6,6 +6,10 @@ use Rattle.tables.specs.declared.limits.Limits.{Limits}
 abbrev pub handheld : Limits
 handheld = record { lines = 32; channels = 64; message = 4096; size = 24576 }
 
+-- "room for 128 line contacts and 256 channels, messages of up to 8,192 bytes, and a store of 49,152 bytes"
+abbrev pub vehicle : Limits
+vehicle = record { lines = 128; channels = 256; message = 8192; size = 49152 }
+
 -- places of quick texts (index 6 bits), of status texts (codes 32 to 127), and of group, individual and line slots (index 4 bits)
 abbrev pub quick-places : ℕ
 quick-places = 64

@@ -28,6 +28,17 @@ pub const HANDHELD: Limits = Limits {
     size: HANDHELD_SIZE,
 };
 
+// How many bytes the store of a vehicle set has.
+pub const VEHICLE_SIZE: usize = 49152;
+
+// A vehicle set: room for 128 lines and 256 channels, messages of up to 8,192 bytes.
+pub const VEHICLE: Limits = Limits {
+    lines: 128,
+    channels: 256,
+    message: 8192,
+    size: VEHICLE_SIZE,
+};
+
 // Whether the tables have room in a store of the limits' size, their counts in two bytes, and the lines' positions, plus one, in one.
 pub fn roomy(limits: Limits) -> bool
     ensures { λ r. ⌜ (r ≡ true) ↔ Roomy limits ⌝ }

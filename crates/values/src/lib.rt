@@ -6,3 +6,4 @@ pub mod fixed;
 pub mod flags;
 pub mod handheld;
 pub mod tuning;
+pub mod vehicle;

@@ -1,25 +1,35 @@
 //! The generator reaches every number a message can come to, and every table's edge.
 
-use otap_reference::inputs::{Inputs, LONGEST_INPUT};
+use otap_reference::inputs::{longest_input, Inputs};
 use otap_reference::reference::commit::{judge_and_commit, REPLY_ROOM};
-use otap_reference::reference::message::{first_byte, LONGEST, REQUEST};
+use otap_reference::reference::message::{first_byte, REQUEST};
 use otap_reference::reference::numbers::BAD_FIELD;
 use otap_reference::reference::settings::{GroupSlot, BACKGROUND};
 use otap_reference::reference::tables::{Line, Set};
 use otap_reference::reference::texts::Text;
+use otap_tests::for_both_sets;
+use otap_tests::sets::Tried;
 use std::collections::BTreeMap;
+
+for_both_sets!(
+    every_number_comes_often,
+    tables_fill_and_messages_grow_long,
+    contacts_and_line_slots_come_often,
+    numbers_of_both_idtypes_come_often,
+    every_coding_type_comes_often,
+    the_same_seed_gives_the_same_messages,
+);
 
 const SEEDS: u64 = 200;
 const MESSAGES: usize = 200;
 const NUMBERS: [u8; 9] = [0, 1, 2, 3, 4, 5, 12, 13, 14];
 
-#[test]
-fn every_number_comes_often() {
+fn every_number_comes_often<K: Tried>() {
     let mut counts: BTreeMap<u8, usize> = BTreeMap::new();
     let mut later_places = BTreeMap::new();
-    for seed in 0..SEEDS {
-        let mut inputs = Inputs::new(seed);
-        let mut set = Set::default();
+    for seed in K::seeds(0, SEEDS) {
+        let mut inputs = Inputs::new(seed, K::LIMITS);
+        let mut set = Set::fresh(K::LIMITS);
         for _ in 0..MESSAGES {
             let answer = judge_and_commit(&inputs.message(), &mut set, &mut [0; REPLY_ROOM]);
             *counts.entry(answer.number).or_default() += 1;
@@ -29,42 +39,49 @@ fn every_number_comes_often() {
     println!("{counts:?}");
     println!("number, failed ID (2 for all above): {later_places:?}");
     for number in NUMBERS {
-        assert!(counts.get(&number).is_some_and(|&count| count > 400), "number {number}");
+        assert!(
+            counts.get(&number).is_some_and(|&count| count > 400 / K::SHARE),
+            "number {number}"
+        );
     }
     for place in [(2, 1), (2, 2), (3, 1), (3, 2), (4, 0), (4, 1), (4, 2)] {
-        assert!(later_places.get(&place).is_some_and(|&count| count > 100), "{place:?}");
+        assert!(later_places.get(&place).is_some_and(|&count| count > 100 / K::SHARE), "{place:?}");
     }
 }
 
-#[test]
-fn tables_fill_and_messages_grow_long() {
+fn tables_fill_and_messages_grow_long<K: Tried>() {
     let (mut lines, mut channels, mut quick, mut longest, mut over) = (0, 0, 0, 0, 0);
-    for seed in 0..SEEDS {
-        let mut inputs = Inputs::new(seed);
-        let mut set = Set::default();
+    for seed in K::seeds(0, SEEDS) {
+        let mut inputs = Inputs::new(seed, K::LIMITS);
+        let mut set = Set::fresh(K::LIMITS);
         for _ in 0..MESSAGES {
             let message = inputs.message();
             let answer = judge_and_commit(&message, &mut set, &mut [0; REPLY_ROOM]);
-            assert!(message.len() <= LONGEST_INPUT);
-            longest += usize::from(message.len() == LONGEST && answer.number == 0);
-            over += usize::from(message.len() > LONGEST);
-            lines += usize::from(set.tables.lines.len() == 32);
-            channels += usize::from(set.tables.channels.len() == 64);
+            assert!(message.len() <= longest_input(K::LIMITS));
+            longest += usize::from(message.len() == K::LIMITS.message && answer.number == 0);
+            over += usize::from(message.len() > K::LIMITS.message);
+            lines += usize::from(set.tables.lines.len() == K::MOST_LINES);
+            channels += usize::from(set.tables.channels.len() == K::MOST_CHANNELS);
             quick += usize::from(set.tables.quick_texts.iter().all(Option::is_some));
         }
     }
     println!("states: {lines} full lines, {channels} full channels, {quick} full quick texts");
     println!("messages: {longest} taken of 4,096 bytes, {over} longer");
-    assert!(lines > 1_000 && channels > 1_000 && quick > 100 && longest > 100 && over > 100);
+    assert!(
+        lines > 1_000 / K::SHARE
+            && channels > 1_000 / K::SHARE
+            && quick > 100 / K::SHARE
+            && longest > 100 / K::SHARE
+            && over > 100 / K::SHARE
+    );
 }
 
 /// Both lists of contacts are often full, with a known address overwritten then, and one in the middle deleted; line slots often change.
-#[test]
-fn contacts_and_line_slots_come_often() {
+fn contacts_and_line_slots_come_often<K: Tried>() {
     let (mut full, mut overwritten, mut deleted, mut hidden, mut slots) = ([0; 2], 0, 0, 0, 0);
-    for seed in 0..SEEDS {
-        let mut inputs = Inputs::new(seed);
-        let mut set = Set::default();
+    for seed in K::seeds(0, SEEDS) {
+        let mut inputs = Inputs::new(seed, K::LIMITS);
+        let mut set = Set::fresh(K::LIMITS);
         for _ in 0..MESSAGES {
             let slots_before = set.tables.line_slots.clone();
             let before = set.tables.group_contacts.clone();
@@ -82,22 +99,25 @@ fn contacts_and_line_slots_come_often() {
     }
     println!("{full:?} full lists, {overwritten} changed when full, {deleted} with one deleted");
     println!("{hidden} with background groups among others, {slots} with other line slots");
-    assert!(full.iter().all(|&full| full > 1_000) && overwritten > 200 && deleted > 200);
-    assert!(hidden > 1_000 && slots > 1_000);
+    assert!(
+        full.iter().all(|&full| full > 1_000 / K::SHARE)
+            && overwritten > 200 / K::SHARE
+            && deleted > 200 / K::SHARE
+    );
+    assert!(hidden > 1_000 / K::SHARE && slots > 1_000 / K::SHARE);
 }
 
 /// One number often stands with both IDtypes, in full tables too, and each of the two lines is overwritten and deleted alone.
-#[test]
-fn numbers_of_both_idtypes_come_often() {
+fn numbers_of_both_idtypes_come_often<K: Tried>() {
     let (mut full, mut overwritten, mut deleted) = (0, 0, 0);
-    for seed in 0..SEEDS {
-        let mut inputs = Inputs::new(seed);
-        let mut set = Set::default();
+    for seed in K::seeds(0, SEEDS) {
+        let mut inputs = Inputs::new(seed, K::LIMITS);
+        let mut set = Set::fresh(K::LIMITS);
         for _ in 0..MESSAGES {
             let before = set.tables.lines.clone();
             judge_and_commit(&inputs.message(), &mut set, &mut [0; REPLY_ROOM]);
             let after = &set.tables.lines;
-            full += usize::from(after.len() == 32 && !of_both_idtypes(after).is_empty());
+            full += usize::from(after.len() == K::MOST_LINES && !of_both_idtypes(after).is_empty());
             for [pstn, pabx] in of_both_idtypes(&before) {
                 let number = pstn.digits.clone();
                 let left: Vec<_> = after.iter().filter(|line| line.digits == number).collect();
@@ -108,7 +128,9 @@ fn numbers_of_both_idtypes_come_often() {
         }
     }
     println!("{full} full tables, {overwritten} overwritten and {deleted} deleted alone");
-    assert!(full > 1_000 && overwritten > 1_000 && deleted > 1_000);
+    assert!(
+        full > 1_000 / K::SHARE && overwritten > 1_000 / K::SHARE && deleted > 1_000 / K::SHARE
+    );
 }
 
 /// Each two lines with one number, PSTN first.
@@ -122,12 +144,11 @@ fn of_both_idtypes(lines: &[Line]) -> Vec<[Line; 2]> {
 }
 
 /// Both coding types change texts often. The others are refused as such, and no setting is looked at.
-#[test]
-fn every_coding_type_comes_often() {
+fn every_coding_type_comes_often<K: Tried>() {
     let (mut changed, mut refused) = ([0; 16], [[0; 2]; 16]);
-    for seed in 0..SEEDS {
-        let mut inputs = Inputs::new(seed);
-        let mut set = Set::default();
+    for seed in K::seeds(0, SEEDS) {
+        let mut inputs = Inputs::new(seed, K::LIMITS);
+        let mut set = Set::fresh(K::LIMITS);
         for _ in 0..MESSAGES {
             let message = inputs.message();
             let before = names(&set);
@@ -146,9 +167,9 @@ fn every_coding_type_comes_often() {
     for coding in 0..16 {
         let [without_place, with_place] = refused[coding];
         let known = matches!(coding, 4 | 7);
-        assert_eq!((changed[coding] > 2_000, changed[coding] > 0), (known, known));
-        assert_eq!((with_place > 2_000, with_place > 0), (known, known), "{coding}");
-        assert!(without_place > 10, "{coding}");
+        assert_eq!((changed[coding] > 2_000 / K::SHARE, changed[coding] > 0), (known, known));
+        assert_eq!((with_place > 2_000 / K::SHARE, with_place > 0), (known, known), "{coding}");
+        assert!(without_place > 10 / K::SHARE, "{coding}");
     }
 }
 
@@ -165,10 +186,9 @@ fn names(set: &Set) -> Vec<Text> {
     held.chain(lines).chain(groups).chain(individuals).collect()
 }
 
-#[test]
-fn the_same_seed_gives_the_same_messages() {
-    let mut first = Inputs::new(3);
-    let mut second = Inputs::new(3);
+fn the_same_seed_gives_the_same_messages<K: Tried>() {
+    let mut first = Inputs::new(3, K::LIMITS);
+    let mut second = Inputs::new(3, K::LIMITS);
     for _ in 0..50 {
         assert_eq!(first.record(), second.record());
     }

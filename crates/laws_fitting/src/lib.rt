@@ -1,0 +1,1 @@
+// One set takes what another has exported, or where it stops: laws only.
