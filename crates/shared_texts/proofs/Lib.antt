@@ -1,0 +1,14 @@
+pub mod AreaChecks
+pub mod Cuts
+pub mod FreshShared
+pub mod HeadCodes
+pub mod MoveLaws
+pub mod RegionLaws
+pub mod Rows
+pub mod RunLaws
+pub mod SharedFrames
+pub mod SharedLaws
+pub mod StandLaws
+pub mod StoreLaws
+pub mod Sums
+pub mod WorkLaws

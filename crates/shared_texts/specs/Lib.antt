@@ -1,0 +1,5 @@
+pub mod Heads
+pub mod Moves
+pub mod Regions
+pub mod Shared
+pub mod Texts
