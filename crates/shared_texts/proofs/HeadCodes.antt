@@ -1,5 +1,5 @@
 -- The heads of entries: their bytes fill the slot, are not all zeros and tell the head; the last is the number of units. An entry is its head and its text. Assumes nothing.
-use Rattle.lists.proofs.Kit.{ℕ, suc, _≤_, _<_, _≡_, refl, sym, ap, ap₂, _∙_, subst, Bool, true, false, _&&_, true≢false, List, [], _∷_, _++_, head-eq-of-cons-eq, tail-eq-of-cons-eq, arith, ne-eqb, length, take, getD, replicate, length-append, getD-at, take-at}
+use Rattle.lists.proofs.Kit.{ℕ, suc, _≡_, refl, sym, ap, ap₂, _∙_, subst, Bool, true, false, _&&_, true≢false, List, [], _∷_, _++_, head-eq-of-cons-eq, tail-eq-of-cons-eq, arith, ne-eqb, length, take, getD, replicate, length-append, getD-at, take-at}
 use Rattle.lists.proofs.Bools.{is-false}
 use Rattle.lists.specs.Bytes.{Bytes}
 use Rattle.lists.proofs.Bytes.{bytes-append, bytes-cons, bytes-take, bytes-zeros}
@@ -15,12 +15,12 @@ use Rattle.tables.specs.Tables.{Member}
 use Rattle.tables.proofs.EntryBytes.{line-are-bytes, group-are-bytes, individual-are-bytes}
 use Rattle.tables.proofs.EntryCodes.{line-code, line-shown, group-code, group-shown, individual-code, individual-shown}
 use Rattle.tables.proofs.TextCodes.{digits-length}
-use Rattle.shared_texts.specs.Heads.{Head, Halves, text-halves, line-halves, member-halves, HeadOk, QuickHeadOk, StatusHeadOk, quick-head, status-head, quick-own, status-own, line-own, member-own}
+use Rattle.shared_texts.specs.Heads.{Halves, text-halves, line-halves, member-halves, HeadOk, QuickHeadOk, StatusHeadOk, LineHeadOk, GroupHeadOk, IndividualHeadOk, quick-head, status-head, line-head, group-head, individual-head, quick-own, status-own, member-own, line-own}
 use Rattle.shared_texts.proofs.Rows.{Halved}
 
 -- ---- an entry is its head and its text
 
-pub quick-halved : Halved text-halves QuickOk QuickHeadOk
+quick-halved : Halved text-halves QuickOk QuickHeadOk
 quick-halved =
     record {
       long = λ us. refl;
@@ -32,7 +32,7 @@ quick-halved =
       own-ok = λ n us q u e. record { some-unit = omega (arith, q .0); text = record { short = omega (arith, q .1); units = u } };
     }
 
-pub status-halved : Halved text-halves StatusOk StatusHeadOk
+status-halved : Halved text-halves StatusOk StatusHeadOk
 status-halved =
     record {
       long = λ us. refl;
@@ -54,7 +54,7 @@ record Parted {A H : Type 0} (k : Halves A H) (P : A → Type 0) : Type 0 where
 no-text : (n : ℕ) → TextOk n []
 no-text n = record { short = omega arith; units = tt }
 
-pub line-halved : Halved line-halves LineOk (HeadOk line-halves LineOk)
+line-halved : Halved line-halves LineOk LineHeadOk
 line-halved =
     record {
       long = λ l. refl;
@@ -79,7 +79,7 @@ member-halved P m =
       own-ok = λ h us q u e. m .whole h us (q .entry) (record { short = omega (arith, q .text); units = u });
     }
 
-pub group-halved : Halved member-halves GroupOk (HeadOk member-halves GroupOk)
+group-halved : Halved member-halves GroupOk GroupHeadOk
 group-halved =
     member-halved GroupOk (record {
       bare = λ g p. record { attribute = p .attribute; priority = p .priority; address = p .address; text = no-text 16 };
@@ -87,7 +87,7 @@ group-halved =
       whole = λ h us p t. record { attribute = p .attribute; priority = p .priority; address = p .address; text = t };
     })
 
-pub individual-halved : Halved member-halves IndividualOk (HeadOk member-halves IndividualOk)
+individual-halved : Halved member-halves IndividualOk IndividualHeadOk
 individual-halved =
     member-halved IndividualOk (record {
       bare = λ g p. record { priority = p .priority; address = p .address; text = no-text 16 };
@@ -105,7 +105,7 @@ pub record Headed {H : Type 0} (units : H → ℕ) (Q : H → Type 0) (w : ℕ) 
   pub last : (h : H) → getD (f h) w 0 ≡ units h
 
 -- a quick text
-pub quick-headed : Headed (λ n. n) QuickHeadOk quick-own quick-head
+quick-headed : Headed (λ n. n) QuickHeadOk quick-own quick-head
 quick-headed =
     record {
       code = record { long = λ n. refl; one = λ n k p q e. head-eq-of-cons-eq e };
@@ -115,7 +115,7 @@ quick-headed =
     }
 
 -- a status text
-pub status-headed : Headed (λ n. n) StatusHeadOk status-own status-head
+status-headed : Headed (λ n. n) StatusHeadOk status-own status-head
 status-headed =
     record {
       code = record { long = λ n. refl; one = λ n k p q e. head-eq-of-cons-eq (tail-eq-of-cons-eq e) };
@@ -164,7 +164,7 @@ module _ {A H : Type 0} (k : Halves A H) (P : A → Type 0) (w z : ℕ) (x : H �
           true≢false (sym s ∙ m .shown (k .join h []) (p .entry)))
 
 -- a line
-pub line-headed : Headed (λ h. h .units) (HeadOk line-halves LineOk) line-own (λ h. head-bytes (h .flags) (h .name) ++ (h .units ∷ []))
+line-headed : Headed (λ h. h .units) LineHeadOk line-own line-head
 line-headed =
     bare-headed line-halves LineOk line-own 32 (λ h. head-bytes (h .flags) (h .name)) line-bytes (record {
       bytes = λ h. refl;
@@ -189,8 +189,28 @@ member-headed P flags-of number-of f is one shown are-bytes =
       are-bytes = are-bytes;
     })
 
-pub group-headed : Headed (λ h. h .units) (HeadOk member-halves GroupOk) member-own (λ h. group-flags (h .flags) ∷ u24 (h .name .0) ++ (h .units ∷ []))
+group-headed : Headed (λ h. h .units) GroupHeadOk member-own group-head
 group-headed = member-headed GroupOk group-flags (λ a. a .0) group-bytes (λ g. refl) (group-code .one) group-shown group-are-bytes
 
-pub individual-headed : Headed (λ h. h .units) (HeadOk member-halves IndividualOk) member-own (λ h. individual-flags (h .flags) ∷ u24 (h .name .0) ++ (h .units ∷ []))
+individual-headed : Headed (λ h. h .units) IndividualHeadOk member-own individual-head
 individual-headed = member-headed IndividualOk individual-flags (λ a. a .0) individual-bytes (λ g. refl) (individual-code .one) individual-shown individual-are-bytes
+
+-- ---- what is kept of an entry: the two halves of its kind, and its head's bytes
+pub record Kept {A H : Type 0} (k : Halves A H) (P : A → Type 0) (Q : H → Type 0) (own : ℕ) (f : H → List ℕ) : Type 0 where
+  pub halved : Halved k P Q
+  pub headed : Headed (k .units) Q own f
+
+pub quick-kept : Kept text-halves QuickOk QuickHeadOk quick-own quick-head
+quick-kept = record { halved = quick-halved; headed = quick-headed }
+
+pub status-kept : Kept text-halves StatusOk StatusHeadOk status-own status-head
+status-kept = record { halved = status-halved; headed = status-headed }
+
+pub line-kept : Kept line-halves LineOk LineHeadOk line-own line-head
+line-kept = record { halved = line-halved; headed = line-headed }
+
+pub group-kept : Kept member-halves GroupOk GroupHeadOk member-own group-head
+group-kept = record { halved = group-halved; headed = group-headed }
+
+pub individual-kept : Kept member-halves IndividualOk IndividualHeadOk member-own individual-head
+individual-kept = record { halved = individual-halved; headed = individual-headed }

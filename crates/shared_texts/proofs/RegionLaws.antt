@@ -1,5 +1,5 @@
 -- Regions in two halves: heads and texts tell the region, and heads their bytes. The laws of one region are those of several, one after another. Assumes nothing.
-use Rattle.lists.proofs.Kit.{ℕ, zero, suc, _+_, _*_, _<_, _≡_, refl, sym, ap, ap₂, _∙_, subst, _↔_, List, [], _∷_, _++_, map, map-append, Option, arith, length, take, drop, length-append, length-map, take-append-drop, take-at, drop-at, take-append-seam, drop-append-seam}
+use Rattle.lists.proofs.Kit.{ℕ, zero, suc, _+_, _<_, _≡_, refl, sym, ap, ap₂, _∙_, subst, _↔_, List, [], _∷_, _++_, map, map-append, Option, arith, length, take, drop, length-append, length-map, take-append-drop, take-at, drop-at, take-append-seam, drop-append-seam}
 use lib.Seq.{take-length}
 use Rattle.lists.specs.Bytes.{Bytes}
 use Rattle.lists.proofs.Bytes.{bytes-append, bytes-zeros}
@@ -17,7 +17,7 @@ use Rattle.tables.proofs.OrderLaws.{distinct-made}
 use Rattle.tables.proofs.TextLaws.{Unit16}
 use Rattle.shared_texts.specs.Heads.{Halves}
 use Rattle.shared_texts.specs.Regions.{Region, plain, table, listed, followed, nothing, _then_, whole, row-units, filled-list, last-bytes}
-use Rattle.shared_texts.proofs.HeadCodes.{Headed}
+use Rattle.shared_texts.proofs.HeadCodes.{Headed, Kept}
 use Rattle.shared_texts.proofs.Rows.{Halved, rows-counted, rows-heads, rows-texts, rows-again, filled-length, filled-ok, filled-heads, filled-texts, list-counted, list-texts, list-again, list-length, list-ok, list-heads, list-back, no-texts, last-sum, front-counted}
 
 -- what the two halves of a region have to do with it, and the heads with their bytes
@@ -56,7 +56,14 @@ plain-lawful {A} P w f c =
 
 -- ---- tables that have texts
 
-module _ {A H : Type 0} (k : Halves A H) (P : A → Type 0) (Q : H → Type 0) (l : Halved k P Q) (n own : ℕ) (f : H → List ℕ) (d : Headed (k .units) Q own f) where
+module _ {A H : Type 0} {k : Halves A H} {P : A → Type 0} {Q : H → Type 0} {own : ℕ} {f : H → List ℕ} (c : Kept k P Q own f) (n : ℕ) where
+  -- its two halves, and its heads
+  abbrev l : Halved k P Q
+  l = c .halved
+
+  abbrev d : Headed (k .units) Q own f
+  d = c .headed
+
   -- n slots count what their heads do
   slots-summed : (os : List (Option H)) → length os ≡ n → last-bytes own n (places (suc own) f os) ≡ sum (row-units (k .units) os)
   slots-summed os e =

@@ -6,7 +6,7 @@ use Rattle.slots.specs.Slots.{flat, places, front, Present, sum}
 use Rattle.slots.proofs.Parts.{flat-append}
 use Rattle.slots.proofs.Tables.{all-front, front-length}
 use Rattle.writing.specs.Settings.{Text}
-use Rattle.shared_texts.specs.Moves.{spread, gathered-heads, gathered-texts, placed-units}
+use Rattle.shared_texts.specs.Moves.{spread, gathered-heads, gathered-texts, placed-units, slots-units}
 use Rattle.shared_texts.specs.Regions.{row-units, last-bytes}
 use Rattle.shared_texts.specs.Shared.{Run, heads-in, slots-in, run-units, no-run, counted-before}
 use Rattle.shared_texts.specs.Texts.{rows, present, texts-in, units-of, units-before, unit-bytes}
@@ -162,9 +162,16 @@ module _ (s w : List ℕ) where
   run-texts (x ∷ runs) [] c = absurd c
   run-texts (x ∷ runs) (os ∷ tables) c = ap₂ (λ (l m : List ℕ). l ++ m) (c .0 .texts) (run-texts runs tables (c .1)) ∙ sym (texts-append (present os) (texts-in tables))
 
-  -- RUN-SUM: and how many units they have
-  pub run-sum : (runs : List Run) (tables : List (List (Option Text))) → AllMoved s w runs tables → sum (map (λ x. placed-units (x .own) (x .room) (x .many) (slots-in w x)) runs) ≡ units-of (texts-in tables)
-  run-sum [] [] c = refl
-  run-sum [] (os ∷ tables) c = absurd c
-  run-sum (x ∷ runs) [] c = absurd c
-  run-sum (x ∷ runs) (os ∷ tables) c = omega (arith, c .0 .units, run-sum runs tables (c .1), units-append (present os) (texts-in tables))
+  -- RUN-PLACED: a table's units, counted in its slots
+  pub run-placed : (runs : List Run) (tables : List (List (Option Text))) → AllMoved s w runs tables → (k : ℕ) → k < length runs → slots-units w (getD runs k no-run) ≡ units-of (present (getD tables k []))
+  run-placed [] tables c k h = absurd (not-suc-le-zero h)
+  run-placed (x ∷ runs) [] c k h = absurd c
+  run-placed (x ∷ runs) (os ∷ tables) c zero h = c .0 .units
+  run-placed (x ∷ runs) (os ∷ tables) c (suc k) h = run-placed runs tables (c .1) k (le-of-suc-le-suc h)
+
+  -- RUNS-PLACED: and those of all
+  pub runs-placed : (runs : List Run) (tables : List (List (Option Text))) → AllMoved s w runs tables → sum (map (slots-units w) runs) ≡ units-of (texts-in tables)
+  runs-placed [] [] c = refl
+  runs-placed [] (os ∷ tables) c = absurd c
+  runs-placed (x ∷ runs) [] c = absurd c
+  runs-placed (x ∷ runs) (os ∷ tables) c = omega (arith, c .0 .units, runs-placed runs tables (c .1), units-append (present os) (texts-in tables))

@@ -18,7 +18,7 @@ use Rattle.shared_texts.specs.Heads.{text-halves, line-halves, member-ha
 use Rattle.shared_texts.specs.Shared.{head-widths, shared-size, shared-regions, shared-layout}
 use Rattle.shared_texts.specs.Texts.{texts-of}
 use Rattle.shared_texts.proofs.Cuts.{area-length}
-use Rattle.shared_texts.proofs.HeadCodes.{line-headed}
+use Rattle.shared_texts.proofs.HeadCodes.{line-kept}
 
 -- the widths of all regions
 abbrev pub shared-widths : Limits → ℕ → List ℕ
@@ -28,7 +28,7 @@ shared-widths lim a = head-widths lim ++ (a ∷ (lim .size - shared-size lim a) 
 
 -- a line's head fills its slot
 pub line-long : (l : Line) → length (line-head (line-halves .head l)) ≡ suc line-own
-line-long l = line-headed .code .long (line-halves .head l)
+line-long l = line-kept .headed .code .long (line-halves .head l)
 
 module _ {A : Type 0} (w : ℕ) (f : A → List ℕ) (long : (a : A) → length (f a) ≡ w) (n : ℕ) where
   -- an indexed table of n places
@@ -72,9 +72,27 @@ module _ (lim : Limits) (a : ℕ) (t : Tables) (ok : Allowed lim t) (k : ℕ) (h
   unfolding shared-layout
   shared-put u y e = rw (p, q) (parts-put (shared-regions lim a t) (shared-widths lim a) (shared-wide lim a t ok) k h y ∙ ap flat e)
 
--- MID-PARTS: bytes from a place on that are two runs are each where it stands
-pub mid-parts : (at i j : ℕ) (s x y : List ℕ) → length x ≡ i → midOf at (i + j) s ≡ x ++ y → (midOf at i s ≡ x) × (midOf (at + i) j s ≡ y)
-mid-parts at i j s x y l e = (
+-- ---- runs in a region
+
+-- bytes from a place on that are two runs are each where it stands
+pub two-runs : (at i j : ℕ) (s x y : List ℕ) → length x ≡ i → midOf at (i + j) s ≡ x ++ y → (midOf at i s ≡ x) × (midOf (at + i) j s ≡ y)
+two-runs at i j s x y l e = (
   sym (take-take i (i + j) (drop at s) (omega arith)) ∙ ap (take i) e ∙ take-at x y i l,
   get-behind i at j s ∙ ap (drop i) e ∙ drop-at x y i l,
 )
+
+-- a list table of w bytes a slot stands at a place: its count, and then its places
+abbrev pub ListAt : {A : Type 0} → (w : ℕ) → (A → List ℕ) → (n at : ℕ) → List ℕ → List A → Type 0
+ListAt w f n at s xs = (midOf at count-size s ≡ u16 (length xs)) × (midOf (at + count-size) (n * w) s ≡ places w f (front n xs))
+
+pub list-at : {A : Type 0} (w : ℕ) (f : A → List ℕ) (n at : ℕ) (s : List ℕ) (xs : List A) → midOf at (count-size + n * w) s ≡ counted w f n xs → ListAt w f n at s xs
+list-at w f n at s xs e = two-runs at count-size (n * w) s (u16 (length xs)) (places w f (front n xs)) refl e
+
+-- and behind it n bytes y
+abbrev pub FollowedAt : {A : Type 0} → (w : ℕ) → (A → List ℕ) → (n at : ℕ) → List ℕ → List A → List ℕ → Type 0
+FollowedAt w f n at s xs y = ListAt w f n at s xs × (midOf (at + (count-size + n * w)) n s ≡ y)
+
+pub followed-at : {A : Type 0} (w : ℕ) (f : A → List ℕ) → ((a : A) → length (f a) ≡ w) → (n at : ℕ) (s : List ℕ) (xs : List A) (y : List ℕ) → midOf at (count-size + n * w + n) s ≡ counted w f n xs ++ y → FollowedAt w f n at s xs y
+followed-at w f long n at s xs y e =
+    let (a, b) = two-runs at (count-size + n * w) n s (counted w f n xs) y (counted-wide w f long n xs) e in
+    (list-at w f n at s xs a, b)

@@ -6,7 +6,7 @@ use Rattle.lists.proofs.Every.{all-map}
 use Rattle.slots.specs.Slots.{flat, places, front, u16, zeros?, EntryOf}
 use Rattle.slots.proofs.Codes.{Code}
 use Rattle.slots.proofs.Pads.{pad-length}
-use Rattle.slots.proofs.Parts.{flat-append, get-behind}
+use Rattle.slots.proofs.Parts.{flat-append}
 use Rattle.orders.specs.Orders.{order}
 use Rattle.orders.specs.OrderParts.{order-bytes}
 use Rattle.writing.specs.Ranges.{InChannel}
@@ -25,14 +25,14 @@ use Rattle.tables.proofs.FixedCodes.{hash-code, key-code, home-code, system-cod
 use Rattle.tables.proofs.LayoutLaws.{list-wide, list-bytes, list-table-one}
 use Rattle.tables.proofs.OrderLaws.{distinct-made, order-are-bytes}
 use Rattle.shared_texts.specs.Heads.{HeadOfLine, text-halves, line-halves, member-halves, head-key, group-head-key, individual-head-key, head-order, QuickHeadOk, StatusHeadOk, GroupHeadOk, IndividualHeadOk, LineHeadOk, quick-head, status-head, line-head, group-head, individual-head, ordered-heads, quick-own, status-own, member-own, line-own}
-use Rattle.shared_texts.specs.Regions.{Region, plain, listed, last-bytes, whole, Stand, units-from}
-use Rattle.shared_texts.specs.Shared.{quick-heads-size, status-heads-size, member-heads-size, line-slot-heads-size, contact-heads-size, line-heads-size, status-heads-at, group-heads-at, individual-heads-at, line-slot-heads-at, group-contact-heads-at, individual-contact-heads-at, shared-channels-at, line-heads-at, heads-size, shared-size, head-regions, shared-layout, SharedRoomy, SharedOk, IsShared, text-start, stored-units, lines-region, store-regions, SharedChecks}
+use Rattle.shared_texts.specs.Regions.{Region, last-bytes, whole, Stand, units-from}
+use Rattle.shared_texts.specs.Shared.{quick-heads-size, status-heads-size, member-heads-size, line-slot-heads-size, contact-heads-size, line-heads-size, status-heads-at, group-heads-at, individual-heads-at, line-slot-heads-at, group-contact-heads-at, individual-contact-heads-at, shared-channels-at, line-heads-at, heads-size, shared-size, head-regions, shared-layout, SharedRoomy, SharedOk, IsShared, text-start, stored-units, channels-region, line-list, lines-region, store-regions, SharedChecks}
 use Rattle.shared_texts.specs.Texts.{text-tables, present, texts-in, texts-of, units-of, unit-bytes, area, AreaFilled}
-use Rattle.shared_texts.proofs.HeadCodes.{quick-halved, status-halved, line-halved, group-halved, individual-halved, quick-headed, status-headed, line-headed, group-headed, individual-headed}
+use Rattle.shared_texts.proofs.HeadCodes.{quick-kept, status-kept, line-kept, group-kept, individual-kept}
 use Rattle.shared_texts.proofs.RegionLaws.{Lawful, AllLawful, AreBytes, AllBytes, plain-lawful, table-lawful, table-bytes, list-lawful, list-are-bytes, followed-lawful, whole-lawful, whole-bytes}
 use Rattle.shared_texts.proofs.Rows.{places-map, front-map}
 use Rattle.shared_texts.proofs.StandLaws.{mid-first, mid-after}
-use Rattle.shared_texts.proofs.StoreLaws.{stored, Fits, stored-length, stored-bytes, stored-one, stored-text, parts-store}
+use Rattle.shared_texts.proofs.StoreLaws.{stored, Fits, stored-length, stored-bytes, stored-one, stored-text, regions-store}
 use Rattle.shared_texts.proofs.Sums.{before-units, row-split, texts-behind, units-append}
 
 -- ---- lines in order
@@ -62,20 +62,16 @@ order-small n hs few p =
 channels-code : (n : ℕ) → Code (ListOk InChannel n) (count-size + n * channel-width) (counted channel-width u16 n)
 channels-code n = record { long = list-wide channel-code n; one = λ cs ds p q e. list-table-one channel-code channel-shown p q e }
 
--- the line contacts
-abbrev line-list : ℕ → Region
-line-list n = listed line-halves (KeyedOk LineOk line-key n) (KeyedOk LineHeadOk head-key n) n line-own line-head
+channels-bytes : (n : ℕ) → n < 65536 → AreBytes (channels-region n)
+channels-bytes n few cs p = list-bytes InChannel channel-width u16 channel-are-bytes n cs few p
 
-line-list-lawful : (n : ℕ) → Lawful (line-list n)
-line-list-lawful n = list-lawful line-halves LineOk LineHeadOk line-halved n line-own line-head line-headed line-key head-key (λ l. refl)
-
+-- the lines and their order
 lines-lawful : (n : ℕ) → Lawful (lines-region n)
-lines-lawful n = followed-lawful (line-list n) n (λ hs. order-bytes n (head-order hs)) (line-list-lawful n) (λ hs. pad-length 0 n (map suc (head-order hs)))
+lines-lawful n = followed-lawful (line-list n) n (λ hs. order-bytes n (head-order hs)) (list-lawful line-kept n line-key head-key (λ l. refl)) (λ hs. pad-length 0 n (map suc (head-order hs)))
 
 lines-bytes : (n : ℕ) → n ≤ 255 → AreBytes (lines-region n)
 lines-bytes n few hs p =
-    bytes-append (counted (suc line-own) line-head n hs) (order-bytes n (head-order hs))
-    (list-are-bytes line-halves LineOk LineHeadOk line-halved n line-own line-head line-headed line-key head-key (λ l. refl) (omega arith) hs p) (order-small n hs few p)
+    bytes-append (counted (suc line-own) line-head n hs) (order-bytes n (head-order hs)) (list-are-bytes line-kept n line-key head-key (λ l. refl) (omega arith) hs p) (order-small n hs few p)
 
 -- STORE-LAWFUL: all of them
 pub store-lawful : (lim : Limits) → AllLawful (store-regions lim)
@@ -84,28 +80,29 @@ store-lawful lim =
     let key = plain-lawful (λ (k : Key). TargetOk (k .target)) key-size key-bytes key-code in
     let home = plain-lawful HomeOk home-size home-bytes home-code in
     let system = plain-lawful SystemOk system-size system-bytes system-code in
-    let quick = table-lawful text-halves QuickOk QuickHeadOk quick-halved quick-places quick-own quick-head quick-headed in
-    let status = table-lawful text-halves StatusOk StatusHeadOk status-halved status-places status-own status-head status-headed in
-    let groups = table-lawful member-halves GroupOk GroupHeadOk group-halved slot-places member-own group-head group-headed in
-    let individuals = table-lawful member-halves IndividualOk IndividualHeadOk individual-halved slot-places member-own individual-head individual-headed in
-    let line-slots = table-lawful line-halves LineOk LineHeadOk line-halved slot-places line-own line-head line-headed in
-    let group-contacts = list-lawful member-halves GroupOk GroupHeadOk group-halved contact-places member-own group-head group-headed (contact-key OfGroups) group-head-key (λ g. refl) in
-    let individual-contacts = list-lawful member-halves IndividualOk IndividualHeadOk individual-halved contact-places member-own individual-head individual-headed (contact-key OfIndividuals) individual-head-key (λ g. refl) in
-    let channels = plain-lawful (ListOk InChannel (lim .channels)) (channels-size lim) _ (channels-code (lim .channels)) in
+    let quick = table-lawful quick-kept quick-places in
+    let status = table-lawful status-kept status-places in
+    let groups = table-lawful group-kept slot-places in
+    let individuals = table-lawful individual-kept slot-places in
+    let line-slots = table-lawful line-kept slot-places in
+    let group-contacts = list-lawful group-kept contact-places (contact-key OfGroups) group-head-key (λ g. refl) in
+    let individual-contacts = list-lawful individual-kept contact-places (contact-key OfIndividuals) individual-head-key (λ i. refl) in
+    let channels = plain-lawful (ListOk InChannel (lim .channels)) (channels-size lim) (counted channel-width u16 (lim .channels)) (channels-code (lim .channels)) in
     (hash, (key, (home, (system, (quick, (status, (groups, (individuals, (line-slots, (group-contacts, (individual-contacts, (channels, (lines-lawful (lim .lines), tt)))))))))))))
 
 -- STORE-BYTES: and is bytes, where counts fit two bytes and positions one
 pub store-bytes : (lim : Limits) → lim .channels < 65536 → lim .lines ≤ 255 → AllBytes (store-regions lim)
-store-bytes lim c l =
-    let quick = table-bytes text-halves QuickOk QuickHeadOk quick-halved quick-places quick-own quick-head quick-headed in
-    let status = table-bytes text-halves StatusOk StatusHeadOk status-halved status-places status-own status-head status-headed in
-    let groups = table-bytes member-halves GroupOk GroupHeadOk group-halved slot-places member-own group-head group-headed in
-    let individuals = table-bytes member-halves IndividualOk IndividualHeadOk individual-halved slot-places member-own individual-head individual-headed in
-    let line-slots = table-bytes line-halves LineOk LineHeadOk line-halved slot-places line-own line-head line-headed in
-    let group-contacts = list-are-bytes member-halves GroupOk GroupHeadOk group-halved contact-places member-own group-head group-headed (contact-key OfGroups) group-head-key (λ g. refl) (omega arith) in
-    let individual-contacts = list-are-bytes member-halves IndividualOk IndividualHeadOk individual-halved contact-places member-own individual-head individual-headed (contact-key OfIndividuals) individual-head-key (λ g. refl) (omega arith) in
-    let channels : AreBytes (plain (ListOk InChannel (lim .channels)) (channels-size lim) (counted channel-width u16 (lim .channels))) = λ cs p. list-bytes InChannel channel-width u16 channel-are-bytes (lim .channels) cs c p in
-    (hash-are-bytes, (key-are-bytes, (home-are-bytes, (system-are-bytes, (quick, (status, (groups, (individuals, (line-slots, (group-contacts, (individual-contacts, (channels, (lines-bytes (lim .lines) l, tt)))))))))))))
+store-bytes lim few-channels few-lines =
+    let quick = table-bytes quick-kept quick-places in
+    let status = table-bytes status-kept status-places in
+    let groups = table-bytes group-kept slot-places in
+    let individuals = table-bytes individual-kept slot-places in
+    let line-slots = table-bytes line-kept slot-places in
+    let group-contacts = list-are-bytes group-kept contact-places (contact-key OfGroups) group-head-key (λ g. refl) (omega arith) in
+    let individual-contacts = list-are-bytes individual-kept contact-places (contact-key OfIndividuals) individual-head-key (λ i. refl) (omega arith) in
+    let channels = channels-bytes (lim .channels) few-channels in
+    let lines = lines-bytes (lim .lines) few-lines in
+    (hash-are-bytes, (key-are-bytes, (home-are-bytes, (system-are-bytes, (quick, (status, (groups, (individuals, (line-slots, (group-contacts, (individual-contacts, (channels, (lines, tt)))))))))))))
 
 -- ---- tables as regions
 
@@ -128,8 +125,8 @@ module _ (lim : Limits) where
   all-lawful = whole-lawful (store-regions lim) (store-lawful lim)
 
   -- the tables, region by region
-  abbrev parts-of : Tables → all .Own
-  parts-of t = (t .hash, (t .key, (t .home, (t .system, (t .quick, (t .status, (t .groups, (t .individuals, (t .line-slots, (t .group-contacts, (t .individual-contacts, (t .channels, (t .lines, tt)))))))))))))
+  abbrev regions-of : Tables → all .Own
+  regions-of t = (t .hash, (t .key, (t .home, (t .system, (t .quick, (t .status, (t .groups, (t .individuals, (t .line-slots, (t .group-contacts, (t .individual-contacts, (t .channels, (t .lines, tt)))))))))))))
 
   -- regions as tables
   abbrev tables-of : all .Own → Tables
@@ -151,8 +148,8 @@ module _ (lim : Limits) where
       }
 
   -- allowed tables are regions as they have to be
-  parts-ok : (t : Tables) → Allowed lim t → all .Ok (parts-of t)
-  parts-ok t p =
+  regions-ok : (t : Tables) → Allowed lim t → all .Ok (regions-of t)
+  regions-ok t p =
       (p .hash, (p .key, (p .home, (p .system, (p .quick, (p .status, (p .groups, (p .individuals, (p .line-slots, ((p .group-contacts, p .distinct-groups),
       ((p .individual-contacts, p .distinct-individuals), (p .channels, ((p .lines, p .distinct), tt)))))))))))))
 
@@ -179,11 +176,11 @@ module _ (lim : Limits) where
       }
 
   -- the texts are those of the regions
-  texts-are : (t : Tables) → texts-of t ≡ all .texts (parts-of t)
+  texts-are : (t : Tables) → texts-of t ≡ all .texts (regions-of t)
   texts-are t = refl
 
   -- the heads' bytes are those of the regions' heads
-  heads-are : (t : Tables) → flat (head-regions lim t) ≡ all .bytes (all .head (parts-of t))
+  heads-are : (t : Tables) → flat (head-regions lim t) ≡ all .bytes (all .head (regions-of t))
   heads-are t =
       let q = sym (places-map 1 quick-head (text-halves .head) (t .quick)) in
       let s = sym (places-map 2 status-head (text-halves .head) (t .status)) in
@@ -241,8 +238,8 @@ module _ (lim : Limits) where
     abbrev spare : ℕ
     spare = lim .size - shared-size lim a
 
-    -- the layout is the parts' store
-    layout-stored : (t : Tables) → shared-layout lim a t ≡ stored all a spare (parts-of t)
+    -- the layout is the regions' store
+    layout-stored : (t : Tables) → shared-layout lim a t ≡ stored all a spare (regions-of t)
     unfolding shared-layout
     layout-stored t =
         flat-append (head-regions lim t) (area a (texts-of t) ∷ replicate spare 0 ∷ [])
@@ -251,7 +248,7 @@ module _ (lim : Limits) where
     -- SHARED-LENGTH: where heads and texts fit, their bytes fill the store
     pub shared-length : (t : Tables) → SharedRoomy lim a → Allowed lim t → length (shared-layout lim a t) ≡ lim .size
     shared-length t r p =
-        let e = stored-length all all-lawful a spare (parts-of t) (parts-ok t p) in
+        let e = stored-length all all-lawful a spare (regions-of t) (regions-ok t p) in
         ap length (layout-stored t) ∙ e ∙ size-is
       where
         size-is : all .wide + (a + spare) ≡ lim .size
@@ -260,12 +257,12 @@ module _ (lim : Limits) where
     -- SHARED-BYTES: they are bytes
     pub shared-bytes : (t : Tables) → SharedRoomy lim a → Allowed lim t → Bytes (shared-layout lim a t)
     shared-bytes t r p =
-        subst Bytes (sym (layout-stored t)) (stored-bytes all all-lawful a spare (whole-bytes (store-regions lim) (store-bytes lim (r .few-channels) (r .few-lines))) (parts-of t) (parts-ok t p))
+        subst Bytes (sym (layout-stored t)) (stored-bytes all all-lawful a spare (whole-bytes (store-regions lim) (store-bytes lim (r .few-channels) (r .few-lines))) (regions-of t) (regions-ok t p))
 
     -- SHARED-ONE: allowed tables whose texts fit and that have the same bytes are the same
     pub shared-one : (t u : Tables) → SharedOk lim a t → SharedOk lim a u → shared-layout lim a t ≡ shared-layout lim a u → t ≡ u
     shared-one t u p q e =
-        ap tables-of (stored-one all all-lawful a spare (parts-of t) (parts-of u) (parts-ok t (p .allowed), p .room) (parts-ok u (q .allowed), q .room)
+        ap tables-of (stored-one all all-lawful a spare (regions-of t) (regions-of u) (regions-ok t (p .allowed), p .room) (regions-ok u (q .allowed), q .room)
         (sym (layout-stored t) ∙ e ∙ layout-stored u))
 
     -- the text of row r of table k
@@ -279,7 +276,7 @@ module _ (lim : Limits) where
       text-stands =
           let i : text-start lim t k r ≡ all .wide + 2 * units-of before = omega (arith, heads-wide, before-units (text-tables t) k r) in
           ap₂ (λ (j : ℕ) (l : List ℕ). midOf j (2 * length us) l) i (layout-stored t)
-          ∙ stored-text all all-lawful a spare (parts-of t) (parts-ok t (ok .allowed), ok .room) before (texts-behind (text-tables t) k r) us (row-split (text-tables t) k r us row)
+          ∙ stored-text all all-lawful a spare (regions-of t) (regions-ok t (ok .allowed), ok .room) before (texts-behind (text-tables t) k r) us (row-split (text-tables t) k r us row)
 
       -- TEXT-INSIDE: and inside the area
       pub text-inside : text-start lim t k r + 2 * length us ≤ shared-size lim a
@@ -288,19 +285,19 @@ module _ (lim : Limits) where
           omega (arith, u, ok .room, before-units (text-tables t) k r)
 
     module _ (s : List ℕ) (room : SharedRoomy lim a) (long : length s ≡ lim .size) (b : Bytes s) where
-      -- what the checks look at, and the parts' store
-      parts-checked : (Stand (store-regions lim) 0 s × AreaFilled (units-from (store-regions lim) 0 s) (midOf (all .wide) a s) × (zeros? (drop (all .wide + a) s) ≡ true)) ↔ EntryOf (Fits all a) (stored all a spare) s
-      parts-checked = parts-store (store-regions lim) (store-lawful lim) a spare s (omega (arith, heads-wide, room .fits)) b
+      -- what the checks look at, and the regions' store
+      regions-checked : (Stand (store-regions lim) 0 s × AreaFilled (units-from (store-regions lim) 0 s) (midOf (all .wide) a s) × (zeros? (drop (all .wide + a) s) ≡ true)) ↔ EntryOf (Fits all a) (stored all a spare) s
+      regions-checked = regions-store (store-regions lim) (store-lawful lim) a spare s (omega (arith, heads-wide, room .fits)) b
 
       -- IS-SHARED-STORE: bytes of a store's size are one exactly if the checks pass
       pub is-shared-store : SharedChecks lim a s ↔ IsShared lim a s
       is-shared-store = (
         λ c.
-            let x = parts-checked .0 (c .heads, subst₂ (λ (n w : ℕ). AreaFilled n (midOf w a s)) (sym (units-are s)) (sym heads-wide) (c .texts), subst (λ (w : ℕ). zeros? (drop (w + a) s) ≡ true) (sym heads-wide) (c .spare)) in
+            let x = regions-checked .0 (c .heads, subst₂ (λ (n w : ℕ). AreaFilled n (midOf w a s)) (sym (units-are s)) (sym heads-wide) (c .texts), subst (λ (w : ℕ). zeros? (drop (w + a) s) ≡ true) (sym heads-wide) (c .spare)) in
             record { tables = tables-of (x .entry); ok = record { allowed = tables-ok (x .entry) (x .holds .0); room = x .holds .1 }; bytes-are = x .bytes ∙ sym (layout-stored (tables-of (x .entry))) },
         λ y.
             let t = y .tables in
-            let c = parts-checked .1 (record { entry = parts-of t; holds = (parts-ok t (y .ok .allowed), y .ok .room); bytes = y .bytes-are ∙ layout-stored t }) in
+            let c = regions-checked .1 (record { entry = regions-of t; holds = (regions-ok t (y .ok .allowed), y .ok .room); bytes = y .bytes-are ∙ layout-stored t }) in
             record {
               heads = c .0;
               texts = subst₂ (λ (n w : ℕ). AreaFilled n (midOf w a s)) (units-are s) heads-wide (c .1);

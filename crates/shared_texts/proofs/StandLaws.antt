@@ -1,5 +1,5 @@
--- Parts in the bytes of a store: each stands in its bytes exactly if all together stand in theirs, and the units that each counts are those that all count. Assumes nothing.
-use Rattle.lists.proofs.Kit.{ℕ, zero, suc, _+_, _≡_, refl, sym, ap, ap₂, _∙_, _↔_, List, [], _∷_, _++_, zero-add, suc-add, arith, midOf, take, drop, take-at, drop-at, drop-drop, take-add, take-nil, take-take}
+-- Regions in the bytes of a store: each stands in its bytes exactly if all together stand in theirs, and the units that each counts are those that all count. Assumes nothing.
+use Rattle.lists.proofs.Kit.{ℕ, _+_, _≡_, refl, sym, ap, ap₂, _∙_, _↔_, List, [], _∷_, _++_, arith, midOf, take, drop, take-at, drop-at, drop-drop, take-add, take-take}
 use Rattle.slots.specs.Slots.{EntryOf}
 use Rattle.slots.proofs.Parts.{get-behind}
 use Rattle.shared_texts.specs.Regions.{Region, whole, Stand, units-from}
@@ -18,7 +18,7 @@ module _ (n m at : ℕ) (s : List ℕ) where
   pub mid-both : midOf at (n + m) s ≡ midOf at n s ++ midOf (at + n) m s
   mid-both = take-add n m (drop at s) ∙ ap (λ (l : List ℕ). midOf at n s ++ take m l) (drop-drop n at s)
 
--- STAND-ALL: each part stands in its bytes exactly if all together stand in theirs
+-- STAND-ALL: each region stands in its bytes exactly if all together stand in theirs
 pub stand-all : (ps : List Region) → AllLawful ps → (at : ℕ) (s : List ℕ) → Stand ps at s ↔ EntryOf (whole ps .HeadOk) (whole ps .bytes) (midOf at (whole ps .wide) s)
 stand-all [] l at s = (λ x. record { entry = tt; holds = tt; bytes = refl }, λ x. tt)
 stand-all (p ∷ ps) l at s =

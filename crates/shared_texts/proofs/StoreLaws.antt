@@ -1,4 +1,4 @@
--- A store of parts whose texts share one area: it has its length, is bytes and tells the parts, and checks of its heads and of its area decide which bytes are one. Assumes nothing.
+-- A store of regions whose texts share one area: it has its length, is bytes and tells the regions, and checks of its heads and of its area decide which bytes are one. Assumes nothing.
 use Rattle.lists.proofs.Kit.{ℕ, _+_, _-_, _*_, _≤_, _<_, _≡_, sym, ap, ap₂, _∙_, subst, true, _↔_, List, _∷_, _++_, map, map-append, append-assoc, arith, midOf, length, take, drop, replicate, length-append, length-drop, length-replicate, take-append-drop, take-at, drop-at, drop-drop, length-take-le}
 use Rattle.lists.specs.Bytes.{Bytes}
 use Rattle.lists.proofs.Bytes.{all-bytes, bytes-all, bytes-append, bytes-drop, bytes-take, bytes-zeros}
@@ -18,11 +18,11 @@ use Rattle.shared_texts.proofs.Cuts.{area-filled, area-is, area-length,
 use Rattle.shared_texts.proofs.RegionLaws.{Lawful, AllLawful, AreBytes, whole-lawful}
 use Rattle.shared_texts.proofs.StandLaws.{stand-all, units-all}
 
--- a part's heads, an area of a bytes with its texts, and z zeros
+-- a region's heads, an area of a bytes with its texts, and z zeros
 abbrev pub stored : (p : Region) → ℕ → ℕ → p .Own → List ℕ
 stored p a z x = p .bytes (p .head x) ++ (area a (p .texts x) ++ replicate z 0)
 
--- what a part may hold where its texts have to fit an area of a bytes
+-- what a region may hold where its texts have to fit an area of a bytes
 abbrev pub Fits : (p : Region) → ℕ → p .Own → Type 0
 Fits p a x = p .Ok x × (2 * units-of (p .texts x) ≤ a)
 
@@ -51,7 +51,7 @@ module _ (p : Region) (l : Lawful p) (a z : ℕ) where
       bytes-append (p .bytes (p .head x)) (area a (p .texts x) ++ replicate z 0) (b (p .head x) (l .head-ok x o))
       (bytes-append (area a (p .texts x)) (replicate z 0) (area-bytes a (p .texts x) (l .texts-ok x o)) (bytes-zeros z))
 
-  -- it tells the part: equal heads count alike, so equal areas are cut alike
+  -- it tells the region: equal heads count alike, so equal areas are cut alike
   pub stored-one : (x y : p .Own) → Fits p a x → Fits p a y → stored p a z x ≡ stored p a z y → x ≡ y
   stored-one x y o r e =
       let c = cut-alike (p .bytes (p .head x)) (p .bytes (p .head y)) (l .wide (p .head x) (l .head-ok x (o .0)) ∙ sym (l .wide (p .head y) (l .head-ok y (r .0)))) e in
@@ -78,7 +78,7 @@ module _ (p : Region) (l : Lawful p) (a z : ℕ) where
   -- ---- which bytes are one
 
   module _ (s : List ℕ) where
-    -- heads as they have to be, and as many units in the area as they count, make a part
+    -- heads as they have to be, and as many units in the area as they count, make a region
     pub stored-made : length s ≡ p .wide + (a + z) → Bytes s → (h : EntryOf (p .HeadOk) (p .bytes) (midOf 0 (p .wide) s)) → AreaFilled (sum (p .counts (h .entry))) (midOf (p .wide) a s) → zeros? (drop (p .wide + a) s) ≡ true → EntryOf (Fits p a) (stored p a z) s
     stored-made n b h f c =
         let w : ℕ = p .wide in
@@ -131,10 +131,10 @@ module _ (p : Region) (l : Lawful p) (a z : ℕ) where
           subst (AreaFilled (p .units (midOf 0 (p .wide) s))) (sym stored-area)
           (subst (λ (n : ℕ). AreaFilled n (area a (p .texts x))) (sym stored-units) (area-filled a (p .texts x) (o .1) (l .texts-ok x (o .0))))
 
--- PARTS-STORE: bytes are those of parts whose texts fit exactly if each part's heads stand in their bytes, the units that they count in the area, and zeros behind
-pub parts-store : (ps : List Region) → AllLawful ps → (a z : ℕ) (s : List ℕ) → length s ≡ whole ps .wide + (a + z) → Bytes s
+-- REGIONS-STORE: bytes are those of regions whose texts fit exactly if each region's heads stand in their bytes, the units that they count in the area, and zeros behind
+pub regions-store : (ps : List Region) → AllLawful ps → (a z : ℕ) (s : List ℕ) → length s ≡ whole ps .wide + (a + z) → Bytes s
     → (Stand ps 0 s × AreaFilled (units-from ps 0 s) (midOf (whole ps .wide) a s) × (zeros? (drop (whole ps .wide + a) s) ≡ true)) ↔ EntryOf (Fits (whole ps) a) (stored (whole ps) a z) s
-parts-store ps k a z s n b =
+regions-store ps k a z s n b =
     let p = whole ps in
     let l = whole-lawful ps k in
     let t = stand-all ps k 0 s in (

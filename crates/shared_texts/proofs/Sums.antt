@@ -6,7 +6,7 @@ use Rattle.writing.specs.declared.Kind.the-variants.{GroupContacts, IndividualC
 use Rattle.writing.specs.Settings.{Text}
 use Rattle.tables.specs.Owns.{Own, own, put-own}
 use Rattle.tables.specs.Tables.{Tables}
-use Rattle.shared_texts.specs.Texts.{text-tables, present, texts-in, units-of, text-sum, table-sum, text-size, units-before}
+use Rattle.shared_texts.specs.Texts.{text-kinds, text-tables, present, texts-in, units-of, text-sum, table-sum, text-size, units-before}
 use Rattle.shared_texts.proofs.RegionLaws.{sum-append}
 
 -- the units of texts, and then of others
@@ -112,3 +112,7 @@ sum-stays k t x e = omega (arith, sum-put k t x, size-part k t)
 pub sum-tables : (tables : List (List (Option Text))) → 2 * units-of (texts-in tables) ≡ sum (map table-sum tables)
 sum-tables [] = refl
 sum-tables (os ∷ tables) = omega (arith, units-append (present os) (texts-in tables), sum-tables tables)
+
+-- SUM-KINDS: kind by kind
+pub sum-kinds : (t : Tables) → text-sum t ≡ sum (map (λ k. text-size k (own k t)) text-kinds)
+sum-kinds t = sum-tables (text-tables t)

@@ -13,17 +13,16 @@ use Rattle.tables.specs.Tables.{Tables, GroupMember, IndividualMember, Line}
 use Rattle.tables.proofs.EntryCodes.{line-code}
 use Rattle.tables.proofs.FixedCodes.{hash-code}
 use Rattle.tables.proofs.Frames.{region-get}
-use Rattle.tables.proofs.LayoutLaws.{list-wide}
 use Rattle.tables.proofs.TextCodes.{digits-length}
 use Rattle.tables.proofs.TextLaws.{text-padded}
 use Rattle.shared_texts.specs.Heads.{text-halves, line-halves, member-halves, quick-head, status-head, line-head, group-head, individual-head, quick-own, status-own, member-own, line-own}
-use Rattle.shared_texts.specs.Moves.{spread, loaded-run, loaded, saved-run, saved-area, saved, work-sum}
+use Rattle.shared_texts.specs.Moves.{spread, loaded-run, loaded, saved-run, saved-area, saved, run-sum, work-sum}
 use Rattle.shared_texts.specs.Shared.{quick-heads-size, status-heads-size, member-heads-size, line-slot-heads-size, contact-heads-size, line-heads-size, status-heads-at, group-heads-at, individual-heads-at, line-slot-heads-at, group-contact-heads-at, individual-contact-heads-at, shared-channels-at, line-heads-at, heads-size, shared-size, shared-layout, Run, text-runs, heads-in, slots-in, no-run, counted-before}
-use Rattle.shared_texts.specs.Texts.{text-tables, texts-in, texts-of, text-sum, units-of, units-before, unit-bytes, area}
+use Rattle.shared_texts.specs.Texts.{text-tables, texts-in, texts-of, text-sum, units-of, units-before, table-sum, unit-bytes, area}
 use Rattle.shared_texts.proofs.Cuts.{area-is}
 use Rattle.shared_texts.proofs.MoveLaws.{Formed}
-use Rattle.shared_texts.proofs.RunLaws.{AllMoved, table-moved, list-moved, before-counted, run-heads, run-length, run-loads, run-texts, run-sum}
-use Rattle.shared_texts.proofs.SharedFrames.{counted-wide, line-long, mid-parts, shared-get}
+use Rattle.shared_texts.proofs.RunLaws.{AllMoved, table-moved, list-moved, before-counted, run-heads, run-length, run-loads, run-texts, run-placed, runs-placed}
+use Rattle.shared_texts.proofs.SharedFrames.{ListAt, FollowedAt, line-long, list-at, followed-at, shared-get}
 
 -- ---- entries in both forms
 
@@ -98,39 +97,25 @@ module _ (lim : Limits) (a : ℕ) (t : Tables) (ok : Allowed lim t) where
   abbrev w : List ℕ
   w = layout lim t
 
-  -- ---- list tables: a count, and then places
+  -- ---- list tables, in both
 
-  -- group contacts
-  groups-stored : (midOf group-contact-heads-at count-size s ≡ u16 (length (t .group-contacts))) × (midOf (group-contact-heads-at + count-size) (contact-places * suc member-own) s ≡ places (suc member-own) group-slot (front contact-places (t .group-contacts)))
-  groups-stored = mid-parts group-contact-heads-at count-size (contact-places * suc member-own) s (u16 (length (t .group-contacts))) _ refl (shared-get lim a t ok 9 (omega arith) group-contact-heads-at contact-heads-size refl refl)
+  groups-stored : ListAt (suc member-own) group-slot contact-places group-contact-heads-at s (t .group-contacts)
+  groups-stored = list-at (suc member-own) group-slot contact-places group-contact-heads-at s (t .group-contacts) (shared-get lim a t ok 9 (omega arith) group-contact-heads-at contact-heads-size refl refl)
 
-  groups-worked : (midOf group-contacts-at count-size w ≡ u16 (length (t .group-contacts))) × (midOf (group-contacts-at + count-size) (contact-places * member-width) w ≡ places member-width group-bytes (front contact-places (t .group-contacts)))
-  groups-worked = mid-parts group-contacts-at count-size (contact-places * member-width) w (u16 (length (t .group-contacts))) _ refl (region-get lim t ok 9 (omega arith) group-contacts-at contacts-size refl refl)
+  groups-worked : ListAt member-width group-bytes contact-places group-contacts-at w (t .group-contacts)
+  groups-worked = list-at member-width group-bytes contact-places group-contacts-at w (t .group-contacts) (region-get lim t ok 9 (omega arith) group-contacts-at contacts-size refl refl)
 
-  -- individual contacts
-  individuals-stored : (midOf individual-contact-heads-at count-size s ≡ u16 (length (t .individual-contacts))) × (midOf (individual-contact-heads-at + count-size) (contact-places * suc member-own) s ≡ places (suc member-own) individual-slot (front contact-places (t .individual-contacts)))
-  individuals-stored = mid-parts individual-contact-heads-at count-size (contact-places * suc member-own) s (u16 (length (t .individual-contacts))) _ refl (shared-get lim a t ok 10 (omega arith) individual-contact-heads-at contact-heads-size refl refl)
+  individuals-stored : ListAt (suc member-own) individual-slot contact-places individual-contact-heads-at s (t .individual-contacts)
+  individuals-stored = list-at (suc member-own) individual-slot contact-places individual-contact-heads-at s (t .individual-contacts) (shared-get lim a t ok 10 (omega arith) individual-contact-heads-at contact-heads-size refl refl)
 
-  individuals-worked : (midOf individual-contacts-at count-size w ≡ u16 (length (t .individual-contacts))) × (midOf (individual-contacts-at + count-size) (contact-places * member-width) w ≡ places member-width individual-bytes (front contact-places (t .individual-contacts)))
-  individuals-worked = mid-parts individual-contacts-at count-size (contact-places * member-width) w (u16 (length (t .individual-contacts))) _ refl (region-get lim t ok 10 (omega arith) individual-contacts-at contacts-size refl refl)
+  individuals-worked : ListAt member-width individual-bytes contact-places individual-contacts-at w (t .individual-contacts)
+  individuals-worked = list-at member-width individual-bytes contact-places individual-contacts-at w (t .individual-contacts) (region-get lim t ok 10 (omega arith) individual-contacts-at contacts-size refl refl)
 
-  -- the lines before their order, and the order
-  lines-stored : (midOf (line-heads-at lim) (count-size + lim .lines * suc line-own) s ≡ counted (suc line-own) line-slot (lim .lines) (t .lines)) × (midOf (line-heads-at lim + (count-size + lim .lines * suc line-own)) (lim .lines) s ≡ order-bytes (lim .lines) (line-order (t .lines)))
-  lines-stored =
-      mid-parts (line-heads-at lim) (count-size + lim .lines * suc line-own) (lim .lines) s (counted (suc line-own) line-slot (lim .lines) (t .lines)) _ (counted-wide (suc line-own) line-slot line-long (lim .lines) (t .lines))
-      (shared-get lim a t ok 12 (omega arith) (line-heads-at lim) (line-heads-size lim) (omega arith) refl)
+  lines-stored : FollowedAt (suc line-own) line-slot (lim .lines) (line-heads-at lim) s (t .lines) (order-bytes (lim .lines) (line-order (t .lines)))
+  lines-stored = followed-at (suc line-own) line-slot line-long (lim .lines) (line-heads-at lim) s (t .lines) _ (shared-get lim a t ok 12 (omega arith) (line-heads-at lim) (line-heads-size lim) (omega arith) refl)
 
-  lines-worked : (midOf (lines-at lim) (count-size + lim .lines * line-width) w ≡ counted line-width line-bytes (lim .lines) (t .lines)) × (midOf (lines-at lim + (count-size + lim .lines * line-width)) (lim .lines) w ≡ order-bytes (lim .lines) (line-order (t .lines)))
-  lines-worked =
-      mid-parts (lines-at lim) (count-size + lim .lines * line-width) (lim .lines) w (counted line-width line-bytes (lim .lines) (t .lines)) _ (list-wide line-code (lim .lines) (t .lines))
-      (region-get lim t ok 12 (omega arith) (lines-at lim) (lines-size lim) (omega arith) refl)
-
-  -- their count, and their places
-  line-places-stored : (midOf (line-heads-at lim) count-size s ≡ u16 (length (t .lines))) × (midOf (line-heads-at lim + count-size) (lim .lines * suc line-own) s ≡ places (suc line-own) line-slot (front (lim .lines) (t .lines)))
-  line-places-stored = mid-parts (line-heads-at lim) count-size (lim .lines * suc line-own) s (u16 (length (t .lines))) _ refl (lines-stored .0)
-
-  line-places-worked : (midOf (lines-at lim) count-size w ≡ u16 (length (t .lines))) × (midOf (lines-at lim + count-size) (lim .lines * line-width) w ≡ places line-width line-bytes (front (lim .lines) (t .lines)))
-  line-places-worked = mid-parts (lines-at lim) count-size (lim .lines * line-width) w (u16 (length (t .lines))) _ refl (lines-worked .0)
+  lines-worked : FollowedAt line-width line-bytes (lim .lines) (lines-at lim) w (t .lines) (order-bytes (lim .lines) (line-order (t .lines)))
+  lines-worked = followed-at line-width line-bytes (line-code .long) (lim .lines) (lines-at lim) w (t .lines) _ (region-get lim t ok 12 (omega arith) (lines-at lim) (lines-size lim) (omega arith) refl)
 
   -- ---- tables that have texts
 
@@ -152,7 +137,7 @@ module _ (lim : Limits) (a : ℕ) (t : Tables) (ok : Allowed lim t) where
       let individual-contacts = list-moved IndividualOk (λ i. i .text) member-own 16 individual-slot individual-bytes individual-formed s w (individual-contact-heads-at + count-size) (individual-contacts-at + count-size) contact-places (t .individual-contacts) (ok .individual-contacts .0) (ok .individual-contacts .1)
       (individuals-stored .1) (individuals-worked .1) in
       let lines = list-moved LineOk (λ l. l .text) line-own 16 line-slot line-bytes line-formed s w (line-heads-at lim + count-size) (lines-at lim + count-size) (lim .lines) (t .lines) (ok .lines .0) (ok .lines .1)
-      (line-places-stored .1) (line-places-worked .1) in
+      (lines-stored .0 .1) (lines-worked .0 .1) in
       (quick, (status, (groups, (individuals, (line-slots, (group-contacts, (individual-contacts, (lines, tt))))))))
 
   -- ROW-PLACE: the last bytes of the heads before a row say how many units stand before its text
@@ -165,7 +150,11 @@ module _ (lim : Limits) (a : ℕ) (t : Tables) (ok : Allowed lim t) where
 
   -- WORK-SUM-IS: the sum of the texts, read from a working copy
   pub work-sum-is : work-sum lim w ≡ text-sum t
-  work-sum-is = ap (λ (i : ℕ). 2 * i) (run-sum s w (text-runs lim) (text-tables t) all-moved)
+  work-sum-is = ap (λ (i : ℕ). 2 * i) (runs-placed s w (text-runs lim) (text-tables t) all-moved)
+
+  -- TABLE-SUM-IS: and that of one table
+  pub table-sum-is : (k : ℕ) → k < 8 → run-sum w (getD (text-runs lim) k no-run) ≡ table-sum (getD (text-tables t) k [])
+  table-sum-is k h = ap (λ (i : ℕ). 2 * i) (run-placed s w (text-runs lim) (text-tables t) all-moved k h)
 
   -- table k's heads are what its slots keep beside the texts, and the units that stand there
   saved-heads : (k : ℕ) → k < 8 → saved-run lim w k ≡ heads-in s (getD (text-runs lim) k no-run)
@@ -225,8 +214,8 @@ module _ (lim : Limits) (a : ℕ) (t : Tables) (ok : Allowed lim t) where
       let k = individuals-worked .0 in
       let u = saved-heads 6 (omega arith) ∙ individuals-stored .1 in
       let c = region-get lim t ok 11 (omega arith) channels-at (channels-size lim) refl refl in
-      let m = line-places-worked .0 in
-      let l = saved-heads 7 (omega arith) ∙ line-places-stored .1 in
+      let m = lines-worked .0 .0 in
+      let l = saved-heads 7 (omega arith) ∙ lines-stored .0 .1 in
       let o = lines-worked .1 in
       rebuilt f q p g v d j e k u c m l o (ap (λ (x : List ℕ). x ∷ replicate (lim .size - shared-size lim a) 0 ∷ []) saved-texts) ∙ sym (fixed-front _)
 
@@ -245,8 +234,8 @@ module _ (lim : Limits) (a : ℕ) (t : Tables) (ok : Allowed lim t) where
       let k = individuals-stored .0 in
       let u = loaded-table room 6 (omega arith) ∙ individuals-worked .1 in
       let c = shared-get lim a t ok 11 (omega arith) shared-channels-at (channels-size lim) refl refl in
-      let m = line-places-stored .0 in
-      let l = loaded-table room 7 (omega arith) ∙ line-places-worked .1 in
+      let m = lines-stored .0 .0 in
+      let l = loaded-table room 7 (omega arith) ∙ lines-worked .0 .1 in
       let o = lines-stored .1 in
       let z : List (List ℕ) = replicate (lim .size - used-size lim) 0 ∷ [] in
       rebuilt {z = z} f q p g v d j e k u c m l o refl ∙ sym (fixed-front _)

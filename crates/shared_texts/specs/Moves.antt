@@ -8,7 +8,7 @@ use Rattle.slots.specs.Slots.{flat, sum, pad, zeros?}
 use Rattle.tables.specs.declared.limits.Limits.{Limits}
 use Rattle.tables.specs.Layout.{count-size, channels-size, line-width, used-size, quick-at, group-contacts-at, individual-contacts-at, channels-at, lines-at}
 use Rattle.shared_texts.specs.Heads.{line-own}
-use Rattle.shared_texts.specs.Shared.{heads-size, shared-size, group-contact-heads-at, individual-contact-heads-at, shared-channels-at, line-heads-at, text-runs, no-run, heads-in, slots-in, counted-before}
+use Rattle.shared_texts.specs.Shared.{heads-size, shared-size, group-contact-heads-at, individual-contact-heads-at, shared-channels-at, line-heads-at, Run, text-runs, no-run, heads-in, slots-in, counted-before}
 
 -- ---- loading
 
@@ -105,6 +105,16 @@ saved lim a w =
     ∷ replicate (lim .size - shared-size lim a) 0
     ∷ [])
 
--- the bytes of the texts that stand in a working copy
+-- ---- the sum, read from a working copy
+
+-- the units that stand in a table's slots
+abbrev pub slots-units : List ℕ → Run → ℕ
+slots-units w x = placed-units (x .own) (x .room) (x .many) (slots-in w x)
+
+-- the bytes that they take
+abbrev pub run-sum : List ℕ → Run → ℕ
+run-sum w x = 2 * slots-units w x
+
+-- and those of all tables
 abbrev pub work-sum : Limits → List ℕ → ℕ
-work-sum lim w = 2 * sum (map (λ x. placed-units (x .own) (x .room) (x .many) (slots-in w x)) (text-runs lim))
+work-sum lim w = 2 * sum (map (slots-units w) (text-runs lim))

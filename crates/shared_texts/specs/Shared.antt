@@ -15,7 +15,7 @@ use Rattle.tables.specs.Layout.{counted, hash-bytes, key-bytes, home-bytes, sys
 use Rattle.tables.specs.Limits.{quick-places, status-places, slot-places, contact-places}
 use Rattle.tables.specs.MemberKinds.{contact-key}
 use Rattle.tables.specs.Order.{line-order}
-use Rattle.tables.specs.Tables.{Tables, Key, Line, line-key}
+use Rattle.tables.specs.Tables.{Tables, Key}
 use Rattle.shared_texts.specs.Heads.{text-halves, line-halves, member-halves, head-key, group-head-key, individual-head-key, head-order, QuickHeadOk, StatusHeadOk, LineHeadOk, GroupHeadOk, IndividualHeadOk, quick-head, status-head, line-head, group-head, individual-head, quick-own, status-own, member-own, line-own}
 use Rattle.shared_texts.specs.Regions.{Region, plain, table, listed, followed, last-bytes, Stand}
 use Rattle.shared_texts.specs.Texts.{text-tables, texts-of, text-sum, units-before, area, AreaFilled}
@@ -180,9 +180,39 @@ stored-units lim s = sum (map (λ x. run-units s (x .many) x) (text-runs lim))
 
 -- ---- what is looked at to know whether bytes are such a store
 
--- the heads of the lines, and their order behind them
+abbrev pub quick-region : Region
+quick-region = table text-halves QuickOk QuickHeadOk quick-places quick-own quick-head
+
+abbrev pub status-region : Region
+status-region = table text-halves StatusOk StatusHeadOk status-places status-own status-head
+
+abbrev pub groups-region : Region
+groups-region = table member-halves GroupOk GroupHeadOk slot-places member-own group-head
+
+abbrev pub individuals-region : Region
+individuals-region = table member-halves IndividualOk IndividualHeadOk slot-places member-own individual-head
+
+abbrev pub line-slots-region : Region
+line-slots-region = table line-halves LineOk LineHeadOk slot-places line-own line-head
+
+-- no two contacts have one address
+abbrev pub group-contacts-region : Region
+group-contacts-region =
+    listed member-halves (KeyedOk GroupOk (contact-key OfGroups) contact-places) (KeyedOk GroupHeadOk group-head-key contact-places) contact-places member-own group-head
+
+abbrev pub individual-contacts-region : Region
+individual-contacts-region =
+    listed member-halves (KeyedOk IndividualOk (contact-key OfIndividuals) contact-places) (KeyedOk IndividualHeadOk individual-head-key contact-places) contact-places member-own individual-head
+
+abbrev pub channels-region : ℕ → Region
+channels-region n = plain (ListOk InChannel n) (count-size + n * channel-width) (counted channel-width u16 n)
+
+-- no two lines have one key; their order stands behind them
+abbrev pub line-list : ℕ → Region
+line-list n = listed line-halves (LinesOk n) (KeyedOk LineHeadOk head-key n) n line-own line-head
+
 abbrev pub lines-region : ℕ → Region
-lines-region n = followed (listed line-halves (LinesOk n) (KeyedOk LineHeadOk head-key n) n line-own line-head) n (λ hs. order-bytes n (head-order hs))
+lines-region n = followed (line-list n) n (λ hs. order-bytes n (head-order hs))
 
 -- the regions, in two halves each
 abbrev pub store-regions : Limits → List Region
@@ -191,14 +221,14 @@ store-regions lim =
     ∷ plain (λ (k : Key). TargetOk (k .target)) key-size key-bytes
     ∷ plain HomeOk home-size home-bytes
     ∷ plain SystemOk system-size system-bytes
-    ∷ table text-halves QuickOk QuickHeadOk quick-places quick-own quick-head
-    ∷ table text-halves StatusOk StatusHeadOk status-places status-own status-head
-    ∷ table member-halves GroupOk GroupHeadOk slot-places member-own group-head
-    ∷ table member-halves IndividualOk IndividualHeadOk slot-places member-own individual-head
-    ∷ table line-halves LineOk LineHeadOk slot-places line-own line-head
-    ∷ listed member-halves (KeyedOk GroupOk (contact-key OfGroups) contact-places) (KeyedOk GroupHeadOk group-head-key contact-places) contact-places member-own group-head
-    ∷ listed member-halves (KeyedOk IndividualOk (contact-key OfIndividuals) contact-places) (KeyedOk IndividualHeadOk individual-head-key contact-places) contact-places member-own individual-head
-    ∷ plain (ListOk InChannel (lim .channels)) (channels-size lim) (counted channel-width u16 (lim .channels))
+    ∷ quick-region
+    ∷ status-region
+    ∷ groups-region
+    ∷ individuals-region
+    ∷ line-slots-region
+    ∷ group-contacts-region
+    ∷ individual-contacts-region
+    ∷ channels-region (lim .channels)
     ∷ lines-region (lim .lines)
     ∷ []
 
