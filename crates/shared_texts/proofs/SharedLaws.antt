@@ -13,7 +13,7 @@ use Rattle.writing.specs.Ranges.{InChannel}
 use Rattle.writing.specs.Settings.{Text}
 use Rattle.tables.specs.declared.limits.Limits.{Limits}
 use Rattle.tables.specs.declared.members.Members.the-variants.{OfGroups, OfIndividuals}
-use Rattle.tables.specs.Allowed.{Allowed, HashOk, TargetOk, HomeOk, SystemOk, QuickOk, StatusOk, GroupOk, IndividualOk, LineOk, PlacesOk, ListOk, KeyedOk}
+use Rattle.tables.specs.Allowed.{Allowed, HashOk, TargetOk, HomeOk, SystemOk, LineOk, PlacesOk, ListOk, KeyedOk}
 use Rattle.tables.specs.Layout.{counted, hash-bytes, key-bytes, home-bytes, system-bytes, hash-size, key-size, home-size, system-size, key-at, home-at, system-at, quick-at, channel-width, channels-size, count-size}
 use Rattle.tables.specs.Limits.{quick-places, status-places, slot-places, contact-places}
 use Rattle.tables.specs.MemberKinds.{contact-key}
@@ -150,8 +150,9 @@ module _ (lim : Limits) where
   -- allowed tables are regions as they have to be
   regions-ok : (t : Tables) → Allowed lim t → all .Ok (regions-of t)
   regions-ok t p =
-      (p .hash, (p .key, (p .home, (p .system, (p .quick, (p .status, (p .groups, (p .individuals, (p .line-slots, ((p .group-contacts, p .distinct-groups),
-      ((p .individual-contacts, p .distinct-individuals), (p .channels, ((p .lines, p .distinct), tt)))))))))))))
+      let g = p .distinct-groups in
+      let i = p .distinct-individuals in
+      (p .hash, (p .key, (p .home, (p .system, (p .quick, (p .status, (p .groups, (p .individuals, (p .line-slots, ((p .group-contacts, g), ((p .individual-contacts, i), (p .channels, ((p .lines, p .distinct), tt)))))))))))))
 
   -- and such regions are allowed tables
   tables-ok : (x : all .Own) → all .Ok x → Allowed lim (tables-of x)

@@ -1,11 +1,11 @@
 -- A store with shared texts and a working copy with texts in places of their own, of the same tables: how each is made of the other. Assumes nothing.
 use Rattle.lists.proofs.Kit.{ℕ, suc, _+_, _*_, _-_, _≤_, _<_, _≡_, refl, sym, ap, ap₂, _∙_, List, [], _∷_, _++_, map, append-assoc, none, some, arith, midOf, length, take, drop, getD, replicate, length-append, take-at}
-use Rattle.slots.specs.Slots.{flat, pad, places, front, u16, u24}
+use Rattle.slots.specs.Slots.{flat, pad, u24}
 use Rattle.orders.specs.OrderParts.{order-bytes}
 use Rattle.writing.specs.Settings.{Text}
 use Rattle.tables.specs.declared.limits.Limits.{Limits}
 use Rattle.tables.specs.Allowed.{Allowed, QuickOk, StatusOk, GroupOk, IndividualOk, LineOk}
-use Rattle.tables.specs.Layout.{layout, counted, hash-bytes, key-bytes, home-bytes, system-bytes, quick-bytes, status-bytes, group-bytes, individual-bytes, line-bytes, group-flags, individual-flags, count-size, member-width, line-width, channel-width, contacts-size, channels-size, lines-size, quick-size, status-size, member-size, line-slots-size, used-size, quick-at, status-at, groups-at, individuals-at, line-slots-at, group-contacts-at, individual-contacts-at, channels-at, lines-at}
+use Rattle.tables.specs.Layout.{layout, hash-bytes, key-bytes, home-bytes, system-bytes, quick-bytes, status-bytes, group-bytes, individual-bytes, line-bytes, group-flags, individual-flags, count-size, member-width, line-width, contacts-size, channels-size, lines-size, quick-size, status-size, member-size, line-slots-size, used-size, quick-at, status-at, groups-at, individuals-at, line-slots-at, group-contacts-at, individual-contacts-at, channels-at, lines-at}
 use Rattle.tables.specs.LineHeads.{head-bytes}
 use Rattle.tables.specs.Limits.{quick-places, status-places, slot-places, contact-places}
 use Rattle.tables.specs.Order.{line-order}
