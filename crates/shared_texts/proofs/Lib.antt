@@ -4,6 +4,7 @@ pub mod FreshShared
 pub mod HeadCodes
 pub mod MoveLaws
 pub mod RegionLaws
+pub mod RoomLaws
 pub mod Rows
 pub mod RunLaws
 pub mod SharedFrames
