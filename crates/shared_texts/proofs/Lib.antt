@@ -1,5 +1,6 @@
 pub mod AreaChecks
 pub mod Cuts
+pub mod Examples
 pub mod FreshShared
 pub mod HeadCodes
 pub mod MoveLaws
