@@ -1,6 +1,6 @@
 -- When a setting has no room where texts share an area, and what one that has room leaves. Assumes nothing.
-use Rattle.lists.proofs.Kit.{ℕ, _+_, _-_, _≤_, _<_, _≡_, refl, sym, ap, _∙_, subst, Bool, true, false, cond, true≢false, _↔_, _⊎_, inl, inr, List, [], _∷_, Option, none, some, Option·some-injective, Option·some-ne-none, Option·none-ne-some, arith, leb, leb-true, le-leb}
-use borrow.Author.Tests.{leb-false}
+use Rattle.lists.proofs.Kit.{ℕ, _+_, _-_, _≤_, _<_, _≡_, refl, sym, ap, _∙_, subst, Bool, true, false, cond, true≢false, _↔_, _⊎_, inl, inr, List, [], _∷_, Option, none, some, Option·some-injective, Option·some-ne-none, Option·none-ne-some, arith, leb-true, le-leb}
+use borrow.Author.Tests.{leb-false, lt-leb}
 use Rattle.writing.specs.declared.Coding.{Coding}
 use Rattle.writing.specs.declared.Kind.{Kind}
 use Rattle.writing.specs.declared.Kind.the-variants.{GroupContacts, IndividualContacts, Lines, QuickTexts, Channels, StatusTexts, Group, Individual, LineSlot}
@@ -21,21 +21,22 @@ use Rattle.shared_texts.proofs.Sums.{sum-put, sum-kinds}
 
 -- ---- within the area
 
+-- what is kept where a test says so
+kept-some : (b : Bool) (P : Type 0) → (b ≡ true) ↔ P → (t u : Tables) → (cond b (some t) none ≡ some u) ↔ ((t ≡ u) × P)
+kept-some true P h t u = (λ e. (Option·some-injective t u e, h .0 refl), λ p. ap some (p .0))
+kept-some false P h t u = (λ e. absurd (Option·none-ne-some u e), λ p. absurd (true≢false (sym (h .1 (p .1)))))
+
+kept-none : (b : Bool) (P : Type 0) → (b ≡ false) ↔ P → (t : Tables) → (cond b (some t) none ≡ none) ↔ P
+kept-none true P h t = (λ e. absurd (Option·some-ne-none t e), λ p. absurd (true≢false (h .1 p)))
+kept-none false P h t = (λ e. h .0 refl, λ p. refl)
+
 -- tables within it stay
 within-some : (a : ℕ) (t u : Tables) → (within a t ≡ some u) ↔ ((t ≡ u) × (text-sum t ≤ a))
-within-some a t u = go (leb (text-sum t) a) refl
-  where
-    go : (b : Bool) → leb (text-sum t) a ≡ b → (cond b (some t) none ≡ some u) ↔ ((t ≡ u) × (text-sum t ≤ a))
-    go true e = (λ h. (Option·some-injective t u h, leb-true _ _ e), λ p. ap some (p .0))
-    go false e = (λ h. absurd (Option·none-ne-some u h), λ p. absurd (true≢false (sym (le-leb _ _ (p .1)) ∙ e)))
+within-some a t u = kept-some _ (text-sum t ≤ a) (leb-true _ _, le-leb _ _) t u
 
 -- others have no room
 within-none : (a : ℕ) (t : Tables) → (within a t ≡ none) ↔ (a < text-sum t)
-within-none a t = go (leb (text-sum t) a) refl
-  where
-    go : (b : Bool) → leb (text-sum t) a ≡ b → (cond b (some t) none ≡ none) ↔ (a < text-sum t)
-    go true e = (λ h. absurd (Option·some-ne-none t h), λ p. absurd (omega (arith, leb-true (text-sum t) a e)))
-    go false e = (λ h. leb-false (text-sum t) a e, λ p. refl)
+within-none a t = kept-none _ (a < text-sum t) (leb-false _ _, lt-leb _ _) t
 
 -- what comes of two steps came of both
 then-some : (o : Option Tables) (f : Tables → Option Tables) (u : Tables) → and-then o f ≡ some u → (v : Tables) × (o ≡ some v) × (f v ≡ some u)
