@@ -6,9 +6,10 @@ use Rattle.slots.specs.Slots.{flat, places, front, Present, sum}
 use Rattle.slots.proofs.Parts.{flat-append}
 use Rattle.slots.proofs.Tables.{all-front, front-length}
 use Rattle.writing.specs.Settings.{Text}
+use Rattle.shared_texts.specs.declared.Run.{Run}
 use Rattle.shared_texts.specs.Moves.{spread, gathered-heads, gathered-texts, placed-units, slots-units}
 use Rattle.shared_texts.specs.Regions.{row-units, last-bytes}
-use Rattle.shared_texts.specs.Shared.{Run, heads-in, slots-in, run-units, no-run, counted-before}
+use Rattle.shared_texts.specs.Shared.{heads-in, slots-in, run-units, no-run, counted-before}
 use Rattle.shared_texts.specs.Texts.{rows, present, texts-in, units-of, units-before, unit-bytes}
 use Rattle.shared_texts.proofs.Cuts.{texts-length}
 use Rattle.shared_texts.proofs.MoveLaws.{Formed, spread-places, heads-gathered, texts-gathered, units-placed}

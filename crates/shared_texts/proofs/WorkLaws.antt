@@ -16,8 +16,9 @@ use Rattle.tables.proofs.Frames.{region-get}
 use Rattle.tables.proofs.TextCodes.{digits-length}
 use Rattle.tables.proofs.TextLaws.{text-padded}
 use Rattle.shared_texts.specs.Heads.{text-halves, line-halves, member-halves, quick-head, status-head, line-head, group-head, individual-head, quick-own, status-own, member-own, line-own}
+use Rattle.shared_texts.specs.declared.Run.{Run}
 use Rattle.shared_texts.specs.Moves.{spread, loaded-run, loaded, saved-run, saved-area, saved, run-sum, work-sum}
-use Rattle.shared_texts.specs.Shared.{quick-heads-size, status-heads-size, member-heads-size, line-slot-heads-size, contact-heads-size, line-heads-size, status-heads-at, group-heads-at, individual-heads-at, line-slot-heads-at, group-contact-heads-at, individual-contact-heads-at, shared-channels-at, line-heads-at, heads-size, shared-size, shared-layout, Run, text-runs, heads-in, slots-in, no-run, counted-before}
+use Rattle.shared_texts.specs.Shared.{quick-heads-size, status-heads-size, member-heads-size, line-slot-heads-size, contact-heads-size, line-heads-size, status-heads-at, group-heads-at, individual-heads-at, line-slot-heads-at, group-contact-heads-at, individual-contact-heads-at, shared-channels-at, line-heads-at, heads-size, shared-size, shared-layout, text-runs, heads-in, slots-in, no-run, counted-before}
 use Rattle.shared_texts.specs.Texts.{text-tables, texts-in, texts-of, text-sum, units-of, units-before, table-sum, unit-bytes, area}
 use Rattle.shared_texts.proofs.Cuts.{area-is}
 use Rattle.shared_texts.proofs.MoveLaws.{Formed}

@@ -16,6 +16,7 @@ use Rattle.tables.specs.Limits.{quick-places, status-places, slot-places, conta
 use Rattle.tables.specs.MemberKinds.{contact-key}
 use Rattle.tables.specs.Order.{line-order}
 use Rattle.tables.specs.Tables.{Tables, Key}
+use Rattle.shared_texts.specs.declared.Run.{Run}
 use Rattle.shared_texts.specs.Heads.{text-halves, line-halves, member-halves, head-key, group-head-key, individual-head-key, head-order, QuickHeadOk, StatusHeadOk, LineHeadOk, GroupHeadOk, IndividualHeadOk, quick-head, status-head, line-head, group-head, individual-head, quick-own, status-own, member-own, line-own}
 use Rattle.shared_texts.specs.Regions.{Region, plain, table, listed, followed, last-bytes, Stand}
 use Rattle.shared_texts.specs.Texts.{text-tables, texts-of, text-sum, units-before, area, AreaFilled}
@@ -132,14 +133,6 @@ pub record IsShared (lim : Limits) (a : ℕ) (bytes : List ℕ) : Type 0 where
 -- the first byte of the text in row r of table k of those that have texts: the area's start, and all texts before it
 abbrev pub text-start : Limits → Tables → ℕ → ℕ → ℕ
 text-start lim t k r = heads-size lim + 2 * units-before (text-tables t) k r
-
--- a table that has texts, in both forms of a store. Its slots have `own` bytes in both, and then a number of units here, or `room` bytes for the text there
-pub record Run : Type 0 where
-  pub start : ℕ  -- where its slots start here
-  pub from : ℕ  -- where they start in a store whose texts have places of their own
-  pub own : ℕ
-  pub room : ℕ
-  pub many : ℕ
 
 -- the tables that have texts, in the order of `text-kinds`
 abbrev pub text-runs : Limits → List Run
