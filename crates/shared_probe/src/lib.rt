@@ -1,4 +1,5 @@
 // A probe: the loops of A11's code over the laws of shared_texts.
+pub mod working;
 use slots::bytes::copy_padded;
 use slots::bytes::is_clear;
 use slots::slots::used;
