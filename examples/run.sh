@@ -6,7 +6,7 @@ set -u
 cd "$(dirname "$0")/.." || exit 1
 . tests/steps.sh
 
-# What a header itself says, seen alone: no warning in any of these languages. The office's takes no harm from the other, before it or behind it.
+# What a header itself says, seen alone: no warning in any of these languages. The others take no harm from otap.h, before it or behind it.
 header_as() {
     language=$1 standard=$2 compiler=$3
     shift 3
@@ -31,11 +31,13 @@ snippet_quoted() {
 
 for standard in c99 c11; do
     step "header as $standard" header_as c $standard "$CC" otap
+    step "vehicle's header as $standard" header_as c $standard "$CC" otap_vehicle
     step "office's header as $standard" header_as c $standard "$CC" otap_office
-    step "both headers as $standard" header_as c $standard "$CC" otap otap_office otap
+    step "all headers as $standard" header_as c $standard "$CC" otap otap_office otap_vehicle otap
 done
 for standard in c++98 c++11 c++17; do
     step "header as $standard" header_as c++ $standard "$CXX" otap
+    step "vehicle's header as $standard" header_as c++ $standard "$CXX" otap_vehicle otap
     step "office's header as $standard" header_as c++ $standard "$CXX" otap_office otap
 done
 step "snippet as C" $CC -std=c99 $warnings -c examples/snippet.c -o "$built/snippet.o"
@@ -45,7 +47,9 @@ step "snippet in README.md" snippet_quoted
 need_archive
 step "firmware as C" build_and_print firmware c c99 "$CC" "$sanitizers"
 step "firmware as C++" build_and_print firmware c++ c++11 "$CXX" "$sanitizers"
-step "office as C" with_office build_and_print office c c99 "$CC" "$sanitizers"
-step "office as C++" with_office build_and_print office c++ c++11 "$CXX" "$sanitizers"
+step "two sets as C" with "$vehicle" build_and_print two_sets c c99 "$CC" "$sanitizers"
+step "two sets as C++" with "$vehicle" build_and_print two_sets c++ c++11 "$CXX" "$sanitizers"
+step "office as C" with "$office" build_and_print office c c99 "$CC" "$sanitizers"
+step "office as C++" with "$office" build_and_print office c++ c++11 "$CXX" "$sanitizers"
 step "PTT with two tasks" build_and_print ptt c c99 "$CC" "-pthread $sanitizers"
 exit $failed

@@ -36,13 +36,37 @@ static void spoil(Input *input, Query *query, unsigned way)
     }
 }
 
+/* How many parameters the types ask for, up to the first unknown one. */
+static size_t parameters_asked(const uint8_t *types, size_t count, const uint8_t *store)
+{
+    size_t sum = 0, at = 0;
+    while (at < count && asks(types[at])) {
+        sum += entries_of(store, types[at++]);
+    }
+    return sum + (at < count);
+}
+
+/* A good query to a store is answered, unless its report has over 255 messages: all but the last have 255 parameters or no room for the next. */
+static int is_answered(const uint8_t *types, size_t count, const uint8_t *store, uint64_t first)
+{
+    size_t sum = parameters_asked(types, count, store), total = otap_report_total(first);
+    size_t least = (sum + MOST_PARAMETERS - 1) / MOST_PARAMETERS, most = 1 + sum / ((OTAP_REPORT_BYTES - OTAP_REPORT_FIRST) / LONGEST_PARAMETER);
+    int answered = otap_answer_number(first) == OTAP_OK;
+    must(answered || first == OTAP_BAD_FIELD, "a good query is answered with a first message, or is 4");
+    must(answered ? total >= least && total <= most : MOST_MESSAGES == 255 && most > 255, "as many messages as the parameters need");
+    return answered;
+}
+
 /* A good query to a store: the message of this index, or 16 exactly where there is none. */
 static void check_asked(const Query *query, uint32_t index, const uint8_t *types, size_t count, const uint8_t *store, uint64_t answer)
 {
     static uint8_t message[OTAP_REPORT_BYTES];
     uint64_t first = report_once(query, 1, store, OTAP_STORE_BYTES, OTAP_REPORT_BYTES, 0, message);
     int there = index >= 1 && index <= otap_report_total(first);
-    must(otap_answer_number(first) == OTAP_OK, "a good query is answered with a first message");
+    if (!is_answered(types, count, store, first)) {
+        must(answer == OTAP_BAD_FIELD, "a report that is too long is 4 for every index");
+        return;
+    }
     must(otap_answer_number(answer) == (there ? OTAP_OK : OTAP_NO_MESSAGE), "16 exactly where a report has no such message");
     must(!there || otap_report_total(answer) == otap_report_total(first), "the same total in every call");
     if (count <= FEW_TYPES) {

@@ -27,10 +27,10 @@ static uint32_t row_with(const uint8_t *store, uint32_t id_type, const uint8_t *
     for (at = 0; at < length; at++) {
         key[1 + at] = (uint8_t)(digits[at] + 1);
     }
-    while (row < store[LINE_COUNT_AT] && (id_type > OTAP_PABX || !same_bytes(key, key_at(store, row), KEY_BYTES))) {
+    while (row < store[LINES_HELD_AT] && (id_type > OTAP_PABX || !same_bytes(key, key_at(store, row), KEY_BYTES))) {
         row++;
     }
-    return row < store[LINE_COUNT_AT] ? row : (uint32_t)OTAP_LINE_ROWS;
+    return row < store[LINES_HELD_AT] ? row : (uint32_t)OTAP_LINE_ROWS;
 }
 
 /* The answer to a caller of a store is the row that has its key, and no other. */
@@ -63,7 +63,7 @@ static void check_callers(const uint8_t *store)
 {
     unsigned row;
     check_order(store);
-    for (row = 0; row < store[LINE_COUNT_AT]; row++) {
+    for (row = 0; row < store[LINES_HELD_AT]; row++) {
         uint8_t digits[OTAP_DIGITS + 1];
         size_t length = digits_of(store, row, digits);
         uint32_t id_type = key_at(store, row)[0];

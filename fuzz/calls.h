@@ -7,7 +7,7 @@
 #define CALLS_H
 
 #include "lent.h"
-#include "otap.h"
+#include "set.h"
 
 /* Any bytes that the buffers hold before a call: what stays is compared with them. */
 static const uint8_t *stale(void)

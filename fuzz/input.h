@@ -2,7 +2,7 @@
 #ifndef INPUT_H
 #define INPUT_H
 
-#include "otap.h"
+#include "set.h"
 
 #include <string.h>
 

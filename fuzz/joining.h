@@ -6,7 +6,6 @@
 #define JOINING_H
 
 #include "calls.h"
-#include "otap_office.h"
 
 typedef struct {
     const uint8_t *bytes;
@@ -149,7 +148,7 @@ static uint64_t check_joined(const Request *first, const Request *second, size_t
     return answer;
 }
 
-/* Each exported part with the one behind it: long requests, which an input is too short to hold. */
+/* Each exported part with itself and with the one behind it: long requests, which an input is too short to hold. */
 static void join_exports(const uint8_t *store)
 {
     static uint8_t parts[2][OTAP_EXPORT_BYTES];
@@ -159,6 +158,7 @@ static void join_exports(const uint8_t *store)
         Request *now = &requests[part % 2];
         now->bytes = parts[part % 2];
         now->length = otap_export_length(export_once(part, store, OTAP_STORE_BYTES, OTAP_EXPORT_BYTES, 0, parts[part % 2]));
+        check_joined(now, now, OTAP_JOIN_BYTES, store);
         if (part > 1) {
             check_joined(&requests[1 - part % 2], now, OTAP_JOIN_BYTES, store);
         }

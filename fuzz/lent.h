@@ -26,7 +26,7 @@ static void must(int holds, const char *what)
     }
 }
 
-static Lent lend(const uint8_t *bytes, size_t length, int guarded)
+static inline Lent lend(const uint8_t *bytes, size_t length, int guarded)
 {
     Lent lent;
     lent.guard = guarded ? GUARD : 0;
@@ -41,12 +41,12 @@ static Lent lend(const uint8_t *bytes, size_t length, int guarded)
     return lent;
 }
 
-static int same_bytes(const uint8_t *one, const uint8_t *two, size_t length)
+static inline int same_bytes(const uint8_t *one, const uint8_t *two, size_t length)
 {
     return length == 0 || memcmp(one, two, length) == 0;
 }
 
-static void check_guards(const Lent *lent)
+static inline void check_guards(const Lent *lent)
 {
     size_t at;
     for (at = 0; at < lent->guard; at++) {
@@ -55,7 +55,7 @@ static void check_guards(const Lent *lent)
     }
 }
 
-static void give_back(Lent *lent)
+static inline void give_back(Lent *lent)
 {
     check_guards(lent);
     free(lent->block);

@@ -6,9 +6,14 @@
 #define REPORTS_H
 
 #include "entries.h"
-#include "otap_office.h"
 
-enum { MOST_MESSAGES = 231, MOST_PARAMETERS = 255 };
+/* A hand-held's report has at most 231 messages; a vehicle's could have more than 255, and is then refused. */
+#ifdef VEHICLE
+enum { MOST_MESSAGES = 255 };
+#else
+enum { MOST_MESSAGES = 231 };
+#endif
+enum { MOST_PARAMETERS = 255, LONGEST_PARAMETER = 51 };
 
 typedef struct {
     uint8_t bytes[OTAP_MESSAGE_BYTES + 64];
@@ -139,7 +144,7 @@ static uint32_t entries_of(const uint8_t *store, unsigned type)
     case OTAP_ASK_LINES: return count_of(store, &lists[0]);
     case OTAP_ASK_GROUP_CONTACTS: return count_of(store, &lists[1]);
     case OTAP_ASK_INDIVIDUAL_CONTACTS: return count_of(store, &lists[2]);
-    case OTAP_ASK_CHANNELS: return store[12730] * 256u + store[12731];
+    case OTAP_ASK_CHANNELS: return store[CHANNEL_COUNT_AT] * 256u + store[CHANNEL_COUNT_AT + 1];
     case OTAP_ASK_QUICK_TEXTS: case OTAP_ASK_STATUS_TEXTS:
         for (row = layout[table].from; lies(table, row); row++) {
             count += (uint32_t)held(store, table, row);

@@ -7,7 +7,7 @@
 /* The tables of the screen in the store: their first row and how many they have, the first slot, its width, the bytes before its text and those of it. */
 static const struct { uint32_t from, rows; size_t first, width, before, most; } layout[OTAP_TABLES + 1] = {
     {0, 0, 0, 0, 0, 0},
-    {0, 32, 12862, 52, 20, 32}, /* lines */
+    {0, LINE_ROOM, LINES_AT, LINE_BYTES, 20, 32}, /* lines */
     {0, 64, 22, 46, 0, 46},     /* quick texts */
     {32, 96, 2966, 33, 1, 32},  /* status texts */
     {0, 16, 6134, 36, 4, 32},   /* groups */
@@ -164,7 +164,7 @@ typedef struct {
     size_t count, bytes;
 } List;
 
-static const List lists[] = {{OTAP_LINES, 12860, 19}, {OTAP_GROUP_CONTACTS, 8118, 3}, {OTAP_INDIVIDUAL_CONTACTS, 10424, 3}};
+static const List lists[] = {{OTAP_LINES, LINE_COUNT_AT, 19}, {OTAP_GROUP_CONTACTS, 8118, 3}, {OTAP_INDIVIDUAL_CONTACTS, 10424, 3}};
 
 static uint32_t count_of(const uint8_t *store, const List *list)
 {

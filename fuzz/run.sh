@@ -1,45 +1,55 @@
 #!/bin/sh
 # shellcheck disable=SC2086,SC2317,SC2329 # flags are several words, and engines are called by their names
-# fuzz/run.sh [SECONDS]: fuzzes the C functions for as long (60), with libFuzzer, else AFL++, else a driver of our own, and says which.
+# fuzz/run.sh [SECONDS]: fuzzes the C functions of each set for as long (60), with libFuzzer, else AFL++, else a driver of our own, and says which.
 # Ends with 1 on a finding, or if a check cannot fail.
 # FUZZ_WITH=libfuzzer, afl or driver asks for one; FUZZ_SEED (1) is the driver's and libFuzzer's seed. Findings are kept in target/fuzz/.
-# It links libotap_handheld.a and libotap_office.a of $OTAP_ARCHIVE_DIR, or of this machine's target/archive/TARGET, which ./archive writes.
+# It links the archives of $OTAP_ARCHIVE_DIR, or of this machine's target/archive/TARGET, which ./archive writes.
 set -u
 cd "$(dirname "$0")/.." || exit 1
 seconds=${1:-60}
 seed=${FUZZ_SEED:-1}
-archives=${OTAP_ARCHIVE_DIR:-target/archive/$(uname -m)-linux}
-archives="$archives/libotap_handheld.a $archives/libotap_office.a"
-flags="-std=c11 -Wall -Wextra -Iinclude -g -O1"
+folder=${OTAP_ARCHIVE_DIR:-target/archive/$(uname -m)-linux}
 sanitizers="-fsanitize=address,undefined -fno-sanitize-recover=all"
-wrapped="-Wl,--wrap=otap_judge -Wl,--wrap=otap_commit -Wl,--wrap=otap_export -Wl,--wrap=otap_row_number -Wl,--wrap=otap_row_part -Wl,--wrap=otap_counts"
-wrapped="$wrapped -Wl,--wrap=otap_line_of -Wl,--wrap=otap_entry -Wl,--wrap=otap_entry_digits -Wl,--wrap=otap_channel -Wl,--wrap=otap_emergency_key"
-wrapped="$wrapped -Wl,--wrap=otap_home_numbers -Wl,--wrap=otap_system_code -Wl,--wrap=otap_report -Wl,--wrap=otap_read_report"
-wrapped="$wrapped -Wl,--wrap=otap_report_entry -Wl,--wrap=otap_report_places -Wl,--wrap=otap_join"
-last_wrong=92
+calls="judge commit export row_number row_part counts line_of entry entry_digits channel emergency_key home_numbers system_code report read_report join"
+sources="fuzz/target.c fuzz/fitting.c"
 CC=${CC:-gcc}
 # There are many short-lived buffers: a large quarantine only slows it down.
 export ASAN_OPTIONS=quarantine_size_mb=1
 
+archives="$folder/libotap_handheld.a $folder/libotap_vehicle.a $folder/libotap_office.a"
 for archive in $archives; do
     [ -f "$archive" ] && continue
     echo "FAILED  no $archive: ./archive writes it"
     exit 1
 done
+
+# of SET: the flags of its build, and of the wrong libraries before its calls and before the other set's.
+of() {
+    flags="-std=c11 -Wall -Wextra -Iinclude -Itests -g -O1" prefix=otap_ other=otap_vehicle_ last_wrong=101
+    [ "$1" = hand-held ] || { flags="$flags -DVEHICLE" prefix=otap_vehicle_ other=otap_ last_wrong=104; }
+    wrapped="-Wl,--wrap=otap_report_entry -Wl,--wrap=otap_report_places -Wl,--wrap=${other}commit" named=
+    for call in $calls; do
+        wrapped="$wrapped -Wl,--wrap=$prefix$call"
+        named="$named -D__wrap_otap_$call=__wrap_$prefix$call -D__real_otap_$call=__real_$prefix$call"
+    done
+}
+
 work=$(mktemp -d) || exit 1
 trap 'rm -rf "$work"' EXIT
 mkdir -p target/fuzz "$work/new"
 found=$(pwd)/target/fuzz
 seeds=$(pwd)/fuzz/corpus
 
-# Every wrong library of wrong.c has to be found on the seeds alone; number 0 is the right one and has to pass.
+# Every wrong library of wrong.c and wrong_other.c has to be found on the seeds alone; number 0 is the right one and has to pass.
 checks_can_fail() {
-    $CC $flags $sanitizers -c fuzz/target.c -o "$work/target.o" || return 1
-    $CC $flags $sanitizers -c fuzz/driver.c -o "$work/driver.o" || return 1
+    for file in target fitting driver; do
+        $CC $flags $sanitizers -c "fuzz/$file.c" -o "$work/$file.o" || return 1
+    done
     wrong=0
     while [ $wrong -le $last_wrong ]; do
-        $CC $flags -DWRONG=$wrong -c fuzz/wrong.c -o "$work/wrong.o" || return 1
-        $CC $sanitizers "$work/target.o" "$work/driver.o" "$work/wrong.o" $archives $wrapped -o "$work/wrong" || return 1
+        $CC $flags $named -DWRONG=$wrong -c fuzz/wrong.c -o "$work/wrong.o" || return 1
+        $CC $flags -DWRONG=$wrong -c fuzz/wrong_other.c -o "$work/wrong_other.o" || return 1
+        $CC $sanitizers "$work"/*.o $archives $wrapped -o "$work/wrong" || return 1
         (cd "$work" && ./wrong 0 1 "$seeds"/*) > "$work/log" 2>&1
         ended=$?
         if [ $((ended == 0)) -ne $((wrong == 0)) ]; then
@@ -49,11 +59,11 @@ checks_can_fail() {
         fi
         wrong=$((wrong + 1))
     done
-    echo "ok      the checks find each of $last_wrong wrong libraries"
+    echo "ok      $1: the checks find each of $last_wrong wrong libraries"
 }
 
 with_libfuzzer() {
-    clang $flags -fsanitize=fuzzer $sanitizers fuzz/target.c $archives -o "$work/target" 2> "$work/log" || return 2
+    clang $flags -fsanitize=fuzzer $sanitizers $sources $archives -o "$work/target" 2> "$work/log" || return 2
     echo "with libFuzzer, $seconds seconds"
     "$work/target" -max_total_time="$seconds" -seed="$seed" -max_len=4096 -len_control=10 -print_final_stats=1 \
         -artifact_prefix="$found/" "$work/new" "$seeds" > "$work/log" 2>&1
@@ -64,7 +74,7 @@ with_libfuzzer() {
 
 with_afl() {
     command -v afl-fuzz > /dev/null && command -v afl-clang-fast > /dev/null || return 2
-    AFL_USE_ASAN=1 afl-clang-fast $flags -fsanitize=fuzzer fuzz/target.c $archives -o "$work/target" > "$work/log" 2>&1 || return 2
+    AFL_USE_ASAN=1 afl-clang-fast $flags -fsanitize=fuzzer $sources $archives -o "$work/target" > "$work/log" 2>&1 || return 2
     echo "with AFL++, $seconds seconds"
     AFL_SKIP_CPUFREQ=1 AFL_I_DONT_CARE_ABOUT_MISSING_CRASHES=1 AFL_NO_UI=1 \
         afl-fuzz -V "$seconds" -m none -i "$seeds" -o "$work/afl" -- "$work/target" > "$work/log" 2>&1 || { tail -5 "$work/log"; return 1; }
@@ -74,21 +84,24 @@ with_afl() {
 }
 
 with_driver() {
-    $CC $flags $sanitizers fuzz/target.c fuzz/driver.c $archives -o "$work/driver" || return 1
+    $CC $flags $sanitizers $sources fuzz/driver.c $archives -o "$work/driver" || return 1
     echo "with the driver of our own, $seconds seconds; for libFuzzer install clang and its runtime (Debian: clang libclang-rt-14-dev)"
     (cd "$work" && ./driver "$seconds" "$seed" "$seeds"/*) || { cp "$work/last-input" "$found/"; return 1; }
 }
 
-checks_can_fail || exit 1
-ended=2
-for engine in ${FUZZ_WITH:-libfuzzer afl driver}; do
-    "with_$engine"
-    ended=$?
-    [ $ended -eq 2 ] || break
+for each in hand-held vehicle; do
+    of $each
+    checks_can_fail $each || exit 1
+    ended=2
+    for engine in ${FUZZ_WITH:-libfuzzer afl driver}; do
+        "with_$engine"
+        ended=$?
+        [ $ended -eq 2 ] || break
+    done
+    case $ended in
+        0) echo "ok      $each: no finding" ;;
+        2) echo "FAILED  $FUZZ_WITH is not here" ;;
+        *) echo "FAILED  $each: a finding; inputs are in target/fuzz/" ;;
+    esac
+    [ $ended -eq 0 ] || exit 1
 done
-case $ended in
-    0) echo "ok      no finding" ;;
-    2) echo "FAILED  $FUZZ_WITH is not here" ;;
-    *) echo "FAILED  a finding; inputs are in target/fuzz/" ;;
-esac
-exit $((ended != 0))

@@ -1,10 +1,12 @@
 /*
  * The entry of a fuzzer over the C functions. An input is records, each a byte that chooses the call and the sizes, then what the call needs; one store
  * goes from record to record. Each message is judged and then committed, and the one before it once more after it; the two are joined too. After each the
- * store is still a store, and at the end it is written out into a fresh one that becomes the same.
+ * store is still a store, and at the end it is written out into a fresh one that becomes the same, and to the other set as far as it fits there.
  */
 #include "asking.h"
 #include "callers.h"
+#include "conversions.h"
+#include "fitting.h"
 #include "joining.h"
 
 enum { MOST_RECORDS = 64 };
@@ -19,7 +21,10 @@ static size_t waiting_length;
 #if defined(__clang__) && defined(__linux__)
 __attribute__((section("__libfuzzer_extra_counters")))
 #endif
-static uint8_t reached[2048];
+static uint8_t reached[2560];
+
+/* Where in it the slots of the tables are, the channels first, and then what else records come to. */
+enum { SLOTS = 1024, EACH_TABLE = 144, OTHERS = SLOTS + EACH_TABLE * (OTAP_TABLES + 1) };
 
 int LLVMFuzzerTestOneInput(const uint8_t *data, size_t size);
 
@@ -27,13 +32,13 @@ static void note(uint64_t answer)
 {
     unsigned failed = otap_answer_failed(answer), table;
     reached[otap_answer_number(answer) * 32 + (failed < 31 ? failed : 31)] = 1;
-    reached[1024 + store[12731] % 65] = 1; /* channels, which have no row */
+    reached[SLOTS + (store[CHANNEL_COUNT_AT] * 256 + store[CHANNEL_COUNT_AT + 1]) / 2] = 1; /* channels, which have no row */
     for (table = 1; table <= OTAP_TABLES; table++) {
         uint32_t row, used = 0;
         for (row = 0; row < layout[table].rows; row++) {
             used += (unsigned)held(store, table, layout[table].from + row);
         }
-        reached[1024 + table * 100 + used] = 1;
+        reached[SLOTS + EACH_TABLE * table + used] = 1;
     }
 }
 
@@ -42,7 +47,7 @@ static void join_message(const uint8_t *message, size_t length, unsigned choice)
 {
     Request first = {waiting, waiting_length}, second = {message, length};
     uint64_t answer = check_joined(&first, &second, chosen_size(choice, OTAP_JOIN_BYTES), store);
-    reached[2016 + otap_answer_number(answer) + 16 * otap_join_second_at_fault(answer)] = 1;
+    reached[OTHERS + 16 + otap_answer_number(answer) + 16 * otap_join_second_at_fault(answer)] = 1;
 }
 
 static void commit_message(const uint8_t *message, size_t length, unsigned choice)
@@ -144,6 +149,24 @@ static void restore_it(void)
     must(check_counts(other) == check_counts(store), "the other store has the same counts");
 }
 
+/* The ten parts in order to the other set, up to the first that does not fit; if all do, it exports the same. */
+static void hand_on(void)
+{
+    static uint8_t request[OTAP_EXPORT_BYTES];
+    uint64_t counts = counts_once(store, OTAP_STORE_BYTES, 0);
+    uint32_t turn;
+    int taken = 1;
+    for (turn = 0; turn < 2 * OTAP_EXPORT_PARTS && taken; turn++) {
+        uint32_t part = 1 + turn % OTAP_EXPORT_PARTS;
+        size_t length = otap_export_length(export_once(part, store, OTAP_STORE_BYTES, OTAP_EXPORT_BYTES, 0, request));
+        if (turn < OTAP_EXPORT_PARTS) {
+            taken = other_takes(part, request, length, otap_counts_lines(counts), otap_counts_channels(counts));
+        } else {
+            check_other_part(part, request, length);
+        }
+    }
+}
+
 /* Whether the store is one, on which every call agrees. */
 static int known_by_all(void)
 {
@@ -171,7 +194,7 @@ static void poke(Input *input)
         store[at] = (uint8_t)next_byte(input);
     }
     known = known_by_all();
-    reached[2000 + known] = 1;
+    reached[OTHERS + known] = 1;
     if (!known) {
         memcpy(store, other, OTAP_STORE_BYTES);
     } else {
@@ -182,7 +205,7 @@ static void poke(Input *input)
 /* A count of the store with any value: it is a store only with its own. */
 static void poke_count(Input *input)
 {
-    static const size_t counts[] = {12730, 12860, 8118, 10424}; /* channels, lines, group contacts, individual contacts */
+    static const size_t counts[] = {CHANNEL_COUNT_AT, LINE_COUNT_AT, 8118, 10424}; /* channels, lines, group contacts, individual contacts */
     size_t at = counts[next_byte(input) % 4];
     int own;
     memcpy(other, store, OTAP_STORE_BYTES);
@@ -190,7 +213,7 @@ static void poke_count(Input *input)
     store[at + 1] = (uint8_t)next_byte(input);
     own = same_bytes(other, store, OTAP_STORE_BYTES);
     must(known_by_all() == own, "a false count is no store");
-    reached[2002 + own] = 1;
+    reached[OTHERS + 2 + own] = 1;
     memcpy(store, other, OTAP_STORE_BYTES);
 }
 
@@ -209,7 +232,7 @@ static void poke_order(Input *input)
     }
     own = same_bytes(other, store, OTAP_STORE_BYTES);
     must(known_by_all() == own, "a false order is no store");
-    reached[2006 + own] = 1;
+    reached[OTHERS + 6 + own] = 1;
     memcpy(store, other, OTAP_STORE_BYTES);
 }
 
@@ -244,7 +267,7 @@ static void poke_entry(Input *input)
         order_lines(store);
     }
     must(known_by_all() == good, "an entry's key is its own: IDtype and number, or the address");
-    reached[2004 + good] = 1;
+    reached[OTHERS + 4 + good] = 1;
     if (!good) {
         memcpy(store, other, OTAP_STORE_BYTES);
     } else {
@@ -284,8 +307,8 @@ static void ask_caller(Input *input, unsigned choice)
     uint32_t id_type = like % 4;
     size_t length, at, store_length = chosen_store(choice);
     uint64_t answer;
-    if (like < 192 && store[LINE_COUNT_AT] > 0) {
-        length = near_line(input, like % store[LINE_COUNT_AT], &id_type, digits);
+    if (like < 192 && store[LINES_HELD_AT] > 0) {
+        length = near_line(input, like % store[LINES_HELD_AT], &id_type, digits);
     } else {
         length = next_bytes(input, next_byte(input) % (sizeof digits + 1), digits);
         for (at = 0; at < length; at++) {
@@ -295,31 +318,8 @@ static void ask_caller(Input *input, unsigned choice)
     answer = line_of_twice(id_type, digits, length, store, store_length);
     if (store_length == OTAP_STORE_BYTES) {
         check_caller(store, id_type, digits, length, answer);
-        reached[2008 + otap_line_found(answer)] = 1;
+        reached[OTHERS + 8 + otap_line_found(answer)] = 1;
     }
-}
-
-/* What one way gives, the other takes back. */
-static void there_and_back(uint64_t answer, uint32_t refusal, uint32_t from, uint64_t (*back)(uint32_t))
-{
-    must(answer >> 40 == 0, "bits of a conversion that must be 0");
-    must(answer == refusal || otap_answer_number(answer) == OTAP_OK, "a conversion answers or refuses with value 0");
-    must(answer == refusal || back(otap_value(answer)) == (uint64_t)from << 8, "a conversion goes both ways");
-}
-
-static void convert(Input *input)
-{
-    uint32_t value = next_byte(input);
-    value = value << 8 | next_byte(input);
-    value = value << 8 | next_byte(input);
-    value = value << 8 | next_byte(input);
-    there_and_back(otap_individual_of_dialled(value), OTAP_OUTSIDE_PLAN, value, otap_dialled_of_individual);
-    there_and_back(otap_group_of_dialled(value), OTAP_OUTSIDE_PLAN, value, otap_dialled_of_group);
-    there_and_back(otap_dialled_of_individual(value), OTAP_OUTSIDE_KIND, value, otap_individual_of_dialled);
-    there_and_back(otap_dialled_of_group(value), OTAP_OUTSIDE_KIND, value, otap_group_of_dialled);
-    there_and_back(otap_transmit(value % 700), OTAP_NO_CHANNEL, value % 700, otap_channel_of_transmit);
-    there_and_back(otap_channel_of_transmit(value), OTAP_NO_CHANNEL, value, otap_transmit);
-    must(otap_answer_number(otap_receive(value)) == otap_answer_number(otap_transmit(value)), "both frequencies or none");
 }
 
 static void start_again(Input *input)
@@ -374,5 +374,6 @@ int LLVMFuzzerTestOneInput(const uint8_t *data, size_t size)
         one_record(&input);
     }
     restore_it();
+    hand_on();
     return 0;
 }

@@ -1,16 +1,13 @@
 /* Wrong libraries, to see that the checks of target.c can fail: the linker puts these before the archive's functions (--wrap). WRONG says which. */
-#include "orders.h"
-#include "wrong_sets.h"
-
 #ifndef WRONG
 #define WRONG 0
 #endif
 
-uint64_t __real_otap_commit(const uint8_t *, uint64_t, uint8_t *, uint64_t, uint8_t *, uint64_t);
-uint64_t __real_otap_export(uint32_t, const uint8_t *, uint64_t, uint8_t *, uint64_t);
+#include "orders.h"
+#include "wrong_limits.h"
+
 uint32_t __real_otap_row_number(uint32_t, uint32_t, const uint8_t *, uint64_t, const uint8_t *, uint64_t);
 uint64_t __real_otap_row_part(uint32_t, uint32_t, const uint8_t *, uint64_t, uint8_t *, uint64_t);
-uint64_t __real_otap_counts(const uint8_t *, uint64_t);
 uint64_t __real_otap_line_of(uint32_t, const uint8_t *, uint64_t, const uint8_t *, uint64_t);
 uint64_t __real_otap_entry(uint32_t, uint32_t, const uint8_t *, uint64_t);
 uint64_t __real_otap_entry_digits(uint32_t, uint32_t, const uint8_t *, uint64_t, uint8_t *, uint64_t);
@@ -35,8 +32,8 @@ uint64_t __wrap_otap_system_code(const uint8_t *, uint64_t);
 /* Where a store has a line before the last with the last one's digits, whatever its IDtype; 0 if there is none. */
 static size_t same_number(const uint8_t *store)
 {
-    size_t at, last = store[12861] > 0 ? 12862 + 52u * (store[12861] - 1u) : 0;
-    for (at = 12862; at < last; at += 52) {
+    size_t at, last = store[LINES_HELD_AT] > 0 ? LINES_AT + LINE_BYTES * (store[LINES_HELD_AT] - 1u) : 0;
+    for (at = LINES_AT; at < last; at += LINE_BYTES) {
         if (memcmp(store + at + 2, store + last + 2, 18) == 0) {
             return at;
         }
@@ -47,11 +44,11 @@ static size_t same_number(const uint8_t *store)
 /* The second line with a number wipes the first. */
 static void wipe(uint8_t *store)
 {
-    size_t first = same_number(store), last = 12862 + 52u * (store[12861] - 1u);
+    size_t first = same_number(store), last = LINES_AT + LINE_BYTES * (store[LINES_HELD_AT] - 1u);
     if (first != 0) {
-        memcpy(store + first, store + last, 52);
-        memset(store + last, 0, 52);
-        store[12861]--;
+        memcpy(store + first, store + last, LINE_BYTES);
+        memset(store + last, 0, LINE_BYTES);
+        store[LINES_HELD_AT]--;
         order_lines(store);
     }
 }
@@ -142,7 +139,7 @@ static uint64_t with_kept_hash(const uint8_t *store, uint8_t *reply, uint64_t an
 uint64_t __wrap_otap_judge(const uint8_t *message, uint64_t message_length, const uint8_t *store, uint64_t store_length, uint8_t *reply,
                            uint64_t reply_length)
 {
-    uint64_t answer = WRONG == 92 ? refuse_late(message, message_length, store, store_length, reply, reply_length) : 0;
+    uint64_t answer = refused_first(message, message_length, store, store_length, reply, reply_length);
     if (answer != 0) {
         return answer;
     }
@@ -167,7 +164,7 @@ static void wrong_taken(const uint8_t *message, const uint8_t *before, uint8_t *
 {
     switch (WRONG) {
     case 2: reply[reply_length] = 0; break; /* one byte after the reply buffer */
-    case 3: store[20000] = 1; break; /* not a store any more */
+    case 3: store[OTAP_STORE_BYTES - 1] = 1; break; /* not a store any more */
     case 16: wipe(store); break; /* lines by their digits alone */
     case 18: add_twice(before, store); break; /* a known address added twice */
     case 91: lose_late(message, before, store); break;
@@ -179,7 +176,7 @@ uint64_t __wrap_otap_commit(const uint8_t *message, uint64_t message_length, uin
                             uint64_t reply_length)
 {
     static uint8_t before[OTAP_STORE_BYTES];
-    uint64_t answer = WRONG == 92 ? refuse_late(message, message_length, store, store_length, reply, reply_length) : 0;
+    uint64_t answer = refused_first(message, message_length, store, store_length, reply, reply_length);
     uint32_t number;
     if (answer != 0) {
         return answer;
@@ -209,7 +206,8 @@ uint64_t __wrap_otap_commit(const uint8_t *message, uint64_t message_length, uin
 uint64_t __wrap_otap_export(uint32_t part, const uint8_t *store, uint64_t store_length, uint8_t *buffer, uint64_t buffer_length)
 {
     int lost = WRONG == 19 && part == OTAP_EXPORT_GROUP_CONTACTS && store_length == OTAP_STORE_BYTES; /* a background group is not exported */
-    uint64_t answer = __real_otap_export(part, lost ? without_background(store) : store, store_length, buffer, buffer_length);
+    uint64_t answer = takes_short(96, buffer_length) ? export_short(part, store, store_length, buffer, buffer_length)
+                    : __real_otap_export(part, lost ? without_background(store) : store, store_length, buffer, buffer_length);
     if (WRONG == 6 && part == OTAP_EXPORT_CHANNELS && otap_export_length(answer) > 13) {
         buffer[14] ^= 1; /* another channel */
     }
@@ -230,13 +228,14 @@ uint32_t __wrap_otap_row_number(uint32_t table, uint32_t row, const uint8_t *sto
     if (WRONG == 17 && (number == OTAP_OK || number == OTAP_NO_ROW) && same_number(store) != 0) {
         return OTAP_NO_STORE; /* knows no store with two lines of one number */
     }
-    return number;
+    return past_quarter(table, row) && number == OTAP_OK ? OTAP_NO_ROW : number;
 }
 
 uint64_t __wrap_otap_row_part(uint32_t table, uint32_t row, const uint8_t *store, uint64_t store_length, uint8_t *scratch, uint64_t scratch_length)
 {
     int shown = (WRONG == 20 || WRONG == 21) && store_length == OTAP_STORE_BYTES; /* 21: they have a part, though no number 0 */
-    uint64_t part = __real_otap_row_part(table, row, shown ? all_shown(store) : store, store_length, scratch, scratch_length);
+    uint64_t part = past_quarter(table, row) ? 0
+                  : __real_otap_row_part(table, row, shown ? all_shown(store) : store, store_length, scratch, scratch_length);
     if (WRONG == 9 && table == OTAP_GROUPS && part != 0 && !otap_part_in_scratch(part)) {
         return part + ((uint64_t)36 << 16); /* the next group's name */
     }

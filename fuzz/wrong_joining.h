@@ -2,7 +2,7 @@
 #ifndef WRONG_JOINING_H
 #define WRONG_JOINING_H
 
-#include "otap_office.h"
+#include "set.h"
 
 uint64_t __real_otap_join(const uint8_t *, uint64_t, const uint8_t *, uint64_t, uint8_t *, uint64_t);
 uint64_t __wrap_otap_join(const uint8_t *, uint64_t, const uint8_t *, uint64_t, uint8_t *, uint64_t);
@@ -75,7 +75,10 @@ static uint64_t refused_joined(const uint8_t *joined, uint64_t answer)
     if (WRONG == 75 && joined[7] == 255) {
         return OTAP_BAD_FIELD; /* 255 are too many */
     }
-    return WRONG == 76 && otap_join_length(answer) == OTAP_MESSAGE_BYTES ? OTAP_MESSAGE_LENGTH : OTAP_OK; /* 4,096 bytes are too many */
+    if (WRONG == 100 && otap_join_length(answer) > OTAP_MESSAGE_BYTES / 2) {
+        return OTAP_MESSAGE_LENGTH; /* half the bytes are too many */
+    }
+    return WRONG == 76 && otap_join_length(answer) == OTAP_MESSAGE_BYTES ? OTAP_MESSAGE_LENGTH : OTAP_OK; /* all the bytes are too many */
 }
 
 /* Joins what is to be refused: whether it does. */

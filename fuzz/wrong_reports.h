@@ -2,9 +2,8 @@
 #ifndef WRONG_REPORTS_H
 #define WRONG_REPORTS_H
 
-#include "otap_office.h"
+#include "set.h"
 
-uint64_t __real_otap_report(const uint8_t *, uint64_t, uint32_t, const uint8_t *, uint64_t, uint8_t *, uint64_t);
 uint64_t __real_otap_read_report(const uint8_t *, uint64_t);
 uint64_t __real_otap_report_entry(const uint8_t *, uint64_t, uint32_t);
 uint64_t __real_otap_report_places(const uint8_t *, uint64_t, uint32_t);
@@ -123,6 +122,9 @@ uint64_t __wrap_otap_report(const uint8_t *query, uint64_t query_length, uint32_
     int fewer = (WRONG == 48 || WRONG == 49) && good_query(query, query_length), lost = WRONG == 50 && sound; /* 50: background groups are not reported */
     uint64_t length = fewer ? fewer_types(query, (size_t)query_length, other) : query_length, answer;
     uint32_t low = WRONG == 51 ? index & 0xFF : index; /* an index in its low byte alone */
+    if (takes_short(97, buffer_length)) {
+        return report_short(query, query_length, index, store, store_length, buffer, buffer_length);
+    }
     if ((WRONG == 45 || WRONG == 47) && sound && index > 0) {
         return cut_early(query, query_length, index, store, buffer);
     }
@@ -154,7 +156,7 @@ uint64_t __wrap_otap_read_report(const uint8_t *message, uint64_t message_length
     if (WRONG == 58 && answer == OTAP_BAD_FIELD && message_length > 10 && message[7] == 1) {
         return 0x01010100; /* any bytes are a report of one parameter */
     }
-    return answer;
+    return WRONG == 99 && message_length > OTAP_MESSAGE_BYTES / 2 ? OTAP_MESSAGE_LENGTH : answer; /* half the bytes are too many */
 }
 
 uint64_t __wrap_otap_report_entry(const uint8_t *message, uint64_t message_length, uint32_t at)

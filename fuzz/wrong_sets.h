@@ -2,11 +2,9 @@
 #ifndef WRONG_SETS_H
 #define WRONG_SETS_H
 
-#include "otap.h"
+#include "set.h"
 
 #include <string.h>
-
-enum { CHANNELS_FROM = 12730, CHANNELS_BYTES = 130 }; /* docs/STORE.md */
 
 uint64_t __real_otap_judge(const uint8_t *, uint64_t, const uint8_t *, uint64_t, uint8_t *, uint64_t);
 
@@ -39,21 +37,27 @@ static uint64_t early_failed(uint8_t *reply, uint64_t answer)
 static void lose_late(const uint8_t *message, const uint8_t *before, uint8_t *store)
 {
     if (late_channels(message) != 0) {
-        memcpy(store + CHANNELS_FROM, before + CHANNELS_FROM, CHANNELS_BYTES);
+        memcpy(store + CHANNEL_COUNT_AT, before + CHANNEL_COUNT_AT, LINE_COUNT_AT - CHANNEL_COUNT_AT);
     }
+}
+
+/* The answer of a setting without room, with its reply. */
+static uint64_t lacks_room(uint8_t *reply, unsigned failed)
+{
+    const uint8_t refusal[] = {2, 2, 0, 6, 8, 0, 9, OTAP_NO_ROOM, (uint8_t)failed, 0};
+    memcpy(reply, refusal, sizeof refusal);
+    return OTAP_NO_ROOM | (uint64_t)failed << 8 | 1u << 16 | (uint64_t)sizeof refusal << 24;
 }
 
 /* 92: channels behind another setting lack room: the refusal, or 0 where this is none. */
 static uint64_t refuse_late(const uint8_t *message, uint64_t message_length, const uint8_t *store, uint64_t store_length, uint8_t *reply, uint64_t reply_length)
 {
-    uint8_t other[OTAP_REPLY_BYTES], refusal[] = {2, 2, 0, 6, 8, 0, 9, OTAP_NO_ROOM, 0, 0};
+    uint8_t other[OTAP_REPLY_BYTES];
     uint64_t answer = __real_otap_judge(message, message_length, store, store_length, other, sizeof other);
     if (otap_answer_number(answer) != OTAP_OK || reply_length < OTAP_REPLY_BYTES || late_channels(message) == 0) {
         return 0;
     }
-    refusal[8] = (uint8_t)late_channels(message);
-    memcpy(reply, refusal, sizeof refusal);
-    return OTAP_NO_ROOM | (uint64_t)refusal[8] << 8 | 1u << 16 | (uint64_t)sizeof refusal << 24;
+    return lacks_room(reply, late_channels(message));
 }
 
 #endif

@@ -1,5 +1,5 @@
 /*
- * otap.h: the C functions of libotap_handheld.a, for the firmware of a PDT hand-held.
+ * otap.h: the C functions of libotap_handheld.a, for the firmware of a PDT hand-held. otap_vehicle.h has those of a vehicle set, which go by its own sizes.
  *
  * The library owns no memory and keeps nothing between two calls: the tables are in the store, bytes that the caller lends. No call allocates, waits or
  * calls back, and every call comes back. Every answer is a number of the table below; a call that answers more than a number packs it into 64 bits, and

@@ -1,9 +1,10 @@
 /*
- * otap_office.h: the C functions of libotap_office.a, for the software of the network office: it reads the reports of a PDT hand-held, whose bytes are in
- * docs/REPORTS.md, and joins requests that wait to be sent. Firmware needs none of it: a set writes its reports with otap_report of libotap_handheld.a.
+ * otap_office.h: the C functions of libotap_office.a, for the software of the network office: it reads the reports of PDT sets, whose bytes are in
+ * docs/REPORTS.md, and joins requests that wait to be sent. Firmware needs none of it: a set writes its reports with otap_report of libotap_handheld.a, a
+ * vehicle set with otap_vehicle_report of libotap_vehicle.a. A report is read, and requests are joined, by the call of the set that it is from or they are to.
  *
  * otap.h is included for the numbers, the types asked, IDtypes and attributes; the functions that it declares are not in this archive. What it says of
- * pointers, lengths, overlap and memcpy holds here too. No call allocates or waits, none but otap_join writes a byte, and anything may be lent as a message.
+ * pointers, lengths, overlap and memcpy holds here too. No call allocates or waits, only joining writes a byte, and anything may be lent as a message.
  *
  * A report has one or more messages, and each is read by itself:
  *
@@ -39,8 +40,11 @@ enum {
     OTAP_HASH_OF_10 = 2        /* 10 bytes */
 };
 
-/* A buffer for a joined request has at least as many bytes: any that a set takes fits. */
-enum { OTAP_JOIN_BYTES = 4096 };
+/* A buffer for a joined request has at least as many bytes: any that the set takes fits. */
+enum {
+    OTAP_JOIN_BYTES = 4096,
+    OTAP_VEHICLE_JOIN_BYTES = 8192
+};
 
 /*
  * Reads one message of a report, without the query that it answers.
@@ -55,6 +59,9 @@ enum { OTAP_JOIN_BYTES = 4096 };
  * Unpack with otap_answer_number, otap_read_total, otap_read_index, otap_read_parameters.
  */
 uint64_t otap_read_report(const uint8_t *message, uint64_t message_length);
+
+/* As otap_read_report, of a vehicle's: 12 is under 7 or over 8,192 bytes. What was read is walked by the same two calls below, whichever set it came from. */
+uint64_t otap_vehicle_read_report(const uint8_t *message, uint64_t message_length);
 
 /*
  * The parameter that starts at this byte, by the bytes from there on alone; 0 in all bits where none in range does. So read the message first.
@@ -112,6 +119,11 @@ uint64_t otap_report_places(const uint8_t *message, uint64_t message_length, uin
 uint64_t otap_join(const uint8_t *first, uint64_t first_length,
                    const uint8_t *second, uint64_t second_length,
                    uint8_t *buffer, uint64_t buffer_length);
+
+/* As otap_join, of requests to a vehicle: 15 goes by OTAP_VEHICLE_JOIN_BYTES, and 12 is under 7 or over 8,192 bytes. */
+uint64_t otap_vehicle_join(const uint8_t *first, uint64_t first_length,
+                           const uint8_t *second, uint64_t second_length,
+                           uint8_t *buffer, uint64_t buffer_length);
 
 /* Of an answer of otap_join: how many bytes of the buffer are the joined request; 0 of a refusal. */
 static inline size_t otap_join_length(uint64_t answer)

@@ -1,5 +1,6 @@
 /*
- * otap_unpack.h: the functions that unpack the answers of otap.h, which says of each call what its bits are. otap.h includes this file; firmware need not.
+ * otap_unpack.h: the functions that unpack the answers of otap.h, which says of each call what its bits are, and of the same calls of otap_vehicle.h. otap.h
+ * includes this file; firmware need not.
  */
 #ifndef OTAP_UNPACK_H
 #define OTAP_UNPACK_H
@@ -46,7 +47,7 @@ static inline size_t otap_export_length(uint64_t answer)
     return (size_t)((answer >> 16) & 0xFFFFu);
 }
 
-/* How many messages the report has, 1 to 231; 0 of a refusal. */
+/* How many messages the report has, 1 to 231, of a vehicle 1 to 255; 0 of a refusal. */
 static inline uint32_t otap_report_total(uint64_t answer)
 {
     return (uint32_t)((answer >> 8) & 0xFFu);
@@ -70,13 +71,13 @@ static inline uint32_t otap_counts_channels(uint64_t answer)
     return (uint32_t)((answer >> 32) & 0xFFFFu);
 }
 
-/* How many more line contacts have room; 0 of a refusal. */
+/* How many more line contacts have room in a hand-held; 0 of a refusal. Of a vehicle: otap_vehicle_counts_free_lines. */
 static inline uint32_t otap_counts_free_lines(uint64_t answer)
 {
     return otap_answer_number(answer) == OTAP_OK ? (uint32_t)OTAP_LINE_ROWS - otap_counts_lines(answer) : 0;
 }
 
-/* How many more scan channels have room; 0 of a refusal. */
+/* How many more scan channels have room in a hand-held; 0 of a refusal. Of a vehicle: otap_vehicle_counts_free_channels. */
 static inline uint32_t otap_counts_free_channels(uint64_t answer)
 {
     return otap_answer_number(answer) == OTAP_OK ? (uint32_t)OTAP_CHANNEL_PLACES - otap_counts_channels(answer) : 0;

@@ -1,8 +1,7 @@
-/* What several tests of C share: an answer that must be, the counts of a store, bytes that are none, a message to a fresh one. */
+/* What several tests of C share: an answer that must be, the counts of a store, bytes that are none, a message to a fresh one, and requests of any size. */
 #ifndef ANSWERS_H
 #define ANSWERS_H
 
-#include "otap.h"
 #include "judged.h"
 #include "messages.h"
 
@@ -30,8 +29,8 @@ static inline void counts_are(const char *what, const uint8_t *bytes, uint64_t l
     same("number of counts", 0, OTAP_OK, otap_answer_number(answer));
     same("lines held", lines, otap_counts_lines(answer), answer >> 16 & 0xFFFF);
     same("channels held", channels, otap_counts_channels(answer), answer >> 32);
-    same("lines free", 32 - lines, OTAP_LINE_ROWS - lines, otap_counts_free_lines(answer));
-    same("channels free", 64 - channels, OTAP_CHANNEL_PLACES - channels, otap_counts_free_channels(answer));
+    same("lines free", LINE_ROOM - lines, OTAP_LINE_ROWS - lines, otap_counts_free_lines(answer));
+    same("channels free", CHANNEL_ROOM - channels, OTAP_CHANNEL_PLACES - channels, otap_counts_free_channels(answer));
 }
 
 /* Every call refuses these bytes, and this one with both counts 0 and nothing free. */
@@ -64,6 +63,38 @@ static inline void told(const char *what, const uint8_t *message, size_t length,
     same(what, number, number, otap_answer_number(answer));
     same(what, failed, failed, otap_answer_failed(answer));
     same("coding type of the reply", 0, 0, reply[5]);
+}
+
+/* An empty status text, as often: 5 bytes, and 3 for each. */
+static inline void put_status_texts(Message *m, size_t count)
+{
+    size_t at = open_setting(m, 0xD0);
+    put(m, ADD * 64);
+    put(m, (unsigned)count);
+    for (; count > 0; count--) {
+        put(m, 33);
+        put(m, 0);
+        put(m, 0);
+    }
+    close_setting(m, at);
+    m->bytes[7]++;
+}
+
+/* A good request of as many bytes, 20 at least. */
+static inline void write_sized(Message *m, size_t size)
+{
+    static const uint8_t key[] = {0x80}, no_contacts[] = {0x40, 0};
+    open_request(m, 0);
+    while (size - m->length > 700) {
+        put_status_texts(m, 200);
+    }
+    if ((size - m->length) % 3 != 2) {
+        int four = (size - m->length) % 3 == 0;
+        put_bytes(m, four ? 0xCB : 0xC9, four ? key : no_contacts, four ? 1 : 2);
+        m->bytes[7]++;
+    }
+    put_status_texts(m, (size - m->length - 5) / 3);
+    same("a request of this size", size, m->length, size);
 }
 
 #endif

@@ -94,10 +94,12 @@ done << 'END'
 %r1 = call i64 asm "rdtsc", "=r"()
 END
 
-# Of two crates each has an archive; where the second is not proved, the first has none either.
+# Of three crates each has an archive; where the last is not proved, the others have none either.
 module ""
-echo 'otap_office: otap_handheld' >> "$work/repo/crates.txt"
-ends 0 "^target/archive/cortex-m4/libotap_handheld.a target/archive/cortex-m4/libotap_office.a $" cortex-m4
+printf 'otap_office: otap_handheld\notap_vehicle: otap_handheld\n' >> "$work/repo/crates.txt"
+three="target/archive/cortex-m4/libotap_handheld.a target/archive/cortex-m4/libotap_office.a target/archive/cortex-m4/libotap_vehicle.a"
+ends 0 "^$three $" cortex-m4
 RT="not otap_office" ends 1 "otap_office is not proved, so nothing is written: fn read: no proof" cortex-m4
+RT="not otap_vehicle" ends 1 "otap_vehicle is not proved, so nothing is written: fn read: no proof" cortex-m4
 [ $failed -ne 0 ] || echo "ok      wrong use of ./archive"
 exit $failed

@@ -2,7 +2,6 @@
 #ifndef BOUNDED_H
 #define BOUNDED_H
 
-#include "otap.h"
 #include "messages.h"
 #include "must.h"
 
@@ -16,7 +15,7 @@ enum { TIMES = 20 };
 enum { TIMES = 1 }; /* an emulator is slow */
 #endif
 
-enum { LONGEST = 32768 };
+enum { LONGEST = OTAP_STORE_BYTES + 8192 };
 
 static Lent message, store, buffer;
 static unsigned long calls, seen[256], reports_seen[256];

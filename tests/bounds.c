@@ -77,10 +77,11 @@ static void entry_sizes(void)
 /* What stands behind every row, and every channel. */
 static void entry_all(void)
 {
+    const uint32_t rows = 2 + (LINE_ROOM > 64 ? LINE_ROOM : 64);
     uint32_t each;
-    for (each = 0; each < (OTAP_TABLES + 2) * 66; each++) {
-        entry_at((int)(each % 2), each / 66, each % 66, filled, OTAP_STORE_BYTES);
-        digits_at((int)(each % 2), each / 66, each % 66, filled, OTAP_STORE_BYTES, OTAP_DIGITS);
+    for (each = 0; each < (OTAP_TABLES + 2) * rows; each++) {
+        entry_at((int)(each % 2), each / rows, each % rows, filled, OTAP_STORE_BYTES);
+        digits_at((int)(each % 2), each / rows, each % rows, filled, OTAP_STORE_BYTES, OTAP_DIGITS);
     }
     for (each = 0; each <= OTAP_CHANNEL_PLACES; each++) {
         settings_at((int)(each % 2), each, filled, OTAP_STORE_BYTES);
@@ -325,7 +326,7 @@ static void all_seen(void)
 
 int main(int count, char **words)
 {
-    make_room(&message, 8192);
+    make_room(&message, 2 * OTAP_MESSAGE_BYTES);
     make_room(&store, LONGEST);
     make_room(&buffer, LONGEST);
     fill(0);

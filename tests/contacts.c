@@ -4,7 +4,7 @@
  */
 #include "answers.h"
 
-/* A request with one setting of lines without texts; their numbers are two digits, from the first on. Operations are 1 add, 2 delete, 3 replace. */
+/* A request with one setting of lines without texts; their numbers are three digits, from the first on. Operations are 1 add, 2 delete, 3 replace. */
 static void write_lines(unsigned operation, unsigned pabx, unsigned first, unsigned count)
 {
     size_t at;
@@ -14,19 +14,19 @@ static void write_lines(unsigned operation, unsigned pabx, unsigned first, unsig
     put(&said, operation * 64 + pabx * 2);
     put(&said, count);
     for (each = 0; each < count; each++) {
-        put_number(&said, first + each, 2);
+        put_number(&said, first + each, 3);
         put_text(&said, 0);
     }
     close_setting(&said, at);
 }
 
-/* IDtype is a part of a line's key: each step's number, and how many lines there are after it. The 32 places are for both IDtypes. */
+/* IDtype is a part of a line's key: each step's number, and how many lines there are after it. The places are for both IDtypes. */
 static void keys_of_lines(uint8_t *other)
 {
     static const struct { unsigned operation, pabx, first, count, number, lines; } steps[] = {
         {1, 1, 23, 1, OTAP_OK, 1}, {2, 0, 23, 1, OTAP_OK, 1}, {1, 0, 23, 1, OTAP_OK, 2}, {1, 1, 23, 1, OTAP_OK, 2},
-        {1, 0, 23, 1, OTAP_OK, 2}, {2, 1, 23, 1, OTAP_OK, 1}, {1, 1, 0, 31, OTAP_OK, 32}, {1, 0, 5, 1, OTAP_NO_ROOM, 32},
-        {1, 1, 5, 1, OTAP_OK, 32}, {2, 0, 5, 1, OTAP_OK, 32}, {2, 1, 5, 1, OTAP_OK, 31}, {1, 0, 5, 1, OTAP_OK, 32},
+        {1, 0, 23, 1, OTAP_OK, 2}, {2, 1, 23, 1, OTAP_OK, 1}, {1, 1, 0, LINE_ROOM - 1, OTAP_OK, LINE_ROOM}, {1, 0, 5, 1, OTAP_NO_ROOM, LINE_ROOM},
+        {1, 1, 5, 1, OTAP_OK, LINE_ROOM}, {2, 0, 5, 1, OTAP_OK, LINE_ROOM}, {2, 1, 5, 1, OTAP_OK, LINE_ROOM - 1}, {1, 0, 5, 1, OTAP_OK, LINE_ROOM},
         {3, 0, 50, 2, OTAP_OK, 2}, {1, 1, 50, 2, OTAP_OK, 4}, {3, 1, 50, 1, OTAP_OK, 1}, {3, 0, 50, 0, OTAP_OK, 0}
     };
     size_t each;
@@ -44,7 +44,7 @@ static void keys_of_lines(uint8_t *other)
 static void both_lines(void)
 {
     static uint8_t one[OTAP_STORE_BYTES], both[OTAP_STORE_BYTES];
-    uint8_t line[] = {2, 2, 0, 0x0E, 8, 7, 8, 1, 0xCA, 0, 9, 0x42, 1, 0x23, 0x45, 0xFF, 0, 0};
+    uint8_t line[] = {2, 2, 0, 0x0E, 8, 7, 8, 1, 0xCA, 0, 9, 0x42, 1, 0x23, 0x45, 0xFF, 0, 0}, *second = both + LINES_AT + LINE_BYTES;
     uint32_t at;
     keys_of_lines(one);
     told("example 11", line, sizeof line, OTAP_OK, 0, one);
@@ -56,11 +56,11 @@ static void both_lines(void)
         same("its number", 1 | (uint64_t)8 << 32, 1 | (uint64_t)8 << 32, otap_row_part(OTAP_LINES, at, both, sizeof both, scratch, sizeof scratch));
         same("2345", 0, 0, (uint64_t)(memcmp(scratch, "\0" "2\0" "3\0" "4\0" "5", 8) != 0));
     }
-    both[12915] = 1;
+    second[1] = 1;
     no_store("one IDtype and number twice", both);
-    both[12914] = 15;
+    second[0] = 15;
     no_store("the same with other flags", both);
-    both[12914] = both[12915] = 0;
+    second[0] = second[1] = 0;
     line[11] = 0x80;
     same("deleted", 0, OTAP_OK, otap_answer_number(judge_and_commit(line, sizeof line, both, sizeof both, reply, sizeof reply)));
     same("the extension stays", 0, 0, (uint64_t)(memcmp(one, both, sizeof one) != 0));

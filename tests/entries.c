@@ -203,11 +203,11 @@ static void channels(void)
         same("behind the last channel", 17, OTAP_NOTHING_THERE, otap_channel(behind_them[each], store, sizeof store));
     }
     write_filling(&said, 4, 0);
-    told("64 channels", said.bytes, said.length, OTAP_OK, 0, store);
+    told("as many channels as there can be", said.bytes, said.length, OTAP_OK, 0, store);
     for (each = 0; each < OTAP_CHANNEL_PLACES; each++) {
         channel_is((uint32_t)each, each % 2 == 0 ? 241 : 640);
     }
-    same("behind 64 of them", 17, OTAP_NOTHING_THERE, otap_channel(OTAP_CHANNEL_PLACES, store, sizeof store));
+    same("behind all of them", 17, OTAP_NOTHING_THERE, otap_channel(OTAP_CHANNEL_PLACES, store, sizeof store));
 }
 
 /* The key after a setting of these fields: its address, and its flags from current on. */

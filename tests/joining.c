@@ -90,7 +90,7 @@ static void each_fault(void)
         refused("a fault of the second", faults[one].number, faults[one].failed, 1, join());
     }
     write_bytes(&second, one_line, sizeof one_line);
-    same("the least buffer", 4096, OTAP_JOIN_BYTES, OTAP_MESSAGE_BYTES);
+    same("the least buffer", MESSAGE_SIZE, OTAP_JOIN_BYTES, OTAP_MESSAGE_BYTES);
     refused("a short buffer", 15, 0, 0, join_with(OTAP_JOIN_BYTES - 1));
     refused("no buffer", 15, 0, 0, join_with(0));
 }
@@ -106,19 +106,19 @@ static void late_faults(void)
     refused("the first's setting 255", 3, 255, 0, join());
     first.bytes[2] = first.bytes[3] = 0;
     first.length = OTAP_MESSAGE_BYTES + 1;
-    refused("4,097 bytes", 12, 0, 0, join());
+    refused("a byte too many", 12, 0, 0, join());
     second = first;
     write_homes(&first, 1);
-    refused("4,097 bytes of the second", 12, 0, 1, join());
+    refused("a byte too many of the second", 12, 0, 1, join());
 }
 
-/* 65 channels lack room in every set: joining looks past them to what is behind them, and joins them where that is nothing wrong. */
+/* A channel too many lacks room in every such set: joining looks past them to what is behind them, and joins them where that is nothing wrong. */
 static void room_is_not_asked(void)
 {
     static const uint8_t np_807[] = {0x07, 0xE4, 0xE0};
     write_homes(&second, 1);
     open_request(&first, 2);
-    put_channels(&first, ADD, 65);
+    put_channels(&first, ADD, CHANNEL_ROOM + 1);
     put_bytes(&first, 0xCD, np_807, sizeof np_807);
     refused("a fault behind them", 4, 2, 0, join());
     first.bytes[first.length - 6] = 0xC7;
@@ -131,39 +131,7 @@ static void room_is_not_asked(void)
     first.length -= 15;
     first.bytes[7] = 1;
     second = first;
-    same("65 and 65 channels", (uint64_t)(2 * first.length - HEAD) << 16, join(), (uint64_t)(2 * first.length - HEAD) << 16);
-}
-
-/* An empty status text, as often: 5 bytes, and 3 for each. */
-static void put_status_texts(Message *m, size_t count)
-{
-    size_t at = open_setting(m, 0xD0);
-    put(m, ADD * 64);
-    put(m, (unsigned)count);
-    for (; count > 0; count--) {
-        put(m, 33);
-        put(m, 0);
-        put(m, 0);
-    }
-    close_setting(m, at);
-    m->bytes[7]++;
-}
-
-/* A request of as many bytes, 20 at least. */
-static void write_sized(Message *m, size_t size)
-{
-    static const uint8_t key[] = {0x80}, no_contacts[] = {0x40, 0};
-    open_request(m, 0);
-    while (size - m->length > 700) {
-        put_status_texts(m, 200);
-    }
-    if ((size - m->length) % 3 != 2) {
-        int four = (size - m->length) % 3 == 0;
-        put_bytes(m, four ? 0xCB : 0xC9, four ? key : no_contacts, four ? 1 : 2);
-        m->bytes[7]++;
-    }
-    put_status_texts(m, (size - m->length - 5) / 3);
-    same("a request of this size", size, m->length, size);
+    same("too many channels, twice", (uint64_t)(2 * first.length - HEAD) << 16, join(), (uint64_t)(2 * first.length - HEAD) << 16);
 }
 
 /* What is wrong with the two together has failed ID 0 and is neither's fault: coding types, then settings, then bytes. */
@@ -177,16 +145,16 @@ static void together(void)
     same("their count", 255, made.bytes[7], 255);
     second.bytes[5] = 4;
     refused("two coding types", 4, 0, 0, join());
-    write_sized(&first, 4000);
+    write_sized(&first, MESSAGE_SIZE - 96);
     write_sized(&second, 200);
-    refused("4,000 and 200 bytes", 12, 0, 0, join());
-    write_sized(&second, 4096 - 4000 + HEAD);
-    same("4,096 bytes", (uint64_t)4096 << 16, join(), (uint64_t)4096 << 16);
-    same("its length, stated", 4092, made.bytes[2] * 256u + made.bytes[3], 4092);
-    write_sized(&second, 4097 - 4000 + HEAD);
-    refused("4,097 bytes", 12, 0, 0, join());
+    refused("96 bytes too many", 12, 0, 0, join());
+    write_sized(&second, 96 + HEAD);
+    same("the longest", (uint64_t)MESSAGE_SIZE << 16, join(), (uint64_t)MESSAGE_SIZE << 16);
+    same("its length, stated", MESSAGE_SIZE - 4, made.bytes[2] * 256u + made.bytes[3], MESSAGE_SIZE - 4);
+    write_sized(&second, 97 + HEAD);
+    refused("a byte too many", 12, 0, 0, join());
     write_homes(&first, 250);
-    write_sized(&second, 4096);
+    write_sized(&second, MESSAGE_SIZE);
     refused("too many settings and bytes", 4, 0, 0, second.bytes[7] > 5 ? join() : 0);
     write_homes(&first, 2);
     first.bytes[5] = 4;

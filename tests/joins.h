@@ -2,10 +2,7 @@
 #ifndef JOINS_H
 #define JOINS_H
 
-#include "otap_office.h"
 #include "answers.h"
-
-enum { ADD = 1, DELETE = 2, REPLACE = 3 };
 
 static const uint8_t home[] = {0x07, 0xE4, 0xC0};
 

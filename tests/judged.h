@@ -5,14 +5,14 @@
 #ifndef JUDGED_H
 #define JUDGED_H
 
-#include "otap.h"
+#include "set.h"
 
 #include <stdio.h>
 #include <stdlib.h>
 #include <string.h>
 
-/* The longest store and reply buffer that these tests lend. */
-enum { LENT_BYTES = OTAP_STORE_BYTES + 64 };
+/* The longest store and reply buffer that these tests lend: a vehicle's store to any set. */
+enum { LENT_BYTES = OTAP_VEHICLE_STORE_BYTES + 64 };
 
 static inline void judged_must(int holds, const char *what)
 {

@@ -54,14 +54,14 @@ static void taken_later(void)
     same("its own hash, not the one kept", 2, 2, reply[9]);
 }
 
-/* 63 channels, and two requests that add one each: both are judged good, and the second to be committed has no room; nor is its first setting applied. */
+/* Room for one channel more, and two requests that add one each: both are judged good, and the second to be committed has no room; nor is its first setting applied. */
 static void another_between(void)
 {
     static const uint8_t late[] = {2, 2, 0, 0, 8, 7, 8, 2, 0xCD, 0, 5, 0, 0, 0, 0xCE, 0, 6, 0x40, 1, 0x0F, 0x1F};
     static const uint8_t other[] = {2, 2, 0, 0, 8, 7, 8, 1, 0xCE, 0, 6, 0x40, 1, 0x0F, 0x1F};
     static const uint8_t done[] = {2, 2, 0, 6, 8, 0, 9, 0, 0, 0}, full[] = {2, 2, 0, 6, 8, 0, 9, 2, 2, 0};
     write_filling(&said, 4, 1);
-    committed("63 channels", said.bytes, said.length, 0x0A000000, done);
+    committed("all channels but one", said.bytes, said.length, 0x0A000000, done);
     judged("one more", late, sizeof late, 0x0A000000, done);
     committed("another request", other, sizeof other, 0x0A000000, done);
     memcpy(before, store, sizeof before);
@@ -69,9 +69,9 @@ static void another_between(void)
     same("a refused request changes nothing", 0, 0, (uint64_t)(memcmp(before, store, sizeof store) != 0));
     judged("judged anew", late, sizeof late, 0x0A010202, full);
     write_filling(&said, 4, 2);
-    committed("62 channels", said.bytes, said.length, 0x0A000000, done);
+    committed("all but two", said.bytes, said.length, 0x0A000000, done);
     committed("room was made", late, sizeof late, 0x0A000000, done);
-    counts_are("channels", store, 0, 63);
+    counts_are("channels", store, 0, CHANNEL_ROOM - 1);
 }
 
 /* A query is judged with the hash kept; a refused message with none. */

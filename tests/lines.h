@@ -2,10 +2,7 @@
 #ifndef LINES_H
 #define LINES_H
 
-#include "otap.h"
-
-/* The first line's slot, the bytes of one, and the order of the lines behind them. */
-enum { LINES_AT = 12862, LINE_BYTES = 52, ORDER_AT = 14526 };
+#include "set.h"
 
 /* IDtype and digits, one a byte, as otap_line_of takes them; there is room for a digit too many. */
 typedef struct {

@@ -2,7 +2,7 @@
 #ifndef MESSAGES_H
 #define MESSAGES_H
 
-#include "otap.h"
+#include "set.h"
 
 #include <string.h>
 
@@ -12,6 +12,8 @@ typedef struct {
 } Message;
 
 enum { MESSAGE_KINDS = 20, REQUEST_KINDS = 17, FILLING_MESSAGES = 11 };
+
+enum { ADD = 1, DELETE = 2, REPLACE = 3 };
 
 static uint64_t random_state = 0x9E3779B97F4A7C15u;
 
@@ -63,12 +65,12 @@ static inline void put_text(Message *m, unsigned units)
     put(m, 0);
 }
 
-/* The number of a line, in as many digits, 1 to 18: the last two say which line it is. */
+/* The number of a line, in as many digits, 1 to 18: the last three say which line it is. */
 static inline void put_number(Message *m, unsigned which, unsigned digits)
 {
     unsigned at, pair = 0;
     for (at = 0; at < digits + 1 + (digits + 1) % 2; at++) {
-        unsigned digit = at >= digits ? 15 : at == digits - 1 ? which % 10 : at == digits - 2 ? which / 10 : 1;
+        unsigned digit = at >= digits ? 15 : at + 1 == digits ? which % 10 : at + 2 == digits ? which / 10 % 10 : at + 3 == digits ? 1 + which / 100 : 1;
         pair = pair * 16 % 256 + digit;
         if (at % 2 == 1) {
             put(m, pair);
@@ -76,7 +78,7 @@ static inline void put_number(Message *m, unsigned which, unsigned digits)
     }
 }
 
-/* Texts and numbers of every length: `vary` says with which the first entry starts, 0 with the longest. */
+/* Texts and numbers of every length: `vary` says with which the first entry starts, 0 with the longest. Far behind, three digits tell the lines apart. */
 static inline void put_lines(Message *m, unsigned operation, unsigned count, unsigned vary)
 {
     size_t at = open_setting(m, 0xCA);
@@ -84,7 +86,7 @@ static inline void put_lines(Message *m, unsigned operation, unsigned count, uns
     put(m, operation * 64 + vary % 32 * 2);
     put(m, count);
     for (each = 0; each < count; each++) {
-        put_number(m, each, 18 - (each + 6 * vary) % (vary == 0 ? 16 : 18));
+        put_number(m, each, 18 - (each + 6 * vary) % (vary == 0 || each >= 64 ? 16 : 18));
         put_text(m, 16 - (each + vary) % 17);
     }
     close_setting(m, at);
@@ -120,8 +122,8 @@ static inline void put_channels(Message *m, unsigned operation, unsigned count)
 {
     size_t at = open_setting(m, 0xCE);
     unsigned each;
-    put(m, operation * 64);
-    put(m, count);
+    put(m, operation * 64 + count / 256);
+    put(m, count % 256);
     for (each = 0; each < count; each += 2) {
         put(m, 0x0F);
         put(m, each + 1 < count ? 0x12 : 0x1F);
@@ -249,8 +251,8 @@ static inline void write_message(Message *m, unsigned kind, unsigned turn)
     case 6: put_slot(m, 0xD2, 1, turn % 16, turn / 16); break;
     case 7: put_slot(m, 0xD1, 2, turn % 16, turn / 16); break;
     case 8: put_slot(m, 0xD2, 2, turn % 16, turn / 16); break;
-    case 9: put_lines(m, 3, 33, turn); break;
-    case 10: put_channels(m, 1, 65); break;
+    case 9: put_lines(m, 3, LINE_ROOM + 1, turn); break;
+    case 10: put_channels(m, 1, CHANNEL_ROOM + 1); break;
     case 11: put_contacts(m, 0xC8, operation, 3, turn); break;
     case 12: put_contacts(m, 0xC9, operation, 3, turn); break;
     case 13: put_line_slot(m, 1, turn % 16, turn / 16); break;
@@ -282,11 +284,11 @@ static inline void write_filling(Message *m, unsigned each, unsigned vary)
     unsigned slot;
     open_request(m, each == 5 || each == 6 || each == 9 ? 16 : each == 10 ? 4 : 1);
     switch (each) {
-    case 0: put_lines(m, 3, 32 - vary, vary); break;
+    case 0: put_lines(m, 3, LINE_ROOM - vary, vary); break;
     case 1: put_quick(m, 3, 0, 63, vary); break;
     case 2: put_quick(m, 1, 63, 1, vary); break;
     case 3: put_status(m, 3, 96, vary); break;
-    case 4: put_channels(m, 3, 64 - vary); break;
+    case 4: put_channels(m, 3, CHANNEL_ROOM - vary); break;
     case 7: put_contacts(m, 0xC8, 3, 64 - vary, vary); break;
     case 8: put_contacts(m, 0xC9, 3, 64 - vary, vary); break;
     case 10: put_fixed(m); put_last(m); break;
@@ -305,7 +307,7 @@ static inline void write_long(Message *m, size_t length)
 {
     memset(m->bytes, 0x12, sizeof m->bytes);
     open_request(m, 3);
-    put_lines(m, 3, 32, 0);
+    put_lines(m, 3, LINE_ROOM, 0);
     put_status(m, 3, 96, 0);
     put_last(m);
     m->length = length;

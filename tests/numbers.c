@@ -39,14 +39,29 @@ static void replied(void)
     same("query that matches", 0, OTAP_OK, otap_answer_number(commit()));
 }
 
+/* The documents' sizes and the header's. */
+static void sizes(void)
+{
+    same("bytes of a store", STORE_SIZE, OTAP_STORE_BYTES, STORE_SIZE);
+    same("most bytes of a message", MESSAGE_SIZE, OTAP_MESSAGE_BYTES, MESSAGE_SIZE);
+    same("an export buffer", MESSAGE_SIZE, OTAP_EXPORT_BYTES, MESSAGE_SIZE);
+    same("a report buffer", MESSAGE_SIZE, OTAP_REPORT_BYTES, MESSAGE_SIZE);
+    same("a join buffer", MESSAGE_SIZE, OTAP_JOIN_BYTES, MESSAGE_SIZE);
+    same("room for lines", LINE_ROOM, OTAP_LINE_ROWS, LINE_ROOM);
+    same("room for channels", CHANNEL_ROOM, OTAP_CHANNEL_PLACES, CHANNEL_ROOM);
+}
+
 /* 10 to 14: the number is the whole answer. */
 static void untouched(void)
 {
+    static uint8_t any[OTHER_STORE_SIZE];
     write_message(&said, 0, 0);
     same("reply", 10, OTAP_SHORT_REPLY, judge_and_commit(said.bytes, said.length, store, OTAP_STORE_BYTES, reply, OTAP_REPLY_BYTES - 1));
     same("store", 11, OTAP_NO_STORE, judge_and_commit(said.bytes, said.length, store, OTAP_STORE_BYTES - 1, reply, OTAP_REPLY_BYTES));
     same("store", 11, OTAP_NO_STORE, otap_start(store, OTAP_STORE_BYTES + 1));
     same("a store's size of layout 3", 11, OTAP_NO_STORE, otap_start(store, 12288));
+    same("a store of the other set", 11, OTAP_NO_STORE, otap_start(any, OTHER_STORE_SIZE));
+    same("the same, to be judged", 11, OTAP_NO_STORE, judge_and_commit(said.bytes, said.length, any, OTHER_STORE_SIZE, reply, OTAP_REPLY_BYTES));
     said.length = 6;
     same("short message", 12, OTAP_MESSAGE_LENGTH, commit());
     said.length = OTAP_MESSAGE_BYTES + 1;
@@ -80,7 +95,7 @@ static void exported(void)
     same("part", 16, OTAP_NO_PART, otap_export(0, store, OTAP_STORE_BYTES, buffer, OTAP_EXPORT_BYTES));
 }
 
-/* A full store reports 388 entries in three messages; the bytes of each are in reports.c. */
+/* A full store reports 388 entries, a vehicle's 676, in three messages; the bytes of each are in reports.c. */
 static void reported(void)
 {
     uint32_t index, entries = 0;
@@ -92,7 +107,7 @@ static void reported(void)
         same("a message's length", otap_report_length(answer), buffer[2] * 256u + buffer[3] + 4u, answer >> 16);
         entries += buffer[9];
     }
-    same("entries", 64 + 64 + 32 + 64 + 64 + 96 + 4, entries, entries);
+    same("entries", 64 + 64 + LINE_ROOM + 64 + CHANNEL_ROOM + 96 + 4, entries, entries);
     same("message", 16, OTAP_NO_MESSAGE, otap_report(said.bytes, said.length, 4, store, OTAP_STORE_BYTES, buffer, OTAP_REPORT_BYTES));
     same("message", 16, OTAP_NO_MESSAGE, otap_report(said.bytes, said.length, 0, store, OTAP_STORE_BYTES, buffer, OTAP_REPORT_BYTES));
     same("short buffer", 15, OTAP_SHORT_BUFFER, otap_report(said.bytes, said.length, 1, store, OTAP_STORE_BYTES, buffer, OTAP_REPORT_BYTES - 1));
@@ -116,7 +131,7 @@ static uint32_t row(uint32_t table, uint32_t at)
 static void rows(void)
 {
     static const struct { uint32_t table, number, first, last; size_t offset; } tables[OTAP_TABLES] = {
-        {OTAP_LINES, 1, 0, OTAP_LINE_ROWS - 1, 12862 + 20},
+        {OTAP_LINES, 1, 0, OTAP_LINE_ROWS - 1, LINES_AT + 20},
         {OTAP_QUICK_TEXTS, 2, 0, OTAP_QUICK_ROWS - 1, 22},
         {OTAP_STATUS_TEXTS, 3, OTAP_STATUS_FIRST, OTAP_STATUS_LAST, 2966 + 1},
         {OTAP_GROUPS, 4, 0, OTAP_SLOT_ROWS - 1, 6134 + 4},
@@ -186,7 +201,7 @@ static void asked_of_stores(void)
 /* Another value of a byte of a count, which stand where docs/STORE.md says, makes a store none: group contacts, individual ones, channels, lines. */
 static void poked_counts(uint8_t *bytes)
 {
-    static const size_t places[] = {8118, 8119, 10424, 10425, 12730, 12731, 12860, 12861};
+    static const size_t places[] = {8118, 8119, 10424, 10425, CHANNEL_COUNT_AT, CHANNEL_COUNT_AT + 1, LINE_COUNT_AT, LINE_COUNT_AT + 1};
     static const uint8_t steps[] = {1, 2, 32, 64, 128, 192, 255};
     size_t each, step;
     for (each = 0; each < sizeof places / sizeof places[0]; each++) {
@@ -204,7 +219,7 @@ static void counted(void)
 {
     static uint8_t other[OTAP_STORE_BYTES];
     unsigned vary, each;
-    counts_are("counts of a full store", store, 32, 64);
+    counts_are("counts of a full store", store, LINE_ROOM, CHANNEL_ROOM);
     poked_counts(store);
     same("start", 0, OTAP_OK, otap_start(other, sizeof other));
     counts_are("counts of a fresh store", other, 0, 0);
@@ -214,7 +229,7 @@ static void counted(void)
             write_filling(&said, each, vary);
             same("taken", 0, OTAP_OK, otap_answer_number(judge_and_commit(said.bytes, said.length, other, sizeof other, reply, sizeof reply)));
         }
-        counts_are("counts of a store", other, 32 - vary, 64 - vary);
+        counts_are("counts of a store", other, LINE_ROOM - vary, CHANNEL_ROOM - vary);
     }
     same("short store", 11, OTAP_NO_STORE, otap_counts(store, OTAP_STORE_BYTES - 1));
     same("long store", 11, OTAP_NO_STORE, otap_counts(store, OTAP_STORE_BYTES + 1));
@@ -289,6 +304,12 @@ static void coding_types(void)
     }
 }
 
+#ifdef VEHICLE
+#define FULL_STORE_SUM 0xFE36F173u
+#else
+#define FULL_STORE_SUM 0xE71CBB0Du
+#endif
+
 /* The bytes of the full store, summed (FNV-1a). If the layout has changed, OTAP_LAYOUT must be another number, and this sum too. */
 static void layout(void)
 {
@@ -298,7 +319,7 @@ static void layout(void)
         sum = (sum ^ store[at]) * 16777619u;
     }
     same("layout", 5, OTAP_LAYOUT, 5);
-    same("sum of a full store of layout 5", 0xE71CBB0Du, sum, sum);
+    same("sum of a full store of layout 5", FULL_STORE_SUM, sum, sum);
 }
 
 static void conversions(void)
@@ -321,6 +342,7 @@ static void conversions(void)
 
 int main(void)
 {
+    sizes();
     fill();
     replied();
     untouched();

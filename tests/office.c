@@ -2,7 +2,6 @@
  * Reports as the office reads them: each parameter and where its parts stand, what is in range and what is not, and messages that are none. Each case was
  * worked out by hand from docs/REPORTS.md. What a set writes is in reports.c, and what is read back of it in read_back.c.
  */
-#include "otap_office.h"
 #include "answers.h"
 
 /* A message with a parameter of each type, and one of a type that the set does not know. */

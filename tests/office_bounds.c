@@ -4,7 +4,6 @@
  * is lent one byte too many, of the buffer that a second word names, to see the fault.
  */
 #define _DEFAULT_SOURCE
-#include "otap_office.h"
 #include "messages.h"
 #include "must.h"
 #include "pages.h"
@@ -12,7 +11,7 @@
 enum { LONGEST = 73728 };
 
 static Lent message, one, two, buffer;
-static uint8_t store[OTAP_STORE_BYTES], report[LONGEST], held[2 * PAGE];
+static uint8_t store[OTAP_STORE_BYTES], report[LONGEST], held[2 * OTAP_JOIN_BYTES];
 static unsigned long calls, good, refused, joined, unjoined;
 
 /* The two calls at a byte: both know a parameter, or none does, and it ends within the message. */

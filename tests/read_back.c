@@ -2,7 +2,6 @@
  * What a set reports and the office reads back is what the set's other calls say of its store: every entry of full stores and of others, its flags, its
  * address or number, and its text, in one message or in many.
  */
-#include "otap_office.h"
 #include "answers.h"
 
 static uint8_t store[OTAP_STORE_BYTES];

@@ -183,38 +183,46 @@ static void indexes(void)
     same("nothing behind the last", at, otap_report_length(ask(1)), at);
 }
 
-/* 64 channels asked for four times: 256 parameters, of which a message takes 255. */
+/* All channels, of a hand-held asked for four times: 256 parameters, of which a message takes 255. */
 static void cut_by_count(void)
 {
     static const uint8_t types[] = {OTAP_ASK_CHANNELS, OTAP_ASK_CHANNELS, OTAP_ASK_CHANNELS, OTAP_ASK_CHANNELS, 0xD2};
-    static uint8_t bytes[256 * 5];
+    static uint8_t bytes[256 * 5 + 2];
+    const size_t times = 256 / CHANNEL_ROOM;
     unsigned each;
     write_filling(&said, 4, 0);
-    told("64 channels", said.bytes, said.length, OTAP_OK, 0, store);
+    told("as many channels as there can be", said.bytes, said.length, OTAP_OK, 0, store);
     for (each = 0; each < 256; each++) {
-        const uint8_t parameter[] = {0x8E, 0, each % 2 == 0 ? 0x0F : 0x28, each % 2 == 0 ? 0x10 : 0, (uint8_t)(each % 64)};
+        const uint8_t parameter[] = {0x8E, 0, each % 2 == 0 ? 0x0F : 0x28, each % 2 == 0 ? 0x10 : 0, (uint8_t)(each % CHANNEL_ROOM)};
         memcpy(bytes + 5 * each, parameter, sizeof parameter);
     }
-    write_asking(&said, types, 4);
+    bytes[256 * 5] = 0xD2;
+    bytes[256 * 5 + 1] = 0x83;
+    write_asking(&said, types, times);
     message_is("255 of them", 1, 2, 255, bytes, 255 * 5);
     message_is("the last one", 2, 2, 1, bytes + 255 * 5, 5);
     same("index 3", 16, OTAP_NO_MESSAGE, ask(3));
-    write_asking(&said, types, 5);
+    write_asking(&said, types + 4 - times, times + 1);
     message_is("255 of them", 1, 2, 255, bytes, 255 * 5);
-    message_is("the last one, and an unknown type", 2, 2, 2, (const uint8_t *)"\x8E\0\x28\0\x3F\xD2\x83", 7);
+    message_is("the last one, and an unknown type", 2, 2, 2, bytes + 255 * 5, 7);
 }
 
-/* A quick text of 51 bytes asked for 80 times, and what comes behind it: the parameters are cut where they pass 4,086 bytes. */
-static void cut_by_size(const char *what, const uint8_t *more, size_t count, uint32_t parameters, size_t length, uint32_t total, uint32_t left)
+/* As many quick texts of 51 bytes as a message takes, and before them values of 16 bytes where they leave room: 6 bytes are then free. */
+enum { TEXTS = MESSAGE_SIZE / 51, FRONT = (MESSAGE_SIZE - 16 - 51 * TEXTS) / 5 };
+
+/* These, and what comes behind them: `more` parameters fit into the first message, and leave so many bytes of it free. */
+static void cut_by_size(const char *what, const uint8_t *behind, size_t count, uint32_t more, size_t free_bytes, uint32_t total, uint32_t left)
 {
+    static const uint8_t front[] = {OTAP_ASK_EMERGENCY_KEY, OTAP_ASK_HOME_NUMBERS, OTAP_ASK_SYSTEM_CODE};
     static uint8_t types[OTAP_QUERY_MOST_TYPES];
     uint64_t answer;
     memset(types, OTAP_ASK_QUICK_TEXTS, sizeof types);
-    memcpy(types + 80, more, count);
-    write_asking(&said, types, 80 + count);
+    memcpy(types, front, FRONT);
+    memcpy(types + FRONT + TEXTS, behind, count);
+    write_asking(&said, types, FRONT + TEXTS + count);
     answer = ask(1);
-    same(what, (uint64_t)total << 8 | (uint64_t)length << 16, answer, answer);
-    same("its parameters", parameters, parameters, buffer[9]);
+    same(what, (uint64_t)total << 8 | (uint64_t)(MESSAGE_SIZE - free_bytes) << 16, answer, answer);
+    same("its parameters", FRONT + TEXTS + more, FRONT + TEXTS + more, buffer[9]);
     answer = ask(2);
     same("the second message", total, otap_answer_number(answer) == OTAP_OK ? otap_report_total(answer) : 1, total);
     same("parameters of the second message", left, left, total == 1 ? 0 : buffer[9]);
@@ -226,13 +234,13 @@ static void cuts_by_size(void)
     open_request(&said, 1);
     put_quick(&said, 1, 9, 1, 0);
     told("a quick text", said.bytes, said.length, OTAP_OK, 0, store);
-    cut_by_size("4,090 bytes", key, 0, 80, 4090, 1, 0);
-    cut_by_size("exactly 4,096 bytes", key, 1, 81, 4096, 1, 0);
-    cut_by_size("nothing fits behind them", key, 2, 81, 4096, 2, 1);
-    cut_by_size("4,095 bytes", home, 1, 81, 4095, 1, 0);
-    cut_by_size("an error that does not fit", home, 2, 81, 4095, 2, 1);
-    cut_by_size("an error that fits", hash, 4, 83, 4096, 1, 0);
-    cut_by_size("what is shorter does not pass what is longer", same_text, 2, 80, 4090, 2, 2);
+    cut_by_size("6 bytes free", key, 0, 0, 6, 1, 0);
+    cut_by_size("no byte free", key, 1, 1, 0, 1, 0);
+    cut_by_size("nothing fits behind them", key, 2, 1, 0, 2, 1);
+    cut_by_size("a byte free", home, 1, 1, 1, 1, 0);
+    cut_by_size("an error that does not fit", home, 2, 1, 1, 2, 1);
+    cut_by_size("an error that fits", hash, 4, 3, 0, 1, 0);
+    cut_by_size("what is shorter does not pass what is longer", same_text, 2, 0, 6, 2, 2);
 }
 
 /* 255 types, as many as a query can have: each message but the last is full, and all entries come in it. */
@@ -284,8 +292,8 @@ static void refused_queries(void)
     refused("a report", OTAP_OTHER_MESSAGE, (const uint8_t *)"\x0B\1\1\0", 4);
     refused("a result query of OTAPVer 2", OTAP_OTHER_MESSAGE, (const uint8_t *)"\x15\1", 2);
     refused("no data", OTAP_MESSAGE_LENGTH, (const uint8_t *)"", 0);
-    refused("4,096 bytes", OTAP_BAD_FIELD, longest, OTAP_MESSAGE_BYTES - 6);
-    refused("4,097 bytes", OTAP_MESSAGE_LENGTH, longest, OTAP_MESSAGE_BYTES - 5);
+    refused("the longest", OTAP_BAD_FIELD, longest, OTAP_MESSAGE_BYTES - 6);
+    refused("a byte longer", OTAP_MESSAGE_LENGTH, longest, OTAP_MESSAGE_BYTES - 5);
 }
 
 /* Each refusal comes before those behind it: the query is wrong in all that follows, and is put right step by step. */
@@ -296,7 +304,7 @@ static void refusals_in_order(void)
     size_t each;
     memcpy(said.bytes, wrong, sizeof wrong);
     said.length = 6;
-    same("4,095 bytes, and no store", 15, OTAP_SHORT_BUFFER, ask_with(0, store, 0, OTAP_REPORT_BYTES - 1));
+    same("a byte short, and no store", 15, OTAP_SHORT_BUFFER, ask_with(0, store, 0, OTAP_REPORT_BYTES - 1));
     same("no buffer, and no store", 15, OTAP_SHORT_BUFFER, ask_with(0, store, 0, 0));
     same("no store, and a short query", 11, OTAP_NO_STORE, ask_with(0, store, sizeof store - 1, OTAP_REPORT_BYTES));
     store[OTAP_STORE_BYTES - 1] = 1;
@@ -327,7 +335,7 @@ static void refusals_in_order(void)
 
 int main(void)
 {
-    same("the least buffer", 4096, OTAP_REPORT_BYTES, sizeof buffer);
+    same("the least buffer", MESSAGE_SIZE, OTAP_REPORT_BYTES, sizeof buffer);
     cases_by_hand();
     every_type();
     unknown_types();

@@ -5,8 +5,11 @@ set -u
 cd "$(dirname "$0")/.." || exit 1
 . tests/steps.sh
 
+# build_and_run TEST FLAGS: of the set at hand. Where that is the vehicle, `for_vehicle` says so, and `before` puts its names before the snippet's.
+for_vehicle=
+before=
 build_and_run() {
-    build "$1" c c99 "$CC" "$2" "tests/$1.c" && run_built "$1"
+    build "$1" c c99 "$CC" "$2 $for_vehicle" "tests/$1.c" && run_built "$1"
 }
 
 # sees_outside TEST [BUFFER]: a test of the bounds sees a byte too many: it ends with 1, and says so.
@@ -19,17 +22,17 @@ sees_outside() {
 few_constants() {
     total=0
     most=0
-    for size in $(readelf -SW "$archive" | sed -n 's/^ *\[ *[0-9]*\] \.rodata[^ ]* *PROGBITS *[0-9a-f]* [0-9a-f]* \([0-9a-f]*\) .*/\1/p'); do
+    for size in $(readelf -SW "$1" | sed -n 's/^ *\[ *[0-9]*\] \.rodata[^ ]* *PROGBITS *[0-9a-f]* [0-9a-f]* \([0-9a-f]*\) .*/\1/p'); do
         total=$((total + 0x$size))
         [ "$((0x$size))" -le "$most" ] || most=$((0x$size))
     done
-    echo "$total bytes, at most 1,536; $most in one section, under 640"
+    echo "${1##*/}: $total bytes, at most 1,536; $most in one section, under 640"
     [ "$total" -gt 0 ] && [ "$total" -le 1536 ] && [ "$most" -lt 640 ]
 }
 
-# functions ARCHIVE: the names that a program can link.
-functions() {
-    readelf -sW "$1" | awk '$4 == "FUNC" && $5 == "GLOBAL" && $7 != "UND" { print $8 }' | sort -u
+# names ARCHIVE: those that a program can link, of functions and of anything else.
+names() {
+    readelf -sW "$1" | awk '($5 == "GLOBAL" || $5 == "WEAK") && $7 != "UND" { print $8 }' | sort -u
 }
 
 # declared HEADER: the functions that it declares, but not those that it defines.
@@ -37,14 +40,18 @@ declared() {
     sed -n 's/^uint[0-9]*_t \(otap_[a-z_]*\)(.*/\1/p' "$1" | sort -u
 }
 
-# Each archive has the functions of its header, and no other: firmware does not carry the office's.
+# Each archive has the functions of its header, and no other: firmware does not carry the office's. So no name is in two, and any of them link together.
 own_functions() {
-    for pair in "$archive include/otap.h" "$office include/otap_office.h"; do
-        functions "${pair% *}" > "$built/has"
+    : > "$built/all"
+    for pair in "$handheld include/otap.h" "$vehicle include/otap_vehicle.h" "$office include/otap_office.h"; do
+        names "${pair% *}" > "$built/has"
         declared "${pair#* }" > "$built/declares"
         [ -s "$built/declares" ] || return 1
         diff "$built/declares" "$built/has" || return 1
+        cat "$built/has" >> "$built/all"
     done
+    sort "$built/all" | uniq -d > "$built/twice"
+    [ ! -s "$built/twice" ] || { cat "$built/twice"; return 1; }
 }
 
 build_and_run_banks() {
@@ -94,34 +101,49 @@ rest /banks->sequence = head/d
 EDITS
 }
 
+# Every test of C, of the set at hand; but not the banks, an example that keeps a hand-held's store, and whose cuts take a minute.
+suites() {
+    step "$1: snippet at work" build_and_run snippet_test "$sanitizers $before"
+    step "$1: numbers and constants" with "$handheld" build_and_run numbers "$sanitizers" # the conversions are there alone
+    step "$1: room and sizes at their edges" build_and_run edges "$sanitizers"
+    step "$1: judging and committing" build_and_run judging "$sanitizers"
+    step "$1: contacts and slots" build_and_run contacts "$sanitizers"
+    step "$1: who is calling" build_and_run callers "$sanitizers"
+    step "$1: behind a row" build_and_run entries "$sanitizers"
+    step "$1: reports" build_and_run reports "$sanitizers"
+    step "$1: the office's reader" with "$office" build_and_run office "$sanitizers"
+    step "$1: reports read back" with "$office" build_and_run read_back "$sanitizers" && show
+    step "$1: joining requests" with "$office" build_and_run joining "$sanitizers"
+    step "$1: joined requests in a set" with "$office" build_and_run joined "$sanitizers" && show
+    step "$1: bounds of the lent bytes" build_and_run bounds -O1 && show
+    step "$1: bounds can fail" sees_outside bounds
+    step "$1: bounds of the office's calls" with "$office" build_and_run office_bounds -O1 && show
+    step "$1: its bounds can fail" sees_outside office_bounds
+    for lent in first second buffer; do
+        step "$1: its bounds can fail, of joining the $lent" sees_outside office_bounds $lent
+    done
+    step "$1: stack" with "$handheld" build_and_run stack -O1 && show
+}
+
 need_archive
-step "snippet at work" build_and_run snippet_test "$sanitizers"
-step "numbers and constants" build_and_run numbers "$sanitizers"
-step "judging and committing" build_and_run judging "$sanitizers"
-step "contacts and slots" build_and_run contacts "$sanitizers"
-step "who is calling" build_and_run callers "$sanitizers"
-step "behind a row" build_and_run entries "$sanitizers"
-step "reports" build_and_run reports "$sanitizers"
-step "the office's reader" with_office build_and_run office "$sanitizers"
-step "reports read back" with_office build_and_run read_back "$sanitizers" && show
-step "joining requests" with_office build_and_run joining "$sanitizers"
-step "joined requests in a set" with_office build_and_run joined "$sanitizers" && show
-step "bounds of the lent bytes" build_and_run bounds -O1 && show
-step "bounds can fail" sees_outside bounds
-step "bounds of the office's calls" with_office build_and_run office_bounds -O1 && show
-step "its bounds can fail" sees_outside office_bounds
-for lent in first second buffer; do
-    step "its bounds can fail, of joining the $lent" sees_outside office_bounds $lent
-done
 step "two banks, cut at every byte" build_and_run_banks && show
 step "banks can fail" banks_can_fail && show
-step "stack" build_and_run stack -O1 && show
-step "constants" few_constants && show
+suites hand-held
+archive=$vehicle for_vehicle=-DVEHICLE before="-include tests/set.h"
+suites vehicle
+archive=$handheld for_vehicle='' before=''
+step "two sets in one program" with "$vehicle" build_and_run two_sets "$sanitizers"
+for file in "$handheld" "$vehicle" "$office"; do
+    step "constants of ${file##*/}" few_constants "$file" && show
+done
 step "what each archive has" own_functions
 [ -z "$emulator" ] || exit $failed
-if [ ! -f target/archive/wasm32/otap_handheld.wasm ] || [ ! -f target/archive/wasm32/otap_office.wasm ]; then
+for module in handheld vehicle office; do
+    [ ! -f target/archive/wasm32/otap_$module.wasm ] || continue
     echo "left out  wasm32: ./archive wasm32 was not run"
-elif ! command -v node > /dev/null; then
+    exit $failed
+done
+if ! command -v node > /dev/null; then
     echo "left out  wasm32: node is not here"
 else
     step "wasm32 in node" node tests/wasm.mjs && show

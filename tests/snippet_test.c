@@ -106,7 +106,7 @@ void show_caller(const uint8_t *units, size_t length)
     note('n');
     must(held, "a name is shown without the lock");
     must(length == 2 && units[0] == 0 && units[1] == (units == scratch ? '3' : 'A'), "the name of the caller");
-    must(units == scratch || units == store + 12862 + 20, "where it stands");
+    must(units == scratch || units == store + LINES_AT + 20, "where it stands");
 }
 
 void show_digits(const uint8_t *digits, size_t length)

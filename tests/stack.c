@@ -1,6 +1,5 @@
 /* How deep each call goes into the stack: each runs on a stack of its own that was painted before, on a full store and on every kind of message. */
 #define _XOPEN_SOURCE 700
-#include "otap.h"
 #include "judged.h"
 #include "lines.h"
 #include "messages.h"
@@ -12,7 +11,7 @@
 #include <ucontext.h>
 enum { STACK = 256 * 1024 };
 #else
-enum { STACK = 32 * 1024 };
+enum { STACK = OTAP_COMMIT_STACK + 6 * 1024 };
 #endif
 
 enum { PAINT = 0xA5, CALLS = 16 };
@@ -21,9 +20,9 @@ enum { PAINT = 0xA5, CALLS = 16 };
 static const unsigned long most[CALLS] = {OTAP_START_STACK, OTAP_JUDGE_STACK, OTAP_COMMIT_STACK, OTAP_EXPORT_STACK, OTAP_ROW_STACK, OTAP_ROW_STACK,
                                           OTAP_COUNTS_STACK, OTAP_LINE_OF_STACK, OTAP_VALUE_STACK, OTAP_VALUE_STACK, OTAP_VALUE_STACK,
                                           OTAP_VALUE_STACK, OTAP_VALUE_STACK, OTAP_VALUE_STACK, OTAP_REPORT_STACK, OTAP_CONVERSION_STACK};
-static const char *const names[CALLS] = {"otap_start", "otap_judge", "otap_commit", "otap_export", "otap_row_number", "otap_row_part", "otap_counts",
-                                         "otap_line_of", "otap_entry", "otap_entry_digits", "otap_channel", "otap_emergency_key", "otap_home_numbers",
-                                         "otap_system_code", "otap_report", "a conversion"};
+static const char *const names[CALLS] = {PREFIX "start", PREFIX "judge", PREFIX "commit", PREFIX "export", PREFIX "row_number", PREFIX "row_part",
+                                         PREFIX "counts", PREFIX "line_of", PREFIX "entry", PREFIX "entry_digits", PREFIX "channel",
+                                         PREFIX "emergency_key", PREFIX "home_numbers", PREFIX "system_code", PREFIX "report", "a conversion"};
 
 static uint8_t stack[STACK], store[OTAP_STORE_BYTES], filled[OTAP_STORE_BYTES];
 static uint8_t buffer[OTAP_EXPORT_BYTES];

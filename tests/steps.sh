@@ -3,8 +3,10 @@
 # OTAP_TARGET names another Linux of ./archive than this machine's; OTAP_ARCHIVE_DIR another folder of the archives; CC and CXX the compilers.
 machine=$(uname -m)-linux
 target=${OTAP_TARGET:-$machine}
-archive=${OTAP_ARCHIVE_DIR:-target/archive/$target}/libotap_handheld.a
-office=${OTAP_ARCHIVE_DIR:-target/archive/$target}/libotap_office.a
+archives=${OTAP_ARCHIVE_DIR:-target/archive/$target}
+handheld=$archives/libotap_handheld.a
+vehicle=$archives/libotap_vehicle.a
+office=$archives/libotap_office.a
 CC=${CC:-gcc}
 CXX=${CXX:-g++}
 warnings="-Wall -Wextra -Wpedantic -Wconversion -Wshadow -Werror -Iinclude -Iexamples -Itests"
@@ -33,7 +35,8 @@ show() {
     sed 's/^/        /' "$built/log"
 }
 
-# build OUTPUT LANGUAGE STANDARD COMPILER FLAGS SOURCE..: with the set's archive, and with what else $beside names.
+# build OUTPUT LANGUAGE STANDARD COMPILER FLAGS SOURCE..: with the archive of the set at hand, and with what else $beside names.
+archive=$handheld
 beside=
 build() {
     output=$1 language=$2 standard=$3 compiler=$4 flags=$5
@@ -41,9 +44,10 @@ build() {
     $compiler -x "$language" -std="$standard" $warnings $flags "$@" -x none "$archive" $beside -o "$built/$output"
 }
 
-# with_office COMMAND..: it builds with the office's archive too.
-with_office() {
-    beside=$office
+# with ARCHIVE COMMAND..: it builds with this archive too.
+with() {
+    beside=$1
+    shift
     "$@"
     ended=$?
     beside=
@@ -67,7 +71,7 @@ need_archive() {
             exit $failed
         done
     fi
-    for file in "$archive" "$office"; do
+    for file in "$handheld" "$vehicle" "$office"; do
         [ -f "$file" ] && continue
         echo "FAILED  no $file: ./archive $target writes it"
         exit 1

@@ -1,5 +1,6 @@
 // tests/wasm.mjs: the modules for wasm32 in node: no imports; the stored inputs of the programs `take` and `put`, judged and committed, come to their
-// stored outputs; callers are found; what stands behind a row is answered; what a set reports, the office's module reads; and what it joins, the set takes.
+// stored outputs; callers are found; what stands behind a row is answered; what a set reports, the office's module reads; and what it joins, the set takes. A
+// vehicle's module has its own sizes, and its export is taken by the hand-held's as far as it fits.
 import { readFileSync } from "node:fs";
 import { fileURLToPath } from "node:url";
 
@@ -9,31 +10,37 @@ const exportsOf = (name) => {
     if (WebAssembly.Module.imports(module).length > 0) throw new Error(`${name} imports something`);
     return new WebAssembly.Instance(module).exports;
 };
-const exports = exportsOf("otap_handheld");
 
-// The buffers, one behind the other from __heap_base on: pointers are numbers, lengths and packed answers BigInts.
-const sizes = { store: 24576, message: 65536, reply: 20, buffer: 4096, digits: 19 };
-let end = exports.__heap_base.value;
-const at = {};
-for (const [name, size] of Object.entries(sizes)) {
-    at[name] = end;
-    end += size;
+// A set's module and its buffers, one behind the other from __heap_base on: pointers are numbers, lengths and packed answers BigInts.
+function setOf(module, prefix, store, buffer) {
+    const exports = exportsOf(module);
+    const sizes = { store, message: 65536, reply: 20, buffer, digits: 19 };
+    let end = exports.__heap_base.value;
+    const at = {};
+    for (const [name, size] of Object.entries(sizes)) {
+        at[name] = end;
+        end += size;
+    }
+    exports.memory.grow(Math.max(0, Math.ceil((end - exports.memory.buffer.byteLength) / 65536)));
+    const lent = (name, length = sizes[name]) => [at[name], BigInt(length)];
+    const call = (name, ...words) => exports[prefix + name](...words);
+    return { call, lent, at, sizes, memory: new Uint8Array(exports.memory.buffer) };
 }
-exports.memory.grow(Math.max(0, Math.ceil((end - exports.memory.buffer.byteLength) / 65536)));
-const memory = new Uint8Array(exports.memory.buffer);
-const lent = (name, length = sizes[name]) => [at[name], BigInt(length)];
+const handheld = setOf("otap_handheld", "otap_", 24576, 4096);
+const vehicle = setOf("otap_vehicle", "otap_vehicle_", 49152, 8192);
+const { call, lent, at, memory } = handheld;
 
 // As the programs do: judges, and commits where that comes to 0. Judging leaves the store, and committing then says and writes the same.
-function take(message) {
-    memory.set(message, at.message);
-    const call = (name) => exports[name](...lent("message", message.length), ...lent("store"), ...lent("reply"));
-    const copy = (name) => Buffer.from(memory.subarray(at[name], at[name] + sizes[name]));
+function take(message, set = handheld) {
+    set.memory.set(message, set.at.message);
+    const ask = (name) => set.call(name, ...set.lent("message", message.length), ...set.lent("store"), ...set.lent("reply"));
+    const copy = (name) => Buffer.from(set.memory.subarray(set.at[name], set.at[name] + set.sizes[name]));
     const before = copy("store");
-    const judged = call("otap_judge");
+    const judged = ask("judge");
     same("the store that was judged", copy("store"), before);
     if ((judged & 0xffn) !== 0n) return judged;
     const reply = copy("reply");
-    if (call("otap_commit") !== judged) throw new Error("another answer than judging");
+    if (ask("commit") !== judged) throw new Error("another answer than judging");
     same("the reply", copy("reply"), reply);
     return judged;
 }
@@ -58,12 +65,17 @@ function takePrints(input) {
     return Buffer.from(lines.join(""));
 }
 
+// A part of a set's store, as a request.
+function exported(part, set = handheld) {
+    const answer = set.call("export", part, ...set.lent("store"), ...set.lent("buffer"));
+    return Buffer.from(set.memory.subarray(set.at.buffer, set.at.buffer + Number((answer >> 16n) & 0xffffn)));
+}
+
 function putWrites() {
     const parts = [];
     for (let part = 1; part <= 10; part++) {
-        const answer = exports.otap_export(part, ...lent("store"), ...lent("buffer"));
-        const length = Number((answer >> 16n) & 0xffffn);
-        parts.push(Buffer.from([length & 255, length >> 8, part, 0]), Buffer.from(memory.subarray(at.buffer, at.buffer + length)));
+        const request = exported(part);
+        parts.push(Buffer.from([request.length & 255, request.length >> 8, part, 0]), request);
     }
     return Buffer.concat(parts);
 }
@@ -71,12 +83,12 @@ function putWrites() {
 // Who is calling, packed: the number, bit 8 where a row has it, the row from bit 16 on.
 function lineOf(idType, digits) {
     memory.set(digits, at.digits);
-    return exports.otap_line_of(idType, ...lent("digits", digits.length), ...lent("store"));
+    return call("line_of", idType, ...lent("digits", digits.length), ...lent("store"));
 }
 
 // The digits behind a row of lines, at the start of a buffer of 18 bytes.
 function digitsOf(table, index) {
-    const answer = exports.otap_entry_digits(table, index, ...lent("store"), ...lent("digits", 18));
+    const answer = call("entry_digits", table, index, ...lent("store"), ...lent("digits", 18));
     return (answer & 0xffn) === 0n ? [...memory.subarray(at.digits, at.digits + Number(answer >> 8n))].join("") : `refused ${answer}`;
 }
 
@@ -84,7 +96,7 @@ function digitsOf(table, index) {
 function report(types, index) {
     const query = [2, 2, 0, 0, 8, 0, 0x0a, types.length, ...types];
     memory.set(query, at.message);
-    const answer = exports.otap_report(...lent("message", query.length), index, ...lent("store"), ...lent("buffer"));
+    const answer = call("report", ...lent("message", query.length), index, ...lent("store"), ...lent("buffer"));
     return { answer, message: memory.slice(at.buffer, at.buffer + Number((answer >> 16n) & 0xffffn)) };
 }
 
@@ -125,7 +137,7 @@ function same(what, got, wanted) {
 }
 
 const stored = (program, part) => readFileSync(`${root}/crates/${program}/${part}`);
-const start = () => exports.otap_start(...lent("store"));
+const start = () => call("start", ...lent("store"));
 if (start() !== 0) throw new Error("start");
 same("take", takePrints(stored("take", "stdin")), stored("take", "stdout"));
 start();
@@ -138,9 +150,9 @@ if (asked.join() !== [0x100, 0x10100, 0, 0, 20, 20].join()) throw new Error(`who
 // The same lines behind their rows; then a member group of priority 2, two channels, the key to individual 100001, NZI 15 and NP 806, LAI ABC.
 take([2, 2, 0, 0, 8, 4, 8, 5, 0xd1, 0, 8, 0x70, 0x83, 0x10, 0, 2, 0, 0xce, 0, 7, 0xc0, 2, 0x0f, 0x12, 0x80,
     0xcb, 0, 6, 0x20, 0x10, 0, 1, 0xcd, 0, 5, 0x07, 0xe4, 0xc0, 0xcf, 0, 5, 0xab, 0xc8, 0x60]);
-const behind = [[1, 1], [4, 3], [4, 2], [9, 0]].map(([table, index]) => exports.otap_entry(table, index, ...lent("store")));
-const fixed = ["otap_emergency_key", "otap_home_numbers", "otap_system_code"].map((name) => exports[name](...lent("store")));
-const tuned = [0, 1, 2].map((position) => exports.otap_channel(position, ...lent("store")));
+const behind = [[1, 1], [4, 3], [4, 2], [9, 0]].map(([table, index]) => call("entry", table, index, ...lent("store")));
+const fixed = ["emergency_key", "home_numbers", "system_code"].map((name) => call(name, ...lent("store")));
+const tuned = [0, 1, 2].map((position) => call("channel", position, ...lent("store")));
 const wanted = [1n << 32n, 0x100002n << 8n | 2n << 35n | 3n << 37n, 17n, 17n, 0x100001n << 8n | 1n << 34n, 15n << 8n | 806n << 17n,
     0xabcn << 8n | 8n << 20n | 1n << 24n | 1n << 26n, 241n << 8n, 640n << 8n, 17n, "3", "2345", "refused 17"];
 const found = [...behind, ...fixed, ...tuned, digitsOf(1, 0), digitsOf(1, 1), digitsOf(8, 0)];
@@ -161,5 +173,18 @@ same("a joined request", Buffer.from(joined.message), Buffer.from([2, 2, 0, 0x14
 const unjoined = officeJoins(channels, [2, 2, 0, 0, 8, 7, 8, 1, 0xff, 0, 3, 0]).answer;
 if (joined.answer !== 24n << 16n || unjoined !== (4n | 1n << 8n | 1n << 32n)) throw new Error(`joining: ${joined.answer}, ${unjoined}`);
 if ((take(joined.message) & 0xffn) !== 0n || lineOf(1, [4]) !== 0x20100n) throw new Error("taking the joined request");
-if (exports.otap_transmit(640) !== 3560000n << 8n) throw new Error("transmit");
-console.log("no imports; take and put, judged and committed, as stored; callers are found, what stands behind a row, what is reported and read, and joined");
+if (call("transmit", 640) !== 3560000n << 8n) throw new Error("transmit");
+// 32 lines of a vehicle, all ten parts taken by a hand-held; then one more, with which the first part is refused: no room for setting 34.
+const linesOf = (first, count) => [2, 2, 0, 0, 8, 4, 8, 1, 0xca, 0, 4 + 3 * count, 0x40, count,
+    ...Array.from({ length: count }, (_, each) => [Math.floor((first + each) / 10) * 16 + (first + each) % 10, 0xff, 0]).flat()];
+const handOn = () => Array.from({ length: 10 }, (_, each) => take(exported(each + 1, vehicle)) & 0xffffn);
+const starts = [24576, 49152].map((length) => vehicle.call("start", ...vehicle.lent("store", length)));
+if (starts.join() !== "11,0") throw new Error(`a vehicle's start: ${starts}`);
+take(linesOf(10, 32), vehicle);
+if (handOn().some((answer) => answer !== 0n)) throw new Error("a vehicle's export");
+for (let part = 1; part <= 10; part++) same("both exports", exported(part), exported(part, vehicle));
+take(linesOf(42, 1), vehicle);
+if (handOn()[0] !== (2n | 34n << 8n)) throw new Error("an export that does not fit");
+if (vehicle.call("export", 1, ...vehicle.lent("store"), ...vehicle.lent("buffer", 8191)) !== 15n) throw new Error("a short buffer");
+console.log("no imports; take and put, judged and committed, as stored; callers are found, what stands behind a row, what is reported and read, and joined;" +
+    " a hand-held takes a vehicle's export where it fits");

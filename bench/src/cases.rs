@@ -6,9 +6,13 @@ use crate::messages;
 use crate::reports;
 use crate::sides::{Call, Checked, Plain, Rattle, Side};
 use crate::values;
-use otap::{Part, Table};
+use otap::{Handheld, Part, Table, Vehicle};
+use otap_reference::reference::limits::{Limits, HANDHELD, VEHICLE};
 
+#[derive(Clone)]
 pub struct Case {
+    /// Of the set that is called.
+    pub limits: Limits,
     pub name: String,
     pub call: Call,
     pub number: u8,
@@ -49,7 +53,11 @@ const ROWS: [(&str, Table, u32); 14] = [
 const JUDGED: [&str; 2] = ["lines", "last-item"];
 
 pub fn all() -> Vec<Case> {
-    let case = |name: String, call, number| Case { name, call, number };
+    [of_a_handheld(), of_a_vehicle()].concat()
+}
+
+fn of_a_handheld() -> Vec<Case> {
+    let case = |name: String, call, number| Case { limits: HANDHELD, name, call, number };
     let mut cases = Vec::new();
     for (kind, message) in messages::of_each_kind() {
         if JUDGED.contains(&kind) {
@@ -67,7 +75,7 @@ pub fn all() -> Vec<Case> {
         cases.push(case(format!("row-{name}"), Call::Row(table, row), 0));
     }
     cases.push(case("counts".into(), Call::Counts, 0));
-    for (name, digits, row) in messages::callers() {
+    for (name, digits, row) in messages::callers(HANDHELD) {
         cases.push(case(format!("line-of-{name}"), Call::LineOf { digits, row }, 0));
     }
     for value in values::ALL {
@@ -88,9 +96,32 @@ pub fn all() -> Vec<Case> {
     cases
 }
 
+/// What a vehicle is asked too, where its sizes count: its requests, rows and exports of the longer lists, its check, which is what the counts are, and its reports.
+fn of_a_vehicle() -> Vec<Case> {
+    let last = VEHICLE.lines as u32 - 1;
+    let mut calls = Vec::new();
+    for (kind, message) in messages::of_a_vehicle(VEHICLE) {
+        calls.push((format!("commit-{kind}"), Call::Commit(message)));
+    }
+    calls.push(("export-lines".into(), Call::Export(Part::Lines)));
+    calls.push(("export-channels".into(), Call::Export(Part::Channels)));
+    calls.push(("row-line-text".into(), Call::Row(Table::Lines, last)));
+    calls.push(("row-line-number".into(), Call::Row(Table::Lines, last - 1)));
+    calls.push(("counts".into(), Call::Counts));
+    for (name, digits, row) in messages::callers(VEHICLE) {
+        calls.push((format!("line-of-{name}"), Call::LineOf { digits, row }));
+    }
+    for (name, asked) in reports::queries_to_a_vehicle() {
+        calls.push((format!("report-{name}"), Call::Report(asked)));
+    }
+    let case =
+        |(name, call)| Case { limits: VEHICLE, name: format!("vehicle-{name}"), call, number: 0 };
+    calls.into_iter().map(case).collect()
+}
+
 /// A full store, after the case's own call has been made once where it changes anything.
 pub fn ready<S: Side + Clone + PartialEq>(mut side: S, case: &Case) -> S {
-    for message in messages::filling() {
+    for message in messages::filling(case.limits) {
         assert_eq!(side.call(&Call::Commit(message)), 0);
     }
     assert_eq!(side.call(&case.call), case.number, "{}", case.name);
@@ -100,12 +131,16 @@ pub fn ready<S: Side + Clone + PartialEq>(mut side: S, case: &Case) -> S {
     side
 }
 
-pub fn rattle(case: &Case) -> Rattle {
-    ready(Rattle::fresh(), case)
+pub fn rattle(case: &Case) -> Box<dyn Side> {
+    if case.limits == VEHICLE {
+        Box::new(ready(Rattle::<Vehicle>::fresh(), case))
+    } else {
+        Box::new(ready(Rattle::<Handheld>::fresh(), case))
+    }
 }
 
 pub fn plain(case: &Case) -> Plain {
-    ready(Plain::fresh(), case)
+    ready(Plain::fresh(case.limits), case)
 }
 
 pub fn checked(case: &Case) -> Checked {

@@ -3,15 +3,16 @@
 use crate::messages;
 use crate::sides::{Call, Rattle, Side};
 use crate::timing::median;
-use otap::Store;
+use otap::{Handheld, Kind, Set, Vehicle};
 use otap_reference::inputs::pokes::order_lines;
 use otap_reference::layout;
+use otap_reference::reference::limits::{Limits, HANDHELD, VEHICLE};
 use std::hint::black_box;
 use std::time::Instant;
 
 const BATCHES: usize = 301;
 const CALLS: u32 = 20;
-/// The first line of the store, and the bytes of one (docs/STORE.md).
+/// The first line of a hand-held's store, and the bytes of one (docs/STORE.md).
 const LINES: usize = 12_862;
 const LINE: usize = 52;
 /// The last byte of their order.
@@ -28,15 +29,26 @@ pub fn table() {
     println!("| store | Rattle ns | plain ns |");
     println!("|---|---|---|");
     for (name, bytes) in stores() {
-        println!("| {name} | {:.0} | {:.0} |", rattle(bytes.clone()), plain(&bytes));
+        row::<Handheld>(name, bytes, HANDHELD);
     }
+    row::<Vehicle>("a full vehicle's: 128 lines", full::<Vehicle>(VEHICLE).bytes, VEHICLE);
+    row::<Vehicle>("a fresh vehicle's", Rattle::<Vehicle>::fresh().bytes, VEHICLE);
+}
+
+fn row<K: Kind>(name: &str, bytes: Vec<u8>, limits: Limits) {
+    println!("| {name} | {:.0} | {:.0} |", rattle::<K>(bytes.clone()), plain(&bytes, limits));
+}
+
+fn full<K: Kind>(limits: Limits) -> Rattle<K> {
+    let mut full = Rattle::fresh();
+    for message in messages::filling(limits) {
+        assert_eq!(full.call(&Call::Commit(message)), 0);
+    }
+    full
 }
 
 fn stores() -> Vec<(&'static str, Vec<u8>)> {
-    let mut full = Rattle::fresh();
-    for message in messages::filling() {
-        assert_eq!(full.call(&Call::Commit(message)), 0);
-    }
+    let full = full::<Handheld>(HANDHELD);
     let changed = |change: fn(&mut [u8])| {
         let mut bytes = full.bytes.clone();
         change(&mut bytes);
@@ -71,7 +83,7 @@ fn other_first_digits(bytes: &mut [u8]) {
     for (place, line) in bytes[LINES..].chunks_exact_mut(LINE).take(32).enumerate() {
         line[2] = 1 + (place % 10) as u8;
     }
-    order_lines(bytes);
+    order_lines(HANDHELD, bytes);
 }
 
 fn other_first_bytes(bytes: &mut [u8]) {
@@ -92,13 +104,13 @@ fn equal_lines(bytes: &mut [u8]) {
     bytes.copy_within(from..to, to);
 }
 
-fn rattle(mut bytes: Vec<u8>) -> f64 {
-    let store = Store::lent(&mut bytes);
+fn rattle<K: Kind>(mut bytes: Vec<u8>) -> f64 {
+    let store = Set::<K>::lent(&mut bytes);
     timed(|| store.counts().is_ok())
 }
 
-fn plain(bytes: &[u8]) -> f64 {
-    timed(|| layout::is_store(black_box(bytes)))
+fn plain(bytes: &[u8], limits: Limits) -> f64 {
+    timed(|| layout::is_store(black_box(bytes), limits))
 }
 
 /// Nanoseconds of one call.

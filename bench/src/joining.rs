@@ -3,6 +3,7 @@
 use crate::messages::{groups_in_halves, of_groups};
 use crate::sides::answered;
 use otap_reference::reference::joining::join;
+use otap_reference::reference::limits::HANDHELD;
 use std::hint::black_box;
 
 /// Two requests, and how many bytes have to be written of them.
@@ -28,7 +29,7 @@ impl Pair {
 
     /// The same, by the reference.
     pub fn plain(&self, buffer: &mut [u8]) -> u8 {
-        let joined = join(black_box(&self.first), black_box(&self.second), buffer);
+        let joined = join(black_box(&self.first), black_box(&self.second), HANDHELD, buffer);
         answered(black_box(joined).map_err(|no| no.number), self.written)
     }
 }

@@ -1,8 +1,9 @@
-//! Requests of at most 4,096 bytes, each full of one kind of setting.
+//! Requests as long as a set's messages may be, each full of one kind of setting.
 //!
 //! Committed twice, each leaves what it left the first time, so that every repetition starts from the same store.
 
-use otap_reference::reference::message::{query, request, request_as, Hash, LONGEST};
+use otap_reference::reference::limits::{Limits, HANDHELD};
+use otap_reference::reference::message::{query, request, request_as, Hash};
 use otap_reference::reference::plan::{GroupAddress, IndividualAddress};
 use otap_reference::reference::settings::{
     ContactEntry, EmergencyKey, GroupFlags, GroupSlot, HomeNumbers, IndividualFlags,
@@ -14,30 +15,47 @@ use otap_reference::reference::texts::{Coding, Text};
 const HASH: Hash = Hash::Stamped([1, 2, 3, 4, 5, 6, 7, 8, 9, 10]);
 const HEAD: usize = 8;
 
-/// A name for each kind, and a request full of it, status texts under 0100 too; at the end those with the most to look for.
+/// A name for each kind, and a hand-held's request full of it, status texts under 0100 too; at the end those with the most to look for.
 pub fn of_each_kind() -> Vec<(&'static str, Vec<u8>)> {
     vec![
-        ("lines", full(|count| lines(count, Operation::Replace))),
+        ("lines", of_lines(HANDHELD)),
         ("emergency-key", full(|count| repeated(count, key()))),
         ("quick-texts", full(quick_texts)),
         (
             "home-numbers",
             full(|count| repeated(count, Setting::Home(HomeNumbers { nzi: 15, np: 806 }))),
         ),
-        ("channels", full(channels)),
+        ("channels", of_channels(HANDHELD)),
         ("system-code", full(|count| repeated(count, system()))),
         ("status-texts", full(|count| vec![status_texts(count, text(16)).write()])),
-        ("status-texts-8", full_as(Coding::Eight, narrow_status_texts)),
+        ("status-texts-8", full_as(HANDHELD, Coding::Eight, narrow_status_texts)),
         ("groups", of_groups()),
         ("individuals", full(|count| (0..count).map(|place| individual(place, 16)).collect())),
         ("group-contacts", full(|count| vec![group_contacts(Operation::Replace, count)])),
         ("individual-contacts", full(|count| vec![individual_contacts(Operation::Replace, count)])),
         ("line-slots", full(|count| (0..count).map(|place| line_slot(place, 16)).collect())),
-        ("last-item", request(&[last()])),
+        ("last-item", of_last_item()),
         ("lines-deleted", deleted_lines()),
         ("channels-deleted", deleted_channels()),
         ("contacts-deleted", deleted_contacts()),
     ]
+}
+
+/// Those that a vehicle is measured with too.
+pub fn of_a_vehicle(limits: Limits) -> [(&'static str, Vec<u8>); 3] {
+    [("lines", of_lines(limits)), ("channels", of_channels(limits)), ("last-item", of_last_item())]
+}
+
+fn of_lines(limits: Limits) -> Vec<u8> {
+    full_as(limits, Coding::Unicode, |count| lines(limits, count, Operation::Replace))
+}
+
+fn of_channels(limits: Limits) -> Vec<u8> {
+    full_as(limits, Coding::Unicode, |count| channels(limits, count))
+}
+
+fn of_last_item() -> Vec<u8> {
+    request(&[last()])
 }
 
 pub fn of_groups() -> Vec<u8> {
@@ -65,12 +83,12 @@ pub fn matching_query() -> Vec<u8> {
 }
 
 /// What fills every table; the last row but one of lines, groups and individuals, in slots and among the contacts, has no text.
-pub fn filling() -> Vec<Vec<u8>> {
+pub fn filling(limits: Limits) -> Vec<Vec<u8>> {
     let slots = |of: fn(usize, usize) -> Vec<u8>| {
         (0..16).map(|place| of(place, if place == 14 { 0 } else { 16 })).collect::<Vec<_>>()
     };
-    let mut nameless = lines(32, Operation::Replace);
-    nameless.push(line_setting(Operation::Add, vec![line(30, 0)]));
+    let mut nameless = lines(limits, limits.lines, Operation::Replace);
+    nameless.push(line_setting(Operation::Add, vec![line(limits.lines - 2, 0)]));
     vec![
         request(&nameless),
         request(&quick_texts(64)),
@@ -78,13 +96,13 @@ pub fn filling() -> Vec<Vec<u8>> {
         request(&[slots(group), slots(individual), slots(line_slot)].concat()),
         request(&[group_contacts(Operation::Replace, 64), nameless_contacts().0]),
         request(&[individual_contacts(Operation::Replace, 64), nameless_contacts().1]),
-        request(&[channels(1), vec![key().write(), system().write(), last()]].concat()),
+        request(&[channels(limits, 1), vec![key().write(), system().write(), last()]].concat()),
     ]
 }
 
 /// What empties the list of lines.
 pub fn without_lines() -> Vec<u8> {
-    request(&lines(0, Operation::Replace))
+    request(&lines(HANDHELD, 0, Operation::Replace))
 }
 
 /// What empties both lists of contacts.
@@ -92,20 +110,22 @@ pub fn without_contacts() -> Vec<u8> {
     request(&[group_contacts(Operation::Replace, 0), individual_contacts(Operation::Replace, 0)])
 }
 
-/// Who calls a full store: its last line, and a number that comes close to all 32 and is none of them.
-pub fn callers() -> [(&'static str, Vec<u8>, Option<u32>); 2] {
-    [("found", line(31, 0).digits, Some(31)), ("none", vec![7; 18], None)]
+/// Who calls a full store: its last line, and a number that comes close to all of them and is none.
+pub fn callers(limits: Limits) -> [(&'static str, Vec<u8>, Option<u32>); 2] {
+    let last = limits.lines - 1;
+    [("found", line(last, 0).digits, Some(last as u32)), ("none", line(last + 46, 0).digits, None)]
 }
 
 fn full(settings: impl Fn(usize) -> Vec<Vec<u8>>) -> Vec<u8> {
-    full_as(Coding::Unicode, settings)
+    full_as(HANDHELD, Coding::Unicode, settings)
 }
 
-/// The largest request that a count of 1 to 255 gives within 4,096 bytes, found by halving.
-fn full_as(coding: Coding, settings: impl Fn(usize) -> Vec<Vec<u8>>) -> Vec<u8> {
+/// The largest request that a count of 1 to 255 gives within a message, found by halving.
+fn full_as(limits: Limits, coding: Coding, settings: impl Fn(usize) -> Vec<Vec<u8>>) -> Vec<u8> {
     let fits = |count| {
         let settings = settings(count);
-        settings.len() <= 255 && HEAD + settings.iter().map(Vec::len).sum::<usize>() <= LONGEST
+        let size = HEAD + settings.iter().map(Vec::len).sum::<usize>();
+        settings.len() <= 255 && size <= limits.message
     };
     let (mut good, mut bad) = (1, 256);
     while bad - good > 1 {
@@ -127,11 +147,12 @@ fn text(length: usize) -> Text {
     (0..length).map(|place| 0x4E00 + place as u16).collect()
 }
 
-/// Eighteen digits, one of 32 numbers.
+/// Eighteen digits, of which the last two tell a hand-held's numbers apart, and the last three a vehicle's.
 fn line(place: usize, units: usize) -> LineEntry {
     let mut digits = vec![7; 18];
-    digits[16] = (place % 32 / 10) as u8;
-    digits[17] = (place % 32 % 10) as u8;
+    digits[15] += (place / 100) as u8;
+    digits[16] = (place / 10 % 10) as u8;
+    digits[17] = (place % 10) as u8;
     LineEntry { digits, text: text(units) }
 }
 
@@ -139,8 +160,10 @@ fn line_setting(operation: Operation, entries: Vec<LineEntry>) -> Vec<u8> {
     Setting::Lines { operation, flags: LineFlags::default(), entries }.write()
 }
 
-fn lines(count: usize, operation: Operation) -> Vec<Vec<u8>> {
-    vec![line_setting(operation, (0..count).map(|place| line(place, 16)).collect())]
+/// As many numbers as there is room for, and those again.
+fn lines(limits: Limits, count: usize, operation: Operation) -> Vec<Vec<u8>> {
+    let entries = (0..count).map(|place| line(place % limits.lines, 16)).collect();
+    vec![line_setting(operation, entries)]
 }
 
 /// As many deletes as fit of a number that comes close to all 32 and is none of them.
@@ -179,9 +202,9 @@ fn quick_texts(count: usize) -> Vec<Vec<u8>> {
         .collect()
 }
 
-/// Replaces of 64 channels each, since no more have room.
-fn channels(count: usize) -> Vec<Vec<u8>> {
-    let channels = (0..64).map(|place| 241 + place * 6).collect();
+/// Replaces of as many channels each as there is room for.
+fn channels(limits: Limits, count: usize) -> Vec<Vec<u8>> {
+    let channels = (0..limits.channels as u16).map(|place| 241 + place % 64 * 6).collect();
     repeated(count, Setting::Channels { operation: Operation::Replace, channels })
 }
 

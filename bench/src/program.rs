@@ -30,9 +30,9 @@ fn one(name: &str, side: &str, calls: &str) -> ExitCode {
         return usage();
     };
     match side {
-        "rattle" => repeat(cases::rattle(&case), &case, calls),
-        "plain" => repeat(cases::plain(&case), &case, calls),
-        "checked" => repeat(cases::checked(&case), &case, calls),
+        "rattle" => repeat(&mut *cases::rattle(&case), &case, calls),
+        "plain" => repeat(&mut cases::plain(&case), &case, calls),
+        "checked" => repeat(&mut cases::checked(&case), &case, calls),
         _ => return usage(),
     }
     ExitCode::SUCCESS
@@ -40,7 +40,7 @@ fn one(name: &str, side: &str, calls: &str) -> ExitCode {
 
 /// Stands alone, so that a profiler can look at it only.
 #[inline(never)]
-fn repeat(mut side: impl Side, case: &Case, calls: u32) {
+fn repeat(side: &mut dyn Side, case: &Case, calls: u32) {
     for _ in 0..calls {
         std::hint::black_box(side.call(&case.call));
     }

@@ -2,9 +2,9 @@
 
 use crate::messages::filling;
 use crate::sides::answered;
-use otap::{Refusal, Store, REPLY_ROOM};
+use otap::{Kind, Refusal, REPLY_ROOM};
 use otap_reference::reference::commit::commit;
-use otap_reference::reference::message::LONGEST;
+use otap_reference::reference::limits::HANDHELD;
 use otap_reference::reference::queries::query;
 use otap_reference::reference::report_reading::read;
 use otap_reference::reference::reports::{self, report};
@@ -35,7 +35,7 @@ pub struct Asked {
 
 impl Asked {
     /// The number, by the face.
-    pub fn rattle(&self, store: &Store, buffer: &mut [u8]) -> u8 {
+    pub fn rattle<K: Kind>(&self, store: &otap::Set<K>, buffer: &mut [u8]) -> u8 {
         let report = store.report(black_box(&self.query), black_box(self.index), buffer);
         answered(black_box(report).map(|report| report.total).map_err(Refusal::number), self.total)
     }
@@ -47,9 +47,23 @@ impl Asked {
     }
 }
 
-/// A name for each query: every table by itself, which is one message; all ten, and status texts as often as can be asked, by their first and last message.
+fn asked(types: &[u8], index: u32, total: u32) -> Asked {
+    Asked { query: query(types), index, total }
+}
+
+/// A name for each query to a vehicle: the two tables that have more in it, and status texts as often as can be asked.
+pub fn queries_to_a_vehicle() -> [(&'static str, Asked); 4] {
+    let longest = |index| asked(&[0xD0; 255], index, 114);
+    [
+        ("lines", asked(&[0xCA], 1, 1)),
+        ("channels", asked(&[0xCE], 1, 2)),
+        ("longest-first", longest(1)),
+        ("longest-last", longest(114)),
+    ]
+}
+
+/// A name for each query to a hand-held: every table by itself, which is one message; all ten, and status texts as often as can be asked, by their first and last message.
 pub fn queries() -> Vec<(String, Asked)> {
-    let asked = |types: &[u8], index, total| Asked { query: query(types), index, total };
     let one = |(name, byte): (&str, u8)| (name.to_string(), asked(&[byte], 1, 1));
     let mut queries: Vec<_> = TABLES.into_iter().map(one).collect();
     let all = TABLES.map(|(_, byte)| byte);
@@ -62,12 +76,12 @@ pub fn queries() -> Vec<(String, Asked)> {
 
 /// Messages of a full set's reports: one with the most bytes, and one with the most parameters.
 pub fn messages() -> [(&'static str, Vec<u8>); 2] {
-    let mut set = Set::default();
-    for message in filling() {
+    let mut set = Set::fresh(HANDHELD);
+    for message in filling(HANDHELD) {
         assert_eq!(commit(&message, &mut set, &mut [0; REPLY_ROOM]).number, 0);
     }
     let first = |types: &[u8]| {
-        let messages = reports::messages(types, &set, LONGEST).expect("at most 231 messages");
+        let messages = reports::messages(types, &set).expect("at most 255 messages");
         messages.into_iter().next().expect("a report has a message")
     };
     [("status-texts", first(&[0xD0; 2])), ("channels", first(&[0xCE; 4]))]
@@ -84,5 +98,5 @@ pub fn rattle_reads(message: &[u8]) -> u8 {
 
 /// The same, by the reference.
 pub fn plain_reads(message: &[u8]) -> u8 {
-    black_box(read(black_box(message))).map_or_else(|number| number, |_| 0)
+    black_box(read(black_box(message), HANDHELD)).map_or_else(|number| number, |_| 0)
 }

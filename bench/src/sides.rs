@@ -4,15 +4,17 @@ use crate::conversions;
 use crate::joining::Pair;
 use crate::reports::{plain_reads, rattle_reads, Asked};
 use crate::values::Value;
-use otap::{Part, Store, Table, EXPORT_ROOM, PSTN, REPLY_ROOM, SCRATCH_ROOM, STORE_SIZE};
+use otap::{Kind, Part, Table, PSTN, REPLY_ROOM, SCRATCH_ROOM};
 use otap_reference::layout;
 use otap_reference::reference::callers::line_of;
 use otap_reference::reference::commit::{commit, judge};
 use otap_reference::reference::export::export;
+use otap_reference::reference::limits::Limits;
 use otap_reference::reference::menu::counts;
 use otap_reference::reference::screen::{row_part, Row};
 use otap_reference::reference::tables::Set;
 use std::hint::black_box;
+use std::marker::PhantomData;
 
 #[derive(Clone)]
 pub enum Call {
@@ -40,11 +42,12 @@ pub trait Side {
     fn call(&mut self, call: &Call) -> u8;
 }
 
-/// The verified archive through the face.
+/// The verified archive of a kind of set through the face.
 #[derive(Clone, PartialEq)]
-pub struct Rattle {
+pub struct Rattle<K> {
     pub bytes: Vec<u8>,
     buffer: Vec<u8>,
+    kind: PhantomData<K>,
 }
 
 /// The reference.
@@ -61,17 +64,17 @@ pub struct Checked {
     bytes: Vec<u8>,
 }
 
-impl Rattle {
-    pub fn fresh() -> Rattle {
-        let mut bytes = vec![0; STORE_SIZE];
-        Store::start(&mut bytes).expect("the size is right");
-        Rattle { bytes, buffer: vec![0; EXPORT_ROOM] }
+impl<K: Kind> Rattle<K> {
+    pub fn fresh() -> Self {
+        let mut bytes = vec![0; K::STORE_SIZE];
+        otap::Set::<K>::start(&mut bytes).expect("the size is right");
+        Rattle { bytes, buffer: vec![0; K::LONGEST_MESSAGE], kind: PhantomData }
     }
 }
 
 impl Plain {
-    pub fn fresh() -> Plain {
-        Plain { set: Set::default(), buffer: vec![0; EXPORT_ROOM] }
+    pub fn fresh(limits: Limits) -> Plain {
+        Plain { set: Set::fresh(limits), buffer: vec![0; limits.message] }
     }
 }
 
@@ -87,7 +90,7 @@ impl Side for Checked {
     fn call(&mut self, call: &Call) -> u8 {
         // A conversion has no store, and the office has none.
         let has_none = matches!(call, Call::Convert(_) | Call::ReadReport(_) | Call::Join(_));
-        if has_none || layout::is_store(black_box(&self.bytes)) {
+        if has_none || layout::is_store(black_box(&self.bytes), self.plain.set.limits) {
             self.plain.call(call)
         } else {
             11
@@ -95,9 +98,9 @@ impl Side for Checked {
     }
 }
 
-impl Side for Rattle {
+impl<K: Kind> Side for Rattle<K> {
     fn call(&mut self, call: &Call) -> u8 {
-        let mut store = Store::lent(&mut self.bytes);
+        let mut store = otap::Set::<K>::lent(&mut self.bytes);
         match call {
             Call::Judge(message) => {
                 store.judge(black_box(message), &mut self.buffer[..REPLY_ROOM]).number()

@@ -3,8 +3,9 @@
 use crate::cases;
 use crate::conversions;
 use crate::sides::{Call, Rattle, Side};
-use otap::{Store, STORE_SIZE};
+use otap::{Handheld, Kind, Set, Vehicle};
 use otap_reference::inputs::Inputs;
+use otap_reference::reference::limits::{Limits, HANDHELD, VEHICLE};
 use std::arch::asm;
 use std::collections::BTreeMap;
 use std::hint::black_box;
@@ -12,34 +13,46 @@ use std::hint::black_box;
 const ROOM: usize = 256 * 1024;
 const PAINT: u8 = 0xC3;
 
+/// The most bytes that were seen of each call, by its name.
+type Deepest = BTreeMap<String, usize>;
+
 pub fn table() {
-    let mut deepest = BTreeMap::new();
-    let mut note = |name: &'static str, depth: usize| {
-        let most = deepest.entry(name).or_insert(0);
-        *most = depth.max(*most);
-    };
+    let mut deepest = Deepest::new();
     for case in cases::all() {
         let mut rattle = cases::rattle(&case);
-        note(call_name(&case.call), depth(|| seen(rattle.call(&case.call))));
+        let depth = depth(|| seen(rattle.call(&case.call)));
+        note(&mut deepest, case.limits, call_name(&case.call), depth);
     }
-    for seed in 0..20 {
-        let mut inputs = Inputs::new(seed);
-        let mut rattle = Rattle::fresh();
-        for _ in 0..100 {
-            let message = inputs.message();
-            for call in [Call::Judge(message.clone()), Call::Commit(message)] {
-                note(call_name(&call), depth(|| seen(rattle.call(&call))));
-            }
-        }
-    }
-    let mut bytes = vec![1; STORE_SIZE];
-    note("start", depth(|| seen(Store::start(&mut bytes).is_ok())));
-    note("nothing", depth(|| ()));
+    messages::<Handheld>(&mut deepest, HANDHELD);
+    messages::<Vehicle>(&mut deepest, VEHICLE);
+    note(&mut deepest, HANDHELD, "nothing", depth(|| ()));
     println!("Deepest stack of each call through the face, in bytes; `nothing` is what the measurement itself takes.");
     println!();
     println!("| call | bytes |");
     println!("|---|---|");
     deepest.iter().for_each(|(name, depth)| println!("| {name} | {depth} |"));
+}
+
+fn note(deepest: &mut Deepest, limits: Limits, name: &str, depth: usize) {
+    let begin = if limits == VEHICLE { "vehicle-" } else { "" };
+    let most = deepest.entry(format!("{begin}{name}")).or_insert(0);
+    *most = depth.max(*most);
+}
+
+/// Messages of every kind, judged and committed, and the start of a store.
+fn messages<K: Kind>(deepest: &mut Deepest, limits: Limits) {
+    for seed in 0..20 {
+        let mut inputs = Inputs::new(seed, limits);
+        let mut rattle = Rattle::<K>::fresh();
+        for _ in 0..100 {
+            let message = inputs.message();
+            for call in [Call::Judge(message.clone()), Call::Commit(message)] {
+                note(deepest, limits, call_name(&call), depth(|| seen(rattle.call(&call))));
+            }
+        }
+    }
+    let mut bytes = vec![1; K::STORE_SIZE];
+    note(deepest, limits, "start", depth(|| seen(Set::<K>::start(&mut bytes).is_ok())));
 }
 
 fn call_name(call: &Call) -> &'static str {

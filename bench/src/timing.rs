@@ -10,14 +10,14 @@ const BATCH: Duration = Duration::from_micros(300);
 
 pub fn table() {
     println!("Rattle: the verified archive through the face. Plain: the reference in rust/otap-reference, as it is.");
-    println!("Checked: the same behind a plain check of the store's 24,576 bytes, which Rattle makes in every call too.");
+    println!("Checked: the same behind a plain check of all the store's bytes, which Rattle makes in every call too.");
     println!(
-        "All on a full store, warm, {BATCHES} batches of about {} us in turn, median.",
+        "All on a full store, a vehicle's where the name says so, warm, {BATCHES} batches of about {} us in turn, median.",
         BATCH.as_micros()
     );
     println!("Every call leaves what it found, so each repetition starts from the same store without a copy.");
     println!("Plain works on tables, not on bytes: it reads bit by bit, allocates each text, clones its tables for a request.");
-    println!("The 32 line numbers differ only in their last two digits and the addresses of 64 contacts in their last byte, the worst for finding one.");
+    println!("The line numbers, 32 of a hand-held and 128 of a vehicle, differ only in their last two or three digits and the addresses of 64 contacts in their last byte, the worst for finding one.");
     println!("Plain writes every message of a report and gives one of them.");
     println!("Of a join the message is both requests together.");
     println!("Plain finds a channel by search, and a caller too: in the lines from the first on, where Rattle halves their order.");
@@ -49,7 +49,7 @@ fn message_length(case: &Case) -> Option<usize> {
 fn compare(case: &Case) -> [Vec<f64>; 3] {
     let (mut rattle, mut plain, mut checked) =
         (cases::rattle(case), cases::plain(case), cases::checked(case));
-    let sides: [&mut dyn Side; 3] = [&mut rattle, &mut plain, &mut checked];
+    let sides: [&mut dyn Side; 3] = [&mut *rattle, &mut plain, &mut checked];
     let mut sides = sides.map(|side| (calls_in_a_batch(side, case), side, Vec::new()));
     for _ in 0..BATCHES {
         for (calls, side, times) in &mut sides {

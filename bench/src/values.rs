@@ -1,6 +1,6 @@
 //! What stands behind a row, and what the radio works by: the same values by the archive and by plain Rust.
 
-use otap::{Refusal, Store, Table, MOST_DIGITS};
+use otap::{Kind, Refusal, Table, MOST_DIGITS};
 use otap_reference::reference::tables::Set;
 use otap_reference::reference::values;
 use std::hint::black_box;
@@ -32,7 +32,7 @@ impl Value {
     }
 
     /// The number, by the face.
-    pub fn rattle(self, store: &Store, buffer: &mut [u8]) -> u8 {
+    pub fn rattle<K: Kind>(self, store: &otap::Set<K>, buffer: &mut [u8]) -> u8 {
         match black_box(self) {
             Value::Entry(table, index) => said(store.entry(table, index)),
             Value::Digits(table, index) => {

@@ -30,15 +30,18 @@ on() {
     esac
     case $target in cortex-m33*) board=mps2-an505 memory="-Wl,--defsym=code=0x10000000 -Wl,--defsym=ram=0x38000000" ;; esac
     archive=${OTAP_ARCHIVE_DIR:-target/archive/$target}/libotap_handheld.a
-    [ -f "$archive" ] && return
-    echo "FAILED  no $archive: ./archive $target writes it"
-    exit 1
+    vehicle=${OTAP_ARCHIVE_DIR:-target/archive/$target}/libotap_vehicle.a
+    for file in "$archive" "$vehicle"; do
+        [ -f "$file" ] && continue
+        echo "FAILED  no $file: ./archive $target writes it"
+        exit 1
+    done
 }
 
 # bare FLAGS SOURCE: the program for the target at hand, and its run.
 bare() {
     $CC $cpu -mthumb -O2 -std=c99 $warnings $1 --specs=rdimon.specs -nostartfiles -Wl,-z,noexecstack $memory -T examples/cortex-m/link.ld \
-        examples/cortex-m/start.c "$2" "$archive" -o "$built/bare" && board
+        examples/cortex-m/start.c "$2" "$archive" $beside -o "$built/bare" && board
 }
 
 board() {
@@ -72,11 +75,15 @@ for each in cortex-m4 cortex-m4f cortex-m33 cortex-m33f; do
     step "$each: who is calling" bare "" tests/callers.c
     step "$each: behind a row" bare "" tests/entries.c
     step "$each: reports" bare "" tests/reports.c
+    step "$each: room and sizes at their edges" bare "" tests/edges.c
+    step "$each: the same of a vehicle" with "$vehicle" bare -DVEHICLE tests/edges.c
+    step "$each: two sets in one program" with "$vehicle" bare "" tests/two_sets.c
 done
 for each in cortex-m4 cortex-m33; do
     on $each
     step "$each: bounds, by guard bytes" bare "" tests/bounds.c && show
     step "$each: bounds can fail" sees_outside
     step "$each: stack" bare "" tests/stack.c && show
+    step "$each: stack of a vehicle's calls" with "$vehicle" bare -DVEHICLE tests/stack.c && show
 done
 exit $failed

@@ -1,4 +1,4 @@
-//! Finds the verified archives of the target and links them: the set's, and with the feature `office` the office's too.
+//! Finds the verified archives of the target and links them: the hand-held's, and with the features `vehicle` and `office` theirs too.
 
 use std::env;
 use std::path::{Path, PathBuf};
@@ -37,8 +37,10 @@ fn link(directory: &Path, advice: &str) {
     // Cargo runs this in the package's own directory, but links elsewhere.
     let directory = directory.canonicalize().unwrap_or_else(|_| directory.to_path_buf());
     println!("cargo::rustc-link-search=native={}", directory.display());
-    let office = env::var_os("CARGO_FEATURE_OFFICE").map(|_| "otap_office");
-    for name in ["otap_handheld"].into_iter().chain(office) {
+    let asked = |feature: &str, name| env::var_os(feature).map(|_| name);
+    let vehicle = asked("CARGO_FEATURE_VEHICLE", "otap_vehicle");
+    let office = asked("CARGO_FEATURE_OFFICE", "otap_office");
+    for name in ["otap_handheld"].into_iter().chain(vehicle).chain(office) {
         let archive = directory.join(format!("lib{name}.a"));
         println!("cargo::rerun-if-changed={}", archive.display());
         if archive.is_file() {

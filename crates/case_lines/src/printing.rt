@@ -4,6 +4,7 @@ use station::answers::Answer;
 use station::answers::Reply;
 use station::answers::failed_id;
 use station::answers::number;
+use tables::start::Started;
 use writing::Result;
 
 // The hexadecimal digits.
@@ -17,7 +18,7 @@ pub fn decimal(n: u32) {
     io::print_decimal(STDOUT_FILENO, n as u64);
 }
 
-fn yes_or_no(what: &[u8], answer: bool) {
+pub fn yes_or_no(what: &[u8], answer: bool) {
     text(what);
     if answer {
         text(b" yes");
@@ -65,6 +66,17 @@ fn numbers(answer: Answer) {
     decimal(number(answer) as u32);
     text(b", failed ID ");
     decimal(failed_id(answer) as u32);
+}
+
+// The line of starting a store.
+pub fn started(what: &[u8], answer: Started) {
+    text(what);
+    text(b": ");
+    match answer {
+        Started::Fresh => decimal(0),
+        Started::WrongSize => decimal(11),
+    }
+    text(b"\n");
 }
 
 // The case's line: number, failed ID, send, reboot, whether the store stayed as it was, and the reply's bytes.

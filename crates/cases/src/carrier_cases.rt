@@ -1,25 +1,13 @@
 // Buffers, the carrier, and what a request has before its settings.
-use case_lines::printing::decimal;
-use case_lines::printing::text;
+use case_lines::printing::started;
 use case_lines::taking::answer;
 use case_lines::taking::answer_into;
 use case_lines::taking::messages;
 use station::handheld::start;
 use tables::limits::HANDHELD_SIZE;
-use tables::start::Started;
 
 // A request that is taken: the emergency key calls the current place by voice.
 const GOOD: [u8; 12] = *b"\x02\x02\x00\x08\x08\x07\x08\x01\xCB\x00\x03\xA0";
-
-fn started(what: &[u8], answer: Started) {
-    text(what);
-    text(b": ");
-    match answer {
-        Started::Fresh => decimal(0),
-        Started::WrongSize => decimal(11),
-    }
-    text(b"\n");
-}
 
 fn stores() {
     let mut store = [0u8; HANDHELD_SIZE];

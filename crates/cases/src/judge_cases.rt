@@ -1,6 +1,7 @@
 // Judging and committing, a call each: what was judged good is committed to the same store, and judged again where another request came between.
+use case_lines::sets::Set;
 use case_lines::taking::Call;
-use case_lines::taking::call_into;
+use case_lines::taking::call_for;
 use case_lines::taking::requests;
 
 // FF with reboot, send and hash 1.
@@ -14,7 +15,7 @@ const LINE: [u8; 17] = *b"\x02\x02\x00\x0D\x08\x07\x08\x01\xCA\x00\x08\x40\x01\x
 
 fn call(call: Call, what: &[u8], message: &[u8], store: &mut [u8]) {
     let mut reply = [0u8; 20];
-    call_into(call, what, message, store, &mut reply);
+    call_for(Set::Handheld, call, what, message, store, &mut reply);
 }
 
 fn hashes(store: &mut [u8]) {
@@ -28,7 +29,8 @@ fn hashes(store: &mut [u8]) {
     call(Call::Commit, b"committed after it", &HASHED, store);
     call(Call::Judge, b"judged: query with it", &QUERY, store);
     let mut small = [0u8; 19];
-    call_into(
+    call_for(
+        Set::Handheld,
         Call::Judge,
         b"judged: reply buffer of 19 bytes",
         &QUERY,

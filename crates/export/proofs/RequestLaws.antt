@@ -9,7 +9,7 @@ use Rattle.writing.specs.Writing.{request-head}
 use Rattle.export_write.specs.Writers.{Wrote}
 use Rattle.export_write.proofs.PlainLaws.{plain-byte, plain-two}
 use Rattle.export_write.proofs.WroteLaws.{wrote-length, wrote-before, wrote-as}
-use Rattle.tables.specs.Limits.{handheld}
+use Rattle.tables.specs.Limits.{handheld, vehicle}
 use Rattle.export.specs.Exportable.{Exportable}
 use Rattle.export.specs.Exported.{request-bytes}
 use Rattle.export.specs.PartWriters.{Headed}
@@ -57,3 +57,7 @@ request-headed count end r before after c within w = (omega (arith, wrote-length
 -- HANDHELD: every part of a handheld's tables is one request
 pub handheld-exportable : Exportable handheld
 handheld-exportable = record { counted = omega arith; channels = omega arith; status = omega arith; lines = omega arith }
+
+-- VEHICLE: and every part of a vehicle's tables is
+pub vehicle-exportable : Exportable vehicle
+vehicle-exportable = record { counted = omega arith; channels = omega arith; status = omega arith; lines = omega arith }

@@ -14,7 +14,7 @@ use Rattle.read_carrier.proofs.MessageOne.{coding-one}
 use Rattle.export_write.specs.Writers.{Wrote}
 use Rattle.export_write.proofs.PlainLaws.{plain-byte, plain-two}
 use Rattle.export_write.proofs.WroteLaws.{wrote-length, wrote-both, wrote-as}
-use Rattle.tables.specs.Limits.{handheld}
+use Rattle.tables.specs.Limits.{handheld, vehicle}
 use Rattle.requests.specs.Judge.{Outcome, kept, refused}
 use Rattle.joining.specs.declared.answers.Join.{Join}
 use Rattle.joining.specs.declared.answers.Join.the-variants.{Written, Codings, TooMany, TooLong}
@@ -160,3 +160,6 @@ module _ (most : ℕ) (first second buffer : List ℕ) (room : most ≤ length b
 -- HANDHELD: its message size is one that is meant
 pub handheld-can : CanJoin (handheld .message)
 handheld-can = record { stated = omega arith }
+
+pub vehicle-can : CanJoin (vehicle .message)
+vehicle-can = record { stated = omega arith }

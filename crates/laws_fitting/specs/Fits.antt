@@ -11,7 +11,7 @@ use Rattle.station.specs.Taking.{AfterTaking, taken}
 use Rattle.export.specs.declared.parts.Part.{Part}
 use Rattle.export.specs.declared.parts.Part.the-variants.{Lines, Fixed, QuickTexts, Channels, StatusTexts, Groups, Individuals, GroupContacts, IndividualContacts, LineSlots}
 use Rattle.export.specs.Exported.{ten, exported, request-bytes}
-use Rattle.restore.specs.Restored.{requests}
+use Rattle.restore.specs.Restored.{requests, PartFits}
 
 -- "when its lines and channels fit the handheld's room and no written request passes 4,096 bytes", of any set that is to take them
 pub record FitsIn (to : Limits) (t : Tables) : Type 0 where
@@ -27,24 +27,7 @@ AllTaken lim (message ∷ messages) store after =
 
 -- ---- "may be refused by a handheld with 2 or 12": at which part
 
--- the other set has places for a part's entries; but for lines and channels, all sets have as many
-abbrev pub PlacesFor : Limits → Tables → Part → Type 0
-PlacesFor to t Lines = length (t .lines) ≤ to .lines
-PlacesFor to t Fixed = Unit {0}
-PlacesFor to t QuickTexts = Unit {0}
-PlacesFor to t Channels = length (t .channels) ≤ to .channels
-PlacesFor to t StatusTexts = Unit {0}
-PlacesFor to t Groups = Unit {0}
-PlacesFor to t Individuals = Unit {0}
-PlacesFor to t GroupContacts = Unit {0}
-PlacesFor to t IndividualContacts = Unit {0}
-PlacesFor to t LineSlots = Unit {0}
-
-pub record PartFits (to : Limits) (t : Tables) (p : Part) : Type 0 where
-  pub request : length (request-bytes (exported p t)) ≤ to .message
-  pub places : PlacesFor to t p
-
--- the place of a part's first setting without room: of lines a replace and an add for each place come before it; channels are one setting
+-- the place of a part's first setting without room: of lines a replace and an add for each place come before it, channels are one setting, and no other part lacks places
 abbrev pub first-without : Limits → Part → ℕ
 first-without to Lines = to .lines + 2
 first-without to Fixed = 1
@@ -63,7 +46,7 @@ pub record Refuses (to : Limits) (t : Tables) (p : Part) (store : List ℕ) (a :
   pub no-room : length (request-bytes (exported p t)) ≤ to .message → (a .answer .number ≡ 2) × (a .answer .failed ≡ first-without to p)
   pub stays : a .store ≡ store
 
--- the parts before one that does not fit are taken, and it is refused, whatever reply buffer is lent
+-- the parts before one that does not fit are taken, and it is refused: each answer that taking allows is so, whatever reply buffer is lent, and there is one
 pub record StopsAt (to : Limits) (t : Tables) (p : Part) (store : List ℕ) : Type 0 where
   pub before : List Part
   pub behind : List Part
@@ -73,3 +56,4 @@ pub record StopsAt (to : Limits) (t : Tables) (p : Part) (store : List ℕ) : Ty
   pub held : List ℕ
   pub taken-before : AllTaken to (requests t before) store held
   pub refuses : (reply : List ℕ) (a : AfterTaking) → 20 ≤ length reply → Answers (taken to (request-bytes (exported p t)) held reply) a → Refuses to t p held a
+  pub comes : (reply : List ℕ) → 20 ≤ length reply → (a : AfterTaking) × Answers (taken to (request-bytes (exported p t)) held reply) a

@@ -94,7 +94,7 @@ module _ (c : Coding) (lim : Limits) where
       subst⁻¹ (λ (l : List ℕ). Fault c lim left u l 2) z (room {w = w} {s = s} r (sym z ∙ e) y i a)
 
   -- a setting that lacks room after those that had: the request is refused there
-  stuck-judged : (l : List Setting) (t : Tables) (bs : List ℕ) → Bytes bs → WrittenAll c l bs → All (InRange text-limits 1) l
+  pub stuck-judged : (l : List Setting) (t : Tables) (bs : List ℕ) → Bytes bs → WrittenAll c l bs → All (InRange text-limits 1) l
       → (s : Stuck (apply lim) l t) → Judged c lim (length l) t bs (refused 2 (length (s .done) + 1))
   stuck-judged l t bs bytes written ranged s =
       let here : List Setting = s .entry ∷ s .rest in

@@ -1,6 +1,6 @@
 // Who is calling.
-use callers::handheld::line_of;
-use packing::caller::pack_caller;
+use packed_calls::caller::packed_line_of;
+use tables::limits::HANDHELD;
 ghost use Rattle.tables.specs.Limits.{handheld};
 ghost use Rattle.packing.specs.Packing.{LooksUp};
 
@@ -9,6 +9,5 @@ ghost use Rattle.packing.specs.Packing.{LooksUp};
 pub extern "C" fn otap_line_of(idtype: u32, digits: &[u8], store: &[u8]) -> u64
     ensures { λ r. ⌜ LooksUp handheld idtype (now (digits .entry)) (now (store .entry)) r ⌝ }
 {
-    let answer = line_of(idtype, digits, store);
-    pack_caller(answer)
+    packed_line_of(idtype, digits, store, HANDHELD)
 }

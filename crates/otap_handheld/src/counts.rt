@@ -1,6 +1,6 @@
 // How much a store holds.
-use menu::handheld::counts;
-use packing::counts::pack_counts;
+use packed_calls::counts::packed_counts;
+use tables::limits::HANDHELD;
 ghost use Rattle.tables.specs.Limits.{handheld};
 ghost use Rattle.packing.specs.Packing.{Counts};
 
@@ -9,6 +9,5 @@ ghost use Rattle.packing.specs.Packing.{Counts};
 pub extern "C" fn otap_counts(store: &[u8]) -> u64
     ensures { λ r. ⌜ Counts handheld (now (store .entry)) r ⌝ }
 {
-    let answer = counts(store);
-    pack_counts(answer)
+    packed_counts(store, HANDHELD)
 }

@@ -1,9 +1,7 @@
 // What stands behind a row of tables 1 and 4 to 8, which rows.rt names; nothing behind any other.
-use packing::digits::pack_digits;
-use packing::entries::pack_entry;
-use screen::rows::row_of;
-use values::handheld::entry;
-use values::handheld::entry_digits;
+use packed_calls::entries::packed_digits;
+use packed_calls::entries::packed_entry;
+use tables::limits::HANDHELD;
 ghost use Rattle.tables.specs.Limits.{handheld};
 ghost use Rattle.packing.specs.PackedValues.{Enters, WritesDigits};
 
@@ -12,9 +10,7 @@ ghost use Rattle.packing.specs.PackedValues.{Enters, WritesDigits};
 pub extern "C" fn otap_entry(table: u32, index: u32, store: &[u8]) -> u64
     ensures { λ r. ⌜ Enters handheld table index (now (store .entry)) r ⌝ }
 {
-    let row = row_of(table, index);
-    let answer = entry(row, store);
-    pack_entry(answer)
+    packed_entry(table, index, store, HANDHELD)
 }
 
 // Number, and how many digits of a line or a line slot stand, one a byte, at the start of a buffer of 18 bytes or more. 15, 11, 17 refuse, and the buffer stays.
@@ -22,7 +18,5 @@ pub extern "C" fn otap_entry(table: u32, index: u32, store: &[u8]) -> u64
 pub extern "C" fn otap_entry_digits(table: u32, index: u32, store: &[u8], digits: &mut [u8]) -> u64
     ensures { λ r. ⌜ WritesDigits handheld table index (now (store .entry)) (now (digits .entry)) (now (digits .exit)) r ⌝ }
 {
-    let row = row_of(table, index);
-    let answer = entry_digits(row, store, digits);
-    pack_digits(answer)
+    packed_digits(table, index, store, digits, HANDHELD)
 }

@@ -1,6 +1,6 @@
 // Writing a store out.
-use export::exporting::export;
-use packing::exports::pack_export;
+use packed_calls::exports::packed_export;
+use tables::limits::HANDHELD;
 ghost use Rattle.tables.specs.Limits.{handheld};
 ghost use Rattle.packing.specs.Packing.{Exports};
 
@@ -9,6 +9,5 @@ ghost use Rattle.packing.specs.Packing.{Exports};
 pub extern "C" fn otap_export(part: u32, store: &[u8], buffer: &mut [u8]) -> u64
     ensures { λ r. ⌜ Exports handheld part (now (store .entry)) (now (buffer .entry)) (now (buffer .exit)) r ⌝ }
 {
-    let answer = export(part, store, buffer);
-    pack_export(answer)
+    packed_export(part, store, buffer, HANDHELD)
 }

@@ -1,9 +1,9 @@
 // Stores and messages.
+use packed_calls::messages::number_of_start;
 use packing::messages::pack_answer;
-use packing::messages::start_number;
 use station::handheld::commit;
 use station::handheld::judge;
-use station::handheld::start;
+use tables::limits::HANDHELD;
 ghost use Rattle.tables.specs.Limits.{handheld};
 ghost use Rattle.packing.specs.Packing.{Starts, Judgements, Commits};
 
@@ -12,8 +12,7 @@ ghost use Rattle.packing.specs.Packing.{Starts, Judgements, Commits};
 pub extern "C" fn otap_start(store: &mut [u8]) -> u32
     ensures { λ r. ⌜ Starts handheld (now (store .entry)) (now (store .exit)) r ⌝ }
 {
-    let did = start(store);
-    start_number(did)
+    number_of_start(store, HANDHELD)
 }
 
 // Number, failed ID, send, reboot and reply length: what committing the message to this store would answer, with the reply that it would write. The store stays.

@@ -1,6 +1,6 @@
 // Answering queries.
-use packing::report::pack_report;
-use reporting::handheld::report;
+use packed_calls::queries::packed_report;
+use tables::limits::HANDHELD;
 ghost use Rattle.tables.specs.Limits.{handheld};
 ghost use Rattle.packing.specs.PackedReports.{AnswersReport};
 
@@ -9,6 +9,5 @@ ghost use Rattle.packing.specs.PackedReports.{AnswersReport};
 pub extern "C" fn otap_report(query: &[u8], index: u32, store: &[u8], buffer: &mut [u8]) -> u64
     ensures { λ r. ⌜ AnswersReport handheld (now (query .entry)) index (now (store .entry)) (now (buffer .entry)) (now (buffer .exit)) r ⌝ }
 {
-    let answer = report(query, index, store, buffer);
-    pack_report(answer)
+    packed_report(query, index, store, buffer, HANDHELD)
 }

@@ -1,12 +1,9 @@
 // The settings that the radio works by.
-use packing::fixed::pack_home;
-use packing::fixed::pack_key;
-use packing::fixed::pack_system;
-use packing::tuning::pack_tuned;
-use values::handheld::channel;
-use values::handheld::emergency_key;
-use values::handheld::home_numbers;
-use values::handheld::system_code;
+use packed_calls::radio::packed_channel;
+use packed_calls::radio::packed_home;
+use packed_calls::radio::packed_key;
+use packed_calls::radio::packed_system;
+use tables::limits::HANDHELD;
 ghost use Rattle.tables.specs.Limits.{handheld};
 ghost use Rattle.packing.specs.PackedValues.{AnswersHome, AnswersKey, AnswersSystem, Tunes};
 
@@ -15,8 +12,7 @@ ghost use Rattle.packing.specs.PackedValues.{AnswersHome, AnswersKey, AnswersSy
 pub extern "C" fn otap_channel(position: u32, store: &[u8]) -> u64
     ensures { λ r. ⌜ Tunes handheld position (now (store .entry)) r ⌝ }
 {
-    let answer = channel(position as usize, store);
-    pack_tuned(answer)
+    packed_channel(position, store, HANDHELD)
 }
 
 // Number, and where the emergency key calls, with its flags: 11 refuses, here and below.
@@ -24,8 +20,7 @@ pub extern "C" fn otap_channel(position: u32, store: &[u8]) -> u64
 pub extern "C" fn otap_emergency_key(store: &[u8]) -> u64
     ensures { λ r. ⌜ AnswersKey handheld (now (store .entry)) r ⌝ }
 {
-    let answer = emergency_key(store);
-    pack_key(answer)
+    packed_key(store, HANDHELD)
 }
 
 // Number, NZI and NP.
@@ -33,8 +28,7 @@ pub extern "C" fn otap_emergency_key(store: &[u8]) -> u64
 pub extern "C" fn otap_home_numbers(store: &[u8]) -> u64
     ensures { λ r. ⌜ AnswersHome handheld (now (store .entry)) r ⌝ }
 {
-    let answer = home_numbers(store);
-    pack_home(answer)
+    packed_home(store, HANDHELD)
 }
 
 // Number, LAI, LA, roaming and PAR.
@@ -42,6 +36,5 @@ pub extern "C" fn otap_home_numbers(store: &[u8]) -> u64
 pub extern "C" fn otap_system_code(store: &[u8]) -> u64
     ensures { λ r. ⌜ AnswersSystem handheld (now (store .entry)) r ⌝ }
 {
-    let answer = system_code(store);
-    pack_system(answer)
+    packed_system(store, HANDHELD)
 }

@@ -1,5 +1,5 @@
 // Takes the messages of the records on standard input, from a fresh store, and writes the ten records that the store is exported as.
-use export::exporting::export;
+use export::handheld::export;
 use export::parts::Export;
 use export::parts::PARTS;
 use libc::STDOUT_FILENO;

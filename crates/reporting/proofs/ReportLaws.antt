@@ -5,7 +5,7 @@ use Rattle.lists.proofs.Every.{all-get}
 use Rattle.lists.specs.Ladder.{Answers}
 use Rattle.writing.specs.Carrier.{InSize}
 use Rattle.tables.specs.declared.limits.Limits.{Limits}
-use Rattle.tables.specs.Limits.{handheld}
+use Rattle.tables.specs.Limits.{handheld, vehicle}
 use Rattle.tables.specs.Store.{StoreOf, Holds}
 use Rattle.tables.specs.Tables.{Tables}
 use Rattle.export_write.specs.Writers.{Wrote}
@@ -135,3 +135,7 @@ module _ (lim : Limits) (query : List ℕ) (index : ℕ) (store buffer types : L
 -- HANDHELD: every message of a handheld's report fits
 pub handheld-reportable : Reportable handheld
 handheld-reportable = record { wide = omega arith; short = omega arith }
+
+-- VEHICLE: and of a vehicle's
+pub vehicle-reportable : Reportable vehicle
+vehicle-reportable = record { wide = omega arith; short = omega arith }

@@ -5,5 +5,5 @@ pub mod handheld;
 mod message;
 mod plan;
 pub mod report;
-mod walk;
 pub mod vehicle;
+mod walk;

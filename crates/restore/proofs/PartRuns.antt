@@ -17,7 +17,7 @@ use Rattle.tables.specs.Allowed.{Allowed}
 use Rattle.tables.specs.Apply.{and-then, in-turn, has-key, put-contact, with-room, quick-step, status-step, channel-step, apply}
 use Rattle.tables.specs.Limits.{contact-places}
 use Rattle.tables.specs.MemberKinds.{MemberIn, contact-key}
-use Rattle.tables.specs.Tables.{line-key, Tables}
+use Rattle.tables.specs.Tables.{Line, line-key, Tables}
 use Rattle.writing.specs.declared.Kind.the-variants as K
 use Rattle.tables.specs.Owns.{put-own}
 use Rattle.tables.proofs.ContactSentences.{has-number, key-is-number}
@@ -32,7 +32,7 @@ use Rattle.export_write.specs.EntrySettings.{entries, quick-add, slots}
 use Rattle.export_write.specs.MemberWriters.{member-setting}
 use Rattle.export.specs.Exported.{exported}
 use Rattle.export.specs.Exportable.{Exportable}
-use Rattle.restore.specs.Restored.{with-part}
+use Rattle.restore.specs.Restored.{with-part, PlacesFor}
 use Rattle.restore.proofs.Fitting.{AllReadable, exported-readable}
 
 -- ---- steps in turn
@@ -80,6 +80,11 @@ module _ {A K : Type 0} (key : A → K) (has : K → A → Bool) (decides : (k :
         then-turn (apply lim) (setting a) (map setting after) (with-it before) (with-it (before ++ (a ∷ []))) e
         ∙ keyed-turn (before ++ (a ∷ [])) after (subst (Distinct key) (sym (append-snoc before a after)) d) (omega (arith, length-append before (a ∷ [])))
         ∙ ap (λ ls. some (with-it ls)) (append-snoc before a after)
+
+-- lines, whose key is IDtype and number
+pub lines-turn : (lim : Limits) (u : Tables) (ls : List Line) → length ls ≤ lim .lines → Distinct line-key ls
+    → in-turn (apply lim) (map line-add ls) (put-own K.Lines u []) ≡ some (put-own K.Lines u ls)
+lines-turn lim u ls h d = keyed-turn line-key has-key key-is-both lim (lim .lines) line-add (put-own K.Lines u) (λ l ls. refl) [] ls d (omega arith)
 
 -- group and individual contacts, whose key is the address
 contacts-turn : (w : Members) (lim : Limits) (with-it : List (MemberIn w) → Tables)
@@ -136,7 +141,7 @@ status-puts e before after h = ap some (set-at before none after (some (e .text)
 -- ---- channels
 
 -- each goes to the end
-channels-turn : (room : ℕ) (before after : List ℕ) → length before + length after ≤ room → in-turn (channel-step room Add) after before ≡ some (before ++ after)
+pub channels-turn : (room : ℕ) (before after : List ℕ) → length before + length after ≤ room → in-turn (channel-step room Add) after before ≡ some (before ++ after)
 channels-turn room before [] h = ap some (sym (append-nil before))
 channels-turn room before (n ∷ after) h =
     then-turn (channel-step room Add) n after before (before ++ (n ∷ [])) (channel-add room n before (omega arith))
@@ -168,36 +173,36 @@ module _ {A : Type 0} (lim : Limits) (setting : ℕ → Option A → Setting) (w
 
 -- ---- the parts
 
-module _ (lim : Limits) (t u : Tables) (ok : Allowed lim t) (old : Allowed lim u) where
-  -- the settings of a part, in turn, have room and leave the part's tables as t has them
-  pub part-turn : (p : Part) → in-turn (apply lim) (exported p t) u ≡ some (with-part p t u)
-  part-turn Lines =
-      keyed-turn line-key has-key key-is-both lim (lim .lines) line-add (put-own K.Lines u) (λ l ls. refl) [] (t .lines) (ok .distinct) (omega (arith, ok .lines .0))
-  part-turn Fixed = refl
-  part-turn QuickTexts =
+module _ (from to : Limits) (t u : Tables) (ok : Allowed from t) (old : Allowed to u) where
+  -- the settings of a part that has places, in turn, have room and leave the part's tables as t has them
+  pub part-turn : (p : Part) → PlacesFor to t p → in-turn (apply to) (exported p t) u ≡ some (with-part p t u)
+  part-turn Lines h = lines-turn to u (t .lines) h (ok .distinct)
+  part-turn Fixed h = refl
+  part-turn QuickTexts h =
       let es : List Entry = entries 0 (t .quick) in
-      quick-cut lim u (drop 63 es) (in-turn (quick-step Add) (take 63 es) (replicate 64 none))
+      quick-cut to u (drop 63 es) (in-turn (quick-step Add) (take 63 es) (replicate 64 none))
       ∙ ap (with-room (put-own K.QuickTexts u))
       (sym (turn-append (quick-step Add) (take 63 es) (drop 63 es) (replicate 64 none))
       ∙ ap (λ l. in-turn (quick-step Add) l (replicate 64 none)) (take-append-drop 63 es) ∙ texts-full (quick-step Add) 0 quick-puts (t .quick) 64 (ok .quick .0))
-  part-turn Channels = ap (λ o. and-then (with-room (put-own K.Channels u) o) some) (channels-turn (lim .channels) [] (t .channels) (omega (arith, ok .channels .0)))
-  part-turn StatusTexts = ap (λ o. and-then (with-room (put-own K.StatusTexts u) o) some) (texts-full (status-step Add) 32 status-puts (t .status) 96 (ok .status .0))
-  part-turn Groups =
-      slots-turn lim (member-setting OfGroups) (put-own K.Group u) (λ i q. refl) (λ i x q. refl) [] (u .groups) (t .groups) 0 refl
+  part-turn Channels h = ap (λ o. and-then (with-room (put-own K.Channels u) o) some) (channels-turn (to .channels) [] (t .channels) (omega (arith, h)))
+  part-turn StatusTexts h = ap (λ o. and-then (with-room (put-own K.StatusTexts u) o) some) (texts-full (status-step Add) 32 status-puts (t .status) 96 (ok .status .0))
+  part-turn Groups h =
+      slots-turn to (member-setting OfGroups) (put-own K.Group u) (λ i q. refl) (λ i x q. refl) [] (u .groups) (t .groups) 0 refl
       (old .groups .0 ∙ sym (ok .groups .0))
-  part-turn Individuals =
-      slots-turn lim (member-setting OfIndividuals) (put-own K.Individual u) (λ i q. refl) (λ i x q. refl) [] (u .individuals) (t .individuals) 0 refl
+  part-turn Individuals h =
+      slots-turn to (member-setting OfIndividuals) (put-own K.Individual u) (λ i q. refl) (λ i x q. refl) [] (u .individuals) (t .individuals) 0 refl
       (old .individuals .0 ∙ sym (ok .individuals .0))
-  part-turn GroupContacts =
-      contacts-turn OfGroups lim (put-own K.GroupContacts u) (λ x xs. refl) (t .group-contacts) (ok .group-contacts .0) (ok .distinct-groups)
-  part-turn IndividualContacts =
-      contacts-turn OfIndividuals lim (put-own K.IndividualContacts u) (λ x xs. refl) (t .individual-contacts) (ok .individual-contacts .0) (ok .distinct-individuals)
-  part-turn LineSlots =
-      slots-turn lim line-slot-setting (put-own K.LineSlot u) (λ i q. refl) (λ i x q. refl) [] (u .line-slots) (t .line-slots) 0 refl
+  part-turn GroupContacts h =
+      contacts-turn OfGroups to (put-own K.GroupContacts u) (λ x xs. refl) (t .group-contacts) (ok .group-contacts .0) (ok .distinct-groups)
+  part-turn IndividualContacts h =
+      contacts-turn OfIndividuals to (put-own K.IndividualContacts u) (λ x xs. refl) (t .individual-contacts) (ok .individual-contacts .0) (ok .distinct-individuals)
+  part-turn LineSlots h =
+      slots-turn to line-slot-setting (put-own K.LineSlot u) (λ i q. refl) (λ i x q. refl) [] (u .line-slots) (t .line-slots) 0 refl
       (old .line-slots .0 ∙ sym (ok .line-slots .0))
 
   -- PART RUNS: so they run to their end over their canonical writing
-  pub part-runs : Exportable lim → (p : Part) → Runs unicode16 lim (length (exported p t)) u (canonical-all unicode16 (exported p t)) (exported p t) (with-part p t u) []
-  part-runs x p =
-      let r : AllReadable _ (exported p t) = exported-readable lim x t ok p in
-      turn-runs lim (exported p t) u (with-part p t u) (r .fits) (r .ranged) (part-turn p)
+  pub part-runs : Exportable from → (p : Part) → PlacesFor to t p
+      → Runs unicode16 to (length (exported p t)) u (canonical-all unicode16 (exported p t)) (exported p t) (with-part p t u) []
+  part-runs x p h =
+      let r : AllReadable _ (exported p t) = exported-readable from x t ok p in
+      turn-runs to (exported p t) u (with-part p t u) (r .fits) (r .ranged) (part-turn p h)

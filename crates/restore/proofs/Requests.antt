@@ -13,7 +13,7 @@ use Rattle.export.specs.declared.parts.Part.{Part}
 use Rattle.export.specs.declared.parts.Part.the-variants.{Lines, Fixed, QuickTexts, Channels, StatusTexts, Groups, Individuals, GroupContacts, IndividualContacts, LineSlots}
 use Rattle.export.specs.Exported.{exported, data-bytes, request-bytes}
 use Rattle.export.specs.Exportable.{Exportable}
-use Rattle.restore.specs.Restored.{longest}
+use Rattle.restore.specs.Restored.{longest, PlacesFor, PartFits}
 use Rattle.restore.proofs.Fitting.{exported-readable, exported-count}
 
 -- ---- a request of any settings
@@ -56,6 +56,19 @@ longest-fits lim x GroupContacts = (omega (arith, x .status), omega arith)
 longest-fits lim x IndividualContacts = (omega (arith, x .status), omega arith)
 longest-fits lim x LineSlots = (omega (arith, x .status), omega arith)
 
+-- where the lines and the channels have places, all parts have
+pub places-for : (to : Limits) (t : Tables) → length (t .lines) ≤ to .lines → length (t .channels) ≤ to .channels → (p : Part) → PlacesFor to t p
+places-for to t l c Lines = l
+places-for to t l c Fixed = tt
+places-for to t l c QuickTexts = tt
+places-for to t l c Channels = c
+places-for to t l c StatusTexts = tt
+places-for to t l c Groups = tt
+places-for to t l c Individuals = tt
+places-for to t l c GroupContacts = tt
+places-for to t l c IndividualContacts = tt
+places-for to t l c LineSlots = tt
+
 module _ (lim : Limits) (x : Exportable lim) (t : Tables) (ok : Allowed lim t) (p : Part) where
   -- BOUND: no part of allowed tables is longer
   pub exported-length : length (request-bytes (exported p t)) ≤ longest lim p
@@ -73,3 +86,7 @@ module _ (lim : Limits) (x : Exportable lim) (t : Tables) (ok : Allowed lim t) (
   exported-in-size =
       let b : length (request-bytes (exported p t)) ≤ longest lim p = exported-length in
       request-in-size (lim .message) (exported p t) (omega (arith, longest-fits lim x p .0))
+
+  -- OWN FITS: so every part of a set's tables fits a set of its own kind
+  pub own-fits : PartFits lim t p
+  own-fits = record { request = exported-in-size .1; places = places-for lim t (ok .lines .0) (ok .channels .0) p }

@@ -19,9 +19,10 @@ use Rattle.export.specs.Exportable.{Exportable}
 use Rattle.export.specs.Exported.{ten, exported, request-bytes}
 use Rattle.export.specs.Exporting.{AfterExport, told, no-export, exporting}
 use Rattle.export.proofs.PartWriting.{ten-at}
-use Rattle.restore.specs.Restored.{with-part, requests}
+use Rattle.restore.specs.Restored.{with-part, requests, PartFits}
 use Rattle.restore.specs.Restoring.{written-in-turn, restores, Lent, PartMoved, Moved}
 use Rattle.restore.proofs.ExportedBytes.{written-one}
+use Rattle.restore.proofs.Requests.{own-fits}
 use Rattle.restore.proofs.Restored.{with-parts, after-part, part-taken, after-holds}
 
 -- ---- one part
@@ -50,8 +51,9 @@ moved lim part from to buffer buffer-after reply to-after reply-after work messa
     let l : n ≡ length bytes = ap (λ (z : AfterExport). z .answer .request-length) w in
     let i : n - 0 ≡ n = omega arith in
     let is : message ≡ bytes = e ∙ ap (λ (k : ℕ). take k buffer-after) i ∙ ap₂ take l b ∙ take-append-seam bytes (drop (length bytes) buffer) in
-    let z : leaves a to-after reply-after ≡ after-part lim x roomy t (holds .0) u to there reply (lent .answer) p
-    = part-taken lim x roomy t (holds .0) u to there reply (lent .answer) p _ (subst (λ (k : List ℕ). Answers (taken lim k to reply) (leaves a to-after reply-after)) is (takes (lent .copy))) in
+    let fits : PartFits lim t p = own-fits lim x t (holds .0) p in
+    let z : leaves a to-after reply-after ≡ after-part lim lim x roomy t (holds .0) u to there reply (lent .answer) p fits
+    = part-taken lim lim x roomy t (holds .0) u to there reply (lent .answer) p fits _ (subst (λ (k : List ℕ). Answers (taken lim k to reply) (leaves a to-after reply-after)) is (takes (lent .copy))) in
     record { to-is = ap (λ (k : TakeAfter). k .store) z; buffer-is = b; reply-is = ap (λ (k : TakeAfter). k .reply) z }
 
 -- ---- all of them
@@ -94,7 +96,7 @@ module _ (lim : Limits) (from to buffer reply : List ℕ) (t u : Tables) where
       = v p t (with-parts t (take k ten) u) (ten-at k l) able roomy h (z .holds) lent in
       let e : take k ten ++ (p ∷ []) ≡ take (k + 1) ten = sym (take-suc ten k Lines l) ∙ ap (λ (i : ℕ). take i ten) (let i : suc k ≡ k + 1 = omega arith in i) in
       let a : Holds lim (with-part p t (forget (with-parts t (take k ten) u))) to-then
-      = after-holds lim able roomy t (h .0) (with-parts t (take k ten) u) to-now to-then (z .holds) p (x .to-is) in
+      = after-holds lim lim able roomy t (h .0) (with-parts t (take k ten) u) to-now to-then (z .holds) p (own-fits lim able t (h .0) p) (x .to-is) in
       let same : with-part p t (forget (with-parts t (take k ten) u)) ≡ with-parts t (take (k + 1) ten) u
       = sym (parts-more t (take k ten) p u) ∙ ap (λ (ps : List Part). with-parts t ps u) e in
       record {

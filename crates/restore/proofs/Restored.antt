@@ -1,6 +1,7 @@
--- RESTORED: the ten exported requests, taken by any other set, give it the same tables. Assumes nothing.
+-- RESTORED: the ten exported requests, taken by any other set that they fit, give it the same tables; of its own kind, they fit. Assumes nothing.
 use Rattle.lists.proofs.Kit.{ℕ, _≤_, _≡_, refl, sym, ap, _∙_, false, List, [], _∷_, Option, none, length}
 use Rattle.lists.specs.Every.{All}
+use Rattle.lists.proofs.Every.{all-any}
 use Rattle.lists.specs.Ladder.{Answers}
 use Rattle.writing.specs.Canonical.{canonical-all}
 use Rattle.writing.specs.Settings.{Setting, unicode16}
@@ -12,7 +13,7 @@ use Rattle.tables.specs.Tables.{Tables, no-hash}
 use Rattle.writing.specs.declared.Kind.{Kind}
 use Rattle.writing.specs.declared.Kind.the-variants as Kind
 use Rattle.tables.specs.Owns.{own, put-own}
-use Rattle.tables.proofs.AllowedLaws.{own-ok, put-allowed, forget-allowed}
+use Rattle.tables.proofs.AllowedLaws.{OwnOk, put-allowed, forget-allowed}
 use Rattle.tables.proofs.LayoutLaws.{holds-store, layout-one}
 use Rattle.requests.specs.Judge.{kept, taken as all-taken}
 use Rattle.requests.specs.Requests.{forget, item-of, or-else, LastItem, last-item}
@@ -23,10 +24,10 @@ use Rattle.export.specs.declared.parts.Part.{Part}
 use Rattle.export.specs.declared.parts.Part.the-variants.{Lines, Fixed, QuickTexts, Channels, StatusTexts, Groups, Individuals, GroupContacts, IndividualContacts, LineSlots}
 use Rattle.export.specs.Exported.{ten, exported, request-bytes}
 use Rattle.export.specs.Exportable.{Exportable}
-use Rattle.restore.specs.Restored.{with-part, SameTables, requests, TakenInTurn}
+use Rattle.restore.specs.Restored.{with-part, SameTables, requests, TakenInTurn, PlacesFor, PartFits}
 use Rattle.restore.proofs.Fitting.{exported-readable}
 use Rattle.restore.proofs.PartRuns.{part-runs}
-use Rattle.restore.proofs.Requests.{exported-is, exported-in-size}
+use Rattle.restore.proofs.Requests.{request-in-size, exported-is, own-fits}
 
 -- ---- one part
 
@@ -48,103 +49,116 @@ part-hash GroupContacts t u = refl
 part-hash IndividualContacts t u = refl
 part-hash LineSlots t u = refl
 
--- a part of allowed tables makes allowed tables
-part-allowed : (lim : Limits) (p : Part) (t u : Tables) → Allowed lim t → Allowed lim u → Allowed lim (with-part p t u)
-part-allowed lim p t u ok old = by p
+-- a part of allowed tables makes allowed tables in a set that has places for it
+part-allowed : (from to : Limits) (p : Part) (t u : Tables) → Allowed from t → PlacesFor to t p → Allowed to u → Allowed to (with-part p t u)
+part-allowed from to p t u ok places old = by p places
   where
     -- a table more as t has it
-    one : (k : Kind) (v : Tables) → Allowed lim v → Allowed lim (put-own k v (own k t))
-    one k v now = put-allowed lim v now k (own k t) (own-ok lim t ok k)
+    one : (k : Kind) (v : Tables) → OwnOk to k (own k t) → Allowed to v → Allowed to (put-own k v (own k t))
+    one k v is now = put-allowed to v now k (own k t) is
 
-    by : (p : Part) → Allowed lim (with-part p t u)
-    by Lines = one Kind.Lines u old
-    by Fixed = one Kind.System _ (one Kind.Home _ (one Kind.Key u old))
-    by QuickTexts = one Kind.QuickTexts u old
-    by Channels = one Kind.Channels u old
-    by StatusTexts = one Kind.StatusTexts u old
-    by Groups = one Kind.Group u old
-    by Individuals = one Kind.Individual u old
-    by GroupContacts = one Kind.GroupContacts u old
-    by IndividualContacts = one Kind.IndividualContacts u old
-    by LineSlots = one Kind.LineSlot u old
+    by : (p : Part) → PlacesFor to t p → Allowed to (with-part p t u)
+    by Lines h = one Kind.Lines u ((h, ok .lines .1), ok .distinct) old
+    by Fixed h = one Kind.System _ (ok .system) (one Kind.Home _ (ok .home) (one Kind.Key u (ok .key) old))
+    by QuickTexts h = one Kind.QuickTexts u (ok .quick) old
+    by Channels h = one Kind.Channels u (h, ok .channels .1) old
+    by StatusTexts h = one Kind.StatusTexts u (ok .status) old
+    by Groups h = one Kind.Group u (ok .groups) old
+    by Individuals h = one Kind.Individual u (ok .individuals) old
+    by GroupContacts h = one Kind.GroupContacts u (ok .group-contacts, ok .distinct-groups) old
+    by IndividualContacts h = one Kind.IndividualContacts u (ok .individual-contacts, ok .distinct-individuals) old
+    by LineSlots h = one Kind.LineSlot u (ok .line-slots) old
 
 -- what taking these parts of t in turn makes of the tables u: each request forgets the hash kept before
 abbrev pub with-parts : Tables → List Part → Tables → Tables
 with-parts t [] u = u
 with-parts t (p ∷ ps) u = with-parts t ps (with-part p t (forget u))
 
-module _ (lim : Limits) (x : Exportable lim) (room : Roomy lim) (t : Tables) (ok : Allowed lim t) where
-  module _ (u : Tables) (store : List ℕ) (holds : Holds lim u store) (reply : List ℕ) (long : 20 ≤ length reply) (p : Part) where
+-- ---- from a set to another
+
+module _ (from to : Limits) (x : Exportable from) (room : Roomy to) (t : Tables) (ok : Allowed from t) where
+  module _ (u : Tables) (store : List ℕ) (holds : Holds to u store) (reply : List ℕ) (long : 20 ≤ length reply) (p : Part) (fits : PartFits to t p) where
     -- what taking the part's request leaves
     abbrev pub after-part : AfterTaking
-    after-part = replies lim (request-bytes (exported p t)) store reply 0 0 false false no-hash (layout lim (with-part p t (forget u)))
+    after-part = replies to (request-bytes (exported p t)) store reply 0 0 false false no-hash (layout to (with-part p t (forget u)))
 
     -- it is what the settings come to
-    settled-part : after-part ≡ settled lim (request-bytes (exported p t)) store reply (kept (exported p t) (with-part p t (forget u)))
+    settled-part : after-part ≡ settled to (request-bytes (exported p t)) store reply (kept (exported p t) (with-part p t (forget u)))
     settled-part =
-        let f : last-item (exported p t) ≡ last-item [] = no-flags (exported p t) (exported-readable lim x t ok p .no-last) in
+        let f : last-item (exported p t) ≡ last-item [] = no-flags (exported p t) (exported-readable from x t ok p .no-last) in
         let h : with-part p t (forget u) .hash ≡ no-hash = part-hash p t (forget u) in
-        sym (λ i. replies lim (request-bytes (exported p t)) store reply 0 0 (f i .flags .reply) (f i .flags .reboot) (h i) (layout lim (with-part p t (forget u))))
+        sym (λ i. replies to (request-bytes (exported p t)) store reply 0 0 (f i .flags .reply) (f i .flags .reboot) (h i) (layout to (with-part p t (forget u))))
 
     -- the part's request comes to it
-    part-request : AsRequest lim (request-bytes (exported p t)) store reply u after-part
+    part-request : AsRequest to (request-bytes (exported p t)) store reply u after-part
     part-request = (
       unicode16,
       length (exported p t),
       canonical-all unicode16 (exported p t),
-      exported-is lim x t ok p,
+      exported-is from x t ok p,
       kept (exported p t) (with-part p t (forget u)),
-      all-taken refl (part-runs lim t (forget u) ok (forget-allowed lim u (holds .0)) x p),
+      all-taken refl (part-runs from to t (forget u) ok (forget-allowed to u (holds .0)) x p (fits .places)),
       settled-part,
     )
 
     -- the contract of taking allows it
-    pub part-answers : Answers (taken lim (request-bytes (exported p t)) store reply) after-part
+    pub part-answers : Answers (taken to (request-bytes (exported p t)) store reply) after-part
     part-answers =
-        request-answers lim (request-bytes (exported p t)) store reply after-part long (holds-store lim u store room holds) u holds (exported-in-size lim x t ok p) part-request
+        request-answers to (request-bytes (exported p t)) store reply after-part long (holds-store to u store room holds) u holds
+        (request-in-size (to .message) (exported p t) (fits .request)) part-request
 
     -- and nothing else
-    pub part-taken : (a : AfterTaking) → Answers (taken lim (request-bytes (exported p t)) store reply) a → a ≡ after-part
-    part-taken a h = outcome-determined lim (request-bytes (exported p t)) store reply a after-part h part-answers
+    pub part-taken : (a : AfterTaking) → Answers (taken to (request-bytes (exported p t)) store reply) a → a ≡ after-part
+    part-taken a h = outcome-determined to (request-bytes (exported p t)) store reply a after-part h part-answers
 
+  -- the store after each part holds the tables so far
+  pub after-holds : (u : Tables) (store after : List ℕ) → Holds to u store → (p : Part) → PartFits to t p → after ≡ layout to (with-part p t (forget u)) → Holds to (with-part p t (forget u)) after
+  after-holds u store after holds p fits e = (part-allowed from to p t (forget u) ok (fits .places) (forget-allowed to u (holds .0)), e)
+
+  -- PARTS TAKEN: parts that fit, taken in turn, leave the store of these tables
+  pub parts-taken : (ps : List Part) → All (PartFits to t) ps → (u : Tables) (store after : List ℕ) → Holds to u store → TakenInTurn to (requests t ps) store after
+      → Holds to (with-parts t ps u) after
+  parts-taken [] fits u store after holds h = (holds .0, h ∙ holds .1)
+  parts-taken (p ∷ ps) fits u store after holds (reply, a, long, h, more) =
+      let e : a ≡ after-part u store holds reply long p (fits .0) = part-taken u store holds reply long p (fits .0) a h in
+      parts-taken ps (fits .1) (with-part p t (forget u)) (a .store) after (after-holds u store (a .store) holds p (fits .0) (ap (λ (y : AfterTaking). y .store) e)) more
+
+  -- PARTS TAKABLE: and they can be taken in turn, with any reply buffer that is long enough
+  pub parts-takable : (reply : List ℕ) → 20 ≤ length reply → (ps : List Part) → All (PartFits to t) ps → (u : Tables) (store : List ℕ) → Holds to u store
+      → TakenInTurn to (requests t ps) store (layout to (with-parts t ps u))
+  parts-takable reply long [] fits u store holds = sym (holds .1)
+  parts-takable reply long (p ∷ ps) fits u store holds = (
+    reply,
+    after-part u store holds reply long p (fits .0),
+    long,
+    part-answers u store holds reply long p (fits .0),
+    parts-takable reply long ps (fits .1) (with-part p t (forget u)) _ (after-holds u store _ holds p (fits .0) refl),
+  )
+
+-- ---- from a set to another of its kind
+
+module _ (lim : Limits) (x : Exportable lim) (room : Roomy lim) (t : Tables) (ok : Allowed lim t) where
+  module _ (u : Tables) (store : List ℕ) (holds : Holds lim u store) (reply : List ℕ) (long : 20 ≤ length reply) (p : Part) where
     -- EXPORTED TAKEN: the request is taken, asks for no reply, and leaves the set's tables with those of the part
     pub exported-taken : (a : AfterTaking) → Answers (taken lim (request-bytes (exported p t)) store reply) a
         → (a .answer .number ≡ 0) × (a .answer .send ≡ false) × (a .store ≡ layout lim (with-part p t (forget u)))
     exported-taken a h =
-        let e : a ≡ after-part = part-taken a h in
+        let e = part-taken lim lim x room t ok u store holds reply long p (own-fits lim x t ok p) a h in
         (ap (λ (y : AfterTaking). y .answer .number) e, ap (λ (y : AfterTaking). y .answer .send) e, ap (λ (y : AfterTaking). y .store) e)
 
-  -- ---- parts in turn
-
-  -- the store after each part holds the tables so far
-  pub after-holds : (u : Tables) (store after : List ℕ) → Holds lim u store → (p : Part) → after ≡ layout lim (with-part p t (forget u)) → Holds lim (with-part p t (forget u)) after
-  after-holds u store after holds p e = (part-allowed lim p t (forget u) ok (forget-allowed lim u (holds .0)), e)
-
-  parts-taken : (ps : List Part) (u : Tables) (store after : List ℕ) → Holds lim u store → TakenInTurn lim (requests t ps) store after → after ≡ layout lim (with-parts t ps u)
-  parts-taken [] u store after holds h = h ∙ holds .1
-  parts-taken (p ∷ ps) u store after holds (reply, a, long, h, more) =
-      parts-taken ps (with-part p t (forget u)) (a .store) after (after-holds u store (a .store) holds p (exported-taken u store holds reply long p a h .2)) more
+  -- all ten fit
+  ten-fit : All (PartFits lim t) ten
+  ten-fit = all-any (PartFits lim t) (own-fits lim x t ok) ten
 
   -- RESTORED: the ten requests in turn leave the store of the same tables, the kept hash aside, whatever the set held
   pub restored : (u : Tables) (store after : List ℕ) → Holds lim u store → TakenInTurn lim (requests t ten) store after → after ≡ layout lim (forget t)
-  restored u store after holds h = parts-taken ten u store after holds h
+  restored u store after holds h = parts-taken lim lim x room t ok ten ten-fit u store after holds h .1
 
   -- SAME TABLES: so any tables that the last store holds are the same
   pub same-tables : (u v : Tables) (store after : List ℕ) → Holds lim u store → TakenInTurn lim (requests t ten) store after → Holds lim v after → SameTables v t
   same-tables u v store after holds h now =
       ap forget (layout-one lim v (forget t) (now .0) (forget-allowed lim t ok) (sym (now .1) ∙ restored u store after holds h))
 
-  -- and they can be taken in turn, with any reply buffer that is long enough
-  parts-takable : (reply : List ℕ) → 20 ≤ length reply → (ps : List Part) (u : Tables) (store : List ℕ) → Holds lim u store → TakenInTurn lim (requests t ps) store (layout lim (with-parts t ps u))
-  parts-takable reply long [] u store holds = sym (holds .1)
-  parts-takable reply long (p ∷ ps) u store holds = (
-    reply,
-    after-part u store holds reply long p,
-    long,
-    part-answers u store holds reply long p,
-    parts-takable reply long ps (with-part p t (forget u)) _ (after-holds u store _ holds p refl),
-  )
-
   -- RESTORABLE: what RESTORED speaks of comes to pass
   pub restorable : (reply : List ℕ) → 20 ≤ length reply → (u : Tables) (store : List ℕ) → Holds lim u store → TakenInTurn lim (requests t ten) store (layout lim (forget t))
-  restorable reply long u store holds = parts-takable reply long ten u store holds
+  restorable reply long u store holds = parts-takable lim lim x room t ok reply long ten ten-fit u store holds

@@ -49,6 +49,26 @@ TakenInTurn lim [] store after = after ≡ store
 TakenInTurn lim (message ∷ messages) store after =
     (reply : List ℕ) × (a : AfterTaking) × (20 ≤ length reply) × Answers (taken lim message store reply) a × TakenInTurn lim messages (a .store) after
 
+-- ---- when another set has room for a part
+
+-- the other set has places for the part's entries: but for lines and channels, all sets have as many
+abbrev pub PlacesFor : Limits → Tables → Part → Type 0
+PlacesFor to t Lines = length (t .lines) ≤ to .lines
+PlacesFor to t Fixed = Unit {0}
+PlacesFor to t QuickTexts = Unit {0}
+PlacesFor to t Channels = length (t .channels) ≤ to .channels
+PlacesFor to t StatusTexts = Unit {0}
+PlacesFor to t Groups = Unit {0}
+PlacesFor to t Individuals = Unit {0}
+PlacesFor to t GroupContacts = Unit {0}
+PlacesFor to t IndividualContacts = Unit {0}
+PlacesFor to t LineSlots = Unit {0}
+
+-- and its request is no longer than the other set's messages are
+pub record PartFits (to : Limits) (t : Tables) (p : Part) : Type 0 where
+  pub request : length (request-bytes (exported p t)) ≤ to .message
+  pub places : PlacesFor to t p
+
 -- ---- room for an export
 
 -- the most bytes of a part's settings

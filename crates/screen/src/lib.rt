@@ -4,5 +4,5 @@ pub mod handheld;
 pub mod names;
 mod numbers;
 pub mod rows;
-mod show;
+pub mod show;
 pub mod vehicle;

@@ -14,7 +14,7 @@ ghost use Rattle.screen.specs.Steps.{Placed, PlaceFits, Picked};
 ghost use Rattle.screen.specs.Screen.{number, numbering, PartGiven};
 
 // Whether the row is shown, or why not.
-pub(crate) fn number_in(store: &[u8], scratch: &[u8], row: Row, limits: Limits) -> Answer
+pub fn number_in(store: &[u8], scratch: &[u8], row: Row, limits: Limits) -> Answer
     ensures { λ r. ⌜ Answers (numbering limits (now (store .entry)) (now (scratch .entry)) row) (number r) ⌝ }
 {
     let name = name_of(store, scratch.len(), row, limits);
@@ -25,7 +25,7 @@ pub(crate) fn number_in(store: &[u8], scratch: &[u8], row: Row, limits: Limits) 
 }
 
 // Where the row's text is; a number is written at the start of the scratch.
-pub(crate) fn place_in(store: &[u8], scratch: &mut [u8], row: Row, limits: Limits) -> Place
+pub fn place_in(store: &[u8], scratch: &mut [u8], row: Row, limits: Limits) -> Place
     ensures { λ r. ⌜ Placed limits (now (store .entry)) (now (scratch .entry)) (now (scratch .exit)) row r ⌝ }
 {
     let name = name_of(store, scratch.len(), row, limits);
@@ -59,12 +59,7 @@ fn pick<'a>(store: &'a [u8], scratch: &'a [u8], place: Place) -> &'a [u8]
 }
 
 // The part of one of the two slices that shows the row.
-pub(crate) fn part_in<'a>(
-    store: &'a [u8],
-    scratch: &'a mut [u8],
-    row: Row,
-    limits: Limits,
-) -> &'a [u8]
+pub fn part_in<'a>(store: &'a [u8], scratch: &'a mut [u8], row: Row, limits: Limits) -> &'a [u8]
     ensures { λ r. ⌜ PartGiven limits (store .entry) (scratch .entry) row r ⌝ }
 {
     let place = place_in(store, scratch, row, limits);

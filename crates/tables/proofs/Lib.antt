@@ -19,6 +19,7 @@ pub mod OrderTheorems
 pub mod Owns
 pub mod ReplaceLaws
 pub mod RoomSentences
+pub mod RoomyLaws
 pub mod Sentences
 pub mod StartLaws
 pub mod StepLaws

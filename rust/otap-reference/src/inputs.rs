@@ -16,7 +16,8 @@ pub mod values;
 
 use crate::reference::commit::{judge_and_commit, REPLY_ROOM};
 use crate::reference::export::{part_bytes, PARTS};
-use crate::reference::message::{first_byte, Hash, LONGEST, QUERY, SHORTEST};
+use crate::reference::limits::Limits;
+use crate::reference::message::{first_byte, Hash, QUERY, SHORTEST};
 use crate::reference::tables::Set;
 use callers::Caller;
 use draft::{restate, Draft};
@@ -26,8 +27,10 @@ use random::Random;
 use reports::{ReportCall, ReportInput};
 use values::Value;
 
-/// Longest message ever made, a little over the longest allowed.
-pub const LONGEST_INPUT: usize = 4_200;
+/// The longest message ever made for such a set, a little over the longest allowed.
+pub fn longest_input(limits: Limits) -> usize {
+    limits.message + 104
+}
 
 /// A sequence of messages; it follows the set, so as to reach full tables and matching queries.
 pub struct Inputs {
@@ -36,8 +39,8 @@ pub struct Inputs {
 }
 
 impl Inputs {
-    pub fn new(seed: u64) -> Self {
-        Inputs { random: Random::new(seed), set: Set::default() }
+    pub fn new(seed: u64, limits: Limits) -> Self {
+        Inputs { random: Random::new(seed), set: Set::fresh(limits) }
     }
 
     /// The next message and a kind, which nobody judges.
@@ -68,7 +71,7 @@ impl Inputs {
             94..=96 => self.wrong_length(),
             _ => self.exported(),
         };
-        message.truncate(LONGEST_INPUT);
+        message.truncate(longest_input(self.set.limits));
         judge_and_commit(&message, &mut self.set, &mut [0; REPLY_ROOM]);
         message
     }
@@ -80,7 +83,7 @@ impl Inputs {
 
     /// What is asked for behind a row or of the settings: mostly where the set holds something.
     pub fn value(&mut self) -> Value {
-        values::value(&mut self.random, &self.set.tables)
+        values::value(&mut self.random, &self.set)
     }
 
     /// A query with an index: mostly of a message that its report has.
@@ -100,16 +103,16 @@ impl Inputs {
 
     /// Two requests to join: such as may be, with one thing wrong, or changed anywhere.
     pub fn join(&mut self) -> JoinInput {
-        joining::input(&mut self.random, &self.set.tables)
+        joining::input(&mut self.random, &self.set)
     }
 
     fn request(&mut self) -> Draft {
-        requests::request(&mut self.random, &self.set.tables)
+        requests::request(&mut self.random, &self.set)
     }
 
     fn damaged(&mut self) -> Vec<u8> {
         let draft = self.request();
-        damage::damaged(&mut self.random, &self.set.tables, draft)
+        damage::damaged(&mut self.random, &self.set, draft)
     }
 
     fn query(&mut self) -> Vec<u8> {
@@ -155,8 +158,9 @@ impl Inputs {
             restate(&mut self.random, &mut message);
             return message;
         }
-        let length = self.random.within(LONGEST..=LONGEST_INPUT);
-        requests::long(&mut self.random, &self.set.tables, length).bytes()
+        let limits = self.set.limits;
+        let length = self.random.within(limits.message..=longest_input(limits));
+        requests::long(&mut self.random, &self.set, length).bytes()
     }
 
     fn exported(&mut self) -> Vec<u8> {

@@ -1,6 +1,7 @@
 //! The bytes of a store as docs/STORE.md describes them: an independent reading, as the reference is of document 01.
 
 use crate::reference::callers::order;
+use crate::reference::limits::Limits;
 use crate::reference::message::Hash;
 use crate::reference::settings::{EmergencyKey, GroupSlot, IndividualSlot, SystemCode};
 use crate::reference::tables::{Line, Set};
@@ -11,18 +12,11 @@ mod order_tests;
 #[cfg(test)]
 mod tests;
 
-pub const SIZE: usize = 24_576;
-
-/// The first byte of the regions behind the individual slots; from the group contacts on, each begins with its count.
+/// The first byte of the regions behind the individual slots that begin at the same byte in every set; from the group contacts on, each begins with its count.
 pub const LINE_SLOTS_AT: usize = 7_286;
 pub const GROUP_CONTACTS_AT: usize = 8_118;
 pub const INDIVIDUAL_CONTACTS_AT: usize = 10_424;
 pub const CHANNELS_AT: usize = 12_730;
-pub const LINES_AT: usize = 12_860;
-/// The order of the lines, behind their slots: a byte for each place.
-pub const ORDER_AT: usize = 14_526;
-/// The first byte that no table uses.
-pub const SPARE_AT: usize = 14_558;
 /// Bytes of a count, high byte first.
 pub const COUNT: usize = 2;
 
@@ -36,9 +30,26 @@ pub const LINE: usize = 52;
 /// IDtype and digits among them.
 pub const LINE_KEY: Range<usize> = 1..20;
 
+/// Where the other regions begin.
+impl Limits {
+    pub fn lines_at(self) -> usize {
+        CHANNELS_AT + COUNT + self.channels * CHANNEL
+    }
+
+    /// The order of the lines, behind their slots: a byte for each place.
+    pub fn order_at(self) -> usize {
+        self.lines_at() + COUNT + self.lines * LINE
+    }
+
+    /// The first byte that no table uses.
+    pub fn spare_at(self) -> usize {
+        self.order_at() + self.lines
+    }
+}
+
 /// The only bytes that keep this set.
 pub fn bytes(set: &Set) -> Vec<u8> {
-    let tables = &set.tables;
+    let (tables, limits) = (&set.tables, set.limits);
     let mut out = hash(&set.hash);
     out.extend(key(&tables.emergency));
     out.extend(tables.home.nzi.to_be_bytes());
@@ -54,11 +65,11 @@ pub fn bytes(set: &Set) -> Vec<u8> {
     list(&mut out, MEMBER, &tables.individual_contacts, individual);
     out.resize(CHANNELS_AT, 0);
     list(&mut out, CHANNEL, &tables.channels, |channel| channel.to_be_bytes().to_vec());
-    out.resize(LINES_AT, 0);
+    out.resize(limits.lines_at(), 0);
     list(&mut out, LINE, &tables.lines, line);
-    out.resize(ORDER_AT, 0);
+    out.resize(limits.order_at(), 0);
     out.extend(order(&tables.lines).into_iter().map(named));
-    out.resize(SIZE, 0);
+    out.resize(limits.store, 0);
     out
 }
 
@@ -152,9 +163,10 @@ fn line(line: &Line) -> Vec<u8> {
     out
 }
 
-/// Whether bytes are those of some set.
-pub fn is_store(bytes: &[u8]) -> bool {
-    bytes.len() == SIZE
+/// Whether bytes are those of some set of this kind.
+pub fn is_store(bytes: &[u8], limits: Limits) -> bool {
+    let (lines_at, order_at, spare_at) = (limits.lines_at(), limits.order_at(), limits.spare_at());
+    bytes.len() == limits.store
         && is_hash(&bytes[..11])
         && is_key(&bytes[11..15])
         && is_home(&bytes[15..19])
@@ -166,10 +178,10 @@ pub fn is_store(bytes: &[u8]) -> bool {
         && all(&bytes[LINE_SLOTS_AT..GROUP_CONTACTS_AT], LINE, is_line)
         && are_contacts(&bytes[GROUP_CONTACTS_AT..INDIVIDUAL_CONTACTS_AT], is_group)
         && are_contacts(&bytes[INDIVIDUAL_CONTACTS_AT..CHANNELS_AT], is_individual)
-        && counted(&bytes[CHANNELS_AT..LINES_AT], CHANNEL, is_channel)
-        && are_lines(&bytes[LINES_AT..ORDER_AT])
-        && is_order(&bytes[ORDER_AT..SPARE_AT], &bytes[LINES_AT..ORDER_AT])
-        && is_empty(&bytes[SPARE_AT..])
+        && counted(&bytes[CHANNELS_AT..lines_at], CHANNEL, is_channel)
+        && are_lines(&bytes[lines_at..order_at])
+        && is_order(&bytes[order_at..spare_at], &bytes[lines_at..order_at])
+        && is_empty(&bytes[spare_at..])
 }
 
 /// A list of groups or individuals, in which no address stands twice.

@@ -3,8 +3,9 @@
 use otap_reference::records::{Record, Records};
 use otap_reference::reference::callers::line_of;
 use otap_reference::reference::commit::{judge_and_commit, Answer, REPLY_ROOM};
+use otap_reference::reference::limits::HANDHELD;
 use otap_reference::reference::screen::{row_part, Row, Shown, SCRATCH_ROOM};
-use otap_reference::reference::tables::{Set, MOST_CHANNELS, MOST_LINES};
+use otap_reference::reference::tables::Set;
 use otap_reference::reference::values::{entry, entry_digits, Entry, DIGITS_ROOM};
 use std::fs::read;
 use std::process::Command;
@@ -81,10 +82,10 @@ fn rows(set: &Set) -> String {
 
 /// How much of the room for lines and channels is taken.
 fn room(set: &Set) -> String {
-    let (lines, channels) = set.counts();
+    let ((lines, channels), most) = (set.counts(), set.limits);
     labelled(
         "room",
-        &format!("lines {lines} of {MOST_LINES}, channels {channels} of {MOST_CHANNELS}"),
+        &format!("lines {lines} of {}, channels {channels} of {}", most.lines, most.channels),
     )
 }
 
@@ -127,7 +128,7 @@ fn message_lines(answer: &Answer, query: bool, reply: &[u8]) -> String {
 }
 
 fn shift_prints(input: &[u8]) -> String {
-    let mut set = Set::default();
+    let mut set = Set::fresh(HANDHELD);
     let mut out = format!("A fresh store\n{}{}", rows(&set), asked(&set));
     for (place, record) in Records::new(input).enumerate() {
         let Record::Whole { message, .. } = record else {

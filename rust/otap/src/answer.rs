@@ -14,15 +14,15 @@ pub enum Refusal {
     BadField,
     /// 10: the reply buffer has fewer than 20 bytes.
     ReplyShort,
-    /// 11: the bytes lent are not 24,576, or not a store.
+    /// 11: the bytes lent are not as many as the set's store has, or not a store.
     NotAStore,
-    /// 12: the message has fewer than 7 or more than 4,096 bytes, or two would have more when joined.
+    /// 12: the message has fewer than 7 bytes or more than the set takes, 4,096 of a hand-held and 8,192 of a vehicle, or two would have more when joined.
     MessageLength,
     /// 13: a carrier field or the stated length is wrong.
     WrongCarrier,
     /// 14: the message is not of the type that the call takes: a request or a result query to commit, a query to report on, a report to read, a request to join.
     WrongMessageType,
-    /// 15: the scratch has fewer than 36 bytes, the export, report or join buffer fewer than 4,096, or the digits buffer fewer than 18.
+    /// 15: the scratch has fewer than 36 bytes, the export, report or join buffer fewer than the set's longest message, or the digits buffer fewer than 18.
     BufferShort,
     /// 16 of an export: there is no such part; a [`Part`](crate::Part) is always one.
     NoSuchPart,
@@ -40,7 +40,7 @@ pub enum Refusal {
     OutsideKind,
     /// 22: there is no such channel.
     NoSuchChannel,
-    /// A number that document 01 does not list; the contracts of crate `otap_handheld` allow none.
+    /// A number that document 01 does not list; the archive's contracts allow none.
     Unlisted(u8),
 }
 
@@ -50,7 +50,7 @@ const LISTED: [(u8, Refusal, &str); 17] = [
     (4, Refusal::BadField, "a field, a length or a count is wrong"),
     (10, Refusal::ReplyShort, "the reply buffer is under 20 bytes"),
     (11, Refusal::NotAStore, "the bytes lent are not a store"),
-    (12, Refusal::MessageLength, "the message is under 7 or over 4,096 bytes"),
+    (12, Refusal::MessageLength, "the message is too short or too long"),
     (13, Refusal::WrongCarrier, "a carrier field or the length is wrong"),
     (14, Refusal::WrongMessageType, "the message is not of the type that the call takes"),
     (15, Refusal::BufferShort, "the buffer lent is too short"),
@@ -169,7 +169,7 @@ impl<'r> Answer<'r> {
             failed_id: byte(packed, 8),
             send: bit(packed, 16),
             reboot: bit(packed, 17),
-            // Crate `otap_handheld` proves that the length is within the buffer; `get` does not rely on it.
+            // The archive's contracts say that the length is within the buffer; `get` does not rely on it.
             reply: reply.get(..usize::from(length)).unwrap_or_default(),
         }
     }

@@ -2,10 +2,11 @@
 
 use crate::answer::Refusal;
 use crate::callers::MOST_DIGITS;
-use crate::calls;
 use crate::entries::{digits, entry, Entry};
+use crate::kinds::{Handheld, Kind};
 use crate::row::{units_of, Row, Table};
-use crate::store::{Store, SCRATCH_ROOM};
+use crate::store::{Set, SCRATCH_ROOM};
+use core::marker::PhantomData;
 use core::ops::Range;
 
 /// The name, or the number, that the screen draws for a row, and what stands behind it, taken together.
@@ -78,17 +79,17 @@ impl DrawnRow {
     }
 
     /// From one borrow of the store, so that nothing comes in between.
-    fn take(table: Table, index: u32, store: &[u8]) -> Result<DrawnRow, Refusal> {
-        let target = entry(table, index, store)?;
+    fn take<K: Kind>(table: Table, index: u32, store: &[u8]) -> Result<DrawnRow, Refusal> {
+        let target = entry::<K>(table, index, store)?;
         let mut scratch = [0; SCRATCH_ROOM];
-        let packed = calls::row_part(table.number(), index, store, &mut scratch);
+        let packed = K::row_part(table.number(), index, store, &mut scratch);
         if packed == 0 {
             return Err(Refusal::NoSuchRow);
         }
         let (name, name_length) = copied(Row::unpack(packed, store, &scratch).bytes());
         let mut buffer = [0; MOST_DIGITS];
         let number = match target {
-            Entry::Line { .. } => digits(table, index, store, &mut buffer)?,
+            Entry::Line { .. } => digits::<K>(table, index, store, &mut buffer)?,
             _ => &[],
         };
         let (digits, count) = copied(number);
@@ -103,13 +104,13 @@ fn copied<const N: usize>(bytes: &[u8]) -> ([u8; N], usize) {
     (copy, bytes.len().min(N))
 }
 
-impl<'s> Store<'s> {
+impl<K: Kind> Set<'_, K> {
     /// A row as the screen draws it, with what stands behind it, both of the same store.
     ///
-    /// Refused with 11; with 17 as [`Store::entry`] is, quick and status texts too; and with 17 as [`Store::row`] is, where a background group
+    /// Refused with 11; with 17 as [`Set::entry`] is, quick and status texts too; and with 17 as [`Set::row`] is, where a background group
     /// stands there.
     pub fn drawn(&self, table: Table, index: u32) -> Result<DrawnRow, Refusal> {
-        DrawnRow::take(table, index, self.bytes())
+        DrawnRow::take::<K>(table, index, self.bytes())
     }
 
     /// The rows of a table that are shown, in order, all of the same store; refused with 11. Of texts, which have no target, there is none.
@@ -148,25 +149,26 @@ impl<'s> Store<'s> {
     /// # Ok(())
     /// # }
     /// ```
-    pub fn rows(&self, table: Table) -> Result<Rows<'_>, Refusal> {
+    pub fn rows(&self, table: Table) -> Result<Rows<'_, K>, Refusal> {
         self.counts()?;
-        Ok(Rows { table, left: table.places(), store: self.bytes() })
+        Ok(Rows { table, left: Self::places(table), store: self.bytes(), kind: PhantomData })
     }
 }
 
 /// The rows of a table that are shown. It borrows the store, so that all are of one; what it gives is the caller's own.
 #[derive(Clone, Debug)]
-pub struct Rows<'a> {
+pub struct Rows<'a, K = Handheld> {
     table: Table,
     left: Range<u32>,
     store: &'a [u8],
+    kind: PhantomData<K>,
 }
 
-impl Iterator for Rows<'_> {
+impl<K: Kind> Iterator for Rows<'_, K> {
     type Item = DrawnRow;
 
     fn next(&mut self) -> Option<DrawnRow> {
-        let Rows { table, left, store } = self;
-        left.find_map(|index| DrawnRow::take(*table, index, store).ok())
+        let Rows { table, left, store, .. } = self;
+        left.find_map(|index| DrawnRow::take::<K>(*table, index, store).ok())
     }
 }

@@ -1,10 +1,11 @@
 //! What stands behind a row: the address of a group or an individual, the digits of a line, and their flags.
 
 use crate::answer::{bit, bits, value, Refusal};
-use crate::calls;
 use crate::conversions::{GroupAddress, IndividualAddress};
+use crate::kinds::{Handheld, Kind};
 use crate::row::Table;
-use crate::store::Store;
+use crate::store::Set;
+use core::marker::PhantomData;
 use core::ops::Range;
 
 /// The flags that every kind has.
@@ -52,7 +53,7 @@ pub enum Entry {
         /// Its flags.
         flags: CallFlags,
     },
-    /// A line contact or a line slot; [`Store::entry_digits`] has its digits.
+    /// A line contact or a line slot; [`Set::entry_digits`] has its digits.
     Line {
         /// [`PSTN`](crate::PSTN) or [`PABX`](crate::PABX).
         id_type: u32,
@@ -97,30 +98,30 @@ impl Attribute {
     }
 }
 
-pub(crate) fn entry(table: Table, index: u32, store: &[u8]) -> Result<Entry, Refusal> {
-    let packed = calls::entry(table.number(), index, store);
+pub(crate) fn entry<K: Kind>(table: Table, index: u32, store: &[u8]) -> Result<Entry, Refusal> {
+    let packed = K::entry(table.number(), index, store);
     value(packed, |packed| Entry::unpack(table, packed))
 }
 
 /// 8 to 15 are how many digits there are.
-pub(crate) fn digits<'d>(
+pub(crate) fn digits<'d, K: Kind>(
     table: Table,
     index: u32,
     store: &[u8],
     buffer: &'d mut [u8],
 ) -> Result<&'d [u8], Refusal> {
-    let packed = calls::entry_digits(table.number(), index, store, buffer);
+    let packed = K::entry_digits(table.number(), index, store, buffer);
     let count = value(packed, |packed| bits(packed, 8, 8) as usize)?;
-    // Crate `otap_handheld` proves that they are within the buffer; `get` does not rely on it.
+    // The archive's contracts say that they are within the buffer; `get` does not rely on it.
     Ok(buffer.get(..count).unwrap_or_default())
 }
 
-impl<'s> Store<'s> {
-    /// What stands behind a row, named as for [`Store::row`]; refused with 11, then 17: nothing stands there.
+impl<K: Kind> Set<'_, K> {
+    /// What stands behind a row, named as for [`Set::row`]; refused with 11, then 17: nothing stands there.
     ///
     /// A background group, which has no row, is answered too: the radio listens to it. Quick and status texts have
     /// nothing behind them. After any messages, the name that the screen shows in a row and what stands behind it
-    /// were sent together; [`Store::drawn`] takes both at once, to be called when the officer presses PTT.
+    /// were sent together; [`Set::drawn`] takes both at once, to be called when the officer presses PTT.
     ///
     /// ```
     /// # fn main() -> Result<(), otap::Refusal> {
@@ -143,7 +144,7 @@ impl<'s> Store<'s> {
     /// # }
     /// ```
     pub fn entry(&self, table: Table, index: u32) -> Result<Entry, Refusal> {
-        entry(table, index, self.bytes())
+        entry::<K>(table, index, self.bytes())
     }
 
     /// The digits of a line contact or a line slot, one a byte, at the start of the buffer; refused with 15 (under 18 bytes), 11, then 17.
@@ -168,7 +169,7 @@ impl<'s> Store<'s> {
         index: u32,
         buffer: &'d mut [u8],
     ) -> Result<&'d [u8], Refusal> {
-        digits(table, index, self.bytes(), buffer)
+        digits::<K>(table, index, self.bytes(), buffer)
     }
 
     /// Each entry of a table with its index or position, background groups too; refused with 11. Of texts there is none.
@@ -189,25 +190,27 @@ impl<'s> Store<'s> {
     /// # Ok(())
     /// # }
     /// ```
-    pub fn entries(&self, table: Table) -> Result<Entries<'_>, Refusal> {
+    pub fn entries(&self, table: Table) -> Result<Entries<'_, K>, Refusal> {
         self.counts()?;
-        Ok(Entries { table, left: table.places(), store: self.bytes() })
+        let left = Self::places(table);
+        Ok(Entries { table, left, store: self.bytes(), kind: PhantomData })
     }
 }
 
 /// The entries of a table, each with its index or position. It borrows the store, so that no message comes in between.
 #[derive(Clone, Debug)]
-pub struct Entries<'a> {
+pub struct Entries<'a, K = Handheld> {
     table: Table,
     left: Range<u32>,
     store: &'a [u8],
+    kind: PhantomData<K>,
 }
 
-impl Iterator for Entries<'_> {
+impl<K: Kind> Iterator for Entries<'_, K> {
     type Item = (u32, Entry);
 
     fn next(&mut self) -> Option<(u32, Entry)> {
-        let Entries { table, left, store } = self;
-        left.find_map(|index| Some((index, entry(*table, index, store).ok()?)))
+        let Entries { table, left, store, .. } = self;
+        left.find_map(|index| Some((index, entry::<K>(*table, index, store).ok()?)))
     }
 }

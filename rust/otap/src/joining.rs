@@ -1,13 +1,16 @@
 //! What the office joins: two requests that wait, under one header; with the feature `office`.
 
 use crate::answer::{bit, byte, half, Refusal};
-use crate::calls;
+use crate::calls::OfficeCalls;
+use crate::kinds::{Handheld, Sizes, Vehicle};
 use core::fmt;
 
-/// A join buffer has at least so many bytes.
-pub const JOIN_ROOM: usize = 4_096;
+/// A join buffer for a hand-held's request has at least so many bytes.
+pub const JOIN_ROOM: usize = Handheld::LONGEST_MESSAGE;
+/// A join buffer for a vehicle's request has at least so many bytes.
+pub const VEHICLE_JOIN_ROOM: usize = Vehicle::LONGEST_MESSAGE;
 
-/// Joins two requests: writes one header and the settings of both, as they were received, to the start of the buffer.
+/// Joins two requests to a hand-held: writes one header and the settings of both, as they were received, to the start of the buffer.
 ///
 /// A set that takes the first and then the second takes what was written, and holds the same; one that lacks room for
 /// either refuses all of it.
@@ -41,7 +44,37 @@ pub const JOIN_ROOM: usize = 4_096;
 /// # }
 /// ```
 pub fn join<'b>(first: &[u8], second: &[u8], buffer: &'b mut [u8]) -> Result<&'b [u8], NotJoined> {
-    let packed = calls::join(first, second, buffer);
+    join_for::<Handheld>(first, second, buffer)
+}
+
+/// The same of two requests to a vehicle: the joined one, and the buffer, may have 8,192 bytes.
+///
+/// ```
+/// use otap::{join, join_vehicle, JOIN_ROOM, VEHICLE_JOIN_ROOM};
+/// // 1,023 deletes of channel 241, three times: 1,540 bytes each, and 4,620 under one header.
+/// let mut deletes = b"\xCE\x06\x03\x83\xFF".to_vec();
+/// deletes.extend(b"\x0F\x10\xF1".repeat(511));
+/// deletes.extend(b"\x0F\x1F");
+/// let request = |count: u8| [&[2, 2, 0, 0, 8, 7, 8, count], &deletes.repeat(count.into())[..]].concat();
+/// let (first, second) = (request(2), request(1));
+/// assert!(join(&first, &second, &mut [0; JOIN_ROOM]).is_err_and(|no| no.refusal.number() == 12));
+/// let mut buffer = [0; VEHICLE_JOIN_ROOM];
+/// assert_eq!(join_vehicle(&first, &second, &mut buffer).map(|joined| joined.len()), Ok(4_628));
+/// ```
+pub fn join_vehicle<'b>(
+    first: &[u8],
+    second: &[u8],
+    buffer: &'b mut [u8],
+) -> Result<&'b [u8], NotJoined> {
+    join_for::<Vehicle>(first, second, buffer)
+}
+
+fn join_for<'b, K: OfficeCalls>(
+    first: &[u8],
+    second: &[u8],
+    buffer: &'b mut [u8],
+) -> Result<&'b [u8], NotJoined> {
+    let packed = K::join(first, second, buffer);
     match byte(packed, 0) {
         // Crate `otap_office` proves that the length is within the buffer; `get` does not rely on it.
         0 => Ok(buffer.get(..half(packed, 16)).unwrap_or_default()),

@@ -1,10 +1,12 @@
-//! Over-the-air settings of a PDT radio (document 01): the safe face of the verified archive `libotap_handheld.a`.
+//! Over-the-air settings of a PDT radio (document 01): the safe face of the verified archives, `libotap_handheld.a` and what the features add.
 //!
-//! A [`Store`] stands over bytes that the firmware lends and keeps nothing else; conversions of numbers,
+//! A [`Store`], the settings of a hand-held, stands over bytes that the firmware lends and keeps nothing else; conversions of numbers,
 //! addresses and channels need none. No std, no allocation, no panic. `build.rs` finds the archive of the
 //! target where `./archive` writes it, or in the folder that `OTAP_ARCHIVE_DIR` names.
 //!
-//! Firmware links `libotap_handheld.a` alone: what is the office's, `report` and `join`, is behind the feature `office`, off by default, which links `libotap_office.a` too.
+//! Firmware of a hand-held links `libotap_handheld.a` alone, and two features, off by default, add the others. With `vehicle`, which links
+//! `libotap_vehicle.a` too, `VehicleStore` is the same over a vehicle's bytes: both are a [`Set`], and only the sizes differ. With `office`,
+//! which links `libotap_office.a` too, `report` and `join` are what the office needs, of either kind of set.
 //!
 //! ```
 //! # fn main() -> Result<(), otap::Refusal> {
@@ -29,6 +31,8 @@ mod drawn;
 mod entries;
 #[cfg(feature = "office")]
 mod joining;
+mod kinds;
+mod part;
 #[cfg(feature = "office")]
 pub mod report;
 mod reporting;
@@ -46,11 +50,15 @@ pub use counts::{Counts, MOST_CHANNELS, MOST_LINES};
 pub use drawn::{DrawnRow, Rows};
 pub use entries::{Attribute, CallFlags, Entries, Entry};
 #[cfg(feature = "office")]
-pub use joining::{join, NotJoined, JOIN_ROOM};
+pub use joining::{join, join_vehicle, NotJoined, JOIN_ROOM, VEHICLE_JOIN_ROOM};
+pub use kinds::{Handheld, Kind, Sizes, Vehicle};
+pub use part::Part;
 pub use reporting::{Report, REPORT_ROOM};
 pub use row::{Row, Slice, Table, CONTACT_ROWS};
 pub use settings::{Channels, EmergencyKey, HomeNumbers, KeyTarget, SystemCode};
-pub use store::{Part, Store, EXPORT_ROOM, LONGEST_MESSAGE, REPLY_ROOM, SCRATCH_ROOM, STORE_SIZE};
+#[cfg(feature = "vehicle")]
+pub use store::VehicleStore;
+pub use store::{Set, Store, EXPORT_ROOM, LONGEST_MESSAGE, REPLY_ROOM, SCRATCH_ROOM, STORE_SIZE};
 
 // The README's snippet is compiled and run with the doc examples.
 #[cfg(doctest)]

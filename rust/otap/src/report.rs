@@ -28,18 +28,28 @@
 
 use crate::answer::{bit, bits, byte, half, Refusal};
 use crate::callers::MOST_DIGITS;
-use crate::calls;
+use crate::calls::{self, OfficeCalls};
 use crate::conversions::{GroupAddress, IndividualAddress};
 use crate::entries::{Attribute, CallFlags};
+use crate::kinds::{Handheld, Vehicle};
 use crate::row::units_of;
 use crate::settings::{EmergencyKey, HomeNumbers, SystemCode};
 
 /// The byte of a message at which its first parameter stands.
 const FIRST: u32 = 10;
 
-/// Reads one message of a report; refused with 12, 13, 14, 1, then 4.
+/// Reads one message of a hand-held's report; refused with 12, 13, 14, 1, then 4.
 pub fn read(message: &[u8]) -> Result<ReadReport<'_>, Refusal> {
-    let packed = calls::read_report(message);
+    read_from::<Handheld>(message)
+}
+
+/// The same of a vehicle's report, whose messages may have 8,192 bytes.
+pub fn read_vehicle(message: &[u8]) -> Result<ReadReport<'_>, Refusal> {
+    read_from::<Vehicle>(message)
+}
+
+fn read_from<K: OfficeCalls>(message: &[u8]) -> Result<ReadReport<'_>, Refusal> {
+    let packed = K::read_report(message);
     match byte(packed, 0) {
         0 => Ok(ReadReport {
             total: bits(packed, 8, 8),

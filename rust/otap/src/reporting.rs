@@ -1,11 +1,11 @@
 //! What the set answers to a query: a report, one message at a time.
 
 use crate::answer::{bits, byte, half, Refusal};
-use crate::calls;
-use crate::store::Store;
+use crate::kinds::{Handheld, Kind, Sizes};
+use crate::store::Set;
 
-/// A report buffer has at least so many bytes.
-pub const REPORT_ROOM: usize = 4_096;
+/// A report buffer of a hand-held has at least so many bytes; [`Set::REPORT_ROOM`] is of either kind.
+pub const REPORT_ROOM: usize = Handheld::LONGEST_MESSAGE;
 
 /// A message of the report that answers a query.
 #[derive(Clone, Copy, Debug, PartialEq, Eq)]
@@ -22,7 +22,7 @@ impl<'b> Report<'b> {
         match byte(packed, 0) {
             0 => Ok(Report {
                 total: bits(packed, 8, 8),
-                // Crate `otap_handheld` proves that the length is within the buffer; `get` does not rely on it.
+                // The archive's contracts say that the length is within the buffer; `get` does not rely on it.
                 message: buffer.get(..half(packed, 16)).unwrap_or_default(),
             }),
             16 => Err(Refusal::NoSuchMessage),
@@ -31,11 +31,11 @@ impl<'b> Report<'b> {
     }
 }
 
-impl<'s> Store<'s> {
+impl<K: Kind> Set<'_, K> {
     /// Answers a query: writes the message of this index, from 1, to the start of the buffer.
     ///
     /// Refused with 15, 11, 12, 13, 14, 1, 4, then 16 where the report has no such message; nothing is written then.
-    /// Here 1 has no reply either. A query is no request: [`Store::commit`] refuses it with 14.
+    /// Here 1 has no reply either. A query is no request: [`Set::commit`] refuses it with 14.
     ///
     /// ```
     /// # fn main() -> Result<(), otap::Refusal> {
@@ -83,7 +83,7 @@ impl<'s> Store<'s> {
         index: u32,
         buffer: &'b mut [u8],
     ) -> Result<Report<'b>, Refusal> {
-        let packed = calls::report(query, index, self.bytes(), buffer);
+        let packed = K::report(query, index, self.bytes(), buffer);
         Report::unpack(packed, buffer)
     }
 }

@@ -1,6 +1,7 @@
 //! A row of the screen: the part of the store, or of the scratch, that shows it.
 
 use crate::answer::half;
+use crate::counts::MOST_LINES;
 use core::ops::Range;
 
 /// Positions of the group contacts, and of the individual contacts: rows 0 to 63.
@@ -73,15 +74,20 @@ impl Table {
         self as u32
     }
 
-    /// Its places: every row that it has is one of them.
+    /// Its places in a hand-held: every row that it has is one of them. [`Set::places`](crate::Set::places) has those of either kind.
     ///
     /// ```
     /// assert_eq!(otap::Table::Groups.places(), 0..16);
     /// assert_eq!(otap::Table::StatusTexts.places(), 32..128);
     /// ```
     pub fn places(self) -> Range<u32> {
+        self.places_with(MOST_LINES)
+    }
+
+    /// In a set with room for so many lines.
+    pub(crate) fn places_with(self, lines: usize) -> Range<u32> {
         match self {
-            Table::Lines => 0..32,
+            Table::Lines => 0..lines as u32,
             Table::QuickTexts => 0..64,
             Table::StatusTexts => 32..128,
             Table::Groups | Table::Individuals | Table::LineSlots => 0..16,
@@ -148,7 +154,7 @@ impl<'a> Row<'a> {
         let (slice, lent) =
             if packed & 1 == 0 { (Slice::Store, store) } else { (Slice::Scratch, scratch) };
         let (offset, length) = (half(packed, 16), half(packed, 32));
-        // Crate `otap_handheld` proves that the part is within its slice; `get` does not rely on it.
+        // The archive's contracts say that the part is within its slice; `get` does not rely on it.
         let bytes = lent.get(offset..offset + length).unwrap_or_default();
         Row { bytes, slice, offset }
     }

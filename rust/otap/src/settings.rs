@@ -1,10 +1,10 @@
 //! What the radio works by: scan channels, emergency key, home numbers and system code.
 
 use crate::answer::{bit, bits, value, Refusal};
-use crate::calls;
 use crate::conversions::{GroupAddress, IndividualAddress};
-use crate::counts::MOST_CHANNELS;
-use crate::store::Store;
+use crate::kinds::{Handheld, Kind};
+use crate::store::Set;
+use core::marker::PhantomData;
 use core::ops::Range;
 
 /// Where the emergency key calls.
@@ -74,14 +74,14 @@ pub struct SystemCode {
 }
 
 /// 8 to 19 are the channel.
-fn channel(position: u32, store: &[u8]) -> Result<u32, Refusal> {
-    value(calls::channel(position, store), |packed| bits(packed, 8, 12))
+fn channel<K: Kind>(position: u32, store: &[u8]) -> Result<u32, Refusal> {
+    value(K::channel(position, store), |packed| bits(packed, 8, 12))
 }
 
-impl<'s> Store<'s> {
+impl<K: Kind> Set<'_, K> {
     /// The scan channel at a position, from 0, for [`transmit`](crate::transmit) and [`receive`](crate::receive); refused with 11, then 17 behind the last.
     pub fn channel(&self, position: u32) -> Result<u32, Refusal> {
-        channel(position, self.bytes())
+        channel::<K>(position, self.bytes())
     }
 
     /// The scan channels in their order, repeats too; refused with 11.
@@ -100,9 +100,10 @@ impl<'s> Store<'s> {
     /// # Ok(())
     /// # }
     /// ```
-    pub fn channels(&self) -> Result<Channels<'_>, Refusal> {
+    pub fn channels(&self) -> Result<Channels<'_, K>, Refusal> {
         self.counts()?;
-        Ok(Channels { left: 0..MOST_CHANNELS as u32, store: self.bytes() })
+        let left = 0..K::MOST_CHANNELS as u32;
+        Ok(Channels { left, store: self.bytes(), kind: PhantomData })
     }
 
     /// The emergency key, which is always there; refused with 11.
@@ -122,12 +123,12 @@ impl<'s> Store<'s> {
     /// # }
     /// ```
     pub fn emergency_key(&self) -> Result<EmergencyKey, Refusal> {
-        value(calls::emergency_key(self.bytes()), EmergencyKey::unpack)
+        value(K::emergency_key(self.bytes()), EmergencyKey::unpack)
     }
 
     /// The home numbers, which are always there; refused with 11.
     pub fn home_numbers(&self) -> Result<HomeNumbers, Refusal> {
-        value(calls::home_numbers(self.bytes()), |packed| HomeNumbers {
+        value(K::home_numbers(self.bytes()), |packed| HomeNumbers {
             nzi: bits(packed, 8, 9) as u16,
             np: bits(packed, 17, 10) as u16,
         })
@@ -149,7 +150,7 @@ impl<'s> Store<'s> {
     /// # }
     /// ```
     pub fn system_code(&self) -> Result<SystemCode, Refusal> {
-        value(calls::system_code(self.bytes()), |packed| SystemCode {
+        value(K::system_code(self.bytes()), |packed| SystemCode {
             lai: bits(packed, 8, 12) as u16,
             la: bits(packed, 20, 4) as u8,
             roaming: bits(packed, 24, 2) as u8,
@@ -160,15 +161,16 @@ impl<'s> Store<'s> {
 
 /// The scan channels of a store, which it borrows. Behind the last there is none, so that the first refusal ends it.
 #[derive(Clone, Debug)]
-pub struct Channels<'a> {
+pub struct Channels<'a, K = Handheld> {
     left: Range<u32>,
     store: &'a [u8],
+    kind: PhantomData<K>,
 }
 
-impl Iterator for Channels<'_> {
+impl<K: Kind> Iterator for Channels<'_, K> {
     type Item = u32;
 
     fn next(&mut self) -> Option<u32> {
-        channel(self.left.next()?, self.store).ok()
+        channel::<K>(self.left.next()?, self.store).ok()
     }
 }

@@ -1,97 +1,98 @@
-//! A set's store, over bytes that the firmware lends.
+//! A set's store, over bytes that the firmware lends: one face for both kinds of set.
 
 use crate::answer::{byte, half, Answer, Refusal};
 use crate::callers;
-use crate::calls;
 use crate::counts::Counts;
+#[cfg(feature = "vehicle")]
+use crate::kinds::Vehicle;
+use crate::kinds::{Handheld, Kind, Sizes};
+use crate::part::Part;
 use crate::row::{Row, Table};
+use core::marker::PhantomData;
+use core::ops::Range;
 
-/// A store has exactly so many bytes.
-pub const STORE_SIZE: usize = 24_576;
+/// A hand-held's store has exactly so many bytes; [`Set::STORE_SIZE`] is of either kind, and so are the others there.
+pub const STORE_SIZE: usize = Handheld::STORE_SIZE;
 /// A reply buffer has at least so many bytes.
 pub const REPLY_ROOM: usize = 20;
-/// An export buffer has at least so many bytes.
-pub const EXPORT_ROOM: usize = 4_096;
+/// An export buffer of a hand-held has at least so many bytes.
+pub const EXPORT_ROOM: usize = Handheld::LONGEST_MESSAGE;
 /// A scratch has at least so many bytes.
 pub const SCRATCH_ROOM: usize = 36;
-/// A message has at most so many bytes.
-pub const LONGEST_MESSAGE: usize = 4_096;
+/// A message to a hand-held has at most so many bytes.
+pub const LONGEST_MESSAGE: usize = Handheld::LONGEST_MESSAGE;
 
-/// A part of an export.
-#[derive(Clone, Copy, Debug, PartialEq, Eq, Hash)]
-#[non_exhaustive]
-#[repr(u32)]
-pub enum Part {
-    /// Line contacts.
-    Lines = 1,
-    /// Emergency key, home numbers and system code.
-    KeyHomeSystem = 2,
-    /// Quick texts.
-    QuickTexts = 3,
-    /// Scan channels.
-    Channels = 4,
-    /// Status texts.
-    StatusTexts = 5,
-    /// Group slots.
-    Groups = 6,
-    /// Individual slots.
-    Individuals = 7,
-    /// Group contacts, background groups too.
-    GroupContacts = 8,
-    /// Individual contacts.
-    IndividualContacts = 9,
-    /// Line slots.
-    LineSlots = 10,
+/// The settings of one set of either kind, [`Store`] or `VehicleStore`. It keeps nothing outside the bytes lent.
+#[derive(Debug)]
+pub struct Set<'s, K> {
+    bytes: &'s mut [u8],
+    kind: PhantomData<K>,
 }
 
-impl Part {
-    /// Each of them; committed in this order they give any other set the same tables.
-    pub const ALL: &'static [Part] = &[
-        Part::Lines,
-        Part::KeyHomeSystem,
-        Part::QuickTexts,
-        Part::Channels,
-        Part::StatusTexts,
-        Part::Groups,
-        Part::Individuals,
-        Part::GroupContacts,
-        Part::IndividualContacts,
-        Part::LineSlots,
-    ];
+/// The settings of one hand-held.
+pub type Store<'s> = Set<'s, Handheld>;
 
-    /// The number of document 01.
-    pub fn number(self) -> u32 {
-        self as u32
-    }
+/// The settings of one vehicle set, with every call that [`Store`] has; only the sizes are others.
+///
+/// ```
+/// # fn main() -> Result<(), otap::Refusal> {
+/// use otap::{Outcome, Refusal, Store, VehicleStore, REPLY_ROOM};
+/// let (mut bytes, mut reply) = ([0; VehicleStore::STORE_SIZE], [0; REPLY_ROOM]);
+/// let mut store = VehicleStore::start(&mut bytes)?;
+/// assert_eq!((store.counts()?.free_lines(), store.counts()?.free_channels()), (128, 256));
+/// // Replaces the scan channels by 241, 65 times: one more than a hand-held has room for.
+/// let mut message = b"\x02\x02\0\0\x08\x07\x08\x01\xCE\0\x66\xC0\x41".to_vec();
+/// message.extend(b"\x0F\x10\xF1".repeat(32));
+/// message.extend(b"\x0F\x1F");
+/// assert_eq!(store.commit(&message, &mut reply).outcome, Outcome::Taken);
+/// assert_eq!(store.channels()?.count(), 65);
+/// // A vehicle's store is no hand-held's.
+/// assert_eq!(Store::open(&mut bytes).err(), Some(Refusal::NotAStore));
+/// # Ok(())
+/// # }
+/// ```
+#[cfg(feature = "vehicle")]
+pub type VehicleStore<'s> = Set<'s, Vehicle>;
 
-    /// The part with this number.
+/// The sizes of its kind.
+impl<K: Sizes> Set<'_, K> {
+    /// A store has exactly so many bytes.
+    pub const STORE_SIZE: usize = K::STORE_SIZE;
+    /// A message has at most so many bytes.
+    pub const LONGEST_MESSAGE: usize = K::LONGEST_MESSAGE;
+    /// An export buffer has at least so many bytes.
+    pub const EXPORT_ROOM: usize = K::LONGEST_MESSAGE;
+    /// A report buffer has at least so many bytes.
+    pub const REPORT_ROOM: usize = K::LONGEST_MESSAGE;
+    /// Room for so many line contacts.
+    pub const MOST_LINES: usize = K::MOST_LINES;
+    /// Room for so many channels.
+    pub const MOST_CHANNELS: usize = K::MOST_CHANNELS;
+
+    /// The places of a table: every row that it has is one of them.
     ///
     /// ```
-    /// assert_eq!(otap::Part::from_number(4), Some(otap::Part::Channels));
-    /// assert_eq!(otap::Part::from_number(0), None);
+    /// use otap::{Store, Table};
+    /// assert_eq!(Store::places(Table::Lines), 0..32);
+    /// assert_eq!(Store::places(Table::StatusTexts), 32..128);
     /// ```
-    pub fn from_number(number: u32) -> Option<Part> {
-        Part::ALL.iter().copied().find(|part| part.number() == number)
+    pub fn places(table: Table) -> Range<u32> {
+        table.places_with(K::MOST_LINES)
     }
 }
 
-/// The settings of one set. It keeps nothing outside the bytes lent.
-#[derive(Debug)]
-pub struct Store<'s> {
-    bytes: &'s mut [u8],
-}
-
-impl<'s> Store<'s> {
-    /// Makes 24,576 bytes a fresh store, whatever they held; another length is refused with 11.
+impl<'s, K: Kind> Set<'s, K> {
+    /// Makes as many bytes as a store has, 24,576 of a hand-held and 49,152 of a vehicle, a fresh store, whatever they held;
+    /// another length is refused with 11.
     ///
     /// ```
     /// use otap::{Refusal, Store, STORE_SIZE};
     /// assert!(Store::start(&mut [0xFF; STORE_SIZE]).is_ok());
     /// assert_eq!(Store::start(&mut [0; 100]).err(), Some(Refusal::NotAStore));
     /// ```
-    pub fn start(bytes: &'s mut [u8]) -> Result<Store<'s>, Refusal> {
-        match calls::start(bytes) {
-            0 => Ok(Store { bytes }),
+    pub fn start(bytes: &'s mut [u8]) -> Result<Self, Refusal> {
+        match K::start(bytes) {
+            0 => Ok(Set::lent(bytes)),
             number => Err(Refusal::from_word(number)),
         }
     }
@@ -112,15 +113,15 @@ impl<'s> Store<'s> {
     /// # Ok(())
     /// # }
     /// ```
-    pub fn open(bytes: &'s mut [u8]) -> Result<Store<'s>, Refusal> {
-        let store = Store::lent(bytes);
+    pub fn open(bytes: &'s mut [u8]) -> Result<Self, Refusal> {
+        let store = Set::lent(bytes);
         store.counts()?;
         Ok(store)
     }
 
     /// Bytes that were a store before, and are not looked at now; every call judges them and refuses others with 11.
-    pub fn lent(bytes: &'s mut [u8]) -> Store<'s> {
-        Store { bytes }
+    pub fn lent(bytes: &'s mut [u8]) -> Self {
+        Set { bytes, kind: PhantomData }
     }
 
     /// The store's bytes, to be kept.
@@ -128,7 +129,7 @@ impl<'s> Store<'s> {
         self.bytes
     }
 
-    /// Judges one message: the answer that [`Store::commit`] would give, with the reply that it would write; the store stays.
+    /// Judges one message: the answer that [`Set::commit`] would give, with the reply that it would write; the store stays.
     ///
     /// A request that comes during a call is judged then, so that the user knows whether it will be taken and
     /// whether the set will start again, and committed after the call. The reply is not sent before that:
@@ -174,7 +175,7 @@ impl<'s> Store<'s> {
     /// # }
     /// ```
     pub fn judge<'r>(&self, message: &[u8], reply: &'r mut [u8]) -> Answer<'r> {
-        let packed = calls::judge(message, self.bytes, reply);
+        let packed = K::judge(message, self.bytes, reply);
         Answer::unpack(packed, reply)
     }
 
@@ -203,11 +204,16 @@ impl<'s> Store<'s> {
     /// # }
     /// ```
     pub fn commit<'r>(&mut self, message: &[u8], reply: &'r mut [u8]) -> Answer<'r> {
-        let packed = calls::commit(message, self.bytes, reply);
+        let packed = K::commit(message, self.bytes, reply);
         Answer::unpack(packed, reply)
     }
 
     /// Writes a part's request to the start of the buffer; refused with 15 or 11.
+    ///
+    /// All parts, in the order of [`Part::ALL`], give a set of the same kind the same tables, whatever it held, and so do a hand-held's a
+    /// vehicle. A hand-held takes all of a vehicle's exactly if the lines are at most 32, the channels at most 64, and no request is over
+    /// 4,096 bytes. Otherwise it refuses the first part that does not fit, with 12 where that is over 4,096 bytes, else with 2, and keeps
+    /// what the parts before it left.
     ///
     /// ```
     /// # fn main() -> Result<(), otap::Refusal> {
@@ -224,9 +230,9 @@ impl<'s> Store<'s> {
     /// # }
     /// ```
     pub fn export<'b>(&self, part: Part, buffer: &'b mut [u8]) -> Result<&'b [u8], Refusal> {
-        let packed = calls::export(part.number(), self.bytes, buffer);
+        let packed = K::export(part.number(), self.bytes, buffer);
         match byte(packed, 0) {
-            // Crate `otap_handheld` proves that the length is within the buffer; `get` does not rely on it.
+            // The archive's contracts say that the length is within the buffer; `get` does not rely on it.
             0 => Ok(buffer.get(..half(packed, 16)).unwrap_or_default()),
             number => Err(Refusal::from_number(number)),
         }
@@ -294,7 +300,7 @@ impl<'s> Store<'s> {
         row: u32,
         scratch: &'a mut [u8],
     ) -> Result<Row<'a>, Refusal> {
-        let packed = calls::row_part(table.number(), row, self.bytes, scratch);
+        let packed = K::row_part(table.number(), row, self.bytes, scratch);
         // A refusal's part is 0; only then is the number asked for.
         if packed == 0 {
             self.check_row(table, row, scratch)?;
@@ -302,9 +308,9 @@ impl<'s> Store<'s> {
         Ok(Row::unpack(packed, self.bytes, scratch))
     }
 
-    /// Whether the screen has such a row, without writing the scratch; refused as [`Store::row`] is.
+    /// Whether the screen has such a row, without writing the scratch; refused as [`Set::row`] is.
     pub fn check_row(&self, table: Table, row: u32, scratch: &[u8]) -> Result<(), Refusal> {
-        match calls::row_number(table.number(), row, self.bytes, scratch) {
+        match K::row_number(table.number(), row, self.bytes, scratch) {
             0 => Ok(()),
             number => Err(Refusal::from_word(number)),
         }
@@ -314,11 +320,11 @@ impl<'s> Store<'s> {
     ///
     /// ```
     /// # fn main() -> Result<(), otap::Refusal> {
-    /// use otap::{Counts, Refusal, Store, REPLY_ROOM, STORE_SIZE};
+    /// use otap::{Refusal, Store, REPLY_ROOM, STORE_SIZE};
     /// let mut bytes = [0; STORE_SIZE];
     /// assert_eq!(Store::lent(&mut bytes).counts(), Err(Refusal::NotAStore));
     /// let mut store = Store::start(&mut bytes)?;
-    /// assert_eq!(store.counts(), Ok(Counts { lines: 0, channels: 0 }));
+    /// assert_eq!(store.counts().map(|counts| (counts.lines, counts.channels)), Ok((0, 0)));
     /// // Replaces the scan channels by 241 and 640.
     /// let message = [2, 2, 0, 12, 8, 7, 8, 1, 0xCE, 0, 7, 0xC0, 2, 0x0F, 0x12, 0x80];
     /// store.commit(&message, &mut [0; REPLY_ROOM]);
@@ -328,7 +334,7 @@ impl<'s> Store<'s> {
     /// # }
     /// ```
     pub fn counts(&self) -> Result<Counts, Refusal> {
-        Counts::unpack(calls::counts(self.bytes))
+        Counts::unpack::<K>(K::counts(self.bytes))
     }
 
     /// Who is calling: the row of the line contact with this IDtype, [`PSTN`](crate::PSTN) or [`PABX`](crate::PABX),
@@ -356,6 +362,6 @@ impl<'s> Store<'s> {
     /// # }
     /// ```
     pub fn line_of(&self, id_type: u32, digits: &[u8]) -> Result<Option<u32>, Refusal> {
-        callers::unpack(calls::line_of(id_type, digits, self.bytes))
+        callers::unpack(K::line_of(id_type, digits, self.bytes))
     }
 }

@@ -5,9 +5,11 @@ pub mod joining;
 pub mod pair;
 pub mod raw;
 pub mod reports;
+pub mod sets;
 pub mod values;
 
 use otap_reference::reference::commit::{judge_and_commit, REPLY_ROOM};
+use otap_reference::reference::limits::HANDHELD;
 use otap_reference::reference::message;
 use otap_reference::reference::plan::{GroupAddress, IndividualAddress};
 use otap_reference::reference::settings::{
@@ -31,9 +33,9 @@ pub fn hex_request(settings: &[&str]) -> Vec<u8> {
     message::request(&settings)
 }
 
-/// Number and failed ID of a message to a fresh set.
+/// Number and failed ID of a message to a fresh hand-held.
 pub fn number_of(message: &[u8]) -> (u8, u8) {
-    number_in(message, &mut Set::default())
+    number_in(message, &mut Set::fresh(HANDHELD))
 }
 
 pub fn number_in(message: &[u8], set: &mut Set) -> (u8, u8) {
@@ -41,9 +43,9 @@ pub fn number_in(message: &[u8], set: &mut Set) -> (u8, u8) {
     (answer.number, answer.failed)
 }
 
-/// The set after a message that must be taken.
+/// The hand-held after a message that must be taken.
 pub fn taken(message: &[u8]) -> Set {
-    let mut set = Set::default();
+    let mut set = Set::fresh(HANDHELD);
     assert_eq!(number_in(message, &mut set), (0, 0));
     set
 }

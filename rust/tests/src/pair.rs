@@ -1,25 +1,38 @@
 //! A store behind the face and a set of the reference, which get the same calls and must stay alike.
 
-use crate::raw;
-use otap::{Part, Refusal, Row, Slice, Store, Table, STORE_SIZE};
+use crate::sets::Tried;
+use otap::{Part, Refusal, Row, Slice, Table};
 use otap_reference::layout;
 use otap_reference::reference::callers::line_of;
 use otap_reference::reference::commit::{commit_from, judge_from, Answer};
 use otap_reference::reference::export::{export, Exported};
+use otap_reference::reference::limits::Limits;
 use otap_reference::reference::menu::{self, counts};
 use otap_reference::reference::screen::{self, row_number, row_part, Shown};
 use otap_reference::reference::tables::Set;
+use std::marker::PhantomData;
 
-pub struct Pair {
+/// Of one kind of set.
+#[derive(Clone)]
+pub struct Pair<K> {
     pub bytes: Vec<u8>,
     pub set: Set,
+    kind: PhantomData<K>,
 }
 
-impl Pair {
-    pub fn fresh() -> Pair {
-        let mut bytes = patterned(STORE_SIZE);
-        Store::start(&mut bytes).expect("any bytes of the size become a store");
-        Pair { bytes, set: Set::default() }
+impl<K: Tried> Pair<K> {
+    pub fn of(bytes: Vec<u8>, set: Set) -> Self {
+        Pair { bytes, set, kind: PhantomData }
+    }
+
+    pub fn fresh() -> Self {
+        let mut bytes = patterned(K::STORE_SIZE);
+        otap::Set::<K>::start(&mut bytes).expect("any bytes of the size become a store");
+        Pair::of(bytes, Set::fresh(K::LIMITS))
+    }
+
+    pub fn store(&mut self) -> otap::Set<'_, K> {
+        otap::Set::lent(&mut self.bytes)
     }
 
     pub fn judge(&mut self, message: &[u8]) -> u8 {
@@ -39,7 +52,7 @@ impl Pair {
     /// Both judge the message: the same answer and reply, and the store stays.
     pub fn judge_into(&mut self, message: &[u8], room: usize) -> u8 {
         let mut expected = patterned(room);
-        let is_store = self.bytes.len() == STORE_SIZE;
+        let is_store = self.is_store();
         let wanted = judge_from(message, is_store, &self.set, &mut expected);
         let (said, reply) = self.judge_over(message, &patterned(room));
         assert_eq!(said, wanted, "{message:02X?}");
@@ -51,7 +64,7 @@ impl Pair {
     pub fn judge_over(&mut self, message: &[u8], held: &[u8]) -> (Answer, Vec<u8>) {
         let before = self.bytes.clone();
         let mut buffer = held.to_vec();
-        let judged = said(&Store::lent(&mut self.bytes).judge(message, &mut buffer));
+        let judged = said(&self.store().judge(message, &mut buffer));
         assert!(self.bytes == before, "judging {message:02X?} changes the store");
         let (reply, rest) = buffer.split_at(judged.length);
         assert!(rest == &held[judged.length..], "behind the reply to {message:02X?}");
@@ -64,9 +77,9 @@ impl Pair {
         let judged = self.judge_over(message, &inverted(room));
         let (bytes, set) = (self.bytes.clone(), self.set.clone());
         let (mut reply, mut expected) = (patterned(room), patterned(room));
-        let answer = said(&Store::lent(&mut self.bytes).commit(message, &mut reply));
+        let answer = said(&self.store().commit(message, &mut reply));
         assert_eq!((answer, &reply[..answer.length]), (judged.0, &judged.1[..]), "{message:02X?}");
-        let is_store = bytes.len() == STORE_SIZE;
+        let is_store = bytes.len() == K::STORE_SIZE;
         assert_eq!(answer, commit_from(message, is_store, &mut self.set, &mut expected));
         assert!(reply == expected, "the whole reply buffer after {message:02X?}");
         // Equal contents are equal bytes, so that one stays exactly where the other does.
@@ -83,20 +96,30 @@ impl Pair {
     pub fn export_into(&mut self, part: u32, room: usize) -> u8 {
         let before = self.bytes.clone();
         let (mut buffer, mut expected) = (patterned(room), patterned(room));
-        let is_store = before.len() == STORE_SIZE;
+        let is_store = self.is_store();
         let known = u8::try_from(part).unwrap_or(0);
         let wanted = export(known, is_store, &self.set, &mut expected);
-        let (number, length) = exported(part, &mut self.bytes, &mut buffer);
+        let (number, length) = self.exported(part, &mut buffer);
         assert_eq!(Exported { number, length }, wanted, "part {part}");
         assert!(buffer == expected, "the whole buffer of part {part}");
         assert!(self.bytes == before, "an export only reads");
         number
     }
 
+    /// Number and length, by the face where it has a name for the part.
+    fn exported(&mut self, part: u32, buffer: &mut [u8]) -> (u8, usize) {
+        let Some(named) = Part::from_number(part) else {
+            let packed = K::otap_export(part, &self.bytes, buffer);
+            return (packed as u8, usize::from((packed >> 16) as u16));
+        };
+        let exported = self.store().export(named, buffer);
+        (number_of(&exported), exported.map_or(0, <[u8]>::len))
+    }
+
     /// The number by both calls, which slice, its bytes, and the scratch around a written number.
     pub fn show_into(&mut self, table: u32, row: u32, room: usize) -> u8 {
         let (mut scratch, mut expected) = (patterned(room), patterned(room));
-        let is_store = self.bytes.len() == STORE_SIZE;
+        let is_store = self.is_store();
         let (number, shown) = match reference_row(table, row) {
             Some(row) => {
                 let number = row_number(row, is_store, &self.set, &expected);
@@ -106,17 +129,17 @@ impl Pair {
         };
         let before = self.bytes.clone();
         if let Some(named) = Table::from_number(table) {
-            let store = Store::lent(&mut self.bytes);
+            let store = self.store();
             let checked = store.check_row(named, row, &scratch);
             assert_eq!(number_of(&checked), number, "table {table} row {row}");
             let given = store.row(named, row, &mut scratch);
             assert_eq!(number_of(&given), number, "table {table} row {row}");
             if let Ok(part) = given {
-                assert_same(part, &shown, table, row);
+                assert_same(K::LIMITS, part, &shown, table, row);
             }
         } else {
-            assert_eq!(raw::row_number(table, row, &self.bytes, &scratch), u32::from(number));
-            assert_eq!(raw::row_part(table, row, &self.bytes, &mut scratch), 0);
+            assert_eq!(K::otap_row_number(table, row, &self.bytes, &scratch), u32::from(number));
+            assert_eq!(K::otap_row_part(table, row, &self.bytes, &mut scratch), 0);
         }
         assert!(scratch == expected, "the whole scratch of table {table} row {row}");
         assert!(self.bytes == before, "the screen only reads");
@@ -126,11 +149,11 @@ impl Pair {
     /// The number, both counts and what is free; the packed answer has no other bit.
     pub fn count(&mut self) -> u8 {
         let before = self.bytes.clone();
-        let wanted = counts(before.len() == STORE_SIZE, &self.set);
-        let store = Store::lent(&mut self.bytes);
+        let wanted = counts(self.is_store(), &self.set);
+        let store = self.store();
         let said = store.counts();
         assert_eq!(number_of(&said), wanted.number);
-        assert_eq!(packed(&wanted), raw::counts(store.bytes()));
+        assert_eq!(packed(&wanted), K::otap_counts(store.bytes()));
         if let Ok(said) = said {
             assert_eq!((said.lines, said.channels), (wanted.lines, wanted.channels));
             assert_eq!((said.free_lines(), said.free_channels()), self.set.free());
@@ -142,11 +165,11 @@ impl Pair {
     /// Who is calling: a row, none, or the refusal; the packed answer has no other bit. The screen then shows the caller alike.
     pub fn call_from(&mut self, id_type: u32, digits: &[u8]) -> Result<Option<u32>, u8> {
         let before = self.bytes.clone();
-        let wanted = line_of(id_type, digits, before.len() == STORE_SIZE, &self.set);
-        let store = Store::lent(&mut self.bytes);
+        let wanted = line_of(id_type, digits, self.is_store(), &self.set);
+        let store = self.store();
         let said = store.line_of(id_type, digits).map_err(Refusal::number);
         assert_eq!(said, wanted, "{id_type} {digits:?}");
-        assert_eq!(raw::line_of(id_type, digits, store.bytes()), packed_caller(wanted));
+        assert_eq!(K::otap_line_of(id_type, digits, store.bytes()), packed_caller(wanted));
         assert!(self.bytes == before, "looking up only reads");
         if let Ok(Some(row)) = wanted {
             assert_eq!(self.show_into(1, row, otap::SCRATCH_ROOM), 0, "the caller's row");
@@ -156,14 +179,14 @@ impl Pair {
 
     pub fn compare_exports(&mut self) {
         for part in 0..=Part::ALL.len() as u32 + 1 {
-            self.export_into(part, otap::EXPORT_ROOM + part as usize);
+            self.export_into(part, K::LONGEST_MESSAGE + part as usize);
         }
     }
 
     /// Every row of every table, and absent ones on either side; says how many were shown.
     pub fn compare_rows(&mut self) -> usize {
         let rooms = otap::SCRATCH_ROOM;
-        let most = [2, 34, 66, 130, 18, 18, 66, 66, 18, 2];
+        let most = [2, K::MOST_LINES as u32 + 2, 66, 130, 18, 18, 66, 66, 18, 2];
         (0..)
             .zip(most)
             .flat_map(|(table, rows)| (0..rows).map(move |row| (table, row)))
@@ -173,8 +196,8 @@ impl Pair {
 }
 
 /// Judges and commits by the face alone, where there is no set beside the store: the same answer and reply, and only committing changes it.
-pub fn commit_judged<'r>(
-    store: &mut Store,
+pub fn commit_judged<'r, K: Tried>(
+    store: &mut otap::Set<K>,
     message: &[u8],
     reply: &'r mut [u8],
 ) -> otap::Answer<'r> {
@@ -198,16 +221,6 @@ fn said(answer: &otap::Answer) -> Answer {
     }
 }
 
-/// Number and length, by the face where it has a name for the part.
-fn exported(part: u32, bytes: &mut [u8], buffer: &mut [u8]) -> (u8, usize) {
-    let Some(named) = Part::from_number(part) else {
-        let packed = raw::export(part, bytes, buffer);
-        return (packed as u8, usize::from((packed >> 16) as u16));
-    };
-    let exported = Store::lent(bytes).export(named, buffer);
-    (number_of(&exported), exported.map_or(0, <[u8]>::len))
-}
-
 /// The bits of the C answer: number 0 to 7, lines 16 to 31, channels 32 to 47, all others 0.
 fn packed(counts: &menu::Counts) -> u64 {
     u64::from(counts.number) | (counts.lines as u64) << 16 | (counts.channels as u64) << 32
@@ -218,9 +231,9 @@ fn packed_caller(answer: Result<Option<u32>, u8>) -> u64 {
     answer.map_or_else(u64::from, |row| row.map_or(0, |row| 1 << 8 | u64::from(row) << 16))
 }
 
-fn assert_same(part: Row, shown: &Shown, table: u32, row: u32) {
+fn assert_same(limits: Limits, part: Row, shown: &Shown, table: u32, row: u32) {
     let (slice, offset, units) = match shown {
-        Shown::Stored(units) => (Slice::Store, text_offset(table, row), units),
+        Shown::Stored(units) => (Slice::Store, text_offset(limits, table, row), units),
         Shown::Scratch(units) => (Slice::Scratch, 0, units),
         Shown::Nothing => panic!("table {table} row {row} is not there"),
     };
@@ -232,10 +245,10 @@ fn assert_same(part: Row, shown: &Shown, table: u32, row: u32) {
 }
 
 /// Where docs/STORE.md says that a row's text stands.
-fn text_offset(table: u32, row: u32) -> usize {
+fn text_offset(limits: Limits, table: u32, row: u32) -> usize {
     let row = row as usize;
     match table {
-        1 => 12_862 + 52 * row + 20,
+        1 => 12_734 + 2 * limits.channels + 52 * row + 20,
         2 => 22 + 46 * row,
         3 => 2_966 + 33 * (row - 32) + 1,
         4 => 6_134 + 36 * row + 4,

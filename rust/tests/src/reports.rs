@@ -2,9 +2,10 @@
 
 use crate::pair::{inverted, number_of, patterned, Pair};
 use crate::raw;
+use crate::sets::Tried;
 use crate::values::number;
-use otap::report::{Entry, KeptHash};
-use otap::{report, Attribute, CallFlags, KeyTarget, Store, REPORT_ROOM};
+use otap::report::{self, Entry, KeptHash};
+use otap::{Attribute, CallFlags, KeyTarget};
 use otap_reference::reference::message::Hash;
 use otap_reference::reference::packing::{
     packed_read_report, packed_report, packed_report_entry, packed_report_places,
@@ -32,17 +33,17 @@ pub const EACH: [(&str, u8, &str); 10] = [
     ("FF 00 0D 02 01 02 03 04 05 06 07 08 09 0A", 0xFF, "BF 01 02 01 02 03 04 05 06 07 08 09 0A"),
 ];
 
-impl Pair {
+impl<K: Tried> Pair<K> {
     /// What a query is answered: every bit, the whole buffer, the same by the face over other bytes; and the store stays.
     pub fn report_into(&mut self, query: &[u8], index: u32, room: usize) -> Told {
         let before = self.bytes.clone();
         let (mut expected, mut first) = (patterned(room), patterned(room));
         let wanted = reports::report(query, index, self.is_store(), &self.set, &mut expected);
-        let packed = raw::report(query, index, &self.bytes, &mut first);
+        let packed = K::otap_report(query, index, &self.bytes, &mut first);
         assert_eq!(packed, packed_report(wanted), "message {index} to {query:02X?}");
         assert!(first == expected, "the whole buffer of message {index} to {query:02X?}");
         let mut second = inverted(room);
-        let said = Store::lent(&mut self.bytes).report(query, index, &mut second);
+        let said = self.store().report(query, index, &mut second);
         assert_eq!(number_of(&said), number(wanted), "message {index} to {query:02X?}");
         let length = wanted.map_or(0, |report| report.length);
         if let (Ok(said), Ok(wanted)) = (said, wanted) {
@@ -56,8 +57,8 @@ impl Pair {
 
     /// All messages of the report to these types, by the face alone.
     pub fn messages_to(&mut self, types: &[u8]) -> Vec<Vec<u8>> {
-        let (query, mut buffer) = (query(types), patterned(REPORT_ROOM));
-        let store = Store::lent(&mut self.bytes);
+        let (query, mut buffer) = (query(types), patterned(K::LONGEST_MESSAGE));
+        let store = self.store();
         let mut message = |index| {
             let report = store.report(&query, index, &mut buffer).expect("a message of a report");
             (report.total, report.message.to_vec())
@@ -70,11 +71,11 @@ impl Pair {
 }
 
 /// The number that a message is read with, by both: every bit, and each of its parameters by what it is and where it stands.
-pub fn read_by_both(message: &[u8]) -> u8 {
-    let wanted = read(message);
+pub fn read_by_both<K: Tried>(message: &[u8]) -> u8 {
+    let wanted = read(message, K::LIMITS);
     let packed = packed_read_report(wanted.as_ref().map_err(|number| *number));
-    assert_eq!(raw::read_report(message), packed, "{message:02X?}");
-    let said = report::read(message);
+    assert_eq!(K::otap_read_report(message), packed, "{message:02X?}");
+    let said = K::read(message);
     assert_eq!(number_of(&said), number(wanted.as_ref().map_err(|number| *number)));
     if let (Ok(said), Ok(wanted)) = (said, &wanted) {
         let told = (said.total, said.index, said.count);
@@ -100,8 +101,8 @@ pub fn look_by_both(message: &[u8], at: u32) -> bool {
 }
 
 /// What the face reads of a good message.
-pub fn items(message: &[u8]) -> Vec<Item> {
-    report::read(message).expect("a message of a report").entries().map(item_of).collect()
+pub fn items<K: Tried>(message: &[u8]) -> Vec<Item> {
+    K::read(message).expect("a message of a report").entries().map(item_of).collect()
 }
 
 /// The same parameters with rank 0 in every status text: the face has its code alone.

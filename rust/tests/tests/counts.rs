@@ -1,25 +1,35 @@
 //! The generator reaches every number a message can come to, and every table's edge.
 
-use otap_reference::inputs::{Inputs, LONGEST_INPUT};
+use otap_reference::inputs::{longest_input, Inputs};
 use otap_reference::reference::commit::{judge_and_commit, REPLY_ROOM};
-use otap_reference::reference::message::{first_byte, LONGEST, REQUEST};
+use otap_reference::reference::message::{first_byte, REQUEST};
 use otap_reference::reference::numbers::BAD_FIELD;
 use otap_reference::reference::settings::{GroupSlot, BACKGROUND};
 use otap_reference::reference::tables::{Line, Set};
 use otap_reference::reference::texts::Text;
+use otap_tests::for_both_sets;
+use otap_tests::sets::Tried;
 use std::collections::BTreeMap;
+
+for_both_sets!(
+    every_number_comes_often,
+    tables_fill_and_messages_grow_long,
+    contacts_and_line_slots_come_often,
+    numbers_of_both_idtypes_come_often,
+    every_coding_type_comes_often,
+    the_same_seed_gives_the_same_messages,
+);
 
 const SEEDS: u64 = 200;
 const MESSAGES: usize = 200;
 const NUMBERS: [u8; 9] = [0, 1, 2, 3, 4, 5, 12, 13, 14];
 
-#[test]
-fn every_number_comes_often() {
+fn every_number_comes_often<K: Tried>() {
     let mut counts: BTreeMap<u8, usize> = BTreeMap::new();
     let mut later_places = BTreeMap::new();
     for seed in 0..SEEDS {
-        let mut inputs = Inputs::new(seed);
-        let mut set = Set::default();
+        let mut inputs = Inputs::new(seed, K::LIMITS);
+        let mut set = Set::fresh(K::LIMITS);
         for _ in 0..MESSAGES {
             let answer = judge_and_commit(&inputs.message(), &mut set, &mut [0; REPLY_ROOM]);
             *counts.entry(answer.number).or_default() += 1;
@@ -36,20 +46,19 @@ fn every_number_comes_often() {
     }
 }
 
-#[test]
-fn tables_fill_and_messages_grow_long() {
+fn tables_fill_and_messages_grow_long<K: Tried>() {
     let (mut lines, mut channels, mut quick, mut longest, mut over) = (0, 0, 0, 0, 0);
     for seed in 0..SEEDS {
-        let mut inputs = Inputs::new(seed);
-        let mut set = Set::default();
+        let mut inputs = Inputs::new(seed, K::LIMITS);
+        let mut set = Set::fresh(K::LIMITS);
         for _ in 0..MESSAGES {
             let message = inputs.message();
             let answer = judge_and_commit(&message, &mut set, &mut [0; REPLY_ROOM]);
-            assert!(message.len() <= LONGEST_INPUT);
-            longest += usize::from(message.len() == LONGEST && answer.number == 0);
-            over += usize::from(message.len() > LONGEST);
-            lines += usize::from(set.tables.lines.len() == 32);
-            channels += usize::from(set.tables.channels.len() == 64);
+            assert!(message.len() <= longest_input(K::LIMITS));
+            longest += usize::from(message.len() == K::LIMITS.message && answer.number == 0);
+            over += usize::from(message.len() > K::LIMITS.message);
+            lines += usize::from(set.tables.lines.len() == K::MOST_LINES);
+            channels += usize::from(set.tables.channels.len() == K::MOST_CHANNELS);
             quick += usize::from(set.tables.quick_texts.iter().all(Option::is_some));
         }
     }
@@ -59,12 +68,11 @@ fn tables_fill_and_messages_grow_long() {
 }
 
 /// Both lists of contacts are often full, with a known address overwritten then, and one in the middle deleted; line slots often change.
-#[test]
-fn contacts_and_line_slots_come_often() {
+fn contacts_and_line_slots_come_often<K: Tried>() {
     let (mut full, mut overwritten, mut deleted, mut hidden, mut slots) = ([0; 2], 0, 0, 0, 0);
     for seed in 0..SEEDS {
-        let mut inputs = Inputs::new(seed);
-        let mut set = Set::default();
+        let mut inputs = Inputs::new(seed, K::LIMITS);
+        let mut set = Set::fresh(K::LIMITS);
         for _ in 0..MESSAGES {
             let slots_before = set.tables.line_slots.clone();
             let before = set.tables.group_contacts.clone();
@@ -87,17 +95,16 @@ fn contacts_and_line_slots_come_often() {
 }
 
 /// One number often stands with both IDtypes, in full tables too, and each of the two lines is overwritten and deleted alone.
-#[test]
-fn numbers_of_both_idtypes_come_often() {
+fn numbers_of_both_idtypes_come_often<K: Tried>() {
     let (mut full, mut overwritten, mut deleted) = (0, 0, 0);
     for seed in 0..SEEDS {
-        let mut inputs = Inputs::new(seed);
-        let mut set = Set::default();
+        let mut inputs = Inputs::new(seed, K::LIMITS);
+        let mut set = Set::fresh(K::LIMITS);
         for _ in 0..MESSAGES {
             let before = set.tables.lines.clone();
             judge_and_commit(&inputs.message(), &mut set, &mut [0; REPLY_ROOM]);
             let after = &set.tables.lines;
-            full += usize::from(after.len() == 32 && !of_both_idtypes(after).is_empty());
+            full += usize::from(after.len() == K::MOST_LINES && !of_both_idtypes(after).is_empty());
             for [pstn, pabx] in of_both_idtypes(&before) {
                 let number = pstn.digits.clone();
                 let left: Vec<_> = after.iter().filter(|line| line.digits == number).collect();
@@ -122,12 +129,11 @@ fn of_both_idtypes(lines: &[Line]) -> Vec<[Line; 2]> {
 }
 
 /// Both coding types change texts often. The others are refused as such, and no setting is looked at.
-#[test]
-fn every_coding_type_comes_often() {
+fn every_coding_type_comes_often<K: Tried>() {
     let (mut changed, mut refused) = ([0; 16], [[0; 2]; 16]);
     for seed in 0..SEEDS {
-        let mut inputs = Inputs::new(seed);
-        let mut set = Set::default();
+        let mut inputs = Inputs::new(seed, K::LIMITS);
+        let mut set = Set::fresh(K::LIMITS);
         for _ in 0..MESSAGES {
             let message = inputs.message();
             let before = names(&set);
@@ -165,10 +171,9 @@ fn names(set: &Set) -> Vec<Text> {
     held.chain(lines).chain(groups).chain(individuals).collect()
 }
 
-#[test]
-fn the_same_seed_gives_the_same_messages() {
-    let mut first = Inputs::new(3);
-    let mut second = Inputs::new(3);
+fn the_same_seed_gives_the_same_messages<K: Tried>() {
+    let mut first = Inputs::new(3, K::LIMITS);
+    let mut second = Inputs::new(3, K::LIMITS);
     for _ in 0..50 {
         assert_eq!(first.record(), second.record());
     }

@@ -1,7 +1,7 @@
 //! What the officer presses is what the officer sees: after any messages, the name that a row shows and what stands behind it were sent together, in one
 //! entry of one setting, the last that was sent for that slot or key; and a drawn row keeps both.
 
-use otap::{DrawnRow, Entry, GroupAddress, Slice, Store, Table, MOST_DIGITS, SCRATCH_ROOM};
+use otap::{DrawnRow, Entry, GroupAddress, Set, Slice, Table, MOST_DIGITS, SCRATCH_ROOM};
 use otap_reference::inputs::Inputs;
 use otap_reference::reference::plan::{self, IndividualAddress};
 use otap_reference::reference::settings::{
@@ -9,10 +9,14 @@ use otap_reference::reference::settings::{
 };
 use otap_reference::reference::texts::Coding;
 use otap_reference::reference::values;
+use otap_tests::for_both_sets;
 use otap_tests::hex_request;
 use otap_tests::pair::Pair;
+use otap_tests::sets::Tried;
 use otap_tests::values::{faced, parts};
 use std::collections::HashMap;
+
+for_both_sets!(names_and_targets_were_sent_together, drawn_rows_stay, two_groups_change_places,);
 
 /// What tells two rows of a table apart: the index of a slot, or the key of a contact.
 #[derive(Clone, Debug, PartialEq, Eq, Hash)]
@@ -122,7 +126,7 @@ fn key_of(table: Table, index: u32, row: &DrawnRow) -> Key {
 }
 
 /// Every row that is shown has the name and the target of the last entry sent for it; says how many rows there are.
-fn shown_as_sent(store: &Store, last: &Last) -> usize {
+fn shown_as_sent<K: Tried>(store: &Set<K>, last: &Last) -> usize {
     let mut rows = 0;
     for &table in Table::ALL {
         for row in store.rows(table).expect("a store") {
@@ -142,12 +146,11 @@ fn shown_as_sent(store: &Store, last: &Last) -> usize {
     rows
 }
 
-#[test]
-fn names_and_targets_were_sent_together() {
+fn names_and_targets_were_sent_together<K: Tried>() {
     let mut rows = 0;
     for seed in 8_200..8_260 {
-        let mut inputs = Inputs::new(seed);
-        let (mut pair, mut last) = (Pair::fresh(), Last::new());
+        let mut inputs = Inputs::new(seed, K::LIMITS);
+        let (mut pair, mut last) = (Pair::<K>::fresh(), Last::new());
         for turn in 0..60 {
             let message = inputs.message();
             if pair.commit(&message) != 0 {
@@ -157,7 +160,7 @@ fn names_and_targets_were_sent_together() {
                 last.insert((table, key), sent);
             }
             if turn % 6 == 5 {
-                rows += shown_as_sent(&Store::lent(&mut pair.bytes), &last);
+                rows += shown_as_sent(&pair.store(), &last);
             }
         }
     }
@@ -166,23 +169,22 @@ fn names_and_targets_were_sent_together() {
 }
 
 /// Rows that are kept while messages come: each stays as it was drawn, and what is drawn anew is of the store by then.
-#[test]
-fn drawn_rows_stay() {
+fn drawn_rows_stay<K: Tried>() {
     let mut other = 0;
     for seed in 8_300..8_330 {
-        let mut inputs = Inputs::new(seed);
-        let mut pair = Pair::fresh();
+        let mut inputs = Inputs::new(seed, K::LIMITS);
+        let mut pair = Pair::<K>::fresh();
         let mut screen = Vec::new();
         for turn in 0..40 {
             if turn % 4 == 0 {
-                let store = Store::lent(&mut pair.bytes);
+                let store = pair.store();
                 let rows = Table::ALL.iter().flat_map(|&table| {
                     store.rows(table).expect("a store").map(move |row| (table, row, parts(&row)))
                 });
                 screen = rows.collect();
             }
             pair.commit(&inputs.message());
-            let store = Store::lent(&mut pair.bytes);
+            let store = pair.store();
             for (table, row, drawn) in &screen {
                 assert_eq!(parts(row), *drawn, "a drawn row owns its name and its target");
                 other += usize::from(store.drawn(*table, row.index()) != Ok(*row));
@@ -194,9 +196,8 @@ fn drawn_rows_stay() {
 }
 
 /// Two groups change places between drawing and PTT: what was drawn is called.
-#[test]
-fn two_groups_change_places() {
-    let mut pair = Pair::fresh();
+fn two_groups_change_places<K: Tried>() {
+    let mut pair = Pair::<K>::fresh();
     let named = ["D1 00 0B 70 00 10 00 01 00 41 00 00", "D1 00 0B 70 01 10 00 02 00 42 00 00"];
     let moved = ["D1 00 0B 70 00 10 00 02 00 42 00 00", "D1 00 0B 70 01 10 00 01 00 41 00 00"];
     let address = |row: &DrawnRow| match row.target() {
@@ -204,9 +205,9 @@ fn two_groups_change_places() {
         other => panic!("{other:?} is no group"),
     };
     assert_eq!(pair.commit(&hex_request(&named)), 0);
-    let drawn = Store::lent(&mut pair.bytes).drawn(Table::Groups, 0).expect("a row");
+    let drawn = pair.store().drawn(Table::Groups, 0).expect("a row");
     assert_eq!(pair.commit(&hex_request(&moved)), 0);
-    let now = Store::lent(&mut pair.bytes).drawn(Table::Groups, 0).expect("a row");
+    let now = pair.store().drawn(Table::Groups, 0).expect("a row");
     assert_eq!((drawn.name(), address(&drawn)), (&[0, b'A'][..], GroupAddress(0x10_0001)));
     assert_eq!((now.name(), address(&now)), (&[0, b'B'][..], GroupAddress(0x10_0002)));
 }

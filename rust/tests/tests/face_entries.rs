@@ -1,16 +1,28 @@
 //! What stands behind a row, and what the radio works by: the archive against the reference over every table, on many stores, good and poked.
 
 use otap::{Attribute, CallFlags, Entry, GroupAddress, IndividualAddress, KeyTarget, Refusal};
-use otap::{Part, Store, Table, EXPORT_ROOM, MOST_DIGITS, PABX, PSTN, STORE_SIZE};
+use otap::{Part, Set, Table, MOST_DIGITS, PABX, PSTN};
 use otap_reference::inputs::pokes::{poke_count, poke_line_slot, poke_list, poke_order};
 use otap_reference::inputs::random::Random;
 use otap_reference::inputs::values::Value;
 use otap_reference::inputs::Inputs;
 use otap_reference::layout;
+use otap_tests::for_both_sets;
+use otap_tests::hex_request;
 use otap_tests::pair::Pair;
+use otap_tests::sets::Tried;
 use otap_tests::values::refused_by_all;
-use otap_tests::{hex_request, raw};
 use std::collections::BTreeMap;
+
+for_both_sets!(
+    each_table_by_hand,
+    settings_by_hand,
+    a_fresh_store,
+    far_outside,
+    every_value_of_many_stores,
+    another_length_is_no_store,
+    poked_stores,
+);
 
 /// Entries of every table, with names and without, and all that has no table.
 const ALL: [&str; 17] = [
@@ -33,8 +45,8 @@ const ALL: [&str; 17] = [
     "CC 00 08 41 03 00 51 00 00",
 ];
 
-fn all() -> Pair {
-    let mut pair = Pair::fresh();
+fn all<K: Tried>() -> Pair<K> {
+    let mut pair = Pair::<K>::fresh();
     assert_eq!(pair.commit(&hex_request(&ALL)), 0);
     pair
 }
@@ -81,11 +93,10 @@ fn behind() -> [(Table, u32, Entry); 14] {
     ]
 }
 
-#[test]
-fn each_table_by_hand() {
-    let mut pair = all();
+fn each_table_by_hand<K: Tried>() {
+    let mut pair = all::<K>();
     assert_eq!(pair.compare_values(), behind().len());
-    let store = Store::lent(&mut pair.bytes);
+    let store = pair.store();
     for (table, index, entry) in behind() {
         assert_eq!(store.entry(table, index), Ok(entry), "{table:?} {index}");
     }
@@ -103,10 +114,9 @@ fn each_table_by_hand() {
     assert_eq!(digits(Table::LineSlots, 0), Err(Refusal::NothingThere));
 }
 
-#[test]
-fn settings_by_hand() {
-    let mut pair = all();
-    let store = Store::lent(&mut pair.bytes);
+fn settings_by_hand<K: Tried>() {
+    let mut pair = all::<K>();
+    let store = pair.store();
     assert!(store.channels().unwrap().eq([241, 640, 241]));
     assert_eq!(store.channel(3), Err(Refusal::NothingThere));
     let key = store.emergency_key().unwrap();
@@ -118,25 +128,23 @@ fn settings_by_hand() {
     // The current place, which keeps the group bit; then an individual.
     assert_eq!(pair.commit(&hex_request(&["CB 00 03 C8"])), 0);
     assert_eq!(pair.compare_values(), behind().len());
-    let target = |pair: &mut Pair| Store::lent(&mut pair.bytes).emergency_key().unwrap().target;
+    let target = |pair: &mut Pair<K>| pair.store().emergency_key().unwrap().target;
     assert_eq!(target(&mut pair), KeyTarget::Current { group: true });
     assert_eq!(pair.commit(&hex_request(&["CB 00 06 10 FF FF FF"])), 0);
     assert_eq!(target(&mut pair), KeyTarget::Individual(IndividualAddress(0xFF_FFFF)));
 }
 
 /// Nothing stands anywhere in a fresh store, and its key calls the current place.
-#[test]
-fn a_fresh_store() {
-    let mut pair = Pair::fresh();
+fn a_fresh_store<K: Tried>() {
+    let mut pair = Pair::<K>::fresh();
     assert_eq!(pair.compare_values(), 0);
-    assert_eq!(raw::emergency_key(&pair.bytes), 1 << 32);
-    assert_eq!((raw::home_numbers(&pair.bytes), raw::system_code(&pair.bytes)), (0, 0));
+    assert_eq!(K::otap_emergency_key(&pair.bytes), 1 << 32);
+    assert_eq!((K::otap_home_numbers(&pair.bytes), K::otap_system_code(&pair.bytes)), (0, 0));
 }
 
 /// Tables that there are not, places far outside, and buffers of every size.
-#[test]
-fn far_outside() {
-    let mut pair = all();
+fn far_outside<K: Tried>() {
+    let mut pair = all::<K>();
     for table in [0, 1, 2, 3, 4, 8, 9, 0x104, 0x1_0004, 0x8000_0001, u32::MAX] {
         for index in [17, 63, 64, 255, 256, 0x101, 0x1_0000, 0x8000_0000, u32::MAX] {
             assert_eq!(pair.ask(Value::Entry { table, index }), 17);
@@ -150,12 +158,11 @@ fn far_outside() {
     }
 }
 
-#[test]
-fn every_value_of_many_stores() {
+fn every_value_of_many_stores<K: Tried>() {
     let (mut entries, mut numbers) = (0, BTreeMap::new());
     for seed in 8_000..8_040 {
-        let mut inputs = Inputs::new(seed);
-        let mut pair = Pair::fresh();
+        let mut inputs = Inputs::new(seed, K::LIMITS);
+        let mut pair = Pair::<K>::fresh();
         for turn in 0..40 {
             pair.commit(&inputs.message());
             for _ in 0..20 {
@@ -171,13 +178,12 @@ fn every_value_of_many_stores() {
     assert!([0, 15, 17].iter().all(|number| numbers.get(number).is_some_and(|&times| times > 500)));
 }
 
-#[test]
-fn another_length_is_no_store() {
-    let pair = all();
-    for size in [0, 1, 12_288, STORE_SIZE - 1, STORE_SIZE + 1] {
-        let mut other = Pair { bytes: pair.bytes.clone(), set: pair.set.clone() };
+fn another_length_is_no_store<K: Tried>() {
+    let pair = all::<K>();
+    for size in [0, 1, 12_288, K::STORE_SIZE - 1, K::STORE_SIZE + 1] {
+        let mut other = pair.clone();
         other.bytes.resize(size, 0);
-        refused_by_all(&mut other.bytes);
+        refused_by_all::<K>(&mut other.bytes);
         for value in [Value::EmergencyKey, Value::HomeNumbers, Value::SystemCode] {
             assert_eq!(other.ask(value), 11);
         }
@@ -187,42 +193,41 @@ fn another_length_is_no_store() {
 }
 
 /// The set that these bytes hold, as the exported parts tell it.
-fn told_by(bytes: Vec<u8>) -> Pair {
-    let mut pair = Pair::fresh();
+fn told_by<K: Tried>(bytes: Vec<u8>) -> Pair<K> {
+    let mut pair = Pair::<K>::fresh();
     let mut bytes = bytes;
     for &part in Part::ALL {
-        let mut buffer = [0; EXPORT_ROOM];
-        let message = Store::lent(&mut bytes).export(part, &mut buffer).expect("a store");
+        let mut buffer = vec![0; K::LONGEST_MESSAGE];
+        let message = Set::<K>::lent(&mut bytes).export(part, &mut buffer).expect("a store");
         assert_eq!(pair.commit(message), 0);
     }
-    Pair { bytes, set: pair.set }
+    Pair::of(bytes, pair.set)
 }
 
 /// Bytes that are still a store are answered as what they hold, and others are refused by each of the six calls.
-#[test]
-fn poked_stores() {
+fn poked_stores<K: Tried>() {
     let mut random = Random::new(24);
     let (mut stores, mut refused) = (0, 0);
     for seed in 8_100..8_120 {
-        let mut inputs = Inputs::new(seed);
-        let mut pair = Pair::fresh();
+        let mut inputs = Inputs::new(seed, K::LIMITS);
+        let mut pair = Pair::<K>::fresh();
         for _ in 0..30 {
             pair.commit(&inputs.message());
         }
         for turn in 0..40 {
             let mut poked = pair.bytes.clone();
             match turn % 5 {
-                0 => poke_count(&mut random, &mut poked),
-                1 => poke_list(&mut random, &mut poked),
-                2 => poke_order(&mut random, &mut poked),
-                3 => poke_line_slot(&mut random, &mut poked),
-                _ => poked[random.below(14_558)] ^= 1 << random.below(8),
+                0 => poke_count(&mut random, K::LIMITS, &mut poked),
+                1 => poke_list(&mut random, K::LIMITS, &mut poked),
+                2 => poke_order(&mut random, K::LIMITS, &mut poked),
+                3 => poke_line_slot(&mut random, K::LIMITS, &mut poked),
+                _ => poked[random.below(K::LIMITS.spare_at())] ^= 1 << random.below(8),
             }
-            if layout::is_store(&poked) {
-                told_by(poked).compare_values();
+            if layout::is_store(&poked, K::LIMITS) {
+                told_by::<K>(poked).compare_values();
                 stores += 1;
             } else {
-                refused_by_all(&mut poked);
+                refused_by_all::<K>(&mut poked);
                 refused += 1;
             }
         }

@@ -1,14 +1,21 @@
 //! Exports and what they give to another set.
 
-use otap::{Outcome, Part, Store, EXPORT_ROOM, REPLY_ROOM};
+use otap::{Outcome, Part, REPLY_ROOM};
 use otap_reference::inputs::Inputs;
+use otap_tests::for_both_sets;
 use otap_tests::pair::{commit_judged, Pair};
+use otap_tests::sets::Tried;
 
-#[test]
-fn every_part_of_many_stores() {
+for_both_sets!(
+    every_part_of_many_stores,
+    the_ten_parts_give_the_same_tables,
+    a_fresh_store_exports_to_itself,
+);
+
+fn every_part_of_many_stores<K: Tried>() {
     for seed in 2_000..2_060 {
-        let mut inputs = Inputs::new(seed);
-        let mut pair = Pair::fresh();
+        let mut inputs = Inputs::new(seed, K::LIMITS);
+        let mut pair = Pair::<K>::fresh();
         for _ in 0..60 {
             pair.commit(&inputs.message());
             pair.compare_exports();
@@ -17,18 +24,17 @@ fn every_part_of_many_stores() {
 }
 
 /// The ten parts give another store the same tables, whatever it held: then all its parts are the same.
-#[test]
-fn the_ten_parts_give_the_same_tables() {
-    let mut other = Pair::fresh();
+fn the_ten_parts_give_the_same_tables<K: Tried>() {
+    let mut other = Pair::<K>::fresh();
     for seed in 2_100..2_140 {
-        let mut inputs = Inputs::new(seed);
-        let mut pair = Pair::fresh();
+        let mut inputs = Inputs::new(seed, K::LIMITS);
+        let mut pair = Pair::<K>::fresh();
         for _ in 0..40 {
             pair.commit(&inputs.message());
         }
         for &part in Part::ALL {
-            let mut buffer = [0; EXPORT_ROOM];
-            let store = Store::lent(&mut pair.bytes);
+            let mut buffer = vec![0; K::LONGEST_MESSAGE];
+            let store = pair.store();
             let message = store.export(part, &mut buffer).expect("a part of a store");
             assert_eq!(other.commit(message), 0);
         }
@@ -38,13 +44,12 @@ fn the_ten_parts_give_the_same_tables() {
     }
 }
 
-#[test]
-fn a_fresh_store_exports_to_itself() {
-    let mut pair = Pair::fresh();
+fn a_fresh_store_exports_to_itself<K: Tried>() {
+    let mut pair = Pair::<K>::fresh();
     let fresh = pair.bytes.clone();
-    let mut buffer = [0; EXPORT_ROOM];
+    let mut buffer = vec![0; K::LONGEST_MESSAGE];
     for &part in Part::ALL {
-        let mut store = Store::lent(&mut pair.bytes);
+        let mut store = pair.store();
         let message = store.export(part, &mut buffer).expect("a part of a store");
         let outcome = commit_judged(&mut store, message, &mut [0; REPLY_ROOM]).outcome;
         assert_eq!(outcome, Outcome::Taken);

@@ -1,9 +1,22 @@
 //! Two lines with one number: the identity of a line is its IDtype together with its digits.
 
-use otap::{Part, Refusal, Slice, Store, Table, EXPORT_ROOM, MOST_LINES, SCRATCH_ROOM};
+use otap::{Part, Refusal, Set, Slice, Table, SCRATCH_ROOM};
 use otap_reference::reference::settings::Operation::{self, Add, Delete, Replace};
+use otap_tests::for_both_sets;
 use otap_tests::pair::Pair;
+use otap_tests::sets::Tried;
 use otap_tests::{bytes, lines_of, request};
+
+for_both_sets!(
+    both_present_and_one_deleted,
+    a_delete_of_the_absent_idtype_does_nothing,
+    each_is_overwritten_alone,
+    one_more_of_another_idtype_has_no_room,
+    a_replace_removes_lines_of_both_idtypes,
+    digits_as_they_are_written,
+    both_are_exported_and_taken,
+    bytes_of_both_lines,
+);
 
 /// Example 11 of document 01: adds PABX 2345, no text.
 const EXTENSION: &str = "02 02 00 0E 08 07 08 01 CA 00 09 42 01 23 45 FF 00 00";
@@ -13,8 +26,8 @@ const DELETE_EXTENSION: &str = "02 02 00 0E 08 07 08 01 CA 00 09 82 01 23 45 FF 
 const DELETE_TELEPHONE: &str = "02 02 00 0E 08 07 08 01 CA 00 09 80 01 23 45 FF 00 00";
 
 /// A store that took these messages in hex, as the reference did; the rows and exports of both are compared.
-fn after(messages: &[&str]) -> Pair {
-    let mut pair = Pair::fresh();
+fn after<K: Tried>(messages: &[&str]) -> Pair<K> {
+    let mut pair = Pair::<K>::fresh();
     for message in messages {
         assert_eq!(pair.commit(&bytes(message)), 0, "{message}");
     }
@@ -23,56 +36,56 @@ fn after(messages: &[&str]) -> Pair {
     pair
 }
 
-/// Numbers 00, 01 and so on, of one IDtype.
+/// Numbers 000, 001 and so on, of one IDtype.
 fn numbered(pabx: bool, operation: Operation, numbers: std::ops::Range<u8>) -> Vec<u8> {
-    let numbers: Vec<[u8; 2]> = numbers.map(|number| [number / 10, number % 10]).collect();
+    let digits = |number: u8| [number / 100, number / 10 % 10, number % 10];
+    let numbers: Vec<[u8; 3]> = numbers.map(digits).collect();
     lines_of(pabx, operation, &numbers.iter().map(|digits| &digits[..]).collect::<Vec<_>>())
 }
 
 /// The number of a request with these settings, and how many lines there are after it.
-fn told(pair: &mut Pair, settings: &[Vec<u8>]) -> (u8, usize) {
+fn told<K: Tried>(pair: &mut Pair<K>, settings: &[Vec<u8>]) -> (u8, usize) {
     let number = pair.commit(&request(settings));
-    (number, Store::lent(&mut pair.bytes).counts().expect("a store stays a store").lines)
+    (number, pair.store().counts().expect("a store stays a store").lines)
 }
 
 /// IDtype and the first four digits of the line at a position, which stand where docs/STORE.md says.
-fn kept(pair: &Pair, position: usize) -> &[u8] {
-    &pair.bytes[12_862 + 52 * position + 1..][..5]
+fn kept<K: Tried>(pair: &Pair<K>, position: usize) -> &[u8] {
+    &pair.bytes[K::LIMITS.lines_at() + 2 + 52 * position + 1..][..5]
 }
 
-#[test]
-fn both_present_and_one_deleted() {
-    let both = after(&[EXTENSION, TELEPHONE]);
+fn both_present_and_one_deleted<K: Tried>() {
+    let both = after::<K>(&[EXTENSION, TELEPHONE]);
     assert_eq!((kept(&both, 0), kept(&both, 1)), (&[1, 3, 4, 5, 6][..], &[0, 3, 4, 5, 6][..]));
-    let [extension, telephone] = [EXTENSION, TELEPHONE].map(|message| after(&[message]).bytes);
-    assert!(after(&[EXTENSION, TELEPHONE, DELETE_EXTENSION]).bytes == telephone);
-    assert!(after(&[EXTENSION, TELEPHONE, DELETE_TELEPHONE]).bytes == extension);
-    assert!(after(&[TELEPHONE, EXTENSION, DELETE_EXTENSION]).bytes == telephone);
-    assert!(after(&[TELEPHONE, EXTENSION, DELETE_TELEPHONE]).bytes == extension);
-    assert!(after(&[TELEPHONE, EXTENSION]).bytes != both.bytes, "the other order");
+    let [extension, telephone] = [EXTENSION, TELEPHONE].map(|message| after::<K>(&[message]).bytes);
+    assert!(after::<K>(&[EXTENSION, TELEPHONE, DELETE_EXTENSION]).bytes == telephone);
+    assert!(after::<K>(&[EXTENSION, TELEPHONE, DELETE_TELEPHONE]).bytes == extension);
+    assert!(after::<K>(&[TELEPHONE, EXTENSION, DELETE_EXTENSION]).bytes == telephone);
+    assert!(after::<K>(&[TELEPHONE, EXTENSION, DELETE_TELEPHONE]).bytes == extension);
+    assert!(after::<K>(&[TELEPHONE, EXTENSION]).bytes != both.bytes, "the other order");
 }
 
-#[test]
-fn a_delete_of_the_absent_idtype_does_nothing() {
-    assert!(after(&[EXTENSION, DELETE_TELEPHONE]).bytes == after(&[EXTENSION]).bytes);
-    assert!(after(&[TELEPHONE, DELETE_EXTENSION]).bytes == after(&[TELEPHONE]).bytes);
-    assert!(after(&[DELETE_TELEPHONE]).bytes == Pair::fresh().bytes);
+fn a_delete_of_the_absent_idtype_does_nothing<K: Tried>() {
+    assert!(after::<K>(&[EXTENSION, DELETE_TELEPHONE]).bytes == after::<K>(&[EXTENSION]).bytes);
+    assert!(after::<K>(&[TELEPHONE, DELETE_EXTENSION]).bytes == after::<K>(&[TELEPHONE]).bytes);
+    assert!(after::<K>(&[DELETE_TELEPHONE]).bytes == Pair::<K>::fresh().bytes);
 }
 
 /// Both rows show 2345 until one gets a name; the other keeps its place, its flags and its number.
-#[test]
-fn each_is_overwritten_alone() {
+fn each_is_overwritten_alone<K: Tried>() {
     for (place, message) in [
         (0, "02 02 00 10 08 07 08 01 CA 00 0B 7E 01 23 45 FF 00 41 00 00"),
         (1, "02 02 00 10 08 07 08 01 CA 00 0B 7C 01 23 45 FF 00 41 00 00"),
     ] {
-        let both = after(&[EXTENSION, TELEPHONE]);
-        let mut named = after(&[EXTENSION, TELEPHONE, message]);
-        let slots = |pair: &Pair, place| pair.bytes[12_862 + 52 * place..][..52].to_vec();
+        let both = after::<K>(&[EXTENSION, TELEPHONE]);
+        let mut named = after::<K>(&[EXTENSION, TELEPHONE, message]);
+        let slots = |pair: &Pair<K>, place| {
+            pair.bytes[K::LIMITS.lines_at() + 2 + 52 * place..][..52].to_vec()
+        };
         assert_eq!(slots(&named, 1 - place), slots(&both, 1 - place));
         assert_eq!((kept(&named, place), slots(&named, place)[0]), (kept(&both, place), 15));
         let mut scratch = [0; SCRATCH_ROOM];
-        let store = Store::lent(&mut named.bytes);
+        let store = named.store();
         let mut text = |row: usize| {
             let row = store.row(Table::Lines, row as u32, &mut scratch).expect("the row is there");
             (row.slice(), row.bytes().to_vec())
@@ -82,43 +95,42 @@ fn each_is_overwritten_alone() {
     }
 }
 
-/// The 32 places are shared, and a known number of the other IDtype needs one of them.
-#[test]
-fn the_33rd_of_another_idtype_has_no_room() {
+/// The places are shared, and a known number of the other IDtype needs one of them.
+fn one_more_of_another_idtype_has_no_room<K: Tried>() {
+    let (room, most) = (K::MOST_LINES, K::MOST_LINES as u8);
     for pabx in [false, true] {
-        let mut pair = Pair::fresh();
-        assert_eq!(told(&mut pair, &[numbered(pabx, Add, 0..32)]), (0, MOST_LINES));
-        assert_eq!(told(&mut pair, &[numbered(!pabx, Add, 5..6)]), (2, MOST_LINES));
-        assert_eq!(told(&mut pair, &[numbered(pabx, Add, 5..6)]), (0, MOST_LINES));
+        let mut pair = Pair::<K>::fresh();
+        assert_eq!(told(&mut pair, &[numbered(pabx, Add, 0..most)]), (0, room));
+        assert_eq!(told(&mut pair, &[numbered(!pabx, Add, 5..6)]), (2, room));
+        assert_eq!(told(&mut pair, &[numbered(pabx, Add, 5..6)]), (0, room));
         let add = numbered(!pabx, Add, 5..6);
         let wrong = [numbered(!pabx, Delete, 5..6), add.clone()];
-        assert_eq!(told(&mut pair, &wrong), (2, MOST_LINES), "nothing was freed");
+        assert_eq!(told(&mut pair, &wrong), (2, room), "nothing was freed");
         let right = [numbered(pabx, Delete, 5..6), add];
-        assert_eq!(told(&mut pair, &right), (0, MOST_LINES));
-        assert_eq!(kept(&pair, MOST_LINES - 1), [u8::from(!pabx), 1, 6, 0, 0]);
-        let halves = [numbered(pabx, Replace, 0..16), numbered(!pabx, Add, 0..16)];
-        assert_eq!(told(&mut pair, &halves), (0, MOST_LINES));
-        assert_eq!(told(&mut pair, &[numbered(!pabx, Add, 15..17)]), (2, MOST_LINES));
+        assert_eq!(told(&mut pair, &right), (0, room));
+        assert_eq!(kept(&pair, room - 1), [u8::from(!pabx), 1, 1, 6, 0]);
+        let half = most / 2;
+        let halves = [numbered(pabx, Replace, 0..half), numbered(!pabx, Add, 0..half)];
+        assert_eq!(told(&mut pair, &halves), (0, room));
+        assert_eq!(told(&mut pair, &[numbered(!pabx, Add, half - 1..half + 1)]), (2, room));
         pair.compare_exports();
         pair.compare_rows();
     }
 }
 
-#[test]
-fn a_replace_removes_lines_of_both_idtypes() {
+fn a_replace_removes_lines_of_both_idtypes<K: Tried>() {
     for pabx in [false, true] {
-        let mut pair = after(&[EXTENSION, TELEPHONE]);
+        let mut pair = after::<K>(&[EXTENSION, TELEPHONE]);
         assert_eq!(told(&mut pair, &[numbered(pabx, Replace, 0..3)]), (0, 3));
         assert_eq!(told(&mut pair, &[numbered(!pabx, Add, 0..3)]), (0, 6));
         assert_eq!(told(&mut pair, &[numbered(pabx, Replace, 0..0)]), (0, 0));
-        assert!(pair.bytes == Pair::fresh().bytes);
+        assert!(pair.bytes == Pair::<K>::fresh().bytes);
     }
 }
 
 /// A 0 before a number makes it another, and so does the last of 18 digits.
-#[test]
-fn digits_as_they_are_written() {
-    let mut pair = Pair::fresh();
+fn digits_as_they_are_written<K: Tried>() {
+    let mut pair = Pair::<K>::fresh();
     let (longest, mut other) = ([7; 18], [7; 18]);
     other[17] = 8;
     let numbers: [&[u8]; 5] = [&[1], &[0, 1], &[1, 0], &longest, &other];
@@ -134,12 +146,13 @@ fn digits_as_they_are_written() {
 }
 
 /// Whatever the other store held, its first setting empties it of lines of both IDtypes.
-#[test]
-fn both_are_exported_and_taken() {
-    let mut both = after(&[EXTENSION, TELEPHONE]);
-    for mut other in [Pair::fresh(), after(&[TELEPHONE, EXTENSION]), after(&[TELEPHONE])] {
-        let mut buffer = [0; EXPORT_ROOM];
-        let store = Store::lent(&mut both.bytes);
+fn both_are_exported_and_taken<K: Tried>() {
+    let mut both = after::<K>(&[EXTENSION, TELEPHONE]);
+    for mut other in
+        [Pair::<K>::fresh(), after::<K>(&[TELEPHONE, EXTENSION]), after::<K>(&[TELEPHONE])]
+    {
+        let mut buffer = vec![0; K::LONGEST_MESSAGE];
+        let store = both.store();
         let part = store.export(Part::Lines, &mut buffer).expect("a part of a store");
         assert_eq!(part[8..16], bytes("CA 00 04 C0 00 CA 00 09"));
         assert_eq!(other.commit(part), 0);
@@ -148,15 +161,15 @@ fn both_are_exported_and_taken() {
 }
 
 /// A store with both lines; with one IDtype twice it is none.
-#[test]
-fn bytes_of_both_lines() {
-    let both = after(&[EXTENSION, TELEPHONE]).bytes;
+fn bytes_of_both_lines<K: Tried>() {
+    let both = after::<K>(&[EXTENSION, TELEPHONE]).bytes;
     let opened = |changes: &[(usize, u8)]| {
         let mut poked = both.clone();
         changes.iter().for_each(|&(place, byte)| poked[place] = byte);
-        Store::open(&mut poked).map(|store| store.bytes().to_vec())
+        Set::<K>::open(&mut poked).map(|store| store.bytes().to_vec())
     };
-    let (first, second) = (12_863, 12_915);
+    let first = K::LIMITS.lines_at() + 3;
+    let second = first + 52;
     assert_eq!(opened(&[]).as_ref(), Ok(&both));
     assert_eq!(opened(&[(first, 0)]), Err(Refusal::NotAStore));
     assert_eq!(opened(&[(second, 1)]), Err(Refusal::NotAStore));
@@ -164,10 +177,11 @@ fn bytes_of_both_lines() {
     assert_eq!(opened(&[(second, 1), (second - 1, 15)]), Err(Refusal::NotAStore), "other flags");
     assert_eq!(opened(&[(second, 1), (second + 20, 1)]), Err(Refusal::NotAStore), "a text");
     // The order has the telephone before the extension; as it stands, it is the other line's turn.
-    let (one, two) = ((14_526, 1), (14_527, 2));
+    let order = K::LIMITS.order_at();
+    let (one, two) = ((order, 1), (order + 1, 2));
     assert!(opened(&[(second, 1), (second + 4, 7), one, two]).is_ok(), "PABX 2346");
     assert!(opened(&[(second, 1), (second + 5, 1), one, two]).is_ok(), "PABX 23450");
     assert_eq!(opened(&[(second, 1), (second + 4, 7)]), Err(Refusal::NotAStore), "their order");
     let exchanged = opened(&[(first, 0), (second, 1), one, two]);
-    assert_eq!(exchanged, Ok(after(&[TELEPHONE, EXTENSION]).bytes));
+    assert_eq!(exchanged, Ok(after::<K>(&[TELEPHONE, EXTENSION]).bytes));
 }

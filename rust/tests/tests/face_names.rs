@@ -1,11 +1,21 @@
 //! Every outcome and refusal by its name and its number in document 01, each from a call made by hand.
 
-use otap::{join, report, NotJoined, Outcome, Part, Refusal, Store, Table};
-use otap::{
-    EXPORT_ROOM, JOIN_ROOM, MOST_DIGITS, REPLY_ROOM, REPORT_ROOM, SCRATCH_ROOM, STORE_SIZE,
-};
+use otap::{NotJoined, Outcome, Part, Refusal, Set, Table};
+use otap::{MOST_DIGITS, REPLY_ROOM, SCRATCH_ROOM};
+use otap_reference::reference::settings::Operation;
+use otap_tests::for_both_sets;
 use otap_tests::pair::commit_judged;
-use otap_tests::raw;
+use otap_tests::sets::Tried;
+use otap_tests::{channels, request};
+
+for_both_sets!(
+    outcomes_with_a_reply,
+    outcomes_without_a_reply,
+    refusals_of_stores_exports_and_rows,
+    refusals_of_reports,
+    refusals_of_joins,
+    tables_and_parts,
+);
 
 /// Home numbers NZI 15, NP 806.
 const HOME: [u8; 14] = [2, 2, 0, 10, 8, 7, 8, 1, 0xCD, 0, 5, 0x07, 0xE4, 0xC0];
@@ -17,41 +27,36 @@ fn changed(place: usize, byte: u8) -> [u8; 14] {
     message
 }
 
-/// A replace of the scan channels by 65, one more than there is room for.
-fn too_many_channels() -> Vec<u8> {
-    let mut message = vec![2, 2, 0, 0, 8, 7, 8, 1, 0xCE, 0, 102, 0xC0, 65];
-    message.extend([0x0F, 0x10, 0xF1].repeat(32));
-    message.extend([0x0F, 0x1F]);
-    message
+/// A replace of the scan channels by one more than there is room for.
+fn too_many_channels<K: Tried>() -> Vec<u8> {
+    request(&[channels(Operation::Replace, &vec![241; K::MOST_CHANNELS + 1])])
 }
 
-fn outcome(message: &[u8]) -> (Outcome, u8) {
-    let mut bytes = vec![0; STORE_SIZE];
-    let mut store = Store::start(&mut bytes).expect("the size is right");
+fn outcome<K: Tried>(message: &[u8]) -> (Outcome, u8) {
+    let mut bytes = vec![0; K::STORE_SIZE];
+    let mut store = Set::<K>::start(&mut bytes).expect("the size is right");
     let mut reply = [0; REPLY_ROOM];
     let answer = commit_judged(&mut store, message, &mut reply);
     assert_eq!(answer.number(), answer.outcome.number());
     (answer.outcome, answer.number())
 }
 
-#[test]
-fn outcomes_with_a_reply() {
-    assert_eq!(outcome(&HOME), (Outcome::Taken, 0));
-    assert_eq!(outcome(&changed(6, 0x10)), (Outcome::WrongVersion, 1));
-    assert_eq!(outcome(&too_many_channels()), (Outcome::NoRoom, 2));
-    assert_eq!(outcome(&changed(8, 0xD4)), (Outcome::UnknownType, 3));
-    assert_eq!(outcome(&changed(13, 0xE0)), (Outcome::BadField, 4));
-    assert_eq!(outcome(&[2, 2, 0, 0, 8, 0, 0x0D, 0]), (Outcome::NoMatch, 5));
+fn outcomes_with_a_reply<K: Tried>() {
+    assert_eq!(outcome::<K>(&HOME), (Outcome::Taken, 0));
+    assert_eq!(outcome::<K>(&changed(6, 0x10)), (Outcome::WrongVersion, 1));
+    assert_eq!(outcome::<K>(&too_many_channels::<K>()), (Outcome::NoRoom, 2));
+    assert_eq!(outcome::<K>(&changed(8, 0xD4)), (Outcome::UnknownType, 3));
+    assert_eq!(outcome::<K>(&changed(13, 0xE0)), (Outcome::BadField, 4));
+    assert_eq!(outcome::<K>(&[2, 2, 0, 0, 8, 0, 0x0D, 0]), (Outcome::NoMatch, 5));
 }
 
-#[test]
-fn outcomes_without_a_reply() {
+fn outcomes_without_a_reply<K: Tried>() {
     let refused = |refusal, number| (Outcome::Refused(refusal), number);
-    assert_eq!(outcome(&HOME[..6]), refused(Refusal::MessageLength, 12));
-    assert_eq!(outcome(&changed(4, 9)), refused(Refusal::WrongCarrier, 13));
-    assert_eq!(outcome(&changed(6, 9)), refused(Refusal::WrongMessageType, 14));
-    let mut bytes = vec![0; STORE_SIZE];
-    let mut store = Store::lent(&mut bytes);
+    assert_eq!(outcome::<K>(&HOME[..6]), refused(Refusal::MessageLength, 12));
+    assert_eq!(outcome::<K>(&changed(4, 9)), refused(Refusal::WrongCarrier, 13));
+    assert_eq!(outcome::<K>(&changed(6, 9)), refused(Refusal::WrongMessageType, 14));
+    let mut bytes = vec![0; K::STORE_SIZE];
+    let mut store = Set::<K>::lent(&mut bytes);
     let short = commit_judged(&mut store, &HOME, &mut [0; REPLY_ROOM - 1]).outcome;
     assert_eq!((short, short.number()), refused(Refusal::ReplyShort, 10));
     let zeros = commit_judged(&mut store, &HOME, &mut [0; REPLY_ROOM]).outcome;
@@ -63,21 +68,20 @@ fn refused<T>(answer: Result<T, Refusal>) -> (Refusal, u8) {
     (refusal, refusal.number())
 }
 
-#[test]
-fn refusals_of_stores_exports_and_rows() {
-    assert_eq!(refused(Store::start(&mut [0; 3])), (Refusal::NotAStore, 11));
-    assert_eq!(refused(Store::open(&mut [0; STORE_SIZE])), (Refusal::NotAStore, 11));
-    assert_eq!(refused(Store::lent(&mut [0; 3]).counts()), (Refusal::NotAStore, 11));
-    assert_eq!(refused(Store::lent(&mut [0; 3]).line_of(0, &[])), (Refusal::NotAStore, 11));
-    assert_eq!(refused(Store::lent(&mut [0; 3]).emergency_key()), (Refusal::NotAStore, 11));
-    let mut bytes = vec![0; STORE_SIZE];
-    let store = Store::start(&mut bytes).expect("the size is right");
-    let (mut buffer, mut scratch) = ([0; EXPORT_ROOM], [0; SCRATCH_ROOM]);
+fn refusals_of_stores_exports_and_rows<K: Tried>() {
+    assert_eq!(refused(Set::<K>::start(&mut [0; 3])), (Refusal::NotAStore, 11));
+    assert_eq!(refused(Set::<K>::open(&mut vec![0; K::STORE_SIZE])), (Refusal::NotAStore, 11));
+    assert_eq!(refused(Set::<K>::lent(&mut [0; 3]).counts()), (Refusal::NotAStore, 11));
+    assert_eq!(refused(Set::<K>::lent(&mut [0; 3]).line_of(0, &[])), (Refusal::NotAStore, 11));
+    assert_eq!(refused(Set::<K>::lent(&mut [0; 3]).emergency_key()), (Refusal::NotAStore, 11));
+    let mut bytes = vec![0; K::STORE_SIZE];
+    let store = Set::<K>::start(&mut bytes).expect("the size is right");
+    let (mut buffer, mut scratch) = (vec![0; K::LONGEST_MESSAGE], [0; SCRATCH_ROOM]);
     let no_part = Part::ALL.len() as u32 + 1;
     let (short_buffer, short_scratch) = (&mut buffer[1..], &mut scratch[1..]);
     assert_eq!(refused(store.export(Part::Lines, short_buffer)), (Refusal::BufferShort, 15));
     assert_eq!(refused(store.row(Table::Lines, 0, short_scratch)), (Refusal::BufferShort, 15));
-    assert_eq!(raw::export(no_part, store.bytes(), &mut buffer), 16);
+    assert_eq!(K::otap_export(no_part, store.bytes(), &mut buffer), 16);
     assert_eq!(Refusal::NoSuchPart.number(), 16);
     assert_eq!(refused(store.row(Table::Lines, 0, &mut scratch)), (Refusal::NoSuchRow, 17));
     assert_eq!(refused(store.check_row(Table::Lines, 0, &scratch)), (Refusal::NoSuchRow, 17));
@@ -96,11 +100,10 @@ fn refusals_of_stores_exports_and_rows() {
 /// A query for the scan channels, of which a fresh store has none.
 const CHANNELS: [u8; 9] = [2, 2, 0, 5, 8, 7, 0x0A, 1, 0xCE];
 
-#[test]
-fn refusals_of_reports() {
-    let mut bytes = vec![0; STORE_SIZE];
-    let store = Store::start(&mut bytes).expect("the size is right");
-    let mut buffer = [0; REPORT_ROOM];
+fn refusals_of_reports<K: Tried>() {
+    let mut bytes = vec![0; K::STORE_SIZE];
+    let store = Set::<K>::start(&mut bytes).expect("the size is right");
+    let mut buffer = vec![0; K::LONGEST_MESSAGE];
     let mut changed = |place: usize, byte, index| {
         let mut query = CHANNELS;
         query[place] = byte;
@@ -114,9 +117,9 @@ fn refusals_of_reports() {
     assert_eq!(refused(store.report(&[], 1, &mut buffer)), (Refusal::MessageLength, 12));
     let short = store.report(&CHANNELS, 1, &mut buffer[1..]);
     assert_eq!(refused(short), (Refusal::BufferShort, 15));
-    let nowhere = Store::lent(&mut [0; 3]).report(&CHANNELS, 1, &mut buffer);
+    let nowhere = Set::<K>::lent(&mut [0; 3]).report(&CHANNELS, 1, &mut buffer);
     assert_eq!(refused(nowhere), (Refusal::NotAStore, 11));
-    assert_eq!(refused(report::read(&CHANNELS)), (Refusal::WrongMessageType, 14));
+    assert_eq!(refused(K::read(&CHANNELS)), (Refusal::WrongMessageType, 14));
     let says = [Refusal::NoSuchMessage, Refusal::BadField, Refusal::WrongVersion];
     let said = [
         "16: the report has no such message",
@@ -126,11 +129,10 @@ fn refusals_of_reports() {
     assert_eq!(says.map(|refusal| refusal.to_string()), said);
 }
 
-#[test]
-fn refusals_of_joins() {
-    let mut buffer = [0; JOIN_ROOM];
+fn refusals_of_joins<K: Tried>() {
+    let mut buffer = vec![0; K::LONGEST_MESSAGE];
     let mut joined = |first: &[u8], second: &[u8]| {
-        let refused = join(first, second, &mut buffer).expect_err("the call is refused");
+        let refused = K::join(first, second, &mut buffer).expect_err("the call is refused");
         (refused.refusal, refused.refusal.number())
     };
     assert_eq!(joined(&HOME[..6], &HOME), (Refusal::MessageLength, 12));
@@ -139,7 +141,7 @@ fn refusals_of_joins() {
     assert_eq!(joined(&HOME, &changed(6, 0x10)), (Refusal::WrongVersion, 1));
     assert_eq!(joined(&HOME, &changed(8, 0xD4)), (Refusal::UnknownType, 3));
     assert_eq!(joined(&HOME, &changed(13, 0xE0)), (Refusal::BadField, 4));
-    let short = join(&HOME, &HOME, &mut buffer[1..]).map_err(|no| no.refusal);
+    let short = K::join(&HOME, &HOME, &mut buffer[1..]).map_err(|no| no.refusal);
     assert_eq!(refused(short), (Refusal::BufferShort, 15));
     let said = |failed_id, second| {
         NotJoined { refusal: Refusal::UnknownType, failed_id, second }.to_string()
@@ -165,10 +167,9 @@ fn refusals_of_conversions() {
 }
 
 /// The tables and parts by their names: each text and each setting's type where its name says.
-#[test]
-fn tables_and_parts() {
-    let mut bytes = vec![0; STORE_SIZE];
-    let mut store = Store::start(&mut bytes).expect("the size is right");
+fn tables_and_parts<K: Tried>() {
+    let mut bytes = vec![0; K::STORE_SIZE];
+    let mut store = Set::<K>::start(&mut bytes).expect("the size is right");
     let settings: [&[u8]; 8] = [
         &[0xCA, 0, 10, 0x40, 1, 0x12, 0x3F, 0, b'L', 0, 0],
         &[0xCC, 0, 8, 0x41, 0, 0, b'Q', 0, 0],
@@ -201,7 +202,7 @@ fn tables_and_parts() {
     let kinds = [0xCA, 0xCB, 0xCC, 0xCE, 0xD0, 0xD1, 0xD2, 0xC8, 0xC9, 0xD3];
     assert_eq!(kinds.len(), Part::ALL.len());
     for (part, kind) in Part::ALL.iter().zip(kinds) {
-        let mut buffer = [0; EXPORT_ROOM];
+        let mut buffer = vec![0; K::LONGEST_MESSAGE];
         assert_eq!(store.export(*part, &mut buffer).expect("a part")[8], kind);
     }
 }

@@ -1,6 +1,5 @@
 //! The office's reader of reports: by hand, cut anywhere, damaged in every way, and at every place, by the archive and by the reference.
 
-use otap::report;
 use otap::Refusal;
 use otap_reference::inputs::maker::parameters::ASKED;
 use otap_reference::inputs::random::Random;
@@ -13,10 +12,23 @@ use otap_reference::reference::reports::items::Item;
 use otap_reference::reference::settings::{
     EmergencyKey, GroupFlags, HomeNumbers, IndividualFlags, Line, LineFlags, SystemCode, TextEntry,
 };
-use otap_reference::reference::tables::Tables;
+use otap_reference::reference::tables::Set;
+use otap_tests::for_both_sets;
 use otap_tests::reports::{items, look_by_both, read_by_both, EACH};
+use otap_tests::sets::Tried;
 use otap_tests::{bytes, raw, units};
 use std::collections::BTreeMap;
+
+for_both_sets!(
+    by_hand,
+    every_cut,
+    refusals_in_order,
+    every_byte,
+    places_behind_65535,
+    every_damage,
+    good_reports,
+    reports_of_many_stores,
+);
 
 /// A parameter of each type, and behind them the error of D1.
 fn parameters() -> Vec<Vec<u8>> {
@@ -54,15 +66,14 @@ fn said() -> Vec<Item> {
     ]
 }
 
-#[test]
-fn by_hand() {
+fn by_hand<K: Tried>() {
     let message = message();
-    let read = report::read(&message).expect("a report");
+    let read = K::read(&message).expect("a report");
     assert_eq!((read.total, read.index, read.count), (1, 1, 11));
     assert_eq!(read.entries().count(), 11);
-    assert_eq!(items(&message), said());
-    assert_eq!(raw::read_report(&message), 11 << 24 | 1 << 16 | 1 << 8);
-    assert_eq!(read_by_both(&message), 0);
+    assert_eq!(items::<K>(&message), said());
+    assert_eq!(K::otap_read_report(&message), 11 << 24 | 1 << 16 | 1 << 8);
+    assert_eq!(read_by_both::<K>(&message), 0);
 }
 
 /// What each parameter is, in the bits of docs/REPORTS.md.
@@ -114,23 +125,22 @@ fn bits_by_hand() {
 }
 
 /// The report cut anywhere, its length as it was, stated anew or not stated; and with a count that is true again where a parameter ends.
-#[test]
-fn every_cut() {
+fn every_cut<K: Tried>() {
     let whole = message();
     let mut good = 0;
     for cut in 0..whole.len() {
         let mut message = whole[..cut].to_vec();
-        assert_eq!(read_by_both(&message), if cut < 7 { 12 } else { 13 }, "{cut}");
+        assert_eq!(read_by_both::<K>(&message), if cut < 7 { 12 } else { 13 }, "{cut}");
         for stated in [cut.saturating_sub(4), 0] {
             if cut < 7 {
                 continue;
             }
             message[3] = stated as u8;
-            assert_eq!(read_by_both(&message), 4, "{cut} {stated}");
+            assert_eq!(read_by_both::<K>(&message), 4, "{cut} {stated}");
             for sum in 0..=12 {
                 let Some(place) = message.get_mut(9) else { continue };
                 *place = sum;
-                good += usize::from(read_by_both(&message) == 0);
+                good += usize::from(read_by_both::<K>(&message) == 0);
             }
         }
         for at in 0..=cut as u32 {
@@ -141,8 +151,7 @@ fn every_cut() {
     assert_eq!(good, 22);
 }
 
-#[test]
-fn refusals_in_order() {
+fn refusals_in_order<K: Tried>() {
     let steps = [
         ("03 02 00 00 08 07", 12, Refusal::MessageLength),
         ("03 02 00 00 08 07 12 01 02 01", 13, Refusal::WrongCarrier),
@@ -154,22 +163,24 @@ fn refusals_in_order() {
     ];
     for (hex, number, refusal) in steps {
         let message = bytes(hex);
-        assert_eq!((read_by_both(&message), raw::read_report(&message)), (number, number.into()));
-        assert_eq!(report::read(&message), Err(refusal), "{hex}");
+        assert_eq!(
+            (read_by_both::<K>(&message), K::otap_read_report(&message)),
+            (number, number.into())
+        );
+        assert_eq!(K::read(&message), Err(refusal), "{hex}");
     }
-    assert_eq!(read_by_both(&bytes("02 02 00 00 08 07 0B 01 01 00")), 0);
+    assert_eq!(read_by_both::<K>(&bytes("02 02 00 00 08 07 0B 01 01 00")), 0);
 }
 
 /// Each byte of the message changed to each other: what is still a report, and what each parameter is then, by both.
-#[test]
-fn every_byte() {
+fn every_byte<K: Tried>() {
     let whole = message();
     let mut met: BTreeMap<u8, usize> = BTreeMap::new();
     for place in 0..whole.len() {
         let mut message = whole.clone();
         for byte in 0..=255 {
             message[place] = byte;
-            *met.entry(read_by_both(&message)).or_default() += 1;
+            *met.entry(read_by_both::<K>(&message)).or_default() += 1;
             look_by_both(&message, place as u32);
         }
     }
@@ -179,8 +190,7 @@ fn every_byte() {
 }
 
 /// An error, two bytes, where the byte behind it fits in 16 bits and where it does not; a place is no other in its low bits.
-#[test]
-fn places_behind_65535() {
+fn places_behind_65535<K: Tried>() {
     let mut message = vec![0; 70_000];
     for (at, fits) in [(10, true), (65_533, true), (65_534, false), (69_998, false)] {
         message[at..at + 2].copy_from_slice(&[0xD1, 0x83]);
@@ -192,27 +202,25 @@ fn places_behind_65535() {
         assert!(!look_by_both(&message, at + 1) && !look_by_both(&message, at | 0x8000_0000));
     }
     assert!(!look_by_both(&message, 0x1_000A));
-    assert_eq!(read_by_both(&message), 12);
+    assert_eq!(read_by_both::<K>(&message), 12);
 }
 
-#[test]
-fn every_damage() {
+fn every_damage<K: Tried>() {
     for damage in Damage::ALL {
         for seed in 0..300 {
-            let message = damaged(&mut Random::new(seed), &Tables::default(), damage);
-            assert_eq!(read_by_both(&message), damage.number(), "{damage:?}: {message:02X?}");
+            let message = damaged(&mut Random::new(seed), &Set::fresh(K::LIMITS), damage);
+            assert_eq!(read_by_both::<K>(&message), damage.number(), "{damage:?}: {message:02X?}");
         }
     }
 }
 
 /// Reports that no set need write: any indexes, any order, any reserved bits; all types among them.
-#[test]
-fn good_reports() {
+fn good_reports<K: Tried>() {
     let mut met: BTreeMap<u8, usize> = BTreeMap::new();
     for seed in 0..400 {
-        let message = good(&mut Random::new(seed), &Tables::default());
-        assert_eq!(read_by_both(&message), 0, "{message:02X?}");
-        for item in items(&message) {
+        let message = good(&mut Random::new(seed), &Set::fresh(K::LIMITS));
+        assert_eq!(read_by_both::<K>(&message), 0, "{message:02X?}");
+        for item in items::<K>(&message) {
             let asked = if item.is_error() { 0 } else { item.asked() };
             *met.entry(asked).or_default() += 1;
         }
@@ -221,16 +229,15 @@ fn good_reports() {
     assert!([&[0], &ASKED[..]].concat().iter().all(|asked| met[asked] > 50));
 }
 
-#[test]
-fn reports_of_many_stores() {
+fn reports_of_many_stores<K: Tried>() {
     let mut met: BTreeMap<u8, usize> = BTreeMap::new();
     let (mut found, mut nothing) = (0, 0);
     for seed in 8_100..8_160 {
-        let mut inputs = Inputs::new(seed);
+        let mut inputs = Inputs::new(seed, K::LIMITS);
         for _ in 0..40 {
             inputs.message();
             let ReportInput { message, number } = inputs.report();
-            let answered = read_by_both(&message);
+            let answered = read_by_both::<K>(&message);
             assert_eq!(answered, number.unwrap_or(answered), "{message:02X?}");
             *met.entry(answered).or_default() += 1;
             for _ in 0..10 {

@@ -1,15 +1,18 @@
 //! Rows of the screen: number, which slice, bytes, and the scratch around them.
 
-use otap::{Refusal, Slice, Store, Table, SCRATCH_ROOM};
+use otap::{Refusal, Slice, Table, SCRATCH_ROOM};
 use otap_reference::inputs::Inputs;
+use otap_tests::for_both_sets;
 use otap_tests::pair::Pair;
+use otap_tests::sets::Tried;
 
-#[test]
-fn every_row_of_many_stores() {
+for_both_sets!(every_row_of_many_stores, rows_far_outside, numbers_of_rows_without_a_text,);
+
+fn every_row_of_many_stores<K: Tried>() {
     let mut shown = 0;
     for seed in 3_000..3_040 {
-        let mut inputs = Inputs::new(seed);
-        let mut pair = Pair::fresh();
+        let mut inputs = Inputs::new(seed, K::LIMITS);
+        let mut pair = Pair::<K>::fresh();
         for place in 0..60 {
             pair.commit(&inputs.message());
             if place % 6 == 5 {
@@ -20,9 +23,8 @@ fn every_row_of_many_stores() {
     assert!(shown > 10_000, "{shown} rows shown");
 }
 
-#[test]
-fn rows_far_outside() {
-    let mut pair = Pair::fresh();
+fn rows_far_outside<K: Tried>() {
+    let mut pair = Pair::<K>::fresh();
     let tables = Table::ALL.len() as u32;
     for row in [130, 255, 256, 0x1_0000, 0x8000_0000, u32::MAX - 31, u32::MAX] {
         for table in (0..=tables + 1).chain([0x104, 0x1_0004, u32::MAX]) {
@@ -32,9 +34,8 @@ fn rows_far_outside() {
 }
 
 /// A number is written for each kind of row without a text: in its plan, outside it, a line's longest.
-#[test]
-fn numbers_of_rows_without_a_text() {
-    let mut pair = Pair::fresh();
+fn numbers_of_rows_without_a_text<K: Tried>() {
+    let mut pair = Pair::<K>::fresh();
     let message = otap_tests::hex_request(&[
         "CA 00 10 40 01 12 34 56 78 90 12 34 56 78 FF 00 00",
         "D1 00 09 60 00 10 00 01 00 00",
@@ -48,7 +49,7 @@ fn numbers_of_rows_without_a_text() {
     assert_eq!(pair.commit(&message), 0);
     assert_eq!(pair.compare_rows(), 10);
     let mut scratch = [0; SCRATCH_ROOM];
-    let store = Store::lent(&mut pair.bytes);
+    let store = pair.store();
     let mut text = |table, row| {
         let row = store.row(table, row, &mut scratch).expect("the row is there");
         (row.slice(), String::from_utf16(&row.units().collect::<Vec<_>>()).expect("digits"))

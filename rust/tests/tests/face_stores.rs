@@ -1,52 +1,66 @@
 //! Which bytes are a store: those that messages make, those that docs/STORE.md allows, and no others.
 
-use otap::{Outcome, Part, Store, Table};
-use otap::{EXPORT_ROOM, MOST_DIGITS, REPLY_ROOM, REPORT_ROOM, SCRATCH_ROOM, STORE_SIZE};
+use otap::{Outcome, Part, Set, Table};
+use otap::{MOST_DIGITS, REPLY_ROOM, SCRATCH_ROOM};
 use otap_reference::inputs::pokes::{poke_count, poke_line_slot, poke_list, poke_order};
 use otap_reference::inputs::random::Random;
 use otap_reference::inputs::Inputs;
 use otap_reference::layout;
+use otap_reference::reference::limits::HANDHELD;
 use otap_reference::reference::message::{query, request, Hash};
 use otap_reference::reference::queries;
 use otap_reference::reference::settings::{LastItem, Setting};
+use otap_tests::for_both_sets;
 use otap_tests::pair::{commit_judged, number_of, patterned, Pair};
+use otap_tests::sets::Tried;
+
+for_both_sets!(
+    what_messages_make_is_a_store_and_made_again,
+    damaged_bytes_are_refused_or_are_a_store,
+    damaged_slots_are_refused_or_are_a_store,
+    poked_counts_are_refused,
+    poked_orders_are_refused,
+    poked_line_slots_are_refused_or_are_a_store,
+    every_byte_of_a_fresh_store,
+    bytes_of_no_store,
+);
 
 /// The numbers of every kind of call on these bytes, which must agree on whether they are a store.
-fn is_store(bytes: &mut [u8]) -> bool {
+fn is_store<K: Tried>(bytes: &mut [u8]) -> bool {
     let before = bytes.to_vec();
-    let mut store = Store::lent(bytes);
-    let asked = query(&Hash::Nothing);
+    let mut store = Set::<K>::lent(bytes);
+    let (asked, no_line) = (query(&Hash::Nothing), K::MOST_LINES as u32);
     let taken = commit_judged(&mut store, &asked, &mut [0; REPLY_ROOM]).number();
-    let export = |part: &Part| number_of(&store.export(*part, &mut [0; EXPORT_ROOM]));
+    let export = |part: &Part| number_of(&store.export(*part, &mut vec![0; K::LONGEST_MESSAGE]));
     let exports: Vec<u8> = Part::ALL.iter().map(export).collect();
-    let shown = number_of(&store.row(Table::Lines, 40, &mut [0; SCRATCH_ROOM]));
-    let checked = number_of(&store.check_row(Table::Lines, 40, &[0; SCRATCH_ROOM]));
+    let shown = number_of(&store.row(Table::Lines, no_line, &mut [0; SCRATCH_ROOM]));
+    let checked = number_of(&store.check_row(Table::Lines, no_line, &[0; SCRATCH_ROOM]));
     let counted = number_of(&store.counts());
     let called = number_of(&store.line_of(otap::PABX, &[1]));
     let types = queries::query(&[0xCD]);
-    let reported = number_of(&store.report(&types, 1, &mut [0; REPORT_ROOM]));
+    let reported = number_of(&store.report(&types, 1, &mut vec![0; K::LONGEST_MESSAGE]));
     let behind = [
-        number_of(&store.entry(Table::Lines, 40)),
-        number_of(&store.entry_digits(Table::Lines, 40, &mut [0; MOST_DIGITS])),
-        number_of(&store.channel(64)),
+        number_of(&store.entry(Table::Lines, no_line)),
+        number_of(&store.entry_digits(Table::Lines, no_line, &mut [0; MOST_DIGITS])),
+        number_of(&store.channel(K::MOST_CHANNELS as u32)),
     ];
     let fixed = [
         number_of(&store.emergency_key()),
         number_of(&store.home_numbers()),
         number_of(&store.system_code()),
     ];
-    let opened = number_of(&Store::open(bytes));
+    let opened = number_of(&Set::<K>::open(bytes));
     let (done, number) = if taken == 11 { (11, 11) } else { (0, 17) };
     assert_eq!((exports, shown, checked), (vec![done; Part::ALL.len()], number, number));
     assert_eq!([counted, called, reported, opened], [done; 4]);
     assert_eq!((behind, fixed), ([number; 3], [done; 3]));
     assert!(*bytes == before, "none of these calls changes the bytes");
-    assert_eq!(taken, if layout::is_store(bytes) { 5 } else { 11 });
+    assert_eq!(taken, if layout::is_store(bytes, K::LIMITS) { 5 } else { 11 });
     taken == 5
 }
 
 /// The hash kept, as the reply to a query without one carries it.
-fn kept_hash(store: &Store) -> Hash {
+fn kept_hash<K: Tried>(store: &Set<K>) -> Hash {
     let mut buffer = [0; REPLY_ROOM];
     let answer = store.judge(&query(&Hash::Nothing), &mut buffer);
     let value = &answer.reply[10..];
@@ -58,12 +72,12 @@ fn kept_hash(store: &Store) -> Hash {
 }
 
 /// The only bytes with the same contents: a fresh store to which the exported parts and the same hash are committed.
-fn made_again(bytes: &mut [u8]) -> Vec<u8> {
-    let store = Store::lent(bytes);
-    let mut again = patterned(STORE_SIZE);
-    let mut other = Store::start(&mut again).expect("the size is right");
+fn made_again<K: Tried>(bytes: &mut [u8]) -> Vec<u8> {
+    let store = Set::<K>::lent(bytes);
+    let mut again = patterned(K::STORE_SIZE);
+    let mut other = Set::<K>::start(&mut again).expect("the size is right");
     for &part in Part::ALL {
-        let mut buffer = [0; EXPORT_ROOM];
+        let mut buffer = vec![0; K::LONGEST_MESSAGE];
         let message = store.export(part, &mut buffer).expect("a part of a store");
         let outcome = commit_judged(&mut other, message, &mut [0; REPLY_ROOM]).outcome;
         assert_eq!(outcome, Outcome::Taken);
@@ -75,42 +89,40 @@ fn made_again(bytes: &mut [u8]) -> Vec<u8> {
     again
 }
 
-fn grown(seed: u64, messages: usize) -> Pair {
-    let mut inputs = Inputs::new(seed);
-    let mut pair = Pair::fresh();
+fn grown<K: Tried>(seed: u64, messages: usize) -> Pair<K> {
+    let mut inputs = Inputs::new(seed, K::LIMITS);
+    let mut pair = Pair::<K>::fresh();
     for _ in 0..messages {
         pair.commit(&inputs.message());
     }
     pair
 }
 
-#[test]
-fn what_messages_make_is_a_store_and_made_again() {
+fn what_messages_make_is_a_store_and_made_again<K: Tried>() {
     for seed in 5_000..5_100 {
-        let mut pair = grown(seed, 30);
-        assert!(is_store(&mut pair.bytes));
-        assert!(made_again(&mut pair.bytes) == pair.bytes, "seed {seed}");
+        let mut pair = grown::<K>(seed, 30);
+        assert!(is_store::<K>(&mut pair.bytes));
+        assert!(made_again::<K>(&mut pair.bytes) == pair.bytes, "seed {seed}");
     }
 }
 
 /// A damaged store is refused by every call, or it is exactly the bytes of the contents that it shows.
-#[test]
-fn damaged_bytes_are_refused_or_are_a_store() {
+fn damaged_bytes_are_refused_or_are_a_store<K: Tried>() {
     let mut random = Random::new(5);
     let (mut stores, mut refused) = (0, 0);
     for seed in 5_200..5_230 {
-        let pair = grown(seed, 40);
+        let pair = grown::<K>(seed, 40);
         for _ in 0..1_000 {
             let mut bytes = pair.bytes.clone();
-            let place = random.below(STORE_SIZE);
+            let place = random.below(K::STORE_SIZE);
             bytes[place] = match random.below(4) {
                 0 => bytes[place] ^ 1 << random.below(8),
                 1 => random.pick(&[0, 1, 2, 0xFF]),
                 2 => bytes[place].wrapping_add(1),
                 _ => random.bits(8) as u8,
             };
-            if is_store(&mut bytes) {
-                assert!(made_again(&mut bytes) == bytes, "seed {seed} byte {place}");
+            if is_store::<K>(&mut bytes) {
+                assert!(made_again::<K>(&mut bytes) == bytes, "seed {seed} byte {place}");
                 stores += 1;
             } else {
                 refused += 1;
@@ -122,28 +134,29 @@ fn damaged_bytes_are_refused_or_are_a_store() {
 }
 
 /// First slot, slots and size of each region that has slots; those of contacts, channels and lines stand behind their count.
-const SLOTS: [(usize, usize, usize); 9] = [
-    (22, 64, 46),
-    (2_966, 96, 33),
-    (6_134, 16, 36),
-    (6_710, 16, 36),
-    (7_286, 16, 52),
-    (8_120, 64, 36),
-    (10_426, 64, 36),
-    (12_732, 64, 2),
-    (12_862, 32, 52),
-];
+fn slots<K: Tried>() -> [(usize, usize, usize); 9] {
+    [
+        (22, 64, 46),
+        (2_966, 96, 33),
+        (6_134, 16, 36),
+        (6_710, 16, 36),
+        (7_286, 16, 52),
+        (8_120, 64, 36),
+        (10_426, 64, 36),
+        (12_732, K::MOST_CHANNELS, 2),
+        (12_734 + 2 * K::MOST_CHANNELS, K::MOST_LINES, 52),
+    ]
+}
 
 /// Slots copied over others, emptied or exchanged: gaps, equal keys, and entries of another order.
-#[test]
-fn damaged_slots_are_refused_or_are_a_store() {
+fn damaged_slots_are_refused_or_are_a_store<K: Tried>() {
     let mut random = Random::new(6);
     let (mut stores, mut refused) = (0, 0);
     for seed in 5_300..5_330 {
-        let pair = grown(seed, 40);
+        let pair = grown::<K>(seed, 40);
         for _ in 0..300 {
             let mut bytes = pair.bytes.clone();
-            let (first, slots, size) = random.pick(&SLOTS);
+            let (first, slots, size) = random.pick(&slots::<K>());
             let from = first + random.below(slots) * size;
             let to = first + random.below(slots) * size;
             match random.below(3) {
@@ -151,8 +164,11 @@ fn damaged_slots_are_refused_or_are_a_store() {
                 1 => bytes[to..to + size].fill(0),
                 _ => (0..size).for_each(|place| bytes.swap(from + place, to + place)),
             }
-            if is_store(&mut bytes) {
-                assert!(made_again(&mut bytes) == bytes, "seed {seed} slots at {from} and {to}");
+            if is_store::<K>(&mut bytes) {
+                assert!(
+                    made_again::<K>(&mut bytes) == bytes,
+                    "seed {seed} slots at {from} and {to}"
+                );
                 stores += 1;
             } else {
                 refused += 1;
@@ -164,21 +180,24 @@ fn damaged_slots_are_refused_or_are_a_store() {
 }
 
 /// A false count is refused by every call, of whatever list; the list may change only together with its count.
-#[test]
-fn poked_counts_are_refused() {
+fn poked_counts_are_refused<K: Tried>() {
     let mut random = Random::new(7);
     let (mut stores, mut refused) = (0, 0);
     for seed in 5_400..5_430 {
-        let pair = grown(seed, 40);
+        let pair = grown::<K>(seed, 40);
         for turn in 0..300 {
             let mut bytes = pair.bytes.clone();
             if turn % 2 == 0 {
-                poke_count(&mut random, &mut bytes);
-                assert_eq!(is_store(&mut bytes), bytes == pair.bytes, "seed {seed} turn {turn}");
+                poke_count(&mut random, K::LIMITS, &mut bytes);
+                assert_eq!(
+                    is_store::<K>(&mut bytes),
+                    bytes == pair.bytes,
+                    "seed {seed} turn {turn}"
+                );
             } else {
-                poke_list(&mut random, &mut bytes);
-                if is_store(&mut bytes) {
-                    assert!(made_again(&mut bytes) == bytes, "seed {seed} turn {turn}");
+                poke_list(&mut random, K::LIMITS, &mut bytes);
+                if is_store::<K>(&mut bytes) {
+                    assert!(made_again::<K>(&mut bytes) == bytes, "seed {seed} turn {turn}");
                     stores += 1;
                 } else {
                     refused += 1;
@@ -191,16 +210,15 @@ fn poked_counts_are_refused() {
 }
 
 /// The lines have one order, and with another every call refuses the bytes.
-#[test]
-fn poked_orders_are_refused() {
+fn poked_orders_are_refused<K: Tried>() {
     let mut random = Random::new(9);
     let (mut stores, mut refused) = (0, 0);
     for seed in 5_600..5_630 {
-        let pair = grown(seed, 40);
+        let pair = grown::<K>(seed, 40);
         for turn in 0..300 {
             let mut bytes = pair.bytes.clone();
-            poke_order(&mut random, &mut bytes);
-            let is_store = is_store(&mut bytes);
+            poke_order(&mut random, K::LIMITS, &mut bytes);
+            let is_store = is_store::<K>(&mut bytes);
             assert_eq!(is_store, bytes == pair.bytes, "seed {seed} turn {turn}");
             *if is_store { &mut stores } else { &mut refused } += 1;
         }
@@ -210,17 +228,16 @@ fn poked_orders_are_refused() {
 }
 
 /// Line slots copied from others or from a line contact, emptied, or changed in a byte.
-#[test]
-fn poked_line_slots_are_refused_or_are_a_store() {
+fn poked_line_slots_are_refused_or_are_a_store<K: Tried>() {
     let mut random = Random::new(8);
     let (mut stores, mut refused) = (0, 0);
     for seed in 5_500..5_530 {
-        let pair = grown(seed, 40);
+        let pair = grown::<K>(seed, 40);
         for turn in 0..300 {
             let mut bytes = pair.bytes.clone();
-            poke_line_slot(&mut random, &mut bytes);
-            if is_store(&mut bytes) {
-                assert!(made_again(&mut bytes) == bytes, "seed {seed} turn {turn}");
+            poke_line_slot(&mut random, K::LIMITS, &mut bytes);
+            if is_store::<K>(&mut bytes) {
+                assert!(made_again::<K>(&mut bytes) == bytes, "seed {seed} turn {turn}");
                 stores += 1;
             } else {
                 refused += 1;
@@ -231,25 +248,30 @@ fn poked_line_slots_are_refused_or_are_a_store() {
     assert!(stores > 1_000 && refused > 500);
 }
 
+/// Every byte of a store; of a vehicle's 29,122 behind the tables, which are alike, every 31st and the last.
+fn places<K: Tried>() -> impl Iterator<Item = usize> {
+    let (spare, size) = (K::LIMITS.spare_at(), K::STORE_SIZE);
+    let step = if K::LIMITS == HANDHELD { 1 } else { 31 };
+    (0..spare).chain((spare..size).step_by(step)).chain([size - 1])
+}
+
 /// Every byte of a fresh store changed: a store only where made again it is the same.
-#[test]
-fn every_byte_of_a_fresh_store() {
-    let fresh = Pair::fresh().bytes;
-    for place in 0..STORE_SIZE {
+fn every_byte_of_a_fresh_store<K: Tried>() {
+    let fresh = Pair::<K>::fresh().bytes;
+    for place in places::<K>() {
         for value in [1, 0x10, 0xFF] {
             let mut bytes = fresh.clone();
             bytes[place] ^= value;
-            if is_store(&mut bytes) {
-                assert!(made_again(&mut bytes) == bytes, "byte {place}");
+            if is_store::<K>(&mut bytes) {
+                assert!(made_again::<K>(&mut bytes) == bytes, "byte {place}");
             }
         }
     }
 }
 
-#[test]
-fn bytes_of_no_store() {
+fn bytes_of_no_store<K: Tried>() {
     for fill in [0, 1, 0x10, 0x7F, 0xFF] {
-        assert!(!is_store(&mut vec![fill; STORE_SIZE]));
+        assert!(!is_store::<K>(&mut vec![fill; K::STORE_SIZE]));
     }
-    assert!(!is_store(&mut patterned(STORE_SIZE)));
+    assert!(!is_store::<K>(&mut patterned(K::STORE_SIZE)));
 }

@@ -3,16 +3,30 @@
 use otap_reference::inputs::random::Random;
 use otap_reference::inputs::Inputs;
 use otap_reference::reference::commit::{commit, judge, judge_and_commit, REPLY_ROOM};
-use otap_reference::reference::export::{export, part_bytes, Exported, EXPORT_ROOM, PARTS};
-use otap_reference::reference::message::{request_as, LONGEST};
+use otap_reference::reference::export::{export, part_bytes, Exported, PARTS};
+use otap_reference::reference::message::request_as;
 use otap_reference::reference::numbers::*;
 use otap_reference::reference::plan::*;
 use otap_reference::reference::screen::{row_number, row_part, Row, Shown, SCRATCH_ROOM};
 use otap_reference::reference::settings::{parse, Operation, Setting};
 use otap_reference::reference::tables::Set;
 use otap_reference::reference::texts::Coding;
+use otap_tests::for_both_sets;
+use otap_tests::sets::Tried;
 use otap_tests::{number_in, request, taken, units};
 use std::collections::HashSet;
+
+for_both_sets!(
+    the_ten_exports_give_the_same_tables,
+    a_full_set_is_exported_whole,
+    exports_of_a_fresh_set,
+    export_refusals_touch_nothing,
+    writing_and_reading_agree,
+    bytes_of_texts_are_read_one_way,
+    both_coding_types_leave_the_same_set,
+    only_a_taken_request_changes_the_set,
+    any_reply_buffer,
+);
 
 #[test]
 fn every_address_and_back() {
@@ -72,10 +86,10 @@ fn every_channel_and_back() {
 }
 
 /// Reaches a state from random messages, and hands it on after each.
-fn for_each_state(seeds: u64, messages: usize, mut check: impl FnMut(&Set)) {
+fn for_each_state<K: Tried>(seeds: u64, messages: usize, mut check: impl FnMut(&Set)) {
     for seed in 0..seeds {
-        let mut inputs = Inputs::new(seed);
-        let mut set = Set::default();
+        let mut inputs = Inputs::new(seed, K::LIMITS);
+        let mut set = Set::fresh(K::LIMITS);
         for _ in 0..messages {
             judge_and_commit(&inputs.message(), &mut set, &mut [0; REPLY_ROOM]);
             check(&set);
@@ -83,28 +97,26 @@ fn for_each_state(seeds: u64, messages: usize, mut check: impl FnMut(&Set)) {
     }
 }
 
-fn commit_exports(from: &Set, into: &mut Set) {
+fn commit_exports<K: Tried>(from: &Set, into: &mut Set) {
     for part in 1..=PARTS {
         let message = part_bytes(part, from).unwrap();
-        assert!(message.len() <= LONGEST);
+        assert!(message.len() <= K::LIMITS.message);
         assert_eq!(number_in(&message, into), (TAKEN, 0));
     }
 }
 
-#[test]
-fn the_ten_exports_give_the_same_tables() {
-    let mut other = Set::default();
-    for_each_state(30, 100, |set| {
-        commit_exports(set, &mut other);
+fn the_ten_exports_give_the_same_tables<K: Tried>() {
+    let mut other = Set::fresh(K::LIMITS);
+    for_each_state::<K>(30, 100, |set| {
+        commit_exports::<K>(set, &mut other);
         assert_eq!(other.tables, set.tables);
-        let mut fresh = Set::default();
-        commit_exports(set, &mut fresh);
+        let mut fresh = Set::fresh(K::LIMITS);
+        commit_exports::<K>(set, &mut fresh);
         assert_eq!(fresh.tables, set.tables);
     });
 }
 
-#[test]
-fn a_full_set_is_exported_whole() {
+fn a_full_set_is_exported_whole<K: Tried>() {
     let long = "y".repeat(23);
     let quick: Vec<(u8, &str)> = (0..63).map(|index| (index, long.as_str())).collect();
     let status: Vec<(u8, &str)> = (32..128).map(|code| (code, &long[..16])).collect();
@@ -116,14 +128,13 @@ fn a_full_set_is_exported_whole() {
     assert_eq!(number_in(&request(&[status]), &mut set), (TAKEN, 0));
     let part = part_bytes(3, &set).unwrap();
     assert_eq!((part.len(), part[7]), (8 + 4 + 63 * 49 + 4 + 49, 2));
-    let mut other = Set::default();
-    commit_exports(&set, &mut other);
+    let mut other = Set::fresh(K::LIMITS);
+    commit_exports::<K>(&set, &mut other);
     assert_eq!(other.tables, set.tables);
 }
 
-#[test]
-fn exports_of_a_fresh_set() {
-    let set = Set::default();
+fn exports_of_a_fresh_set<K: Tried>() {
+    let set = Set::fresh(K::LIMITS);
     let expected = [
         (1, "02 02 00 09 08 07 08 01 CA 00 04 C0 00"),
         (2, "02 02 00 14 08 07 08 03 CB 00 03 80 CD 00 05 00 00 00 CF 00 05 00 00 00"),
@@ -150,11 +161,10 @@ fn exports_of_a_fresh_set() {
     }
 }
 
-#[test]
-fn export_refusals_touch_nothing() {
-    let set = Set::default();
+fn export_refusals_touch_nothing<K: Tried>() {
+    let set = Set::fresh(K::LIMITS);
     let refused = |number| Exported { number, length: 0 };
-    let mut buffer = vec![0xEE; EXPORT_ROOM];
+    let mut buffer = vec![0xEE; K::LIMITS.message];
     assert_eq!(export(PARTS + 2, false, &set, &mut buffer[1..]), refused(BUFFER_SHORT));
     assert_eq!(export(PARTS + 2, false, &set, &mut buffer), refused(NOT_A_STORE));
     assert_eq!(export(0, true, &set, &mut buffer), refused(NO_SUCH_PART));
@@ -188,18 +198,17 @@ fn has_texts(setting: &Setting) -> bool {
     }
 }
 
-fn for_each_message(seeds: u64, messages: usize, mut check: impl FnMut(&[u8])) {
+fn for_each_message<K: Tried>(seeds: u64, messages: usize, mut check: impl FnMut(&[u8])) {
     for seed in 0..seeds {
-        let mut inputs = Inputs::new(seed);
+        let mut inputs = Inputs::new(seed, K::LIMITS);
         (0..messages).for_each(|_| check(&inputs.message()));
     }
 }
 
 /// Every setting that is read can be written and read again to the same, under each coding type that it has a writing for.
-#[test]
-fn writing_and_reading_agree() {
+fn writing_and_reading_agree<K: Tried>() {
     let (mut own, mut other) = (0, 0);
-    for_each_message(40, 50, |message| {
+    for_each_message::<K>(40, 50, |message| {
         for coding in Coding::ALL {
             for (setting, _) in settings_of(message, coding) {
                 assert!(setting.write_as(coding).is_some(), "what was read has a writing");
@@ -216,10 +225,9 @@ fn writing_and_reading_agree() {
 }
 
 /// A setting with a text is read under one coding type at most, and one without is read to the same under both.
-#[test]
-fn bytes_of_texts_are_read_one_way() {
+fn bytes_of_texts_are_read_one_way<K: Tried>() {
     let (mut texts, mut others) = (0, 0);
-    for_each_message(40, 50, |message| {
+    for_each_message::<K>(40, 50, |message| {
         for (coding, other) in [(Coding::Eight, Coding::Unicode), (Coding::Unicode, Coding::Eight)]
         {
             for (setting, bytes) in settings_of(message, coding) {
@@ -238,20 +246,19 @@ fn bytes_of_texts_are_read_one_way() {
 }
 
 /// The same settings as a request under a coding type, where they have one of an allowed length.
-fn rewritten(settings: &[(Setting, &[u8])], coding: Coding) -> Option<Vec<u8>> {
+fn rewritten<K: Tried>(settings: &[(Setting, &[u8])], coding: Coding) -> Option<Vec<u8>> {
     let written = settings.iter().map(|(setting, _)| setting.write_as(coding));
     let message = request_as(coding, &written.collect::<Option<Vec<_>>>()?);
-    let allowed = (1..=255).contains(&settings.len()) && message.len() <= LONGEST;
+    let allowed = (1..=255).contains(&settings.len()) && message.len() <= K::LIMITS.message;
     allowed.then_some(message)
 }
 
 /// The same settings under both coding types come to the same number, failed ID and set.
-#[test]
-fn both_coding_types_leave_the_same_set() {
-    let (mut set, mut changed, mut refused) = (Set::default(), 0, 0);
-    for_each_message(60, 60, |message| {
+fn both_coding_types_leave_the_same_set<K: Tried>() {
+    let (mut set, mut changed, mut refused) = (Set::fresh(K::LIMITS), 0, 0);
+    for_each_message::<K>(60, 60, |message| {
         for settings in Coding::ALL.map(|coding| settings_of(message, coding)) {
-            let both = Coding::ALL.map(|coding| rewritten(&settings, coding));
+            let both = Coding::ALL.map(|coding| rewritten::<K>(&settings, coding));
             let [Some(narrow), Some(wide)] = both else { continue };
             let (mut one, mut two) = (set.clone(), set.clone());
             let number = number_in(&narrow, &mut one);
@@ -267,12 +274,11 @@ fn both_coding_types_leave_the_same_set() {
 }
 
 /// A refusal leaves the set, whatever the message.
-#[test]
-fn only_a_taken_request_changes_the_set() {
+fn only_a_taken_request_changes_the_set<K: Tried>() {
     let mut random = Random::new(7);
     for seed in 0..20 {
-        let mut inputs = Inputs::new(seed);
-        let mut set = Set::default();
+        let mut inputs = Inputs::new(seed, K::LIMITS);
+        let mut set = Set::fresh(K::LIMITS);
         for _ in 0..100 {
             let before = set.clone();
             let message = inputs.message();
@@ -289,12 +295,11 @@ fn only_a_taken_request_changes_the_set() {
 }
 
 /// A message that was judged is committed with the same answer and reply, whatever both reply buffers hold and however long they are, from 20 bytes on.
-#[test]
-fn any_reply_buffer() {
+fn any_reply_buffer<K: Tried>() {
     let mut random = Random::new(6);
     for seed in 100..120 {
-        let mut inputs = Inputs::new(seed);
-        let mut set = Set::default();
+        let mut inputs = Inputs::new(seed, K::LIMITS);
+        let mut set = Set::fresh(K::LIMITS);
         for _ in 0..100 {
             let message = inputs.message();
             let mut buffer = || [random.bytes_up_to(30), vec![0xEE; REPLY_ROOM]].concat();

@@ -3,7 +3,8 @@
 use otap_reference::reference::commit::{
     commit_from, judge_and_commit, judge_from, Answer, REPLY_ROOM,
 };
-use otap_reference::reference::message::{query, Hash, LONGEST};
+use otap_reference::reference::limits::HANDHELD;
+use otap_reference::reference::message::{query, Hash};
 use otap_reference::reference::numbers::*;
 use otap_reference::reference::settings::Operation::{Add, Delete, Replace};
 use otap_reference::reference::tables::Set;
@@ -15,9 +16,9 @@ const HOME: &str = "CD 00 05 00 00 00";
 fn a_fault_in_the_ninth_leaves_none_of_eight() {
     let mut settings = vec!["CD 00 05 07 E4 C0"; 8];
     settings.push("CD 00 05 07 E4 E0");
-    let mut set = Set::default();
+    let mut set = Set::fresh(HANDHELD);
     assert_eq!(number_in(&hex_request(&settings), &mut set), (BAD_FIELD, 9));
-    assert_eq!(set, Set::default());
+    assert_eq!(set, Set::fresh(HANDHELD));
 }
 
 #[test]
@@ -73,7 +74,7 @@ fn data_length_is_not_trusted_to_skip() {
 
 #[test]
 fn the_order_of_refusals() {
-    let mut set = Set::default();
+    let mut set = Set::fresh(HANDHELD);
     let good = hex_request(&[HOME]);
     let nothing = |number| Answer { number, ..Answer::default() };
     for (room, number) in [(REPLY_ROOM - 1, REPLY_SHORT), (REPLY_ROOM, NOT_A_STORE)] {
@@ -83,8 +84,8 @@ fn the_order_of_refusals() {
     for (length, number) in [(6, MESSAGE_LENGTH), (7, WRONG_CARRIER)] {
         assert_eq!(number_of(&good[..length]), (number, 0));
     }
-    assert_eq!(number_of(&vec![0; LONGEST]), (WRONG_CARRIER, 0));
-    assert_eq!(number_of(&vec![0; LONGEST + 1]), (MESSAGE_LENGTH, 0));
+    assert_eq!(number_of(&vec![0; HANDHELD.message]), (WRONG_CARRIER, 0));
+    assert_eq!(number_of(&vec![0; HANDHELD.message + 1]), (MESSAGE_LENGTH, 0));
     assert_eq!(number_of(&bytes("02 02 00 00 09 07 11")), (WRONG_CARRIER, 0));
     assert_eq!(number_of(&bytes("02 02 00 00 08 07 11")), (WRONG_MESSAGE_TYPE, 0));
     assert_eq!(number_of(&bytes("02 02 00 00 08 00 10")), (WRONG_VERSION, 0));
@@ -96,7 +97,7 @@ fn the_order_of_refusals() {
 #[test]
 fn refusals_without_reply_write_nothing() {
     let mut reply = [0xEE; REPLY_ROOM];
-    let mut set = Set::default();
+    let mut set = Set::fresh(HANDHELD);
     for message in ["02 02", "02 02 00 00 09 07 08", "02 02 00 00 08 07 0A"] {
         let answer = judge_and_commit(&bytes(message), &mut set, &mut reply);
         assert_eq!((answer.length, answer.send), (0, false));
@@ -245,7 +246,7 @@ fn reserved_bits_are_ignored() {
 
 #[test]
 fn the_hash_kept_is_the_last_request_s() {
-    let mut set = Set::default();
+    let mut set = Set::fresh(HANDHELD);
     let hash = Hash::Crc([1, 2, 3, 4]);
     assert_eq!(number_in(&query(&hash), &mut set), (NO_MATCH, 0));
     assert_eq!(number_in(&hex_request(&["FF 00 07 C1 01 02 03 04"]), &mut set), (TAKEN, 0));
@@ -261,7 +262,7 @@ fn the_hash_kept_is_the_last_request_s() {
 
 #[test]
 fn replies_carry_the_hash_kept() {
-    let mut set = Set::default();
+    let mut set = Set::fresh(HANDHELD);
     let mut reply = [0; REPLY_ROOM];
     let last = hex_request(&["FF 00 0D C2 01 02 03 04 05 06 07 08 09 0A"]);
     let answer = judge_and_commit(&last, &mut set, &mut reply);

@@ -2,6 +2,7 @@
 
 use otap_reference::records::{Record, Records};
 use otap_reference::reference::commit::{judge_and_commit, Answer};
+use otap_reference::reference::limits::HANDHELD;
 use otap_reference::reference::numbers::*;
 use otap_reference::reference::plan::*;
 use otap_reference::reference::settings::{parse, Fault, HomeNumbers, Setting};
@@ -66,7 +67,7 @@ fn example_9_home_numbers() {
 
 #[test]
 fn example_10_replaces_the_channels() {
-    let mut set = Set::default();
+    let mut set = Set::fresh(HANDHELD);
     let mut reply = [0xEE; 24];
     let message = bytes("02 02 00 0C 08 07 08 01 CE 00 07 C0 02 0F 12 80");
     let answer = judge_and_commit(&message, &mut set, &mut reply);

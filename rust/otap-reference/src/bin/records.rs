@@ -2,6 +2,7 @@
 
 use otap_reference::inputs::Inputs;
 use otap_reference::records::push_record;
+use otap_reference::reference::limits::HANDHELD;
 use std::io::{self, Write};
 use std::process::ExitCode;
 
@@ -16,7 +17,7 @@ fn main() -> ExitCode {
         _ => return usage(),
     };
     let [Ok(seed), Ok(count)] = numbers.map(str::parse::<u64>) else { return usage() };
-    let mut inputs = Inputs::new(seed);
+    let mut inputs = Inputs::new(seed, HANDHELD);
     let mut out = Vec::new();
     for _ in 0..count {
         let (kind, message) = next(&mut inputs);

@@ -7,14 +7,12 @@ use super::reports::ReportCall;
 use super::values::Value;
 use super::Inputs;
 use crate::reference::commit::REPLY_ROOM;
-use crate::reference::export::{EXPORT_ROOM, PARTS};
-use crate::reference::joining::JOIN_ROOM;
-use crate::reference::reports::REPORT_ROOM;
+use crate::reference::export::PARTS;
+use crate::reference::limits::Limits;
 use crate::reference::screen::SCRATCH_ROOM;
 
-/// For each table of the screen, the first row to ask for and how many.
-const ROWS: [(u32, usize); 8] =
-    [(0, 34), (0, 66), (30, 100), (0, 18), (0, 18), (0, 66), (0, 66), (0, 18)];
+/// For each table of the screen behind the lines, the first row to ask for and how many.
+const ROWS: [(u32, usize); 7] = [(0, 66), (30, 100), (0, 18), (0, 18), (0, 66), (0, 66), (0, 18)];
 
 /// A call and the room of the buffer that it writes to, if there is one.
 #[derive(Clone, Debug, PartialEq, Eq)]
@@ -28,21 +26,23 @@ pub enum Call {
 
 pub struct Calls {
     random: Random,
+    limits: Limits,
     inputs: Inputs,
     /// The message that was judged last, until it is committed.
     waiting: Option<Vec<u8>>,
 }
 
 impl Calls {
-    pub fn new(seed: u64) -> Self {
-        Calls { random: Random::new(!seed), inputs: Inputs::new(seed), waiting: None }
+    pub fn new(seed: u64, limits: Limits) -> Self {
+        let inputs = Inputs::new(seed, limits);
+        Calls { random: Random::new(!seed), limits, inputs, waiting: None }
     }
 
     pub fn call(&mut self) -> Call {
         match self.random.below(16) {
             0..=1 => Call::Judge { message: self.judged(), room: self.room(REPLY_ROOM) },
             2..=4 => Call::Commit { message: self.committed(), room: self.room(REPLY_ROOM) },
-            5..=9 => Call::Export { part: self.part(), room: self.room(EXPORT_ROOM) },
+            5..=9 => Call::Export { part: self.part(), room: self.room(self.limits.message) },
             10..=14 => {
                 let (table, row) = self.row();
                 Call::Row { table, row, room: self.room(SCRATCH_ROOM) }
@@ -63,12 +63,12 @@ impl Calls {
 
     /// A query to answer, and the room of the buffer for its report.
     pub fn report(&mut self) -> (ReportCall, usize) {
-        (self.inputs.report_call(), self.room(REPORT_ROOM))
+        (self.inputs.report_call(), self.room(self.limits.message))
     }
 
     /// Two requests to join, and the room of the buffer for the joined one.
     pub fn join(&mut self) -> (JoinInput, usize) {
-        (self.inputs.join(), self.room(JOIN_ROOM))
+        (self.inputs.join(), self.room(self.limits.message))
     }
 
     fn judged(&mut self) -> Vec<u8> {
@@ -107,10 +107,11 @@ impl Calls {
     }
 
     fn row(&mut self) -> (u32, u32) {
-        let tables = ROWS.len() as u32;
-        let table = self.random.within(1..=ROWS.len()) as u32;
-        let rows = ROWS[table as usize - 1];
-        let row = rows.0 + self.random.below(rows.1) as u32;
+        let tables = 1 + ROWS.len() as u32;
+        let table = self.random.within(1..=tables as usize) as u32;
+        let lines = (0, self.limits.lines + 2);
+        let (first, rows) = if table == 1 { lines } else { ROWS[table as usize - 2] };
+        let row = first + self.random.below(rows) as u32;
         match self.random.below(40) {
             0 => (self.random.pick(&[0, tables + 1, tables + 2, u32::MAX, 0x104, 0x1_0004]), row),
             1 => (table, row + self.random.pick(&[0x100, 0x1_0000, 0x8000_0000])),

@@ -3,40 +3,40 @@
 use super::draft::{restate, Draft};
 use super::maker::{slipped, Maker, Size, TYPES};
 use super::random::Random;
-use crate::reference::tables::Tables;
+use crate::reference::tables::Set;
 use crate::reference::texts::Coding;
 
 /// Types that no setting has, some of them close to one.
 pub const UNKNOWN_TYPES: [u8; 9] = [0x00, 0xC7, 0xD4, 0xD5, 0xD6, 0xFE, 0x88, 0xC0, 0x4A];
 
-pub fn damaged(random: &mut Random, tables: &Tables, mut draft: Draft) -> Vec<u8> {
+pub fn damaged(random: &mut Random, set: &Set, mut draft: Draft) -> Vec<u8> {
     for _ in 0..random.pick(&[0, 1, 1, 1, 1, 2]) {
-        damage_draft(random, tables, &mut draft);
+        damage_draft(random, set, &mut draft);
     }
     let mut message = draft.bytes();
     if random.percent(25) {
-        damage_bytes(random, tables, draft.coding, &mut message);
+        damage_bytes(random, set, draft.coding, &mut message);
     }
     message
 }
 
-fn damage_draft(random: &mut Random, tables: &Tables, draft: &mut Draft) {
+fn damage_draft(random: &mut Random, set: &Set, draft: &mut Draft) {
     let place = random.below(draft.settings.len());
     match random.below(18) {
         0 => data_length(random, draft, place),
         1 => sum(random, draft),
         2 => count(random, &mut draft.settings[place]),
-        3 => last_early(random, tables, draft),
-        4..=10 => out_of_range(random, tables, draft),
+        3 => last_early(random, set, draft),
+        4..=10 => out_of_range(random, set, draft),
         11 | 12 => unknown_type(random, draft, place),
         13 => padded(random, &mut draft.settings[place]),
         14 => unended(random, &mut draft.settings[place]),
-        15 => other_coding(random, tables, draft, place),
+        15 => other_coding(random, set, draft, place),
         _ => coding_byte(random, &mut draft.coding_byte),
     }
 }
 
-fn damage_bytes(random: &mut Random, tables: &Tables, coding: Coding, message: &mut Vec<u8>) {
+fn damage_bytes(random: &mut Random, set: &Set, coding: Coding, message: &mut Vec<u8>) {
     let place = random.within(6..=message.len() - 1);
     match random.below(6) {
         0 => message[place] = random.bits(8) as u8,
@@ -55,7 +55,7 @@ fn damage_bytes(random: &mut Random, tables: &Tables, coding: Coding, message: &
         }
         _ => {
             // What is left over may look like a setting.
-            message.extend(Maker { random, tables, coding, slip_after: None }.any(Size::Small));
+            message.extend(Maker { random, set, coding, slip_after: None }.any(Size::Small));
             restate(random, message);
         }
     }
@@ -98,19 +98,19 @@ fn count(random: &mut Random, setting: &mut [u8]) {
     setting[place] = setting[place].wrapping_add(step);
 }
 
-fn last_early(random: &mut Random, tables: &Tables, draft: &mut Draft) {
+fn last_early(random: &mut Random, set: &Set, draft: &mut Draft) {
     let place = random.below(draft.settings.len());
-    let last = Maker { random, tables, coding: draft.coding, slip_after: None }.last();
+    let last = Maker { random, set, coding: draft.coding, slip_after: None }.last();
     draft.settings.insert(place, last);
     draft.settings.truncate(255);
 }
 
-fn out_of_range(random: &mut Random, tables: &Tables, draft: &mut Draft) {
+fn out_of_range(random: &mut Random, set: &Set, draft: &mut Draft) {
     let place = random.below(draft.settings.len());
     let is_last = place + 1 == draft.settings.len();
     let kind = if is_last && random.percent(20) { 0xFF } else { random.pick(&TYPES) };
     let make = |maker: &mut Maker| maker.of_type(kind, Size::Small);
-    draft.settings[place] = slipped(random, tables, draft.coding, make);
+    draft.settings[place] = slipped(random, set, draft.coding, make);
 }
 
 fn unknown_type(random: &mut Random, draft: &mut Draft, place: usize) {
@@ -126,13 +126,13 @@ fn unknown_type(random: &mut Random, draft: &mut Draft, place: usize) {
 }
 
 /// A setting whose texts are written in the other coding type, its DataLength true for that one.
-fn other_coding(random: &mut Random, tables: &Tables, draft: &mut Draft, place: usize) {
+fn other_coding(random: &mut Random, set: &Set, draft: &mut Draft, place: usize) {
     let coding = match draft.coding {
         Coding::Eight => Coding::Unicode,
         Coding::Unicode => Coding::Eight,
     };
     let kind = random.pick(&[0xC8, 0xC9, 0xCA, 0xCC, 0xD0, 0xD1, 0xD2, 0xD3]);
-    let mut maker = Maker { random, tables, coding, slip_after: None };
+    let mut maker = Maker { random, set, coding, slip_after: None };
     draft.settings[place] = maker.of_type(kind, Size::Small);
 }
 

@@ -1,10 +1,13 @@
 //! A request still in pieces, so that it can be damaged where it hurts.
 
 use super::random::Random;
-use crate::reference::message::{first_byte, LONGEST, MFID, REQUEST, REQUEST_HEAD, START};
+use crate::reference::limits::Limits;
+use crate::reference::message::{first_byte, MFID, REQUEST, REQUEST_HEAD, START};
 use crate::reference::texts::Coding;
 
 pub struct Draft {
+    /// Of the set that it is for.
+    pub limits: Limits,
     pub settings: Vec<Vec<u8>>,
     /// ParamSum where it is not the number of settings.
     pub sum: Option<u8>,
@@ -18,14 +21,15 @@ pub struct Draft {
 
 impl Draft {
     /// No settings yet, and either coding type.
-    pub fn new(random: &mut Random) -> Self {
+    pub fn new(random: &mut Random, limits: Limits) -> Self {
         let coding = random.pick(&Coding::ALL);
-        Draft::of(random, coding)
+        Draft::of(random, limits, coding)
     }
 
-    pub fn of(random: &mut Random, coding: Coding) -> Self {
+    pub fn of(random: &mut Random, limits: Limits, coding: Coding) -> Self {
         let stated = random.percent(70);
-        Draft { settings: Vec::new(), sum: None, coding, coding_byte: coding.number(), stated }
+        let (settings, coding_byte) = (Vec::new(), coding.number());
+        Draft { limits, settings, sum: None, coding, coding_byte, stated }
     }
 
     /// Bytes the request takes.
@@ -34,7 +38,7 @@ impl Draft {
     }
 
     pub fn push_if_room(&mut self, setting: Vec<u8>) {
-        if self.size() + setting.len() <= LONGEST && self.settings.len() < 255 {
+        if self.size() + setting.len() <= self.limits.message && self.settings.len() < 255 {
             self.settings.push(setting);
         }
     }

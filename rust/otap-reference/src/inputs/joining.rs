@@ -9,8 +9,8 @@ use super::maker::Size;
 use super::random::Random;
 use super::requests::{fill, maker, request};
 use crate::reference::joining::Refused;
-use crate::reference::message::{LONGEST, REQUEST_HEAD};
-use crate::reference::tables::Tables;
+use crate::reference::message::REQUEST_HEAD;
+use crate::reference::tables::Set;
 use crate::reference::texts::Coding;
 use wrong::{wrong_pair, wrong_pairs, Wrong};
 
@@ -34,27 +34,27 @@ const SHORTEST_REQUEST: usize = REQUEST_HEAD + 4;
 /// What ParamSum can say.
 const MOST_SETTINGS: usize = 255;
 
-pub fn input(random: &mut Random, tables: &Tables) -> JoinInput {
+pub fn input(random: &mut Random, set: &Set) -> JoinInput {
     match random.below(20) {
         0..=8 => {
-            let [first, second] = good_pair(random, tables).map(|draft| draft.bytes());
+            let [first, second] = good_pair(random, set).map(|draft| draft.bytes());
             JoinInput { first, second, answer: Some(Ok(())) }
         }
         9..=14 => {
             let wrong = random.pick(&Wrong::ALL);
-            wrong_pair(random, tables, wrong)
+            wrong_pair(random, set, wrong)
         }
-        15..=16 => wrong_pairs(random, tables),
-        _ => changed(random, tables),
+        15..=16 => wrong_pairs(random, set),
+        _ => changed(random, set),
     }
 }
 
 /// Two requests that may be joined, of any shape, or with as many settings or bytes as one header allows.
-pub fn good_pair(random: &mut Random, tables: &Tables) -> [Draft; 2] {
+pub fn good_pair(random: &mut Random, set: &Set) -> [Draft; 2] {
     match random.below(12) {
-        0 => pair_of_count(random, tables, MOST_SETTINGS),
-        1 => pair_of_size(random, tables, LONGEST),
-        _ => any_pair(random, tables, true),
+        0 => pair_of_count(random, set, MOST_SETTINGS),
+        1 => pair_of_size(random, set, set.limits.message),
+        _ => any_pair(random, set, true),
     }
 }
 
@@ -62,13 +62,13 @@ pub fn good_pair(random: &mut Random, tables: &Tables) -> [Draft; 2] {
 fn fits(pair: &[Draft; 2]) -> bool {
     let [first, second] = pair;
     first.settings.len() + second.settings.len() <= MOST_SETTINGS
-        && first.size() + second.size() - REQUEST_HEAD <= LONGEST
+        && first.size() + second.size() - REQUEST_HEAD <= first.limits.message
 }
 
 /// As requests come, without their items FF; with one coding type or with two.
-fn any_pair(random: &mut Random, tables: &Tables, one_coding: bool) -> [Draft; 2] {
+fn any_pair(random: &mut Random, set: &Set, one_coding: bool) -> [Draft; 2] {
     loop {
-        let mut pair = [(); 2].map(|()| request(random, tables));
+        let mut pair = [(); 2].map(|()| request(random, set));
         for draft in &mut pair {
             draft.settings.retain(|setting| setting[0] != LAST);
         }
@@ -89,30 +89,30 @@ fn with_reserved(random: &mut Random, mut draft: Draft) -> Draft {
 }
 
 /// So many settings together, all of them short.
-fn pair_of_count(random: &mut Random, tables: &Tables, count: usize) -> [Draft; 2] {
+fn pair_of_count(random: &mut Random, set: &Set, count: usize) -> [Draft; 2] {
     let least = count.saturating_sub(MOST_SETTINGS).max(1);
     let first = random.within(least..=count - least);
     let coding = random.pick(&Coding::ALL);
     [first, count - first].map(|count| {
-        let mut draft = Draft::of(random, coding);
+        let mut draft = Draft::of(random, set.limits, coding);
         for _ in 0..count {
             let kind = random.pick(&[0xCB, 0xCD, 0xCF]);
-            draft.settings.push(maker(random, tables, &draft).of_type(kind, Size::Small));
+            draft.settings.push(maker(random, set, &draft).of_type(kind, Size::Small));
         }
         with_reserved(random, draft)
     })
 }
 
 /// So many bytes when joined.
-fn pair_of_size(random: &mut Random, tables: &Tables, size: usize) -> [Draft; 2] {
+fn pair_of_size(random: &mut Random, set: &Set, size: usize) -> [Draft; 2] {
     let both = size + REQUEST_HEAD;
-    let least = both.saturating_sub(LONGEST).max(SHORTEST_REQUEST);
+    let least = both.saturating_sub(set.limits.message).max(SHORTEST_REQUEST);
     loop {
         let first = random.within(least..=both - least);
         let coding = random.pick(&Coding::ALL);
         let pair = [first, both - first].map(|size| {
-            let mut draft = Draft::of(random, coding);
-            fill(random, tables, &mut draft, size);
+            let mut draft = Draft::of(random, set.limits, coding);
+            fill(random, set, &mut draft, size);
             with_reserved(random, draft)
         });
         if pair[0].settings.len() + pair[1].settings.len() <= MOST_SETTINGS {
@@ -122,8 +122,8 @@ fn pair_of_size(random: &mut Random, tables: &Tables, size: usize) -> [Draft; 2]
 }
 
 /// Bits or bytes changed in one of the two or in both, which at times leave two that may be joined.
-fn changed(random: &mut Random, tables: &Tables) -> JoinInput {
-    let mut pair = any_pair(random, tables, true).map(|draft| draft.bytes());
+fn changed(random: &mut Random, set: &Set) -> JoinInput {
+    let mut pair = any_pair(random, set, true).map(|draft| draft.bytes());
     for _ in 0..random.pick(&[1, 1, 1, 2, 3]) {
         let message = &mut pair[random.below(2)];
         let place = random.below(message.len());
@@ -135,19 +135,19 @@ fn changed(random: &mut Random, tables: &Tables) -> JoinInput {
 }
 
 /// A request whose settings all replace, at times with an item FF behind them: sent twice it is as sent once.
-pub fn replacing(random: &mut Random, tables: &Tables) -> Draft {
-    let mut draft = Draft::new(random);
+pub fn replacing(random: &mut Random, set: &Set) -> Draft {
+    let mut draft = Draft::new(random, set.limits);
     for _ in 0..random.pick(&[1, 1, 2, 3, 6]) {
         let kind = random.pick(&REPLACING);
         let size = if random.percent(20) { Size::Large } else { Size::Small };
         // The operation stands in the first two bits of the fields.
-        let setting = std::iter::repeat_with(|| maker(random, tables, &draft).of_type(kind, size))
+        let setting = std::iter::repeat_with(|| maker(random, set, &draft).of_type(kind, size))
             .find(|setting| setting[3] >> 6 == 3)
             .expect("one of four replaces");
         draft.push_if_room(setting);
     }
     if draft.settings.is_empty() || random.flag() {
-        draft.push_if_room(maker(random, tables, &draft).last());
+        draft.push_if_room(maker(random, set, &draft).last());
     }
     draft
 }

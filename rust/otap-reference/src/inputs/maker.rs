@@ -8,7 +8,7 @@ mod slots;
 use super::random::Random;
 use crate::reference::bits::BitWriter;
 use crate::reference::message::Hash;
-use crate::reference::tables::Tables;
+use crate::reference::tables::Set;
 use crate::reference::texts::Coding;
 
 /// All but the last item's.
@@ -38,7 +38,8 @@ enum Keys {
 
 pub struct Maker<'a> {
     pub random: &'a mut Random,
-    pub tables: &'a Tables,
+    /// The set that it makes for.
+    pub set: &'a Set,
     /// What texts are written in.
     pub coding: Coding,
     /// How many ranged values stay good before one is put out of range, if any is.
@@ -71,14 +72,14 @@ fn setting(kind: u8, fields: BitWriter) -> Vec<u8> {
 /// Made with one value out of its range, whichever of them.
 pub fn slipped(
     random: &mut Random,
-    tables: &Tables,
+    set: &Set,
     coding: Coding,
     make: impl Fn(&mut Maker) -> Vec<u8>,
 ) -> Vec<u8> {
     // It may have fewer values than were to stay good: then once more.
     loop {
         let slip_after = Some(random.below(6));
-        let mut maker = Maker { random, tables, coding, slip_after };
+        let mut maker = Maker { random, set, coding, slip_after };
         let made = make(&mut maker);
         if maker.slip_after.is_none() {
             return made;
@@ -261,7 +262,7 @@ impl Maker<'_> {
     }
 
     fn channel(&mut self, keys: Keys) -> u32 {
-        let known = &self.tables.channels;
+        let known = &self.set.tables.channels;
         let good = match keys {
             Keys::Known if !known.is_empty() => u32::from(known[self.random.below(known.len())]),
             Keys::Fresh => self.random.within(241..=640) as u32,
@@ -273,7 +274,7 @@ impl Maker<'_> {
     fn channels(&mut self, size: Size) -> Vec<u8> {
         let operation = self.operation(&[ADD, ADD, DELETE, REPLACE]);
         // Deletes may be as long as Count says; the others soon have no room.
-        let most = if operation == DELETE { 1_023 } else { 66 };
+        let most = if operation == DELETE { 1_023 } else { self.set.limits.channels + 2 };
         let count = self.count(size, most);
         self.channel_setting(operation, count)
     }

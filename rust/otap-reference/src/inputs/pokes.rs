@@ -2,10 +2,11 @@
 
 use super::random::Random;
 use crate::layout::{
-    CHANNEL, CHANNELS_AT, COUNT, GROUP_CONTACTS_AT, INDIVIDUAL_CONTACTS_AT, LINE, LINES_AT,
-    LINE_KEY, LINE_SLOTS_AT, MEMBER, ORDER_AT, SPARE_AT,
+    CHANNEL, CHANNELS_AT, COUNT, GROUP_CONTACTS_AT, INDIVIDUAL_CONTACTS_AT, LINE, LINE_KEY,
+    LINE_SLOTS_AT, MEMBER,
 };
-use crate::reference::tables::{MOST_CHANNELS, MOST_CONTACTS, MOST_LINES, SLOTS};
+use crate::reference::limits::Limits;
+use crate::reference::tables::{MOST_CONTACTS, SLOTS};
 
 /// A region that begins with its count: its first byte, the bytes of a slot, and how many there are.
 #[derive(Clone, Copy, Debug, PartialEq, Eq)]
@@ -19,9 +20,18 @@ pub const GROUP_CONTACTS: Region =
     Region { at: GROUP_CONTACTS_AT, width: MEMBER, places: MOST_CONTACTS };
 pub const INDIVIDUAL_CONTACTS: Region =
     Region { at: INDIVIDUAL_CONTACTS_AT, width: MEMBER, places: MOST_CONTACTS };
-pub const CHANNELS: Region = Region { at: CHANNELS_AT, width: CHANNEL, places: MOST_CHANNELS };
-pub const LINES: Region = Region { at: LINES_AT, width: LINE, places: MOST_LINES };
-pub const REGIONS: [Region; 4] = [GROUP_CONTACTS, INDIVIDUAL_CONTACTS, CHANNELS, LINES];
+
+pub fn channels(limits: Limits) -> Region {
+    Region { at: CHANNELS_AT, width: CHANNEL, places: limits.channels }
+}
+
+pub fn lines(limits: Limits) -> Region {
+    Region { at: limits.lines_at(), width: LINE, places: limits.lines }
+}
+
+pub fn regions(limits: Limits) -> [Region; 4] {
+    [GROUP_CONTACTS, INDIVIDUAL_CONTACTS, channels(limits), lines(limits)]
+}
 
 impl Region {
     pub fn count(self, bytes: &[u8]) -> u16 {
@@ -38,10 +48,11 @@ impl Region {
 }
 
 /// Gives one of a store's counts another value, or at times the one that it has.
-pub fn poke_count(random: &mut Random, bytes: &mut [u8]) {
-    let place = random.below(REGIONS.len());
-    let region = REGIONS[place];
-    let other = REGIONS[(place + random.within(1..=REGIONS.len() - 1)) % REGIONS.len()];
+pub fn poke_count(random: &mut Random, limits: Limits, bytes: &mut [u8]) {
+    let regions = regions(limits);
+    let place = random.below(regions.len());
+    let region = regions[place];
+    let other = regions[(place + random.within(1..=regions.len() - 1)) % regions.len()];
     let truth = region.count(bytes);
     let places = region.places as u16;
     let poked = match random.below(11) {
@@ -63,8 +74,8 @@ pub fn poke_count(random: &mut Random, bytes: &mut [u8]) {
 
 /// Copies the first entry of a store's list to its end, at times with another key, or takes the last one away; half of the time its count follows,
 /// and of lines mostly their order.
-pub fn poke_list(random: &mut Random, bytes: &mut [u8]) {
-    let region = random.pick(&REGIONS);
+pub fn poke_list(random: &mut Random, limits: Limits, bytes: &mut [u8]) {
+    let region = random.pick(&regions(limits));
     let count = usize::from(region.count(bytes));
     let longer = if random.percent(50) {
         // Of a full list the last entry is overwritten; of an empty one a slot stays empty, or gets some of a key alone.
@@ -82,57 +93,59 @@ pub fn poke_list(random: &mut Random, bytes: &mut [u8]) {
     if random.percent(50) {
         region.set_count(bytes, longer as u16);
     }
-    if region == LINES && random.percent(80) {
-        order_lines(bytes);
+    if region == lines(limits) && random.percent(80) {
+        order_lines(limits, bytes);
     }
 }
 
 /// Gives the lines that a store counts the order of their keys.
-pub fn order_lines(bytes: &mut [u8]) {
-    let key = |&place: &usize| &bytes[LINES.slot(place)..][LINE_KEY];
-    let mut places: Vec<usize> = (0..usize::from(LINES.count(bytes)).min(MOST_LINES)).collect();
+pub fn order_lines(limits: Limits, bytes: &mut [u8]) {
+    let key = |&place: &usize| &bytes[lines(limits).slot(place)..][LINE_KEY];
+    let count = usize::from(lines(limits).count(bytes)).min(limits.lines);
+    let mut places: Vec<usize> = (0..count).collect();
     places.sort_by(|one, other| key(one).cmp(key(other)));
-    bytes[ORDER_AT..SPARE_AT].fill(0);
-    for (byte, place) in bytes[ORDER_AT..].iter_mut().zip(places) {
+    bytes[limits.order_at()..limits.spare_at()].fill(0);
+    for (byte, place) in bytes[limits.order_at()..].iter_mut().zip(places) {
         *byte = place as u8 + 1;
     }
 }
 
 /// Gives a store's lines another order, or at times the one that they have; also bytes that are none.
-pub fn poke_order(random: &mut Random, bytes: &mut [u8]) {
-    let count = usize::from(LINES.count(bytes)).min(MOST_LINES);
-    let order = &mut bytes[ORDER_AT..SPARE_AT];
+pub fn poke_order(random: &mut Random, limits: Limits, bytes: &mut [u8]) {
+    let most = limits.lines;
+    let count = usize::from(lines(limits).count(bytes)).min(most);
+    let order = &mut bytes[limits.order_at()..limits.spare_at()];
     let (place, other) = (random.below(count.max(1)), random.below(count.max(1)));
-    let behind = count.min(MOST_LINES - 1);
+    let behind = count.min(most - 1);
     match random.below(12) {
         0 => order.swap(place, other),
         1 => order.swap(place, (place + 1) % count.max(1)),
         2 => order[place] = 0,
         3 => order[place] = order[other],
         // The next place, which is empty, the last one, and none.
-        4 => order[place] = random.pick(&[count + 1, MOST_LINES, MOST_LINES + 1, 255]) as u8,
+        4 => order[place] = random.pick(&[count + 1, most, most + 1, 255]) as u8,
         // One too many, and other bytes behind.
         5 => order[behind] = random.pick(&[1, count, count + 1]) as u8,
-        6 => order[random.within(behind..=MOST_LINES - 1)] = random.bits(8) as u8,
+        6 => order[random.within(behind..=most - 1)] = random.bits(8) as u8,
         7 => order[..count].reverse(),
         8 => (0..count).for_each(|place| order[place] = place as u8 + 1),
         9 => order[..count].iter_mut().for_each(|name| *name = name.wrapping_sub(1)),
         10 => order[place..].rotate_right(1),
-        _ => order[random.below(MOST_LINES)] ^= 1 << random.below(8),
+        _ => order[random.below(most)] ^= 1 << random.below(8),
     }
 }
 
 /// A line with the other IDtype, or a contact whose address differs in one bit; a channel has no key.
 fn other_key(random: &mut Random, region: Region, slot: &mut [u8]) {
-    if region == LINES {
+    if region.width == LINE {
         slot[1] ^= 1;
-    } else if region != CHANNELS {
+    } else if region.width != CHANNEL {
         slot[random.within(1..=3)] ^= 1 << random.below(8);
     }
 }
 
 /// Gives a line slot what another or a line contact has, empties it, or changes a byte of its flags, IDtype or digits.
-pub fn poke_line_slot(random: &mut Random, bytes: &mut [u8]) {
+pub fn poke_line_slot(random: &mut Random, limits: Limits, bytes: &mut [u8]) {
     let slot = |place: usize| LINE_SLOTS_AT + place * LINE;
     let at = slot(random.below(SLOTS));
     match random.below(4) {
@@ -141,7 +154,7 @@ pub fn poke_line_slot(random: &mut Random, bytes: &mut [u8]) {
             bytes.copy_within(from..from + LINE, at);
         }
         1 => {
-            let from = LINES.slot(random.below(MOST_LINES));
+            let from = lines(limits).slot(random.below(limits.lines));
             bytes.copy_within(from..from + LINE, at);
         }
         2 => bytes[at..at + LINE].fill(0),

@@ -8,12 +8,12 @@ use super::carriers;
 use super::draft::carried;
 use super::maker::parameters::{ASKED, UNKNOWN};
 use super::random::Random;
-use crate::reference::message::LONGEST;
+use crate::reference::limits::Limits;
 use crate::reference::numbers::TAKEN;
 use crate::reference::queries::{self, query_data};
 use crate::reference::report_reading::entry_at;
 use crate::reference::reports::{messages, REPORT_HEAD};
-use crate::reference::tables::{Set, Tables};
+use crate::reference::tables::Set;
 use damage::{damaged, Damage, ReportDraft};
 
 /// What the report call is asked.
@@ -31,14 +31,14 @@ pub struct ReportInput {
 }
 
 pub fn call(random: &mut Random, set: &Set) -> ReportCall {
-    let query = query(random);
-    let types = queries::types(&query).unwrap_or(&[]);
-    let total = messages(types, set, LONGEST).map_or(1, |messages| messages.len());
+    let query = query(random, set.limits);
+    let types = queries::types(&query, set.limits).unwrap_or(&[]);
+    let total = messages(types, set).map_or(1, |messages| messages.len());
     ReportCall { index: index(random, total), query }
 }
 
 /// Mostly a good one; else its count is wrong, it is cut or goes on, or its carrier, MsgType, version or size is wrong.
-pub fn query(random: &mut Random) -> Vec<u8> {
+pub fn query(random: &mut Random, limits: Limits) -> Vec<u8> {
     let mut data = query_data(&types(random));
     match random.below(25) {
         0 => data[1] = random.pick(&[data[1].wrapping_add(1), data[1] - 1, 0, 255]),
@@ -53,7 +53,10 @@ pub fn query(random: &mut Random) -> Vec<u8> {
     match random.below(50) {
         0..=4 => carriers::damage(random, &mut message),
         5 => message.truncate(random.below(7)),
-        6 => message.resize(random.pick(&[LONGEST, LONGEST + 1, LONGEST + 100]), 0xCE),
+        6 => {
+            let most = limits.message;
+            message.resize(random.pick(&[most, most + 1, most + 100]), 0xCE);
+        }
         _ => {}
     }
     message
@@ -99,31 +102,33 @@ pub fn index(random: &mut Random, total: usize) -> u32 {
 pub fn report(random: &mut Random, set: &Set) -> ReportInput {
     match random.below(20) {
         0..=5 => ReportInput { message: own(random, set), number: Some(TAKEN) },
-        6..=10 => ReportInput { message: good(random, &set.tables), number: Some(TAKEN) },
+        6..=10 => ReportInput { message: good(random, set), number: Some(TAKEN) },
         11..=16 => {
             let damage = random.pick(&Damage::ALL);
-            let message = damaged(random, &set.tables, damage);
+            let message = damaged(random, set, damage);
             ReportInput { message, number: Some(damage.number()) }
         }
-        _ => ReportInput { message: changed(random, &set.tables), number: None },
+        _ => ReportInput { message: changed(random, set), number: None },
     }
 }
 
-/// A message of the set's own report to some types.
+/// A message of the set's own report to some types, which are not too many to be reported.
 fn own(random: &mut Random, set: &Set) -> Vec<u8> {
-    let types = types(random);
-    let messages = messages(&types, set, LONGEST).expect("a set's report has at most 231");
-    messages[random.below(messages.len())].clone()
+    loop {
+        if let Some(messages) = messages(&types(random), set) {
+            return messages[random.below(messages.len())].clone();
+        }
+    }
 }
 
 /// One that no set need write: its indexes, its order and its reserved bits are any.
-pub fn good(random: &mut Random, tables: &Tables) -> Vec<u8> {
-    ReportDraft::new(random, tables).bytes()
+pub fn good(random: &mut Random, set: &Set) -> Vec<u8> {
+    ReportDraft::new(random, set).bytes()
 }
 
 /// Bits or bytes changed anywhere, which at times leave a report.
-fn changed(random: &mut Random, tables: &Tables) -> Vec<u8> {
-    let mut message = good(random, tables);
+fn changed(random: &mut Random, set: &Set) -> Vec<u8> {
+    let mut message = good(random, set);
     for _ in 0..random.pick(&[1, 1, 1, 2, 3]) {
         let place = random.below(message.len());
         let bit = 1 << random.below(8);

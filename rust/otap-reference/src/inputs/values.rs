@@ -2,7 +2,7 @@
 
 use super::calls::room;
 use super::random::Random;
-use crate::reference::tables::Tables;
+use crate::reference::tables::{Set, Tables, MOST_CONTACTS};
 use crate::reference::values::{
     DIGITS_ROOM, GROUPS, GROUP_CONTACTS, INDIVIDUALS, INDIVIDUAL_CONTACTS, LINES, LINE_SLOTS,
 };
@@ -26,21 +26,26 @@ const NUMBERED: [u32; 2] = [LINES, LINE_SLOTS];
 const OTHERS: [u32; 9] = [0, 2, 3, 9, 10, 0x101, 0x104, 0x1_0008, u32::MAX];
 
 /// A little more than any table has.
-const PLACES: usize = 66;
+fn places(set: &Set) -> usize {
+    MOST_CONTACTS.max(set.limits.lines).max(set.limits.channels) + 2
+}
 
-pub fn value(random: &mut Random, tables: &Tables) -> Value {
+pub fn value(random: &mut Random, set: &Set) -> Value {
     match random.below(20) {
         0..=9 => {
-            let (table, index) = row(random, &ENTRIES, tables);
+            let (table, index) = row(random, &ENTRIES, set);
             Value::Entry { table, index }
         }
         10..=14 => {
             // Now and then of a row that has no digits.
             let from = if random.percent(90) { &NUMBERED[..] } else { &ENTRIES };
-            let (table, index) = row(random, from, tables);
+            let (table, index) = row(random, from, set);
             Value::EntryDigits { table, index, room: room(random, DIGITS_ROOM) }
         }
-        15..=16 => Value::Channel { position: place(random, &all(&tables.channels)) },
+        15..=16 => {
+            let held = all(&set.tables.channels);
+            Value::Channel { position: place(random, places(set), &held) }
+        }
         17 => Value::EmergencyKey,
         18 => Value::HomeNumbers,
         _ => Value::SystemCode,
@@ -48,15 +53,15 @@ pub fn value(random: &mut Random, tables: &Tables) -> Value {
 }
 
 /// One of these tables with a place, seldom another table with it.
-fn row(random: &mut Random, from: &[u32], tables: &Tables) -> (u32, u32) {
+fn row(random: &mut Random, from: &[u32], set: &Set) -> (u32, u32) {
     let table = random.pick(from);
-    let index = place(random, &held(table, tables));
+    let index = place(random, places(set), &held(table, &set.tables));
     (if random.percent(5) { random.pick(&OTHERS) } else { table }, index)
 }
 
 /// Mostly a place in use; else any, the next one, or one that is in use by its low byte, half or bits.
-fn place(random: &mut Random, held: &[u32]) -> u32 {
-    let any = random.below(PLACES) as u32;
+fn place(random: &mut Random, places: usize, held: &[u32]) -> u32 {
+    let any = random.below(places) as u32;
     let known = if held.is_empty() { any } else { random.pick(held) };
     match random.below(20) {
         0..=3 => any,

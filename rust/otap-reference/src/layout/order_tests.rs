@@ -1,6 +1,7 @@
 //! The order of the lines among a store's bytes: where it stands, and that a false one makes bytes no store.
 
 use super::*;
+use crate::reference::limits::{HANDHELD, VEHICLE};
 use crate::reference::settings::LineFlags;
 
 const PSTN: bool = false;
@@ -10,45 +11,50 @@ const PABX: bool = true;
 const FOUR: [(bool, &[u8]); 4] =
     [(PSTN, &[2, 3, 4, 5]), (PABX, &[2, 3, 4, 5]), (PSTN, &[2, 3]), (PSTN, &[3])];
 
-/// A store with these lines, each with a name.
+/// A hand-held's store with these lines, each with a name.
 fn kept(keys: &[(bool, &[u8])]) -> Vec<u8> {
+    kept_by(HANDHELD, keys)
+}
+
+fn kept_by(limits: Limits, keys: &[(bool, &[u8])]) -> Vec<u8> {
     let line = |&(pabx, digits): &(bool, &[u8])| Line {
         digits: digits.to_vec(),
         flags: LineFlags { pabx, ..LineFlags::default() },
         text: vec![0x4E2D],
     };
-    let mut set = Set::default();
+    let mut set = Set::fresh(limits);
     set.tables.lines = keys.iter().map(line).collect();
     bytes(&set)
 }
 
 /// A store with so many lines, of both IDtypes, the last first.
-fn many(count: u8) -> Vec<u8> {
-    let numbers: Vec<[u8; 2]> = (0..count).rev().map(|place| [place / 10, place % 10]).collect();
+fn many(limits: Limits, count: u8) -> Vec<u8> {
+    let number = |place: u8| [place / 100, place / 10 % 10, place % 10];
+    let numbers: Vec<[u8; 3]> = (0..count).rev().map(number).collect();
     let keys: Vec<(bool, &[u8])> =
-        numbers.iter().map(|digits| (digits[1] % 2 == 1, &digits[..])).collect();
-    kept(&keys)
+        numbers.iter().map(|digits| (digits[2] % 2 == 1, &digits[..])).collect();
+    kept_by(limits, &keys)
 }
 
 /// Whether these bytes with another order, zeros behind it, are a store.
-fn with_order(bytes: &[u8], order: &[u8]) -> bool {
+fn with_order(bytes: &[u8], limits: Limits, order: &[u8]) -> bool {
     let mut poked = bytes.to_vec();
-    poked[14_526..14_558].fill(0);
-    poked[14_526..14_526 + order.len()].copy_from_slice(order);
-    is_store(&poked)
+    poked[limits.order_at()..limits.spare_at()].fill(0);
+    poked[limits.order_at()..][..order.len()].copy_from_slice(order);
+    is_store(&poked, limits)
 }
 
 /// Whether these bytes with one byte changed are a store; the first of the order is 0.
-fn with_byte(bytes: &[u8], place: usize, byte: u8) -> bool {
+fn with_byte(bytes: &[u8], limits: Limits, place: usize, byte: u8) -> bool {
     let mut poked = bytes.to_vec();
-    poked[14_526 + place] = byte;
-    is_store(&poked)
+    poked[limits.order_at() + place] = byte;
+    is_store(&poked, limits)
 }
 
 #[test]
 fn the_order_of_four_lines() {
     let bytes = kept(&FOUR);
-    assert!(is_store(&bytes));
+    assert!(is_store(&bytes, HANDHELD));
     assert_eq!(bytes[14_526..14_530], [3, 1, 4, 2]);
     assert!(is_empty(&bytes[14_530..]));
     assert!(is_empty(&bytes[12_862 + 4 * 52..14_526]));
@@ -61,7 +67,7 @@ fn four_lines_have_one_order() {
     let mut stores = Vec::new();
     for place in 0..6_usize.pow(4) {
         let order = [216, 36, 6, 1].map(|unit| (place / unit % 6) as u8);
-        if with_order(&bytes, &order) {
+        if with_order(&bytes, HANDHELD, &order) {
             stores.push(order);
         }
     }
@@ -92,9 +98,9 @@ fn false_orders_of_four_lines() {
         ("a position beyond the order", &[3, 1, 255, 2]),
         ("positions from 0", &[2, 0, 3, 1]),
     ];
-    assert!(with_order(&bytes, &[3, 1, 4, 2]));
+    assert!(with_order(&bytes, HANDHELD, &[3, 1, 4, 2]));
     for (what, order) in orders {
-        assert!(!with_order(&bytes, order), "{what}");
+        assert!(!with_order(&bytes, HANDHELD, order), "{what}");
     }
 }
 
@@ -105,7 +111,7 @@ fn every_byte_of_the_order() {
     for place in 0..=32 {
         for byte in (0..=34).chain([64, 127, 128, 254, 255]) {
             let right = bytes[14_526 + place];
-            assert_eq!(with_byte(&bytes, place, byte), byte == right, "{place}: {byte}");
+            assert_eq!(with_byte(&bytes, HANDHELD, place, byte), byte == right, "{place}: {byte}");
         }
     }
 }
@@ -113,10 +119,10 @@ fn every_byte_of_the_order() {
 #[test]
 fn no_lines_have_no_order() {
     let bytes = kept(&[]);
-    assert!(is_store(&bytes) && is_empty(&bytes[12_860..]));
+    assert!(is_store(&bytes, HANDHELD) && is_empty(&bytes[12_860..]));
     for place in 0..32 {
         for byte in [1, 2, 32, 33, 255] {
-            assert!(!with_byte(&bytes, place, byte), "{place}: {byte}");
+            assert!(!with_byte(&bytes, HANDHELD, place, byte), "{place}: {byte}");
         }
     }
 }
@@ -124,28 +130,29 @@ fn no_lines_have_no_order() {
 #[test]
 fn one_line_is_the_first() {
     let bytes = kept(&FOUR[1..2]);
-    assert!(is_store(&bytes));
+    assert!(is_store(&bytes, HANDHELD));
     for byte in 0..=255 {
-        assert_eq!(with_byte(&bytes, 0, byte), byte == 1, "{byte}");
-        assert_eq!(with_byte(&bytes, 1, byte), byte == 0, "{byte} behind");
+        assert_eq!(with_byte(&bytes, HANDHELD, 0, byte), byte == 1, "{byte}");
+        assert_eq!(with_byte(&bytes, HANDHELD, 1, byte), byte == 0, "{byte} behind");
     }
 }
 
 /// No byte of a full order is 0, and each but the right one is false.
 #[test]
 fn a_full_order() {
-    for count in [31, 32] {
-        let bytes = many(count);
-        assert!(is_store(&bytes), "{count}");
-        let order = bytes[14_526..14_526 + usize::from(count)].to_vec();
+    for (limits, count) in [(HANDHELD, 31), (HANDHELD, 32), (VEHICLE, 127), (VEHICLE, 128)] {
+        let bytes = many(limits, count);
+        assert!(is_store(&bytes, limits), "{count}");
+        let order = bytes[limits.order_at()..][..usize::from(count)].to_vec();
         assert_eq!((1..=count).filter(|name| order.contains(name)).count(), order.len());
         for place in 0..order.len() {
-            for byte in [0, order[(place + 1) % order.len()], count + 1, 33, 255] {
-                assert!(!with_byte(&bytes, place, byte), "{count}, {place}: {byte}");
+            let next = order[(place + 1) % order.len()];
+            for byte in [0, next, count + 1, limits.lines as u8 + 1, 255] {
+                assert!(!with_byte(&bytes, limits, place, byte), "{count}, {place}: {byte}");
             }
             let mut swapped = order.clone();
             swapped.swap(place, (place + 1) % order.len());
-            assert!(!with_order(&bytes, &swapped), "{count}, {place}");
+            assert!(!with_order(&bytes, limits, &swapped), "{count}, {place}");
         }
     }
 }
@@ -158,7 +165,7 @@ fn the_order_follows_the_keys() {
     let changed = |place: usize, byte: u8, order: &[u8]| {
         let mut poked = bytes.clone();
         poked[place] = byte;
-        (is_store(&poked), with_order(&poked, order))
+        (is_store(&poked, HANDHELD), with_order(&poked, HANDHELD, order))
     };
     assert_eq!(changed(slot(3) + 1, 1, &[3, 1, 2, 4]), (false, true), "PABX 3");
     assert_eq!(changed(slot(1) + 1, 0, &[3, 1, 4, 2]), (false, false), "PSTN 2345 twice");

@@ -1,6 +1,7 @@
 //! What the office's program `office` must write: a line for each message of a report, and one for each of its parameters.
 
 use crate::records::{Record, Records};
+use crate::reference::limits::HANDHELD;
 use crate::reference::message::Hash;
 use crate::reference::report_reading::read;
 use crate::reference::reports::items::Item;
@@ -23,7 +24,7 @@ pub fn office_prints(input: &[u8]) -> String {
 
 /// A record over 4,096 bytes is refused with 12 as its message is.
 fn lines(message: &[u8]) -> String {
-    let report = match read(message) {
+    let report = match read(message, HANDHELD) {
         Ok(report) => report,
         Err(number) => return format!("refused {number}\n"),
     };

@@ -1,8 +1,9 @@
 //! What the cases worked by hand share.
 
 use super::commit::{commit, judge, REPLY_ROOM};
-use super::joining::{join, Refused, JOIN_ROOM};
-use super::message::{request, LONGEST};
+use super::joining::{join, Refused};
+use super::limits::HANDHELD;
+use super::message::request;
 use super::queries::query;
 use super::reports::{report, REPORT_HEAD};
 use super::screen::{row_part, Row, Shown, SCRATCH_ROOM};
@@ -33,9 +34,9 @@ pub fn number_of(set: &mut Set, settings: &[&str]) -> (u8, u8) {
     number(set, &request_of(settings))
 }
 
-/// A fresh set after one such request, which must be taken.
+/// A fresh hand-held after one such request, which must be taken.
 pub fn taken(settings: &[&str]) -> Set {
-    let mut set = Set::default();
+    let mut set = Set::fresh(HANDHELD);
     assert_eq!(number_of(&mut set, settings), (0, 0), "{settings:?}");
     set
 }
@@ -56,7 +57,7 @@ pub fn scratch(number: &str) -> Shown {
 
 /// The first message of the report to these types, asked by a call.
 pub fn reported(set: &Set, types: &str) -> Vec<u8> {
-    let mut buffer = [0xEE; LONGEST];
+    let mut buffer = vec![0xEE; set.limits.message];
     let told = report(&query(&bytes(types)), 1, true, set, &mut buffer).expect("a good query");
     buffer[..told.length].to_vec()
 }
@@ -74,10 +75,10 @@ pub fn report_of(count: u8, parameters: &str) -> Vec<u8> {
     [vec![2, 2, 0, length, 8, 7, 0x0B, 1, 1, count], parameters].concat()
 }
 
-/// Two requests joined by a call: what it wrote over other bytes, which must stay behind that, or wherever it is refused.
+/// Two requests joined for a hand-held by a call: what it wrote over other bytes, which must stay behind that, or wherever it is refused.
 pub fn joined(first: &[u8], second: &[u8]) -> Result<Vec<u8>, Refused> {
-    let mut buffer = [0xEE; JOIN_ROOM + 10];
-    let answer = join(first, second, &mut buffer);
+    let mut buffer = [0xEE; HANDHELD.message + 10];
+    let answer = join(first, second, HANDHELD, &mut buffer);
     let (written, rest) = buffer.split_at(answer.unwrap_or(0));
     assert!(rest.iter().all(|&byte| byte == 0xEE), "{first:02X?} {second:02X?}");
     answer.map(|_| written.to_vec())

@@ -1,5 +1,6 @@
 //! Judging and committing one message (document 02, A6): the order of judgement, the answer and the reply.
 
+use super::limits::Limits;
 use super::message::{self, admitted, asked, Hash, Opened};
 use super::numbers::*;
 use super::settings::{parse, Fault, LastItem, Setting};
@@ -61,7 +62,7 @@ pub fn judge_from(message: &[u8], is_store: bool, set: &Set, reply: &mut [u8]) -
 
 /// As `commit`; `is_store` as there.
 pub fn commit_from(message: &[u8], is_store: bool, set: &mut Set, reply: &mut [u8]) -> Answer {
-    let opened = match admit(message, is_store, reply.len()) {
+    let opened = match admit(message, is_store, set.limits, reply.len()) {
         Ok(opened) => opened,
         Err(number) => return Answer { number, ..Answer::default() },
     };
@@ -82,14 +83,19 @@ pub fn commit_from(message: &[u8], is_store: bool, set: &mut Set, reply: &mut [u
 }
 
 /// The refusals without a reply, in their order.
-fn admit(message: &[u8], is_store: bool, reply_room: usize) -> Result<Opened<'_>, u8> {
+fn admit(
+    message: &[u8],
+    is_store: bool,
+    limits: Limits,
+    reply_room: usize,
+) -> Result<Opened<'_>, u8> {
     if reply_room < REPLY_ROOM {
         return Err(REPLY_SHORT);
     }
     if !is_store {
         return Err(NOT_A_STORE);
     }
-    admitted(message, &[message::REQUEST, message::QUERY])
+    admitted(message, limits, &[message::REQUEST, message::QUERY])
 }
 
 /// What a message comes to; a request that is taken changes the set.
@@ -127,10 +133,10 @@ fn read_request(opened: &Opened, set: &Set) -> Result<(Set, Option<LastItem>), (
         if let Setting::Last(item) = &setting {
             last = Some(item.clone());
         }
-        tables.apply(setting)
+        tables.apply(setting, set.limits)
     })?;
     let hash = last.as_ref().map_or(Hash::Nothing, |item| item.hash.clone());
-    Ok((Set { tables, hash }, last))
+    Ok((Set { limits: set.limits, tables, hash }, last))
 }
 
 /// Hands on each setting of a request in turn, to be given room or not; or the number and failed ID of what is wrong first.

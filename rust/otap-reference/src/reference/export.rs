@@ -9,7 +9,6 @@ use super::settings::{
 use super::tables::{Set, Tables, FIRST_STATUS};
 use super::texts::Text;
 
-pub const EXPORT_ROOM: usize = 4_096;
 pub const PARTS: u8 = 10;
 
 /// Most entries a quick-text setting's 6-bit Count can say.
@@ -24,7 +23,7 @@ pub struct Exported {
 /// Writes one part at the start of the buffer; bytes past its length stay.
 pub fn export(part: u8, is_store: bool, set: &Set, buffer: &mut [u8]) -> Exported {
     let refused = |number| Exported { number, length: 0 };
-    if buffer.len() < EXPORT_ROOM {
+    if buffer.len() < set.limits.message {
         return refused(BUFFER_SHORT);
     }
     if !is_store {

@@ -1,7 +1,8 @@
 //! Joining two requests under one header (document 02, A9): which may be joined, and the call that does it.
 
 use super::commit::each_setting;
-use super::message::{carry, first_byte, of_kind, LONGEST, REQUEST};
+use super::limits::Limits;
+use super::message::{carry, first_byte, of_kind, REQUEST};
 use super::numbers::{BAD_FIELD, BUFFER_SHORT, MESSAGE_LENGTH};
 use super::settings::Setting;
 
@@ -11,9 +12,6 @@ mod order_tests;
 mod store_tests;
 #[cfg(test)]
 mod tests;
-
-/// The least buffer for a joined request: any one of them fits.
-pub const JOIN_ROOM: usize = LONGEST;
 
 /// Why two requests are not joined.
 #[derive(Clone, Copy, Debug, PartialEq, Eq)]
@@ -28,12 +26,12 @@ pub struct Refused {
 /// What the call answers: how many bytes it wrote.
 pub type Joined = Result<usize, Refused>;
 
-/// The call: writes the joined request at the buffer's start; or is refused and writes nothing.
-pub fn join(first: &[u8], second: &[u8], buffer: &mut [u8]) -> Joined {
-    if buffer.len() < JOIN_ROOM {
+/// The call: writes the request joined for such a set at the buffer's start; or is refused and writes nothing.
+pub fn join(first: &[u8], second: &[u8], limits: Limits, buffer: &mut [u8]) -> Joined {
+    if buffer.len() < limits.message {
         return Err(of_neither(BUFFER_SHORT));
     }
-    let message = joined(first, second)?;
+    let message = joined(first, second, limits)?;
     buffer[..message.len()].copy_from_slice(&message);
     Ok(message.len())
 }
@@ -45,16 +43,16 @@ struct Part<'a> {
     settings: &'a [u8],
 }
 
-fn joined(first: &[u8], second: &[u8]) -> Result<Vec<u8>, Refused> {
-    let first = part(first, false)?;
-    let second = part(second, true)?;
+fn joined(first: &[u8], second: &[u8], limits: Limits) -> Result<Vec<u8>, Refused> {
+    let first = part(first, limits, false)?;
+    let second = part(second, limits, true)?;
     if first.coding != second.coding {
         return Err(of_neither(BAD_FIELD));
     }
     let count = first.count.checked_add(second.count).ok_or(of_neither(BAD_FIELD))?;
     let data = [&[first_byte(REQUEST), count], first.settings, second.settings].concat();
     let message = carry(first.coding, &data);
-    if message.len() > LONGEST {
+    if message.len() > limits.message {
         return Err(of_neither(MESSAGE_LENGTH));
     }
     Ok(message)
@@ -64,13 +62,13 @@ fn of_neither(number: u8) -> Refused {
     Refused { number, failed: 0, second: false }
 }
 
-fn part(message: &[u8], second: bool) -> Result<Part<'_>, Refused> {
-    judged(message).map_err(|(number, failed)| Refused { number, failed, second })
+fn part(message: &[u8], limits: Limits, second: bool) -> Result<Part<'_>, Refused> {
+    judged(message, limits).map_err(|(number, failed)| Refused { number, failed, second })
 }
 
 /// What taking would find wrong where every setting has room, and then an item FF.
-fn judged(message: &[u8]) -> Result<Part<'_>, (u8, u8)> {
-    let opened = of_kind(message, REQUEST).map_err(|number| (number, 0))?;
+fn judged(message: &[u8], limits: Limits) -> Result<Part<'_>, (u8, u8)> {
+    let opened = of_kind(message, limits, REQUEST).map_err(|number| (number, 0))?;
     let mut has_last = false;
     each_setting(&opened, |setting| {
         has_last |= matches!(setting, Setting::Last(_));

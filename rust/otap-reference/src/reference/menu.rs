@@ -1,7 +1,7 @@
 //! What the settings menu asks for: how many line contacts and channels a set holds (document 02, A1).
 
 use super::numbers::{NOT_A_STORE, TAKEN};
-use super::tables::{Set, MOST_CHANNELS, MOST_LINES};
+use super::tables::Set;
 
 /// The answer; a refusal has both counts 0.
 #[derive(Clone, Copy, Debug, PartialEq, Eq)]
@@ -29,7 +29,7 @@ impl Set {
     /// Line contacts and channels that there is still room for.
     pub fn free(&self) -> (usize, usize) {
         let (lines, channels) = self.counts();
-        (MOST_LINES - lines, MOST_CHANNELS - channels)
+        (self.limits.lines - lines, self.limits.channels - channels)
     }
 }
 
@@ -37,6 +37,7 @@ impl Set {
 mod tests {
     use super::*;
     use crate::reference::by_hand::number;
+    use crate::reference::limits::HANDHELD;
     use crate::reference::message::request;
     use crate::reference::settings::{LineEntry, LineFlags, Operation, Setting};
 
@@ -59,7 +60,7 @@ mod tests {
 
     #[test]
     fn each_operation_on_lines() {
-        let mut set = Set::default();
+        let mut set = Set::fresh(HANDHELD);
         assert_eq!(counts(true, &set), Counts { number: 0, lines: 0, channels: 0 });
         assert_eq!(after(&mut set, lines(Operation::Add, 0..32)), (0, 32, 0));
         assert_eq!(set.free(), (0, 64));
@@ -74,7 +75,7 @@ mod tests {
 
     #[test]
     fn each_operation_on_channels() {
-        let mut set = Set::default();
+        let mut set = Set::fresh(HANDHELD);
         let many: Vec<u16> = (0..64).map(|place| if place % 2 == 0 { 241 } else { 640 }).collect();
         assert_eq!(after(&mut set, channels(Operation::Replace, &many)), (0, 0, 64));
         assert_eq!(after(&mut set, channels(Operation::Add, &[241])), (2, 0, 64));
@@ -87,7 +88,7 @@ mod tests {
 
     #[test]
     fn no_store_has_no_counts() {
-        let mut set = Set::default();
+        let mut set = Set::fresh(HANDHELD);
         after(&mut set, channels(Operation::Replace, &[241]));
         assert_eq!(counts(true, &set), Counts { number: 0, lines: 0, channels: 1 });
         assert_eq!(counts(false, &set), Counts { number: 11, lines: 0, channels: 0 });

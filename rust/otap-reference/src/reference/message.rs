@@ -1,6 +1,7 @@
 //! The carrier and the messages in it: request, result query and reply; `queries` and `reports` have the other two.
 
 use super::bits::{BitReader, BitWriter};
+use super::limits::Limits;
 use super::numbers::{MESSAGE_LENGTH, WRONG_CARRIER, WRONG_MESSAGE_TYPE, WRONG_VERSION};
 use super::texts::Coding;
 
@@ -15,7 +16,6 @@ pub const REPORT: u8 = 3;
 pub const QUERY: u8 = 5;
 pub const CODING_BINARY: u8 = 0;
 pub const SHORTEST: usize = 7;
-pub const LONGEST: usize = 4_096;
 /// The bytes of a request before its first setting.
 pub const REQUEST_HEAD: usize = 8;
 
@@ -99,9 +99,9 @@ pub fn open(message: &[u8]) -> Option<Opened<'_>> {
     })
 }
 
-/// Opens a message of one of these MsgTypes; or 12, 13 or 14, in this order.
-pub fn admitted<'a>(message: &'a [u8], kinds: &[u8]) -> Result<Opened<'a>, u8> {
-    if !(SHORTEST..=LONGEST).contains(&message.len()) {
+/// Opens a message of one of these MsgTypes, of a size that the set takes; or 12, 13 or 14, in this order.
+pub fn admitted<'a>(message: &'a [u8], limits: Limits, kinds: &[u8]) -> Result<Opened<'a>, u8> {
+    if !(SHORTEST..=limits.message).contains(&message.len()) {
         return Err(MESSAGE_LENGTH);
     }
     let opened = open(message).ok_or(WRONG_CARRIER)?;
@@ -113,8 +113,8 @@ pub fn admitted<'a>(message: &'a [u8], kinds: &[u8]) -> Result<Opened<'a>, u8> {
 }
 
 /// As `admitted`, of one MsgType and version 1; another version is 1, last.
-pub fn of_kind(message: &[u8], kind: u8) -> Result<Opened<'_>, u8> {
-    let opened = admitted(message, &[kind])?;
+pub fn of_kind(message: &[u8], limits: Limits, kind: u8) -> Result<Opened<'_>, u8> {
+    let opened = admitted(message, limits, &[kind])?;
     if opened.version == VERSION {
         Ok(opened)
     } else {

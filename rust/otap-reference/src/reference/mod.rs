@@ -7,6 +7,7 @@ pub mod callers;
 pub mod commit;
 pub mod export;
 pub mod joining;
+pub mod limits;
 pub mod menu;
 pub mod message;
 pub mod numbers;

@@ -1,5 +1,6 @@
 //! What a query is (document 02, A8): a count of types and as many types asked, under any coding type.
 
+use super::limits::Limits;
 use super::message::{carry, first_byte, of_kind, CODING_BINARY, TYPE_QUERY};
 use super::numbers::BAD_FIELD;
 
@@ -7,8 +8,8 @@ use super::numbers::BAD_FIELD;
 mod tests;
 
 /// The types that a query asks for, in its order; or 12, 13, 14, 1 or 4.
-pub fn types(query: &[u8]) -> Result<&[u8], u8> {
-    match of_kind(query, TYPE_QUERY)?.body {
+pub fn types(query: &[u8], limits: Limits) -> Result<&[u8], u8> {
+    match of_kind(query, limits, TYPE_QUERY)?.body {
         [count, types @ ..] if *count != 0 && usize::from(*count) == types.len() => Ok(types),
         _ => Err(BAD_FIELD),
     }

@@ -1,6 +1,7 @@
 //! The office's reader of reports (document 02, A8): one message at a time, without the query.
 
 use super::bits::BitReader;
+use super::limits::Limits;
 use super::message::{of_kind, Hash, Opened, REPORT};
 use super::numbers::BAD_FIELD;
 use super::plan::{GroupAddress, IndividualAddress};
@@ -52,9 +53,9 @@ pub struct Places {
     pub number: Option<usize>,
 }
 
-/// The call: what a message of a report says; or 12, 13, 14, 1 or 4.
-pub fn read(message: &[u8]) -> Result<ReadReport, u8> {
-    let opened = of_kind(message, REPORT)?;
+/// The call: what a message of such a set's report says; or 12, 13, 14, 1 or 4.
+pub fn read(message: &[u8], limits: Limits) -> Result<ReadReport, u8> {
+    let opened = of_kind(message, limits, REPORT)?;
     report_in(message, &opened).ok_or(BAD_FIELD)
 }
 

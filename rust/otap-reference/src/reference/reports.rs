@@ -2,7 +2,7 @@
 
 pub mod items;
 
-use super::message::{carry, first_byte, LONGEST, REPORT};
+use super::message::{carry, first_byte, REPORT};
 use super::numbers::{BAD_FIELD, BUFFER_SHORT, NOT_A_STORE, NO_SUCH_PART};
 use super::queries::types;
 use super::tables::Set;
@@ -13,9 +13,6 @@ use items::{table_items, Item};
 mod cut_tests;
 #[cfg(test)]
 mod tests;
-
-/// The least buffer for a message of a report: any one of them fits.
-pub const REPORT_ROOM: usize = LONGEST;
 
 /// The bytes of a message before its first parameter.
 pub const REPORT_HEAD: usize = 10;
@@ -32,23 +29,23 @@ pub type Told = Result<Reported, u8>;
 
 /// The call: writes the message of this index, from 1, at the buffer's start; or 15, 11, 12, 13, 14, 1, 4 or 16, and writes nothing.
 pub fn report(query: &[u8], index: u32, is_store: bool, set: &Set, buffer: &mut [u8]) -> Told {
-    if buffer.len() < REPORT_ROOM {
+    if buffer.len() < set.limits.message {
         return Err(BUFFER_SHORT);
     }
     if !is_store {
         return Err(NOT_A_STORE);
     }
-    let messages = messages(types(query)?, set, LONGEST).ok_or(BAD_FIELD)?;
+    let messages = messages(types(query, set.limits)?, set).ok_or(BAD_FIELD)?;
     let place = (index as usize).checked_sub(1).ok_or(NO_SUCH_PART)?;
     let message = messages.get(place).ok_or(NO_SUCH_PART)?;
     buffer[..message.len()].copy_from_slice(message);
     Ok(Reported { total: messages.len() as u8, length: message.len() })
 }
 
-/// All messages of the report to these types by a set whose messages have at most so many bytes; nothing where there are over 255.
-pub fn messages(types: &[u8], set: &Set, longest: usize) -> Option<Vec<Vec<u8>>> {
+/// All messages of the report to these types; nothing where there are over 255.
+pub fn messages(types: &[u8], set: &Set) -> Option<Vec<Vec<u8>>> {
     let parameters = asked(types, set).iter().map(Item::bytes).collect();
-    let packets = cut(parameters, longest);
+    let packets = cut(parameters, set.limits.message);
     let total = u8::try_from(packets.len()).ok()?;
     Some((1..=total).zip(&packets).map(|(index, some)| message(total, index, some)).collect())
 }

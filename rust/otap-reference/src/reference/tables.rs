@@ -1,5 +1,6 @@
 //! The tables and what each operation does to them.
 
+use super::limits::Limits;
 use super::message::Hash;
 pub use super::settings::Line;
 use super::settings::{
@@ -13,9 +14,6 @@ mod contact_tests;
 #[cfg(test)]
 mod tests;
 
-/// Places that lines of both IDtypes share.
-pub const MOST_LINES: usize = 32;
-pub const MOST_CHANNELS: usize = 64;
 /// Of the group contacts, and of the individual ones.
 pub const MOST_CONTACTS: usize = 64;
 pub const QUICK_TEXTS: usize = 64;
@@ -41,11 +39,19 @@ pub struct Tables {
     pub line_slots: Vec<Option<Line>>,
 }
 
-/// What a store stands for: the tables and the hash kept.
-#[derive(Clone, Debug, Default, PartialEq, Eq)]
+/// What a store stands for: the tables of a kind of set, and the hash kept.
+#[derive(Clone, Debug, PartialEq, Eq)]
 pub struct Set {
+    pub limits: Limits,
     pub tables: Tables,
     pub hash: Hash,
+}
+
+impl Set {
+    /// In which nothing was ever set.
+    pub fn fresh(limits: Limits) -> Set {
+        Set { limits, tables: Tables::default(), hash: Hash::default() }
+    }
 }
 
 #[derive(Clone, Copy, Debug, PartialEq, Eq)]
@@ -119,8 +125,8 @@ fn apply_keyed<T: Keyed>(
 }
 
 impl Tables {
-    /// Applies one setting; without room the tables are left half changed, for the caller to drop.
-    pub fn apply(&mut self, setting: Setting) -> Result<(), NoRoom> {
+    /// Applies one setting by the room of a set; without room the tables are left half changed, for the caller to drop.
+    pub fn apply(&mut self, setting: Setting, limits: Limits) -> Result<(), NoRoom> {
         match setting {
             Setting::GroupContacts { operation, flags, entries } => {
                 let new = entries.into_iter().map(|entry| flags.of(entry.address, entry.text));
@@ -134,10 +140,10 @@ impl Tables {
                 let line =
                     |entry: LineEntry| Line { digits: entry.digits, flags, text: entry.text };
                 let new = entries.into_iter().map(line);
-                return apply_keyed(&mut self.lines, MOST_LINES, operation, new);
+                return apply_keyed(&mut self.lines, limits.lines, operation, new);
             }
             Setting::Channels { operation, channels } => {
-                return self.apply_channels(operation, channels)
+                return self.apply_channels(operation, channels, limits.channels)
             }
             Setting::QuickTexts { operation, entries } => self.apply_quick(operation, entries),
             Setting::StatusTexts { operation, entries } => self.apply_status(operation, entries),
@@ -152,14 +158,19 @@ impl Tables {
         Ok(())
     }
 
-    fn apply_channels(&mut self, operation: Operation, channels: Vec<u16>) -> Result<(), NoRoom> {
+    fn apply_channels(
+        &mut self,
+        operation: Operation,
+        channels: Vec<u16>,
+        most: usize,
+    ) -> Result<(), NoRoom> {
         if operation == Operation::Replace {
             self.channels.clear();
         }
         for channel in channels {
             if operation == Operation::Delete {
                 self.channels.retain(|&kept| kept != channel);
-            } else if self.channels.len() == MOST_CHANNELS {
+            } else if self.channels.len() == most {
                 return Err(NoRoom);
             } else {
                 self.channels.push(channel);

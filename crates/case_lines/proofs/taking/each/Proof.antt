@@ -6,11 +6,11 @@ use Rattle.case_lines.proofs.taking.each.Statement.{statement}
 use Rattle.case_lines.proofs.taking.each.Tie as tie
 
 abbrev Inv-loop : tie.InvT-loop
-Inv-loop lines whole store₀ at₀ store at =
+Inv-loop set lines whole store₀ at₀ store at =
     (at ≤ length lines) × (length store ≡ length store₀)
 
 abbrev μ-loop : tie.MeasureT-loop
-μ-loop lines whole store₀ at₀ store at =
+μ-loop set lines whole store₀ at₀ store at =
     length lines - at
 
 loop-holds : tie.Need-loop-holds Inv-loop μ-loop

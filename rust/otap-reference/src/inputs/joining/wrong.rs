@@ -3,8 +3,8 @@
 use super::*;
 use crate::inputs::carriers::{other_type, other_version, wrong_byte, wrong_length};
 use crate::inputs::damage::UNKNOWN_TYPES;
+use crate::inputs::longest_input;
 use crate::inputs::maker::{slipped, Maker, TYPES};
-use crate::inputs::LONGEST_INPUT;
 use crate::reference::message::SHORTEST;
 use crate::reference::numbers::{
     BAD_FIELD, MESSAGE_LENGTH, UNKNOWN_TYPE, WRONG_CARRIER, WRONG_MESSAGE_TYPE, WRONG_VERSION,
@@ -83,71 +83,68 @@ impl Wrong {
 type WrongRequest = (Vec<u8>, u8);
 
 /// Two requests that may be joined but for this, in either of them where it is of one.
-pub fn wrong_pair(random: &mut Random, tables: &Tables, wrong: Wrong) -> JoinInput {
+pub fn wrong_pair(random: &mut Random, set: &Set, wrong: Wrong) -> JoinInput {
     let pair = match wrong {
-        Wrong::TwoCodings => any_pair(random, tables, false),
+        Wrong::TwoCodings => any_pair(random, set, false),
         Wrong::TooMany => {
             let count = random.pick(&[256, 256, 257, 300, 509, 510]);
-            pair_of_count(random, tables, count)
+            pair_of_count(random, set, count)
         }
         Wrong::TooLong => {
-            let over = random.pick(&[1, 1, 2, 8, 100, LONGEST - REQUEST_HEAD]);
-            pair_of_size(random, tables, LONGEST + over)
+            let most = set.limits.message;
+            let over = random.pick(&[1, 1, 2, 8, 100, most - REQUEST_HEAD]);
+            pair_of_size(random, set, most + over)
         }
-        _ => return wrong_in_one(random, tables, wrong),
+        _ => return wrong_in_one(random, set, wrong),
     };
     let [first, second] = pair.map(|draft| draft.bytes());
     JoinInput { first, second, answer: wrong.refused(0, false) }
 }
 
-fn wrong_in_one(random: &mut Random, tables: &Tables, wrong: Wrong) -> JoinInput {
-    let [first, second] = roomy_pair(random, tables);
+fn wrong_in_one(random: &mut Random, set: &Set, wrong: Wrong) -> JoinInput {
+    let [first, second] = roomy_pair(random, set);
     if random.flag() {
-        let (second, failed) = damaged(random, tables, second, wrong);
+        let (second, failed) = damaged(random, set, second, wrong);
         return JoinInput { first: first.bytes(), second, answer: wrong.refused(failed, true) };
     }
-    let (first, failed) = damaged(random, tables, first, wrong);
+    let (first, failed) = damaged(random, set, first, wrong);
     JoinInput { first, second: second.bytes(), answer: wrong.refused(failed, false) }
 }
 
 /// Something is wrong with each: the first is what counts.
-pub fn wrong_pairs(random: &mut Random, tables: &Tables) -> JoinInput {
+pub fn wrong_pairs(random: &mut Random, set: &Set) -> JoinInput {
     let [wrong, other] = [(); 2].map(|()| Wrong::ALL[random.below(Wrong::OF_ONE)]);
-    let [first, second] = roomy_pair(random, tables);
-    let (first, failed) = damaged(random, tables, first, wrong);
-    let (second, _) = damaged(random, tables, second, other);
+    let [first, second] = roomy_pair(random, set);
+    let (first, failed) = damaged(random, set, first, wrong);
+    let (second, _) = damaged(random, set, second, other);
     JoinInput { first, second, answer: wrong.refused(failed, false) }
 }
 
 /// With room in each for a setting more, or for a longer one.
-fn roomy_pair(random: &mut Random, tables: &Tables) -> [Draft; 2] {
+fn roomy_pair(random: &mut Random, set: &Set) -> [Draft; 2] {
+    let room = set.limits.message - 1_096;
     loop {
-        let pair = any_pair(random, tables, true);
-        if pair.iter().all(|draft| draft.settings.len() < MOST_SETTINGS && draft.size() < 3_000) {
+        let pair = any_pair(random, set, true);
+        if pair.iter().all(|draft| draft.settings.len() < MOST_SETTINGS && draft.size() < room) {
             return pair;
         }
     }
 }
 
-fn damaged(random: &mut Random, tables: &Tables, draft: Draft, wrong: Wrong) -> WrongRequest {
+fn damaged(random: &mut Random, set: &Set, draft: Draft, wrong: Wrong) -> WrongRequest {
     match wrong {
         Wrong::UnknownType | Wrong::Field | Wrong::Cut | Wrong::EarlyLast | Wrong::Last => {
-            wrong_setting(random, tables, draft, wrong)
+            wrong_setting(random, set, draft, wrong)
         }
         Wrong::SumOfZero | Wrong::Missing | Wrong::LeftOver => {
-            wrong_count(random, tables, draft, wrong)
+            wrong_count(random, set, draft, wrong)
         }
-        _ => wrong_head(random, tables, draft, wrong),
+        _ => wrong_head(random, set, draft, wrong),
     }
 }
 
 /// What is wrong before the first setting has no failed ID.
-fn wrong_head(
-    random: &mut Random,
-    tables: &Tables,
-    mut draft: Draft,
-    wrong: Wrong,
-) -> WrongRequest {
+fn wrong_head(random: &mut Random, set: &Set, mut draft: Draft, wrong: Wrong) -> WrongRequest {
     let mut message = draft.bytes();
     match wrong {
         Wrong::Carrier => wrong_byte(random, &mut message),
@@ -163,29 +160,24 @@ fn wrong_head(
             draft.coding_byte = draft.coding_byte & 0xF0 | random.pick(&codings);
             message = draft.bytes();
         }
-        _ => wrong_size(random, tables, &mut message),
+        _ => wrong_size(random, set, &mut message),
     }
     (message, 0)
 }
 
-fn wrong_size(random: &mut Random, tables: &Tables, message: &mut Vec<u8>) {
+fn wrong_size(random: &mut Random, set: &Set, message: &mut Vec<u8>) {
     if random.flag() {
         message.truncate(random.below(SHORTEST));
         return;
     }
-    let mut draft = Draft::new(random);
-    let size = if random.flag() { LONGEST + 1 } else { LONGEST_INPUT };
-    fill(random, tables, &mut draft, size);
+    let mut draft = Draft::new(random, set.limits);
+    let size = if random.flag() { set.limits.message + 1 } else { longest_input(set.limits) };
+    fill(random, set, &mut draft, size);
     *message = draft.bytes();
 }
 
 /// ParamSum is not the number of settings.
-fn wrong_count(
-    random: &mut Random,
-    tables: &Tables,
-    mut draft: Draft,
-    wrong: Wrong,
-) -> WrongRequest {
+fn wrong_count(random: &mut Random, set: &Set, mut draft: Draft, wrong: Wrong) -> WrongRequest {
     let truth = draft.settings.len() as u8;
     let failed = match wrong {
         Wrong::SumOfZero => {
@@ -200,8 +192,8 @@ fn wrong_count(
             draft.sum = Some(truth);
             // What is left over may look like a setting, and even like an item FF.
             let more = match random.below(3) {
-                0 => maker(random, tables, &draft).any(Size::Small),
-                1 => maker(random, tables, &draft).last(),
+                0 => maker(random, set, &draft).any(Size::Small),
+                1 => maker(random, set, &draft).last(),
                 _ => random.bytes_up_to(20),
             };
             draft.settings.push(more);
@@ -211,16 +203,11 @@ fn wrong_count(
     (draft.bytes(), failed)
 }
 
-fn wrong_setting(
-    random: &mut Random,
-    tables: &Tables,
-    mut draft: Draft,
-    wrong: Wrong,
-) -> WrongRequest {
+fn wrong_setting(random: &mut Random, set: &Set, mut draft: Draft, wrong: Wrong) -> WrongRequest {
     let mut place = random.below(draft.settings.len());
     match wrong {
         Wrong::UnknownType => draft.settings[place][0] = random.pick(&UNKNOWN_TYPES),
-        Wrong::Field => draft.settings[place] = out_of_range(random, tables, draft.coding),
+        Wrong::Field => draft.settings[place] = out_of_range(random, set, draft.coding),
         Wrong::Cut => {
             place = draft.settings.len() - 1;
             let last = &mut draft.settings[place];
@@ -229,7 +216,7 @@ fn wrong_setting(
         _ => {
             // Behind all settings it is the item FF that no joined request has; before one it is at fault itself.
             place = if wrong == Wrong::Last { draft.settings.len() } else { place };
-            let last = maker(random, tables, &draft).last();
+            let last = maker(random, set, &draft).last();
             draft.settings.insert(place, last);
         }
     }
@@ -237,11 +224,11 @@ fn wrong_setting(
 }
 
 /// One value of a setting is, whose range holds: in a delete of D1 or D2 only the index counts.
-fn out_of_range(random: &mut Random, tables: &Tables, coding: Coding) -> Vec<u8> {
+fn out_of_range(random: &mut Random, set: &Set, coding: Coding) -> Vec<u8> {
     loop {
         let kind = random.pick(&TYPES);
         let make = |maker: &mut Maker| maker.of_type(kind, Size::Small);
-        let setting = slipped(random, tables, coding, make);
+        let setting = slipped(random, set, coding, make);
         if !matches!((kind, setting[3] >> 6), (0xD1 | 0xD2, 0b10)) {
             return setting;
         }

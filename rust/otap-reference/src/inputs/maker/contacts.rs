@@ -13,7 +13,7 @@ const POOL: [u32; 24] = [
 impl Maker<'_> {
     /// The addresses that the list of a type holds, in order.
     pub fn known_addresses(&self, kind: u8) -> Vec<u32> {
-        let tables = self.tables;
+        let tables = &self.set.tables;
         if kind == 0xC8 {
             tables.group_contacts.iter().map(|contact| contact.address.0).collect()
         } else {

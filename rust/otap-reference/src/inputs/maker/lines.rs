@@ -22,9 +22,9 @@ fn pool_number(place: usize) -> Vec<u8> {
 impl Maker<'_> {
     pub(super) fn digits(&mut self, keys: Keys) -> Vec<u8> {
         match keys {
-            Keys::Known if !self.tables.lines.is_empty() => {
-                let place = self.random.below(self.tables.lines.len());
-                self.tables.lines[place].digits.clone()
+            Keys::Known if !self.set.tables.lines.is_empty() => {
+                let place = self.random.below(self.set.tables.lines.len());
+                self.set.tables.lines[place].digits.clone()
             }
             Keys::Fresh => self.fresh_digits(),
             _ => pool_number(self.random.below(POOL_NUMBERS)),

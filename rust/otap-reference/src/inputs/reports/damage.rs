@@ -5,12 +5,13 @@ use crate::inputs::draft::carried;
 use crate::inputs::maker::parameters::ASKED;
 use crate::inputs::maker::{slipped, Maker};
 use crate::inputs::random::Random;
-use crate::reference::message::{first_byte, LONGEST, REPORT, SHORTEST};
+use crate::reference::limits::Limits;
+use crate::reference::message::{first_byte, REPORT, SHORTEST};
 use crate::reference::numbers::{
     BAD_FIELD, MESSAGE_LENGTH, WRONG_CARRIER, WRONG_MESSAGE_TYPE, WRONG_VERSION,
 };
 use crate::reference::reports::REPORT_HEAD;
-use crate::reference::tables::Tables;
+use crate::reference::tables::Set;
 use crate::reference::texts::Coding;
 
 /// The one that a report may have.
@@ -79,6 +80,8 @@ impl Damage {
 }
 
 pub struct ReportDraft {
+    /// Of the set that it is from.
+    limits: Limits,
     pub total: u8,
     pub index: u8,
     pub parameters: Vec<Vec<u8>>,
@@ -92,21 +95,22 @@ pub struct ReportDraft {
 
 impl ReportDraft {
     /// In good form, with parameters of any type in any order, and at times an error behind them.
-    pub fn new(random: &mut Random, tables: &Tables) -> Self {
+    pub fn new(random: &mut Random, set: &Set) -> Self {
         let total = random.pick(&[1, 1, 1, 2, 3, 229, 255]);
         let index = if random.flag() { total } else { random.within(1..=total.into()) as u8 };
         let reserved = if random.percent(75) { 0 } else { random.bits(4) as u8 };
         let coding_byte = reserved << 4 | CODING.number();
         let stated = random.percent(70);
+        let (limits, parameters) = (set.limits, Vec::new());
         let mut draft =
-            ReportDraft { total, index, parameters: Vec::new(), sum: None, coding_byte, stated };
+            ReportDraft { limits, total, index, parameters, sum: None, coding_byte, stated };
         let least = usize::from(total != 1);
         for _ in 0..random.pick(&[0, 1, 2, 3, 5, 20, 255]).max(least) {
             let asked = random.pick(&ASKED);
-            draft.push_if_room(maker(random, tables).parameter(asked));
+            draft.push_if_room(maker(random, set).parameter(asked));
         }
         if index == total && random.percent(25) {
-            draft.push_if_room(maker(random, tables).error());
+            draft.push_if_room(maker(random, set).error());
         }
         draft
     }
@@ -114,7 +118,7 @@ impl ReportDraft {
     /// Only what still leaves a message in good form, with a few bytes to spare for a damage.
     fn push_if_room(&mut self, parameter: Vec<u8>) {
         let size = REPORT_HEAD + self.parameters.iter().map(Vec::len).sum::<usize>();
-        if size + parameter.len() + 200 <= LONGEST && self.parameters.len() < 255 {
+        if size + parameter.len() + 200 <= self.limits.message && self.parameters.len() < 255 {
             self.parameters.push(parameter);
         }
     }
@@ -146,13 +150,13 @@ impl ReportDraft {
     }
 }
 
-fn maker<'a>(random: &'a mut Random, tables: &'a Tables) -> Maker<'a> {
-    Maker { random, tables, coding: CODING, slip_after: None }
+fn maker<'a>(random: &'a mut Random, set: &'a Set) -> Maker<'a> {
+    Maker { random, set, coding: CODING, slip_after: None }
 }
 
 /// A message that is a report but for this.
-pub fn damaged(random: &mut Random, tables: &Tables, damage: Damage) -> Vec<u8> {
-    let mut draft = ReportDraft::new(random, tables);
+pub fn damaged(random: &mut Random, set: &Set, damage: Damage) -> Vec<u8> {
+    let mut draft = ReportDraft::new(random, set);
     match damage {
         Damage::Coding => draft.coding_byte ^= random.within(1..=15) as u8,
         Damage::NoTotal => (draft.total, draft.index) = (0, random.pick(&[0, 1, draft.index])),
@@ -162,20 +166,20 @@ pub fn damaged(random: &mut Random, tables: &Tables, damage: Damage) -> Vec<u8> 
             draft.total = draft.total.max(2);
             draft.parameters.clear();
         }
-        Damage::Cut => cut_last(random, tables, &mut draft),
-        Damage::EarlyError => early_error(random, tables, &mut draft),
+        Damage::Cut => cut_last(random, set, &mut draft),
+        Damage::EarlyError => early_error(random, set, &mut draft),
         Damage::ErrorGoesOn => {
             draft.total = draft.total.max(2);
             draft.index = random.within(1..=usize::from(draft.total) - 1) as u8;
-            draft.end_with(maker(random, tables).error());
+            draft.end_with(maker(random, set).error());
         }
         Damage::Error => {
             draft.index = draft.total;
-            draft.end_with(slipped(random, tables, CODING, |maker| maker.error()));
+            draft.end_with(slipped(random, set, CODING, |maker| maker.error()));
         }
         Damage::Parameter => {
             let asked = random.pick(&ASKED);
-            let parameter = slipped(random, tables, CODING, |maker| maker.parameter(asked));
+            let parameter = slipped(random, set, CODING, |maker| maker.parameter(asked));
             draft.put(random, parameter);
         }
         _ => return damaged_bytes(random, &draft, damage),
@@ -204,14 +208,15 @@ fn damaged_bytes(random: &mut Random, draft: &ReportDraft, damage: Damage) -> Ve
     message
 }
 
-/// A whole head is 10 bytes, so that fewer than 7 and more than 4,096 are the wrong sizes alone.
+/// A whole head is 10 bytes, so that fewer than 7 and more than the longest are the wrong sizes alone.
 fn wrong_size(random: &mut Random, draft: &ReportDraft, message: &mut Vec<u8>) {
     if random.flag() {
         message.truncate(random.below(SHORTEST));
         return;
     }
     let mut data = draft.data();
-    data.resize(random.within(LONGEST - 5..=LONGEST + 100), 0);
+    let most = draft.limits.message;
+    data.resize(random.within(most - 5..=most + 100), 0);
     *message = carried(draft.coding_byte, &data, draft.stated);
 }
 
@@ -235,22 +240,22 @@ fn wrong_sum(random: &mut Random, truth: u8) -> u8 {
 }
 
 /// Of each parameter no shorter bytes are one.
-fn cut_last(random: &mut Random, tables: &Tables, draft: &mut ReportDraft) {
+fn cut_last(random: &mut Random, set: &Set, draft: &mut ReportDraft) {
     if draft.parameters.is_empty() {
         let asked = random.pick(&ASKED);
-        draft.parameters.push(maker(random, tables).parameter(asked));
+        draft.parameters.push(maker(random, set).parameter(asked));
     }
     let last = draft.parameters.last_mut().expect("one was pushed");
     last.truncate(random.below(last.len()));
 }
 
 /// In the last message, so that only its place is wrong; what follows may be an error too.
-fn early_error(random: &mut Random, tables: &Tables, draft: &mut ReportDraft) {
+fn early_error(random: &mut Random, set: &Set, draft: &mut ReportDraft) {
     draft.index = draft.total;
     draft.parameters.truncate(254);
     if draft.parameters.is_empty() {
-        draft.parameters.push(maker(random, tables).error());
+        draft.parameters.push(maker(random, set).error());
     }
     let place = random.below(draft.parameters.len());
-    draft.parameters.insert(place, maker(random, tables).error());
+    draft.parameters.insert(place, maker(random, set).error());
 }

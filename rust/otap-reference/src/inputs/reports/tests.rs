@@ -4,8 +4,9 @@ use super::*;
 use crate::inputs::maker::Maker;
 use crate::inputs::Inputs;
 use crate::reference::commit::{judge_and_commit, REPLY_ROOM};
+use crate::reference::limits::{BOTH, HANDHELD};
 use crate::reference::report_reading::read;
-use crate::reference::reports::{report as answer, REPORT_ROOM};
+use crate::reference::reports::report as answer;
 use crate::reference::texts::Coding;
 use std::collections::BTreeMap;
 
@@ -13,11 +14,16 @@ const SEEDS: u64 = 400;
 
 #[test]
 fn good_reports_are_read() {
+    BOTH.into_iter().for_each(good_reports_are_read_of);
+}
+
+fn good_reports_are_read_of(limits: Limits) {
     let (mut errors, mut empty, mut most) = (0, 0, 0);
     for seed in 0..SEEDS {
         let mut random = Random::new(seed);
-        let message = good(&mut random, &Tables::default());
-        let report = read(&message).unwrap_or_else(|number| panic!("{number}: {message:02X?}"));
+        let message = good(&mut random, &Set::fresh(limits));
+        let report =
+            read(&message, limits).unwrap_or_else(|number| panic!("{number}: {message:02X?}"));
         errors += usize::from(report.entries.iter().any(|entry| entry.item.is_error()));
         empty += usize::from(report.entries.is_empty());
         most = most.max(report.entries.len());
@@ -34,10 +40,14 @@ fn good_reports_are_read() {
 
 #[test]
 fn every_damage_is_refused() {
+    BOTH.into_iter().for_each(every_damage_is_refused_of);
+}
+
+fn every_damage_is_refused_of(limits: Limits) {
     for damage in Damage::ALL {
         for seed in 0..SEEDS {
-            let message = damaged(&mut Random::new(seed), &Tables::default(), damage);
-            let number = read(&message).map(|_| TAKEN).unwrap_or_else(|number| number);
+            let message = damaged(&mut Random::new(seed), &Set::fresh(limits), damage);
+            let number = read(&message, limits).map(|_| TAKEN).unwrap_or_else(|number| number);
             assert_eq!(number, damage.number(), "{damage:?}: {message:02X?}");
         }
     }
@@ -46,7 +56,7 @@ fn every_damage_is_refused() {
 /// Each ranged value in turn, of each type: out of range there, the parameter is none; without that slip it is one.
 #[test]
 fn every_value_out_of_range() {
-    let tables = Tables::default();
+    let set = Set::fresh(HANDHELD);
     let values = [3, 2, 3, 1, 1, 1, 1, 2, 2, 1];
     for (asked, least) in ASKED.into_iter().zip(values) {
         let mut refused = BTreeMap::new();
@@ -54,7 +64,7 @@ fn every_value_out_of_range() {
             for slip in 0..8 {
                 let random = &mut Random::new(seed);
                 let coding = Coding::Unicode;
-                let mut maker = Maker { random, tables: &tables, coding, slip_after: Some(slip) };
+                let mut maker = Maker { random, set: &set, coding, slip_after: Some(slip) };
                 let made = maker.parameter(asked);
                 let slipped = maker.slip_after.is_none();
                 assert_eq!(entry_at(&made, 0).is_none(), slipped, "{made:02X?}");
@@ -70,15 +80,19 @@ fn every_value_out_of_range() {
 /// Every number that the call can answer comes up, and several messages.
 #[test]
 fn queries_of_every_kind() {
+    BOTH.into_iter().for_each(queries_of_every_kind_of);
+}
+
+fn queries_of_every_kind_of(limits: Limits) {
     let mut met: BTreeMap<u8, usize> = BTreeMap::new();
     let mut several = 0;
     for seed in 0..60 {
-        let mut inputs = Inputs::new(seed);
-        let mut set = Set::default();
+        let mut inputs = Inputs::new(seed, limits);
+        let mut set = Set::fresh(limits);
         for _ in 0..15 {
             judge_and_commit(&inputs.message(), &mut set, &mut [0; REPLY_ROOM]);
             let ReportCall { query, index } = inputs.report_call();
-            let told = answer(&query, index, true, &set, &mut [0; REPORT_ROOM]);
+            let told = answer(&query, index, true, &set, &mut vec![0; limits.message]);
             several += usize::from(told.is_ok_and(|told| told.total > 1));
             *met.entry(told.map_or_else(|number| number, |_| TAKEN)).or_insert(0) += 1;
         }
@@ -91,13 +105,17 @@ fn queries_of_every_kind() {
 
 #[test]
 fn reports_and_places_of_every_kind() {
+    BOTH.into_iter().for_each(reports_and_places_of_every_kind_of);
+}
+
+fn reports_and_places_of_every_kind_of(limits: Limits) {
     let (mut found, mut nothing, mut unforeseen) = (0, 0, 0);
     for seed in 0..40 {
-        let mut inputs = Inputs::new(seed);
+        let mut inputs = Inputs::new(seed, limits);
         (0..10).for_each(|_| drop(inputs.message()));
         for _ in 0..20 {
             let ReportInput { message, number } = inputs.report();
-            let answered = read(&message).map_or_else(|number| number, |_| TAKEN);
+            let answered = read(&message, limits).map_or_else(|number| number, |_| TAKEN);
             assert_eq!(answered, number.unwrap_or(answered), "{message:02X?}");
             unforeseen += usize::from(number.is_none() && answered == TAKEN);
             let at = inputs.report_place(&message) as usize;

@@ -5,8 +5,8 @@ use crate::inputs::callers::Caller;
 use crate::inputs::Inputs;
 use crate::reference::by_hand::{number_of, scratch, shown, stored, taken};
 use crate::reference::commit::{judge_and_commit, REPLY_ROOM};
+use crate::reference::limits::HANDHELD;
 use crate::reference::screen::Row;
-use crate::reference::tables::MOST_LINES;
 
 const PSTN: u32 = 0;
 const PABX: u32 = 1;
@@ -36,7 +36,7 @@ fn row(set: &Set, id_type: u32, number: &str) -> Option<u32> {
 #[test]
 fn the_order_of_four_lines() {
     assert_eq!(order_of(&four()), [2, 0, 3, 1]);
-    assert!(order_of(&Set::default()).is_empty());
+    assert!(order_of(&Set::fresh(HANDHELD)).is_empty());
 }
 
 /// The order goes by the keys, wherever the lines stand.
@@ -82,7 +82,7 @@ fn no_row_has_that_number() {
         assert_eq!((row(&set, PSTN, number), row(&set, PABX, number)), (None, None), "{number}");
     }
     assert_eq!((row(&set, PABX, "23"), row(&set, PABX, "3")), (None, None));
-    assert_eq!(row(&Set::default(), PSTN, "3"), None);
+    assert_eq!(row(&Set::fresh(HANDHELD), PSTN, "3"), None);
 }
 
 /// Also such as are 0 or 1 in their low byte, half or bit.
@@ -121,7 +121,7 @@ fn no_number() {
 fn no_store() {
     for digits in [&[2, 3, 4, 5][..], &[9], &[], &[2; 19], &[10]] {
         assert_eq!(line_of(PSTN, digits, false, &four()), Err(11), "{digits:?}");
-        assert_eq!(line_of(2, digits, false, &Set::default()), Err(11), "{digits:?}");
+        assert_eq!(line_of(2, digits, false, &Set::fresh(HANDHELD)), Err(11), "{digits:?}");
     }
 }
 
@@ -250,13 +250,13 @@ fn by_order(lines: &[Line], id_type: u32, digits: &[u8]) -> Option<u32> {
 fn callers_of_many_sets() {
     let (mut found, mut absent, mut refused, mut full) = (0, 0, 0, 0);
     for seed in 0..50 {
-        let mut inputs = Inputs::new(seed);
-        let mut set = Set::default();
+        let mut inputs = Inputs::new(seed, HANDHELD);
+        let mut set = Set::fresh(HANDHELD);
         for _ in 0..30 {
             judge_and_commit(&inputs.message(), &mut set, &mut [0; REPLY_ROOM]);
             let lines = &set.tables.lines;
             assert_ordered(lines);
-            full += usize::from(lines.len() == MOST_LINES);
+            full += usize::from(lines.len() == HANDHELD.lines);
             for _ in 0..10 {
                 let Caller { id_type, digits } = inputs.caller();
                 let Ok(row) = line_of(id_type, &digits, true, &set) else {

@@ -3,6 +3,7 @@
 use super::*;
 use crate::inputs::Inputs;
 use crate::reference::by_hand::{bytes, number_of, request_of as of};
+use crate::reference::limits::HANDHELD;
 use crate::reference::message::query;
 
 /// Asks for a restart and a reply, and leaves a hash of code 1.
@@ -27,7 +28,7 @@ fn committed(message: &[u8], set: &mut Set) -> (Answer, [u8; REPLY_ROOM]) {
 
 /// A set that holds as many channels.
 fn with_channels(count: usize) -> Set {
-    let mut set = Set::default();
+    let mut set = Set::fresh(HANDHELD);
     set.tables.channels = vec![241; count];
     set
 }
@@ -35,14 +36,14 @@ fn with_channels(count: usize) -> Set {
 /// The reply to a good request carries its own hash before the set keeps it; send and reboot are those of committing.
 #[test]
 fn a_good_request() {
-    let mut set = Set::default();
+    let mut set = Set::fresh(HANDHELD);
     let message = of(&[HOME, LAST]);
     let said = judged(&message, &set);
     let answer = Answer { number: TAKEN, failed: 0, send: true, reboot: true, length: 14 };
     assert_eq!(said.0, answer);
     assert_eq!(said.1[..14], bytes("02 02 00 0A 08 00 09 00 00 01 12 34 56 78"));
     assert_eq!(said.1[14..], [0xEE; 6]);
-    assert_eq!(set, Set::default());
+    assert_eq!(set, Set::fresh(HANDHELD));
     assert_eq!(committed(&message, &mut set), said);
     assert_eq!((set.tables.home.np, &set.hash), (806, &HASH));
 }
@@ -85,7 +86,7 @@ fn a_refused_request() {
 /// Queries are judged too; the one that matches is answered with the hash kept.
 #[test]
 fn queries() {
-    let mut set = Set::default();
+    let mut set = Set::fresh(HANDHELD);
     assert_eq!(judged(&query(&HASH), &set).0.number, NO_MATCH);
     assert_eq!(number_of(&mut set, &[LAST]), (TAKEN, 0));
     let said = judged(&query(&HASH), &set);
@@ -98,7 +99,7 @@ fn queries() {
 /// 10 to 14 in their order, and none writes.
 #[test]
 fn refusals_without_a_reply() {
-    let set = Set::default();
+    let set = Set::fresh(HANDHELD);
     let good = of(&[HOME]);
     let number = |message: &[u8], is_store, room| {
         let mut reply = vec![0xEE; room];
@@ -119,8 +120,8 @@ fn refusals_without_a_reply() {
 #[test]
 fn judged_and_committed() {
     for seed in 0..20 {
-        let mut inputs = Inputs::new(seed);
-        let mut set = Set::default();
+        let mut inputs = Inputs::new(seed, HANDHELD);
+        let mut set = Set::fresh(HANDHELD);
         for _ in 0..60 {
             let message = inputs.message();
             let before = set.clone();

@@ -2,6 +2,7 @@
 
 use super::*;
 use crate::reference::by_hand::{bytes, joined, number, number_of, request_of, settings_of_size};
+use crate::reference::limits::HANDHELD;
 use crate::reference::message::{query, request, request_as, Hash, REQUEST_HEAD, SHORTEST};
 use crate::reference::tables::Set;
 use crate::reference::texts::Coding;
@@ -67,9 +68,9 @@ fn the_first_comes_first() {
 fn sizes() {
     let good = request_of(&[HOME]);
     (0..SHORTEST).for_each(|size| refused(&good[..size], (12, 0)));
-    let settings = settings_of_size(LONGEST + 1 - REQUEST_HEAD);
+    let settings = settings_of_size(HANDHELD.message + 1 - REQUEST_HEAD);
     refused(&request(&settings), (12, 0));
-    refused(&[0; LONGEST + 1], (12, 0));
+    refused(&[0; HANDHELD.message + 1], (12, 0));
 }
 
 #[test]
@@ -104,7 +105,7 @@ fn first_bytes() {
 #[test]
 fn result_queries() {
     for hash in [Hash::Nothing, Hash::Crc([1, 2, 3, 4])] {
-        assert_eq!(number(&mut Set::default(), &query(&hash)), (5, 0));
+        assert_eq!(number(&mut Set::fresh(HANDHELD), &query(&hash)), (5, 0));
         refused(&query(&hash), (14, 0));
     }
 }
@@ -168,7 +169,7 @@ fn last_items() {
 fn room_is_not_asked() {
     // 65 channels, of which the last is filled up.
     let channels = format!("CE 00 66 C0 41 {}0F 1F", "0F 10 F1 ".repeat(32));
-    let mut set = Set::default();
+    let mut set = Set::fresh(HANDHELD);
     for (behind, fault) in [("C7", (3, 2)), (NP_807, (4, 2)), (LAST, (4, 2))] {
         assert_eq!(number_of(&mut set, &[&channels, behind]), (2, 1));
         refused(&request_of(&[&channels, behind]), fault);

@@ -4,6 +4,7 @@ use crate::inputs::joining::{good_pair, replacing};
 use crate::inputs::random::Random;
 use crate::inputs::Inputs;
 use crate::reference::by_hand::{joined, number, number_of, request_of, taken};
+use crate::reference::limits::HANDHELD;
 use crate::reference::message::Hash;
 use crate::reference::tables::Set;
 
@@ -61,14 +62,14 @@ fn both_are_taken() {
 
 #[test]
 fn the_first_lacks_room() {
-    let mut set = Set::default();
+    let mut set = Set::fresh(HANDHELD);
     let first = request_of(&[&lines(33)]);
     for second in [HOME, &lines(33), CHANNELS] {
         assert_eq!(both_ways(&mut set, &first, &request_of(&[second])), (2, 1));
     }
     let first = request_of(&[HOME, &lines(32), "CA 00 07 42 01 1F 00 00", HOME]);
     assert_eq!(both_ways(&mut set, &first, &request_of(&[&lines(33)])), (2, 3));
-    assert_eq!(set, Set::default());
+    assert_eq!(set, Set::fresh(HANDHELD));
 }
 
 /// Alone it has room; behind the first it has not.
@@ -76,10 +77,10 @@ fn the_first_lacks_room() {
 fn the_second_lacks_room() {
     let (first, second) = ([channels(60)], [HOME, "CE 00 0C 40 05 0F 10 F1 0F 10 F1 0F 1F"]);
     let [first, second] = [request_of(&[&first[0]]), request_of(&second)];
-    let mut set = Set::default();
+    let mut set = Set::fresh(HANDHELD);
     assert_eq!(both_ways(&mut set, &second, &first), (2, 3));
     assert_eq!(both_ways(&mut set, &first, &second), (2, 3));
-    assert_eq!(set, Set::default());
+    assert_eq!(set, Set::fresh(HANDHELD));
     assert_eq!(number(&mut set, &second), (0, 0));
     let mut set = taken(&[&channels(60)]);
     assert_eq!(number(&mut set, &second), (2, 2));
@@ -107,8 +108,8 @@ fn counted_through_to_255() {
 /// Sets of every kind, as messages leave them.
 fn many_sets(mut each: impl FnMut(&mut Random, &mut Set)) {
     for seed in 0..40 {
-        let (mut inputs, mut random) = (Inputs::new(seed), Random::new(!seed));
-        let mut set = Set::default();
+        let (mut inputs, mut random) = (Inputs::new(seed, HANDHELD), Random::new(!seed));
+        let mut set = Set::fresh(HANDHELD);
         for _ in 0..15 {
             number(&mut set, &inputs.message());
             each(&mut random, &mut set);
@@ -121,7 +122,7 @@ fn many_sets(mut each: impl FnMut(&mut Random, &mut Set)) {
 fn any_two_that_may_be_joined() {
     let mut met = [0; 3];
     many_sets(|random, set| {
-        let [first, second] = good_pair(random, &set.tables).map(|draft| draft.bytes());
+        let [first, second] = good_pair(random, set).map(|draft| draft.bytes());
         let (said, failed) = both_ways(set, &first, &second);
         assert!(said == 0 || said == 2, "{first:02X?} {second:02X?}");
         met[if said == 0 { 0 } else { 1 + usize::from(failed > first[7]) }] += 1;
@@ -158,7 +159,7 @@ fn an_add_sent_twice() {
 fn any_replaces_sent_twice() {
     let mut met = [0; 2];
     many_sets(|random, set| {
-        let message = replacing(random, &set.tables).bytes();
+        let message = replacing(random, set).bytes();
         let said = number(set, &message);
         let once = set.clone();
         assert_eq!(number(set, &message), said, "{message:02X?}");

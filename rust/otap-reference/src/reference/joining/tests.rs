@@ -2,6 +2,7 @@
 
 use super::*;
 use crate::reference::by_hand::{bytes, joined, number, request_of, settings_of_size};
+use crate::reference::limits::HANDHELD;
 use crate::reference::message::{request, request_as, REQUEST_HEAD};
 use crate::reference::tables::Set;
 use crate::reference::texts::Coding;
@@ -93,7 +94,7 @@ fn at_most_4096_bytes() {
     for (first, second) in [(4_000, 104), (104, 4_000), (2_052, 2_052), (4_070, 34)] {
         let message = joined(&of_size(first), &of_size(second)).expect("just so long");
         assert_eq!((message.len(), &message[2..4]), (4_096, &[0x0F, 0xFC][..]));
-        assert_eq!(number(&mut Set::default(), &message), (0, 0));
+        assert_eq!(number(&mut Set::fresh(HANDHELD), &message), (0, 0));
     }
     for (first, second) in [(4_000, 105), (4_000, 200), (200, 4_000), (4_096, 4_096)] {
         assert_eq!(joined(&of_size(first), &of_size(second)), Err(of_neither(12)));
@@ -109,16 +110,16 @@ fn at_most_4096_bytes() {
 #[test]
 fn the_buffer() {
     let good = homes(1);
-    for room in [0, 1, 20, JOIN_ROOM - 1] {
+    for room in [0, 1, 20, HANDHELD.message - 1] {
         for (first, second) in [(&good[..], &good[..]), (&[], &good), (&good, &[]), (&[], &[])] {
             let mut buffer = vec![0xEE; room];
-            assert_eq!(join(first, second, &mut buffer), Err(of_neither(15)));
+            assert_eq!(join(first, second, HANDHELD, &mut buffer), Err(of_neither(15)));
             assert!(buffer.iter().all(|&byte| byte == 0xEE));
         }
     }
-    for room in [JOIN_ROOM, JOIN_ROOM + 1, 2 * JOIN_ROOM] {
+    for room in [HANDHELD.message, HANDHELD.message + 1, 2 * HANDHELD.message] {
         let mut buffer = vec![0xEE; room];
-        assert_eq!(join(&good, &good, &mut buffer), Ok(20));
+        assert_eq!(join(&good, &good, HANDHELD, &mut buffer), Ok(20));
         assert_eq!(buffer[..20], homes(2));
         assert!(buffer[20..].iter().all(|&byte| byte == 0xEE));
     }

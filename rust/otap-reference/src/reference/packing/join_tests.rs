@@ -2,13 +2,14 @@
 
 use super::packed_join;
 use crate::reference::by_hand::{request_of, settings_of_size};
-use crate::reference::joining::{join, Refused, JOIN_ROOM};
+use crate::reference::joining::{join, Refused};
+use crate::reference::limits::HANDHELD;
 use crate::reference::message::{request, REQUEST_HEAD};
 
 const HOME: &str = "CD 00 05 07 E4 C0";
 
 fn asked(first: &[u8], second: &[u8]) -> u64 {
-    packed_join(join(first, second, &mut [0; JOIN_ROOM]))
+    packed_join(join(first, second, HANDHELD, &mut [0; HANDHELD.message]))
 }
 
 #[test]
@@ -30,7 +31,7 @@ fn refusals() {
     assert_eq!([asked(cut, &good), asked(&good, cut)], [13, 0x1_0000_000D]);
     let many = request_of(&[HOME; 128]);
     assert_eq!(asked(&many, &many), 4);
-    let short = join(&good, &good, &mut [0; JOIN_ROOM - 1]);
+    let short = join(&good, &good, HANDHELD, &mut [0; HANDHELD.message - 1]);
     assert_eq!(packed_join(short), 15);
 }
 

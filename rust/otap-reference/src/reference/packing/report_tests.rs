@@ -2,12 +2,13 @@
 
 use super::*;
 use crate::reference::by_hand::{bytes, report_of, taken, EVERY_PARAMETER};
+use crate::reference::limits::HANDHELD;
 use crate::reference::queries::query;
 use crate::reference::report_reading::{entry_at, read};
-use crate::reference::reports::{report, REPORT_ROOM};
+use crate::reference::reports::report;
 
 fn read_packed(message: &[u8]) -> u64 {
-    packed_read_report(read(message).as_ref().map_err(|&number| number))
+    packed_read_report(read(message, HANDHELD).as_ref().map_err(|&number| number))
 }
 
 /// Both answers for a parameter at byte 10.
@@ -23,12 +24,12 @@ fn the_report_call() {
         packed_report(report(query, index, is_store, &set, &mut vec![0; room]))
     };
     let good = query(&[0xCE]);
-    assert_eq!(asked(&good, 1, true, REPORT_ROOM), 0x0014_0100);
-    assert_eq!(asked(&good, 2, true, REPORT_ROOM), 16);
-    assert_eq!(asked(&good, 1, false, REPORT_ROOM), 11);
-    assert_eq!(asked(&good, 1, true, REPORT_ROOM - 1), 15);
-    assert_eq!(asked(&query(&[]), 1, true, REPORT_ROOM), 4);
-    assert_eq!(asked(&bytes("02 02 00 05 08 00 12 01 CE"), 1, true, REPORT_ROOM), 1);
+    assert_eq!(asked(&good, 1, true, HANDHELD.message), 0x0014_0100);
+    assert_eq!(asked(&good, 2, true, HANDHELD.message), 16);
+    assert_eq!(asked(&good, 1, false, HANDHELD.message), 11);
+    assert_eq!(asked(&good, 1, true, HANDHELD.message - 1), 15);
+    assert_eq!(asked(&query(&[]), 1, true, HANDHELD.message), 4);
+    assert_eq!(asked(&bytes("02 02 00 05 08 00 12 01 CE"), 1, true, HANDHELD.message), 1);
 }
 
 /// The widest: 229 messages, of which the first has 4,076 bytes.
@@ -36,7 +37,7 @@ fn the_report_call() {
 fn a_long_report() {
     let mut set = taken(&["CE 00 04 C0 00"]);
     set.tables.status_texts = vec![Some(vec![0x41; 16]); 96];
-    let told = report(&query(&[0xD0; 255]), 1, true, &set, &mut vec![0; REPORT_ROOM]);
+    let told = report(&query(&[0xD0; 255]), 1, true, &set, &mut vec![0; HANDHELD.message]);
     assert_eq!(packed_report(told), 0x0FEC_E500);
 }
 

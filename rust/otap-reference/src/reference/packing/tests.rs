@@ -2,6 +2,7 @@
 
 use super::*;
 use crate::reference::by_hand::taken;
+use crate::reference::limits::HANDHELD;
 use crate::reference::tables::Set;
 use crate::reference::values::*;
 
@@ -72,7 +73,7 @@ fn numbers_and_codes() {
 /// A fresh store: the key calls the current place, and all else is 0 or 17.
 #[test]
 fn fresh_answers() {
-    let set = Set::default();
+    let set = Set::fresh(HANDHELD);
     assert_eq!(packed_entry(entry(LINES, 0, true, &set)), 17);
     assert_eq!(packed_channel(channel(0, true, &set)), 17);
     assert_eq!(packed_emergency_key(emergency_key(true, &set)), 0x0001_0000_0000);

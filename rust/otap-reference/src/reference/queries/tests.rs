@@ -2,8 +2,13 @@
 
 use super::*;
 use crate::reference::by_hand::{bytes, number};
-use crate::reference::message::LONGEST;
+use crate::reference::limits::{HANDHELD, VEHICLE};
 use crate::reference::tables::Set;
+
+/// By a hand-held.
+fn types(query: &[u8]) -> Result<&[u8], u8> {
+    super::types(query, HANDHELD)
+}
 
 /// The types or the number of a query whose data bytes these are, with its length stated and not.
 fn read(data: &str) -> Result<Vec<u8>, u8> {
@@ -48,9 +53,17 @@ fn wrong_counts() {
 fn too_many_types() {
     let many = [vec![2, 2, 0, 0, 8, 0, 0x0A, 0], vec![0xCE; 256]].concat();
     assert_eq!(types(&many), Err(4));
-    let long = [vec![2, 2, 0, 0, 8, 0, 0x0A, 255], vec![0xCE; LONGEST - 8]].concat();
+    let long = [vec![2, 2, 0, 0, 8, 0, 0x0A, 255], vec![0xCE; 4_096 - 8]].concat();
     assert_eq!(types(&long), Err(4));
-    assert_eq!(types(&[long, vec![0xCE]].concat()), Err(12));
+    let longer = [long, vec![0xCE]].concat();
+    assert_eq!(types(&longer), Err(12));
+    assert_eq!(super::types(&longer, VEHICLE), Err(4));
+    let of_size = |size: usize| {
+        let mut query = longer.clone();
+        query.resize(size, 0xCE);
+        super::types(&query, VEHICLE).err()
+    };
+    assert_eq!([8_192, 8_193].map(of_size), [Some(4), Some(12)]);
 }
 
 /// Every coding type and all reserved bits.
@@ -98,9 +111,9 @@ fn wrong_carriers() {
 /// Taking refuses queries and reports as before, and leaves the set.
 #[test]
 fn taking_refuses_both() {
-    let mut set = Set::default();
+    let mut set = Set::fresh(HANDHELD);
     for message in ["02 02 00 05 08 07 0A 01 CE", "02 02 00 06 08 07 0B 01 01 00"] {
         assert_eq!(number(&mut set, &bytes(message)), (14, 0));
     }
-    assert_eq!(set, Set::default());
+    assert_eq!(set, Set::fresh(HANDHELD));
 }

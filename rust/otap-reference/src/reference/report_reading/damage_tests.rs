@@ -2,6 +2,12 @@
 
 use super::*;
 use crate::reference::by_hand::{bytes, report_of};
+use crate::reference::limits::{HANDHELD, VEHICLE};
+
+/// Of a hand-held's report.
+fn read(message: &[u8]) -> Result<ReadReport, u8> {
+    super::read(message, HANDHELD)
+}
 
 /// A text of so many units and its end.
 fn units(count: usize) -> String {
@@ -228,8 +234,12 @@ fn the_order_of_the_refusals() {
         assert_eq!(read(&bytes(message)), Err(number), "{message}");
     }
     let mut long = report_of(1, "8E 00 0F 10 00");
-    long.resize(4_097, 0);
-    assert_eq!(read(&long), Err(12));
+    for (limits, size, number) in
+        [(HANDHELD, 4_096, 13), (HANDHELD, 4_097, 12), (VEHICLE, 8_192, 13), (VEHICLE, 8_193, 12)]
+    {
+        long.resize(size, 0);
+        assert_eq!(super::read(&long, limits), Err(number), "{size}");
+    }
     for first in (0..=255).filter(|&first| first != 0x0B) {
         let mut message = report_of(0, "");
         message[6] = first;

@@ -3,9 +3,15 @@
 use super::*;
 use crate::inputs::sweep::sweep;
 use crate::reference::by_hand::{bytes, report_of, reported, taken, EVERY_PARAMETER, EVERY_TABLE};
+use crate::reference::limits::HANDHELD;
 use crate::reference::reports::asked;
 use crate::reference::settings::{GroupSlot, HomeNumbers, IndividualSlot, SystemCode};
 use crate::reference::tables::Set;
+
+/// Of a hand-held's report.
+fn read(message: &[u8]) -> Result<ReadReport, u8> {
+    super::read(message, HANDHELD)
+}
 
 fn read_items(count: u8, parameters: &str) -> Vec<Item> {
     read(&report_of(count, parameters)).expect("a report").items()
@@ -86,7 +92,7 @@ fn a_set_is_read_back() {
     let report = read(&reported(&set, &hex.join(" "))).expect("a report");
     assert_eq!((report.total, report.index), (1, 1));
     assert_eq!(report.items(), asked(&types, &set));
-    let fresh = read(&reported(&Set::default(), "CC")).expect("a report of nothing");
+    let fresh = read(&reported(&Set::fresh(HANDHELD), "CC")).expect("a report of nothing");
     assert_eq!(fresh, ReadReport { total: 1, index: 1, entries: Vec::new() });
 }
 

@@ -4,6 +4,7 @@ use super::*;
 use crate::reference::by_hand::{
     bytes, parameters, report_of, reported, taken, EVERY_PARAMETER, EVERY_TABLE,
 };
+use crate::reference::limits::HANDHELD;
 use crate::reference::queries::query;
 
 /// The number, total and length, and the buffer, which held 0xEE.
@@ -54,12 +55,12 @@ fn each_type() {
         assert_eq!(parameters(&set, &format!("{asked:02X}")), (1, bytes(wanted)), "{asked:02X}");
     }
     let (types, all): (Vec<u8>, Vec<&str>) = EVERY_PARAMETER.into_iter().unzip();
-    assert_eq!(messages(&types, &set, 4_096), Some(vec![report_of(10, &all.join(" "))]));
+    assert_eq!(messages(&types, &set), Some(vec![report_of(10, &all.join(" "))]));
 }
 
 #[test]
 fn a_fresh_set() {
-    let fresh = Set::default();
+    let fresh = Set::fresh(HANDHELD);
     for empty in ["C8", "C9", "CA", "CC", "CE", "D0", "C8 C9 CA CC CE D0"] {
         assert_eq!(reported(&fresh, empty), bytes("02 02 00 06 08 07 0B 01 01 00"), "{empty}");
     }
@@ -70,7 +71,7 @@ fn a_fresh_set() {
 /// The types of D1 to D3 and of reports are unknown too; what is asked behind one is not answered.
 #[test]
 fn unknown_types() {
-    let fresh = Set::default();
+    let fresh = Set::fresh(HANDHELD);
     for unknown in ["D1", "D2", "D3", "88", "8C", "90", "9E", "BF", "00", "C7", "D4", "FE"] {
         let wanted = bytes(&format!("{unknown} 83"));
         assert_eq!(parameters(&fresh, unknown), (1, wanted.clone()), "{unknown}");

@@ -2,6 +2,7 @@
 
 use super::*;
 use crate::reference::by_hand::{bytes, number, number_of};
+use crate::reference::limits::HANDHELD;
 use crate::reference::message::request_as;
 use crate::reference::tables::Set;
 
@@ -14,14 +15,14 @@ const SLOT: &str = "D3 00 09 42 03 23 45 FF 00 00";
 
 /// The number of a request to a fresh set with one setting, whose failed ID is 1 where it is not taken.
 fn alone(setting: &str) -> u8 {
-    let (number, failed) = number_of(&mut Set::default(), &[setting]);
+    let (number, failed) = number_of(&mut Set::fresh(HANDHELD), &[setting]);
     assert_eq!(failed, u8::from(number != 0), "{setting}");
     number
 }
 
 /// The same under 0100.
 fn alone_eight(setting: &str) -> u8 {
-    number(&mut Set::default(), &request_as(Coding::Eight, &[bytes(setting)])).0
+    number(&mut Set::fresh(HANDHELD), &request_as(Coding::Eight, &[bytes(setting)])).0
 }
 
 fn read(setting: &str) -> Setting {

@@ -5,8 +5,9 @@ use crate::layout;
 use crate::programs::{put_writes, take_prints};
 use crate::records::push_record;
 use crate::reference::by_hand::{bytes, number, number_of, scratch, shown, stored, taken};
-use crate::reference::export::{export, part_bytes, Exported, EXPORT_ROOM, PARTS};
-use crate::reference::message::{request, LONGEST};
+use crate::reference::export::{export, part_bytes, Exported, PARTS};
+use crate::reference::limits::HANDHELD;
+use crate::reference::message::request;
 use crate::reference::plan::{GroupAddress, IndividualAddress};
 use crate::reference::screen::{row_number, row_part, Row, Shown, SCRATCH_ROOM};
 use crate::reference::settings::{ContactEntry, GroupFlags, IndividualFlags, LineFlags};
@@ -93,7 +94,7 @@ fn a_background_group() {
 /// It keeps its position; one setting has one attribute, so there are three.
 #[test]
 fn a_background_group_between_two_others() {
-    let mut set = Set::default();
+    let mut set = Set::fresh(HANDHELD);
     let settings = [
         groups(Add, 2, &[(0x10_0001, "a")]),
         groups(Add, 1, &[(0x10_0002, "b")]),
@@ -125,7 +126,7 @@ fn background_group_slots() {
 /// By the plan of the kind, and in hex outside it.
 #[test]
 fn numbers_of_unnamed_contacts() {
-    let mut set = Set::default();
+    let mut set = Set::fresh(HANDHELD);
     let contacts = [(0x10_0001, ""), (0x10_1B59, ""), (0xFF_7DC9, "")];
     let settings = [groups(Add, MEMBER, &contacts), individuals(Add, &contacts)];
     assert_eq!(take_settings(&mut set, &settings), (0, 0));
@@ -156,7 +157,7 @@ fn a_known_address_is_overwritten_in_its_place() {
 #[test]
 fn a_delete_closes_the_gap() {
     for (contacts, addresses) in LISTS {
-        let mut set = Set::default();
+        let mut set = Set::fresh(HANDHELD);
         assert_eq!(take_settings(&mut set, &[contacts(Add, &numbered(0..5))]), (0, 0));
         // The flags and the text of a delete do not count, and an absent address does nothing.
         let gone = [(0x10_0003, "x"), (0x20_0002, ""), (0x10_0003, "")];
@@ -173,7 +174,7 @@ fn a_delete_closes_the_gap() {
 #[test]
 fn a_replace_empties_the_list_first() {
     for (contacts, addresses) in LISTS {
-        let mut set = Set::default();
+        let mut set = Set::fresh(HANDHELD);
         assert_eq!(take_settings(&mut set, &[contacts(Add, &numbered(0..5))]), (0, 0));
         let new = [(0x10_0009, "a"), (0x10_0003, "b"), (0x10_0009, "c")];
         assert_eq!(take_settings(&mut set, &[contacts(Replace, &new)]), (0, 0));
@@ -181,9 +182,9 @@ fn a_replace_empties_the_list_first() {
         let first = [Row::GroupContact(0), Row::IndividualContact(0)].map(|row| shown(&set, row));
         assert!(first.contains(&stored("c")));
         assert_eq!(take_settings(&mut set, &[contacts(Replace, &[])]), (0, 0));
-        assert_eq!(set, Set::default());
+        assert_eq!(set, Set::fresh(HANDHELD));
     }
-    assert_eq!(taken(&["C8 00 05 D0 00 00", "C9 00 04 C0 00"]), Set::default());
+    assert_eq!(taken(&["C8 00 05 D0 00 00", "C9 00 04 C0 00"]), Set::fresh(HANDHELD));
 }
 
 /// By one setting or by many.
@@ -192,13 +193,13 @@ fn the_65th_has_no_room() {
     for (contacts, addresses) in LISTS {
         let one = |place: u32| contacts(Add, &numbered(place..place + 1));
         let each = |places: std::ops::Range<u32>| places.map(one).collect::<Vec<_>>();
-        let mut set = Set::default();
+        let mut set = Set::fresh(HANDHELD);
         assert_eq!(take_settings(&mut set, &[contacts(Add, &numbered(0..65))]), (2, 1));
         assert_eq!(take_settings(&mut set, &each(0..65)), (2, 65));
         assert_eq!(take_settings(&mut set, &[contacts(Replace, &numbered(0..65))]), (2, 1));
-        assert_eq!(set, Set::default());
+        assert_eq!(set, Set::fresh(HANDHELD));
         assert_eq!(take_settings(&mut set, &each(0..64)), (0, 0));
-        let mut same = Set::default();
+        let mut same = Set::fresh(HANDHELD);
         assert_eq!(take_settings(&mut same, &[contacts(Add, &numbered(0..64))]), (0, 0));
         assert_eq!((addresses(&set).len(), &same), (64, &set));
         assert_eq!(take_settings(&mut set, &[one(64)]), (2, 1));
@@ -210,7 +211,7 @@ fn the_65th_has_no_room() {
 #[test]
 fn a_full_list_has_room_for_what_it_knows() {
     for (contacts, addresses) in LISTS {
-        let mut set = Set::default();
+        let mut set = Set::fresh(HANDHELD);
         // 65 entries with 64 addresses.
         let twice = [numbered(0..64), numbered(5..6)].concat();
         assert_eq!(take_settings(&mut set, &[contacts(Add, &twice)]), (0, 0));
@@ -282,14 +283,14 @@ fn tables_are_independent() {
 
 #[test]
 fn parts_of_a_fresh_set() {
-    let fresh = Set::default();
+    let fresh = Set::fresh(HANDHELD);
     assert_eq!(part(8, &fresh), bytes("02 02 00 0A 08 07 08 01 C8 00 05 D0 00 00"));
     assert_eq!(part(9, &fresh), bytes("02 02 00 09 08 07 08 01 C9 00 04 C0 00"));
     assert_eq!(part(10, &fresh)[..8], bytes("02 02 00 84 08 07 08 10"));
     for (index, setting) in exported(10, &fresh).chunks(8).enumerate() {
         assert_eq!(setting, bytes(&format!("D3 00 07 80 {index:02X} 0F 00 00")));
     }
-    let mut buffer = vec![0; EXPORT_ROOM];
+    let mut buffer = vec![0; HANDHELD.message];
     for (part, number) in [(0, 16), (10, 0), (11, 16), (255, 16)] {
         let Exported { number: said, length } = export(part, true, &fresh, &mut buffer);
         assert_eq!((said, length == 0), (number, number != 0), "part {part}");
@@ -318,7 +319,7 @@ fn parts_of_contacts() {
 
 /// A set with all three tables full, of texts and numbers of the greatest length.
 fn full() -> Set {
-    let mut set = Set::default();
+    let mut set = Set::fresh(HANDHELD);
     let text = "y".repeat(16);
     let contacts: Vec<(u32, &str)> = (1..65).map(|place| (0x10_0000 + place, &text[..])).collect();
     let settings = [groups(Add, 1, &contacts), individuals(Add, &contacts)];
@@ -337,10 +338,10 @@ fn parts_of_a_full_set() {
     let full = full();
     let lengths = [8, 9, 10].map(|of| part(of, &full).len());
     assert_eq!(lengths, [8 + 6 + 64 * 43, 8 + 5 + 64 * 42, 8 + 16 * 49]);
-    assert!(lengths.iter().all(|&length| length <= LONGEST));
+    assert!(lengths.iter().all(|&length| length <= HANDHELD.message));
     assert_eq!(part(8, &full)[7], 65);
     // Whatever the other set held.
-    for (from, mut into) in [(full.clone(), Set::default()), (Set::default(), full)] {
+    for (from, mut into) in [(full.clone(), Set::fresh(HANDHELD)), (Set::fresh(HANDHELD), full)] {
         for of in 1..=PARTS {
             assert_eq!(number(&mut into, &part(of, &from)), (0, 0), "part {of}");
         }

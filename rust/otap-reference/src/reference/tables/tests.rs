@@ -6,6 +6,7 @@ use crate::programs::{put_writes, take_prints};
 use crate::records::push_record;
 use crate::reference::by_hand::{bytes, number, shown};
 use crate::reference::export::part_bytes;
+use crate::reference::limits::HANDHELD;
 use crate::reference::message::request;
 use crate::reference::screen::{Row, Shown};
 use crate::reference::settings::LineFlags;
@@ -23,7 +24,7 @@ const KEYS: [(bool, &[u8]); 2] = [(PABX, &[2, 3, 4, 5]), (PSTN, &[2, 3, 4, 5])];
 
 /// The set after messages in hex, each of which must be taken.
 fn after(messages: &[&str]) -> Set {
-    let mut set = Set::default();
+    let mut set = Set::fresh(HANDHELD);
     for message in messages {
         assert_eq!(number(&mut set, &bytes(message)), (0, 0), "{message}");
     }
@@ -73,7 +74,7 @@ fn both_lines_and_one_deleted() {
     assert_eq!(keys(&after(&[EXTENSION, TELEPHONE, DELETE_EXTENSION])), KEYS[1..]);
     assert_eq!(keys(&after(&[EXTENSION, TELEPHONE, DELETE_TELEPHONE])), KEYS[..1]);
     let none = after(&[EXTENSION, TELEPHONE, DELETE_TELEPHONE, DELETE_EXTENSION]);
-    assert_eq!(none, Set::default());
+    assert_eq!(none, Set::fresh(HANDHELD));
 }
 
 #[test]
@@ -106,7 +107,7 @@ fn each_is_overwritten_alone() {
 fn a_delete_of_the_absent_idtype_does_nothing() {
     assert_eq!(after(&[EXTENSION, DELETE_TELEPHONE]), after(&[EXTENSION]));
     assert_eq!(after(&[TELEPHONE, DELETE_EXTENSION]), after(&[TELEPHONE]));
-    assert_eq!(after(&[DELETE_EXTENSION]), Set::default());
+    assert_eq!(after(&[DELETE_EXTENSION]), Set::fresh(HANDHELD));
     // One delete of several numbers has one IDtype.
     let mut set = after(&[EXTENSION]);
     let (first, second): (&[u8], &[u8]) = (&[2, 3, 4, 5], &[1]);
@@ -119,7 +120,7 @@ fn a_delete_of_the_absent_idtype_does_nothing() {
 #[test]
 fn digits_as_they_are_written() {
     let (one, nought_one): (&[u8], &[u8]) = (&[1], &[0, 1]);
-    let mut set = Set::default();
+    let mut set = Set::fresh(HANDHELD);
     for pabx in [PSTN, PABX] {
         let setting = lines(Add, pabx, &[(one, ""), (nought_one, "")]);
         assert_eq!(take_settings(&mut set, &[setting]), (0, 0));
@@ -132,7 +133,7 @@ fn digits_as_they_are_written() {
 /// The 32 places are shared: a known number of the other IDtype needs a new one.
 #[test]
 fn the_33rd_of_another_idtype_has_no_room() {
-    let mut set = Set::default();
+    let mut set = Set::fresh(HANDHELD);
     let halves = [numbered(Add, PSTN, 0..16), numbered(Add, PABX, 0..16)];
     assert_eq!(take_settings(&mut set, &halves), (0, 0));
     assert_eq!(set.free(), (0, 64));
@@ -165,11 +166,11 @@ fn a_replace_removes_lines_of_both_idtypes() {
         assert_eq!(keys(&set), [(pabx, other), (pabx, kept)]);
         assert_eq!(shown(&set, Row::Line(0)), Shown::Stored(vec![0x62]));
         assert_eq!(take_settings(&mut set, &[lines(Replace, pabx, &[])]), (0, 0));
-        assert_eq!(set, Set::default());
+        assert_eq!(set, Set::fresh(HANDHELD));
     }
     let mut set = after(&[EXTENSION, TELEPHONE]);
     assert_eq!(take_settings(&mut set, &[bytes("CA 00 04 C0 00")]), (0, 0));
-    assert_eq!(set, Set::default());
+    assert_eq!(set, Set::fresh(HANDHELD));
 }
 
 #[test]
@@ -180,7 +181,7 @@ fn both_lines_are_exported() {
     let written = format!("02 02 00 1D 08 07 08 03 CA 00 04 C0 00 {adds}");
     assert_eq!(exported, bytes(&written));
     // Whatever the other set held.
-    for mut other in [Set::default(), after(&[TELEPHONE, EXTENSION]), both.clone()] {
+    for mut other in [Set::fresh(HANDHELD), after(&[TELEPHONE, EXTENSION]), both.clone()] {
         assert_eq!(number(&mut other, &exported), (0, 0));
         assert_eq!(other, both);
     }
@@ -208,12 +209,12 @@ fn put_of_both_and_back() {
 #[test]
 fn both_lines_in_the_store() {
     let mut kept = layout::bytes(&after(&[EXTENSION, TELEPHONE]));
-    assert!(layout::is_store(&kept));
+    assert!(layout::is_store(&kept, HANDHELD));
     assert_eq!(kept[12_860..12_868], bytes("00 02 00 01 03 04 05 06"));
     assert_eq!(kept[12_914..12_920], bytes("00 00 03 04 05 06"));
     assert_eq!(kept[14_526..14_529], bytes("02 01 00"));
     kept[12_863] = PSTN.into();
-    assert!(!layout::is_store(&kept), "two lines of one IDtype and number");
+    assert!(!layout::is_store(&kept, HANDHELD), "two lines of one IDtype and number");
     kept[12_915] = PABX.into();
     kept[14_526..14_528].copy_from_slice(&[1, 2]);
     assert!(kept == layout::bytes(&after(&[TELEPHONE, EXTENSION])));

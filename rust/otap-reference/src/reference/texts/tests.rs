@@ -5,6 +5,7 @@ use crate::layout;
 use crate::reference::by_hand::{self, bytes, shown};
 use crate::reference::commit::{judge, REPLY_ROOM};
 use crate::reference::export::part_bytes;
+use crate::reference::limits::HANDHELD;
 use crate::reference::message::{query, request_as, Hash};
 use crate::reference::plan::GroupAddress;
 use crate::reference::screen::{Row, Shown};
@@ -24,7 +25,7 @@ fn eight(setting: &str) -> Vec<u8> {
 
 /// Number, failed ID and the set after a message to a fresh one.
 fn after(message: &[u8]) -> (u8, u8, Set) {
-    let mut set = Set::default();
+    let mut set = Set::fresh(HANDHELD);
     let (number, failed) = by_hand::number(&mut set, message);
     (number, failed, set)
 }
@@ -210,7 +211,7 @@ fn queries_and_replies_have_their_own() {
         assert_eq!(number(&message), (5, 0), "{coding:08b}");
     }
     let mut reply = [0xEE; REPLY_ROOM];
-    judge(&bytes(A1), &Set::default(), &mut reply);
+    judge(&bytes(A1), &Set::fresh(HANDHELD), &mut reply);
     assert_eq!(reply[..10], bytes("02 02 00 06 08 00 09 00 00 00"));
 }
 

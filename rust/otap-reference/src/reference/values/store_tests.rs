@@ -6,6 +6,7 @@ use crate::inputs::Inputs;
 use crate::layout;
 use crate::reference::by_hand::shown;
 use crate::reference::commit::{judge_and_commit, REPLY_ROOM};
+use crate::reference::limits::HANDHELD;
 use crate::reference::packing::*;
 use crate::reference::screen::{Row, Shown};
 use crate::reference::settings::BACKGROUND;
@@ -133,8 +134,8 @@ fn seen(value: Value, answer: u64) -> (usize, u32, u64) {
 fn values_of_many_sets() {
     let mut met = std::collections::BTreeMap::new();
     for seed in 0..40 {
-        let mut inputs = Inputs::new(seed);
-        let mut set = Set::default();
+        let mut inputs = Inputs::new(seed, HANDHELD);
+        let mut set = Set::fresh(HANDHELD);
         for _ in 0..40 {
             judge_and_commit(&inputs.message(), &mut set, &mut [0; REPLY_ROOM]);
             let bytes = layout::bytes(&set);
@@ -174,8 +175,8 @@ const ROWS: [(u32, RowAt); 6] = [
 fn rows_and_entries_agree() {
     let (mut rows, mut hidden) = (0, 0);
     for seed in 0..20 {
-        let mut inputs = Inputs::new(seed);
-        let mut set = Set::default();
+        let mut inputs = Inputs::new(seed, HANDHELD);
+        let mut set = Set::fresh(HANDHELD);
         for _ in 0..40 {
             judge_and_commit(&inputs.message(), &mut set, &mut [0; REPLY_ROOM]);
         }

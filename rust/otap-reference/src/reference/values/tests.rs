@@ -2,6 +2,7 @@
 
 use super::*;
 use crate::reference::by_hand::{number_of, scratch, shown, stored, taken};
+use crate::reference::limits::HANDHELD;
 use crate::reference::screen::{Row, Shown};
 
 /// Each table with a place or two in use, and flags of which no two neighbours have the same.
@@ -211,7 +212,7 @@ fn numbers_and_code() {
 
 #[test]
 fn a_fresh_store() {
-    let set = Set::default();
+    let set = Set::fresh(HANDHELD);
     for table in 0..=10 {
         assert!(behind(table, &set).is_empty(), "{table}");
         assert_eq!(digits(table, 0, true, &set, 18), (-17, vec![0xEE; 18]), "{table}");
@@ -228,7 +229,7 @@ fn a_fresh_store() {
 /// Whatever is asked for: it comes before what stands there.
 #[test]
 fn no_store() {
-    for set in [Set::default(), taken(&FULL)] {
+    for set in [Set::fresh(HANDHELD), taken(&FULL)] {
         for table in [0, 1, 2, 3, 4, 5, 6, 7, 8, 9, u32::MAX] {
             for index in [0, 3, 5, 15, 64, u32::MAX] {
                 assert_eq!(entry(table, index, false, &set), Err(11), "{table} {index}");

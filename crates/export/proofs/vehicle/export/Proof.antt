@@ -1,0 +1,16 @@
+use Rattle.lists.proofs.Kit.{needs}
+use Rattle.export.proofs.RequestLaws.{vehicle-exportable}
+use Rattle.export.proofs.vehicle.export.Statement.{statement}
+use Rattle.export.proofs.vehicle.export.Tie as tie
+
+export-in-requires : tie.Need-export-in-requires
+export-in-requires c κs = search needs
+
+same-length : tie.Need-same-length
+same-length c = search needs
+
+returns : tie.Need-returns
+returns c = c .before .before .export-in .ensures .1 vehicle-exportable
+
+pub export-spec : {M : Type 1} → statement M
+export-spec = tie.close (tie.spec export-in-requires same-length returns)

@@ -1,8 +1,0 @@
--- The hand-held's limits let every answer be packed. Assumes nothing.
-use native.Mathlib.Omega.{arith}
-use Rattle.tables.specs.Limits.{handheld}
-use Rattle.export.proofs.RequestLaws.{handheld-exportable}
-use Rattle.packing.specs.Packing.{Packable}
-
-pub handheld-packable : Packable handheld
-handheld-packable = record { roomy = record { fits = omega arith; few-channels = omega arith; few-lines = omega arith }; size = omega arith; exportable = handheld-exportable }
