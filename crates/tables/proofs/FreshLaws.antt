@@ -41,7 +41,7 @@ fresh-allowed lim =
     }
 
 -- a list table with no entry is zeros
-list-zeros : {A : Type 0} (w : ℕ) (f : A → List ℕ) (n : ℕ) → counted w f n [] ≡ replicate (count-size + n * w) 0
+pub list-zeros : {A : Type 0} (w : ℕ) (f : A → List ℕ) (n : ℕ) → counted w f n [] ≡ replicate (count-size + n * w) 0
 list-zeros w f n = ap (λ (l : List ℕ). u16 0 ++ l) (ap (places w f) (front-nil n) ∙ places-nil w f n) ∙ replicate-append-replicate count-size (n * w) 0
 
 -- and so is that of no line, with its order
@@ -65,7 +65,7 @@ fresh-regions lim =
     ∷ replicate (lim .size - used-size lim) 0 ∷ [])
 
 -- a byte among zeros
-one-byte : (n : ℕ) → 15 ≤ n → putMid {X = ℕ} 11 4 (replicate n 0) (16 ∷ 0 ∷ 0 ∷ 0 ∷ []) ≡ set (replicate n 0) 11 16
+pub one-byte : (n : ℕ) → 15 ≤ n → putMid {X = ℕ} 11 4 (replicate n 0) (16 ∷ 0 ∷ 0 ∷ 0 ∷ []) ≡ set (replicate n 0) 11 16
 one-byte n h =
     let e : n ≡ 15 + (n - 15) = omega arith in
     let z : replicate {A = ℕ} n 0 ≡ replicate 15 0 ++ replicate (n - 15) 0 = ap (λ (k : ℕ). replicate k 0) e ∙ sym (replicate-append-replicate 15 (n - 15) 0) in

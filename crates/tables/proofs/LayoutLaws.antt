@@ -28,7 +28,7 @@ use Rattle.tables.proofs.OrderLaws.{order-are-bytes}
 -- ---- widths
 
 -- an indexed table of n places
-table-wide : {A : Type 0} {P : A → Type 0} {w : ℕ} {f : A → List ℕ} → Code P w f → (os : List (Option A)) (n : ℕ) → length os ≡ n → length (places w f os) ≡ n * w
+pub table-wide : {A : Type 0} {P : A → Type 0} {w : ℕ} {f : A → List ℕ} → Code P w f → (os : List (Option A)) (n : ℕ) → length os ≡ n → length (places w f os) ≡ n * w
 table-wide {w = w} {f = f} k os n e = places-length w f (k .long) os ∙ ap (λ (i : ℕ). i * w) e
 
 -- a list table with n places
@@ -77,7 +77,7 @@ holds-copied lim from to after c l t room holds =
 -- ---- bytes
 
 -- a list table is bytes, where its count has two
-list-bytes : {A : Type 0} (P : A → Type 0) (w : ℕ) (f : A → List ℕ) → ((a : A) → P a → Bytes (f a)) → (n : ℕ) (xs : List A) → n < 65536 → (length xs ≤ n) × All P xs → Bytes (counted w f n xs)
+pub list-bytes : {A : Type 0} (P : A → Type 0) (w : ℕ) (f : A → List ℕ) → ((a : A) → P a → Bytes (f a)) → (n : ℕ) (xs : List A) → n < 65536 → (length xs ≤ n) × All P xs → Bytes (counted w f n xs)
 list-bytes P w f each n xs few ok =
     bytes-append (u16 (length xs)) (places w f (front n xs)) (u16-bytes (length xs) (omega (arith, ok .0))) (places-bytes P w f each (front n xs) (all-front P n xs (ok .1)))
 
@@ -106,13 +106,13 @@ layout-bytes lim t r ok =
 -- ---- equal bytes are equal tables
 
 -- an indexed table
-table-one : {A : Type 0} {P : A → Type 0} {w : ℕ} {f : A → List ℕ} → Code P w f → ((a : A) → P a → zeros? (f a) ≡ false) → {n : ℕ} {os ps : List (Option A)}
+pub table-one : {A : Type 0} {P : A → Type 0} {w : ℕ} {f : A → List ℕ} → Code P w f → ((a : A) → P a → zeros? (f a) ≡ false) → {n : ℕ} {os ps : List (Option A)}
     → (length os ≡ n) × All (Present P) os → (length ps ≡ n) × All (Present P) ps → places w f os ≡ places w f ps → os ≡ ps
 table-one {P = P} {w = w} {f = f} k z {n} {os} {ps} p q e =
     places-one P w f k z n (places w f os) os ps (record { many = p .0; each = p .1; bytes = refl }) (record { many = q .0; each = q .1; bytes = e })
 
 -- a list table: the count aside, its places tell it
-list-table-one : {A : Type 0} {P : A → Type 0} {w : ℕ} {f : A → List ℕ} → Code P w f → ((a : A) → P a → zeros? (f a) ≡ false) → {n : ℕ} {xs ys : List A}
+pub list-table-one : {A : Type 0} {P : A → Type 0} {w : ℕ} {f : A → List ℕ} → Code P w f → ((a : A) → P a → zeros? (f a) ≡ false) → {n : ℕ} {xs ys : List A}
     → (length xs ≤ n) × All P xs → (length ys ≤ n) × All P ys → counted w f n xs ≡ counted w f n ys → xs ≡ ys
 list-table-one {P = P} {w = w} {f = f} k z {n} {xs} {ys} p q e =
     list-one P w f k z n (places w f (front n xs)) xs ys (record { few = p .0; each = p .1; bytes = refl }) (record { few = q .0; each = q .1; bytes = ap (drop count-size) e })

@@ -1,0 +1,16 @@
+pub mod AreaChecks
+pub mod Cuts
+pub mod Examples
+pub mod FreshShared
+pub mod HeadCodes
+pub mod MoveLaws
+pub mod RegionLaws
+pub mod RoomLaws
+pub mod Rows
+pub mod RunLaws
+pub mod SharedFrames
+pub mod SharedLaws
+pub mod StandLaws
+pub mod StoreLaws
+pub mod Sums
+pub mod WorkLaws

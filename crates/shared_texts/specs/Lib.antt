@@ -1,0 +1,6 @@
+pub mod Heads
+pub mod Moves
+pub mod Regions
+pub mod Rooms
+pub mod Shared
+pub mod Texts
