@@ -17,13 +17,13 @@ use Rattle.tables.specs.declared.limits.Limits.{Limits}
 use Rattle.tables.specs.declared.members.Members.the-variants.{OfGroups, OfIndividuals}
 use Rattle.tables.specs.Apply.{apply, in-turn, own-after, contacts-after, lines-after, quick-after, status-after, channels-after}
 use Rattle.tables.specs.Limits.{contact-places}
-use Rattle.tables.specs.Layout.{layout}
+use Rattle.tables.specs.Forms.{layout}
 use Rattle.tables.specs.Owns.{Own, own, only, touches, put-own}
 use Rattle.tables.specs.Store.{Holds}
 use Rattle.tables.specs.Tables.{Tables, no-hash}
-use Rattle.tables.proofs.LayoutLaws.{layout-one}
+use Rattle.shared_texts.proofs.Forms.{layout-one}
 use Rattle.tables.proofs.Owns.{alike, own-put, own-other, first, untouched-stays, same-kind}
-use Rattle.tables.proofs.RoomSentences.{came}
+use Rattle.tables.proofs.RoomSentences.{came, apply-change}
 use Rattle.requests.specs.Requests.{forget}
 use Rattle.station.specs.Taking.{AfterTaking}
 use Rattle.laws_taking.specs.Judging.{AllSettings, AsKept}
@@ -59,8 +59,8 @@ module _ (lim : Limits) where
   -- so what it leaves in its table is its own
   replaced : (s : Setting) (t t′ u u′ : Tables) → Replaces s → apply lim s t ≡ some u → apply lim s t′ ≡ some u′ → own (kind s) u ≡ own (kind s) u′
   replaced s t t′ u u′ r e e′ =
-      let (a, p, q) = came (put-own (kind s) t) (own-after lim s (own (kind s) t)) u e in
-      let (b, p′, q′) = came (put-own (kind s) t′) (own-after lim s (own (kind s) t′)) u′ e′ in
+      let (a, p, q) = came (put-own (kind s) t) (own-after lim s (own (kind s) t)) u (apply-change lim s t u e) in
+      let (b, p′, q′) = came (put-own (kind s) t′) (own-after lim s (own (kind s) t′)) u′ (apply-change lim s t′ u′ e′) in
       let same : a ≡ b = Option·some-injective a b (sym p ∙ whatever-was s r (own (kind s) t) (own (kind s) t′) ∙ p′) in
       sym (ap (own (kind s)) q) ∙ own-put (kind s) t a ∙ same ∙ sym (own-put (kind s) t′ b) ∙ ap (own (kind s)) q′
 

@@ -10,12 +10,12 @@ use Rattle.writing.proofs.CanonicalLaws.{has-writing}
 use Rattle.read_carrier.proofs.KindLaws.{request-opens, opens-no-query, in-size}
 use Rattle.tables.specs.declared.limits.Limits.{Limits}
 use Rattle.tables.specs.Allowed.{Allowed}
-use Rattle.tables.specs.Layout.{Roomy}
+use Rattle.tables.specs.Forms.{Roomy}
 use Rattle.tables.specs.Store.{Begun, StoreOf, Holds}
 use Rattle.tables.specs.Tables.{Tables, fresh}
 use Rattle.tables.proofs.AllowedLaws.{apply-allowed, forget-allowed}
 use Rattle.tables.proofs.FreshLaws.{fresh-allowed}
-use Rattle.tables.proofs.LayoutLaws.{holds-store}
+use Rattle.shared_texts.proofs.Forms.{holds-store}
 use Rattle.laws_taking.specs.Demands.{InTurn, Passes}
 use Rattle.requests.specs.Requests.{forget}
 use Rattle.station.specs.Taking.{AfterTaking, AsRequest, AsQuery, Handled, taken}

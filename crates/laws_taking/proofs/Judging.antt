@@ -5,7 +5,7 @@ use Rattle.lists.specs.Ladder.{Answers}
 use Rattle.slots.specs.Slots.{written-over}
 use Rattle.writing.specs.Settings.{Setting, Hash}
 use Rattle.tables.specs.declared.limits.Limits.{Limits}
-use Rattle.tables.specs.Layout.{layout}
+use Rattle.tables.specs.Forms.{layout}
 use Rattle.tables.specs.Store.{Holds}
 use Rattle.tables.specs.Tables.{Tables, no-hash}
 use Rattle.tables.proofs.AllowedLaws.{forget-allowed}

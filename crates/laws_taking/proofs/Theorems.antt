@@ -1,5 +1,5 @@
 -- Demands 1 to 3 for taking a message, over the contract of commit: for every message, store and reply buffer. Assumes nothing.
-use Rattle.lists.proofs.Kit.{ℕ, _-_, _≤_, _≡_, refl, sym, ap, _∙_, subst, subst₂, subst⁻¹, _≢_, _⊎_, inl, inr, ⊎-elim, _↔_, Bool, true, false, List, [], _++_, append-nil, nil≢cons, arith, length, midOf}
+use Rattle.lists.proofs.Kit.{ℕ, _+_, _*_, _-_, _≤_, _≡_, refl, sym, ap, _∙_, subst, subst₂, subst⁻¹, _≢_, _⊎_, inl, inr, ⊎-elim, _↔_, Bool, true, false, List, [], _++_, append-nil, nil≢cons, arith, length, midOf, take, drop, take-take}
 use Rattle.lists.specs.Bytes.{Bytes}
 use Rattle.lists.specs.Ladder.{Answers}
 use Rattle.writing.specs.declared.Coding.{Coding}
@@ -14,13 +14,15 @@ use Rattle.read_carrier.proofs.KindLaws.{request-bytes, opens-no-query}
 use Rattle.tables.specs.declared.limits.Limits.{Limits}
 use Rattle.tables.specs.Apply.{apply}
 use Rattle.tables.specs.Allowed.{Allowed}
-use Rattle.tables.specs.Layout.{layout, count-size, channels-at, lines-at}
+use Rattle.tables.specs.Forms.{layout, region-start, slot-width}
+use Rattle.tables.specs.Heads.{line-own}
+use Rattle.tables.specs.Layout.{count-size, channels-size}
 use Rattle.tables.specs.Store.{StoreOf, Holds}
 use Rattle.slots.specs.Slots.{u16}
-use Rattle.tables.proofs.Frames.{counts-stand}
+use Rattle.shared_texts.proofs.FormFrames.{channels-region, lines-region, short-units}
 use Rattle.tables.proofs.AllowedLaws.{forget-allowed}
+use Rattle.shared_texts.proofs.Forms.{layout-one, holds-store}
 use Rattle.tables.specs.Tables.{Tables, no-hash}
-use Rattle.tables.proofs.LayoutLaws.{layout-one, holds-store}
 use Rattle.laws_taking.specs.Demands.{InTurn, Stand, Passes, Refused, no-count, left-over, at-setting}
 use Rattle.requests.specs.Judge as J
 use Rattle.requests.specs.Judge.{Outcome, kept, refused}
@@ -30,6 +32,15 @@ use Rattle.laws_taking.proofs.Alike.{judged-alike}
 use Rattle.laws_taking.proofs.Demand.{run-allowed, run-written, written-runs, hash-own}
 use Rattle.laws_taking.proofs.Determined.{judged-determined, one-writing, type-first}
 use Rattle.laws_taking.proofs.JudgeLaws.{Says, Stands, judged-says, RefusedWith, refused-number}
+
+-- the bytes that the lists begin with are their lengths, in either form
+counts-stand : (lim : Limits) (t : Tables) → Allowed lim t
+    → (midOf (region-start lim 11) count-size (layout lim t) ≡ u16 (length (t .channels))) × (midOf (region-start lim 12) count-size (layout lim t) ≡ u16 (length (t .lines)))
+counts-stand lim t ok = (
+  sym (take-take count-size (channels-size lim) (drop (region-start lim 11) (layout lim t)) (omega arith)) ∙ ap (take count-size) (channels-region lim t ok),
+  sym (take-take count-size (count-size + lim .lines * slot-width (lim .texts) line-own short-units + lim .lines) (drop (region-start lim 12) (layout lim t)) (omega arith))
+      ∙ ap (take count-size) (lines-region lim t ok),
+)
 
 -- ---- what judging says
 
@@ -99,11 +110,11 @@ module _ (lim : Limits) (message store reply : List ℕ) where
 
   -- COUNTS KEPT: and its counts are the lengths of the lists that it then holds
   pub counts-kept : StoreOf lim store → (x : AfterTaking) → Answers (taken lim message store reply) x
-      → (t : Tables) × Holds lim t (x .store) × (midOf channels-at count-size (x .store) ≡ u16 (length (t .channels))) × (midOf (lines-at lim) count-size (x .store) ≡ u16 (length (t .lines)))
+      → (t : Tables) × Holds lim t (x .store) × (midOf (region-start lim 11) count-size (x .store) ≡ u16 (length (t .channels))) × (midOf (region-start lim 12) count-size (x .store) ≡ u16 (length (t .lines)))
   counts-kept s x a =
       let k = store-kept s x a .store in
       let c = counts-stand lim (k .tables) (k .allowed) in
-      (k .tables, (k .allowed, k .bytes-are), ap (midOf channels-at count-size) (k .bytes-are) ∙ c .0, ap (midOf (lines-at lim) count-size) (k .bytes-are) ∙ c .1)
+      (k .tables, (k .allowed, k .bytes-are), ap (midOf (region-start lim 11) count-size) (k .bytes-are) ∙ c .0, ap (midOf (region-start lim 12) count-size) (k .bytes-are) ∙ c .1)
 
 -- ---- a request that passes the checks
 

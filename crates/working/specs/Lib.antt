@@ -1,0 +1,5 @@
+pub mod Loading
+pub mod Runs
+pub mod Saving
+pub mod Seen
+pub mod Working
