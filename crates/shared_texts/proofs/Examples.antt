@@ -3,16 +3,11 @@ use Rattle.lists.proofs.Kit.{ℕ, _≡_, refl, List, [], _∷_, _++_, Option, n
 use Rattle.writing.specs.declared.Kind.the-variants.{QuickTexts, StatusTexts}
 use Rattle.writing.specs.declared.Operation.the-variants.{Add, Delete}
 use Rattle.writing.specs.Settings.{Text, Setting, quick-texts, status-texts}
-use Rattle.tables.specs.declared.limits.Limits.{Limits}
-use Rattle.tables.specs.declared.limits.Texts.the-variants.{Shared}
 use Rattle.tables.specs.Apply.{in-turn, apply}
+use Rattle.tables.specs.Limits.{handheld}
 use Rattle.tables.specs.Owns.{put-own}
 use Rattle.tables.specs.Tables.{Tables, fresh}
 use Rattle.tables.specs.Texts.{text-sum}
-
--- a set whose texts share an area of 4,096 bytes
-abbrev sharing : Limits
-sharing = record { lines = 32; channels = 64; message = 4096; size = 24576; texts = Shared 4096 }
 
 -- a text of n units
 units : ℕ → Text
@@ -25,7 +20,7 @@ full = put-own StatusTexts (put-own QuickTexts fresh (replicate 64 (some (units 
 
 -- the sum after settings, each judged by itself
 sum-after-settings : List Setting → Option ℕ
-sum-after-settings l = go (in-turn (apply sharing) l full)
+sum-after-settings l = go (in-turn (apply handheld) l full)
   where
     go : Option Tables → Option ℕ
     go none = none

@@ -5,7 +5,7 @@ use Rattle.tables.specs.Limits.{handheld, vehicle}
 
 -- HANDHELD ROOMY: those of a hand-held, in 24,576 bytes
 pub handheld-roomy : Roomy handheld
-handheld-roomy = record { fits = omega arith; few-channels = omega arith; few-lines = omega arith; area = tt }
+handheld-roomy = record { fits = omega arith; few-channels = omega arith; few-lines = omega arith; area = omega arith }
 
 -- VEHICLE ROOMY: those of a vehicle set, in 49,152
 pub vehicle-roomy : Roomy vehicle

@@ -3,9 +3,9 @@ use Prim.Native.Nat.{ℕ, _+_, _*_, _≤_}
 use Rattle.tables.specs.declared.limits.Limits.{Limits}
 use Rattle.tables.specs.declared.limits.Texts.the-variants.{Placed, Shared}
 
--- "Room: 32 line contacts, 64 channels"; messages of at most 4,096 bytes; "The store grows to 24,576 bytes"
+-- "Room: 32 line contacts, 64 channels"; messages of at most 4,096 bytes; "The store grows to 24,576 bytes"; "keep all texts in one area of 4,096 bytes"
 abbrev pub handheld : Limits
-handheld = record { lines = 32; channels = 64; message = 4096; size = 24576; texts = Placed }
+handheld = record { lines = 32; channels = 64; message = 4096; size = 24576; texts = Shared 4096 }
 
 -- "room for 128 line contacts and 256 channels, messages of up to 8,192 bytes, and a store of 49,152 bytes"
 abbrev pub vehicle : Limits

@@ -32,13 +32,13 @@ pub struct Limits {
 // How many bytes the store of a hand-held has.
 pub const HANDHELD_SIZE: usize = 24576;
 
-// A hand-held: room for 32 lines and 64 channels, messages of up to 4,096 bytes.
+// A hand-held: room for 32 lines and 64 channels, messages of up to 4,096 bytes, and as many bytes for all texts.
 pub const HANDHELD: Limits = Limits {
     lines: 32,
     channels: 64,
     message: 4096,
     size: HANDHELD_SIZE,
-    texts: Texts::Placed,
+    texts: Texts::Shared(4096),
 };
 
 // How many bytes the store of a vehicle set has.
