@@ -20,11 +20,12 @@ use Rattle.tables.specs.Apply.{in-turn, channel-step, change, apply}
 use Rattle.tables.specs.Forms.{Roomy}
 use Rattle.tables.specs.Store.{Holds}
 use Rattle.tables.specs.Tables.{Line, line-key, Tables}
-use Rattle.tables.specs.Texts.{text-sum, TextRoom, Passes}
+use Rattle.tables.specs.Texts.{text-sum, TextRoom, Passes, WhereShared}
 use Rattle.tables.proofs.AllowedLaws.{forget-allowed}
 use Rattle.shared_texts.proofs.Forms.{holds-store}
 use Rattle.shared_texts.proofs.RoomLaws.{turn-change}
 use Rattle.tables.proofs.RoomSentences.{Stuck, no-room, channel-no-room}
+use Rattle.tables.proofs.FormLaws.{shared-then}
 use Rattle.requests.specs.Judge.{refused}
 use Rattle.requests.specs.Requests.{forget}
 use Rattle.station.specs.Taking.{AfterTaking, stays, settled, taken}
@@ -36,7 +37,7 @@ use Rattle.export.specs.declared.parts.Part.{Part}
 use Rattle.export.specs.declared.parts.Part.the-variants.{Lines, Fixed, QuickTexts, Channels, StatusTexts, Groups, Individuals, GroupContacts, IndividualContacts, LineSlots}
 use Rattle.export.specs.Exportable.{Exportable}
 use Rattle.export.specs.Exported.{exported, request-bytes}
-use Rattle.restore.specs.Restored.{IfShared, PlacesFor, carried, texts-before, texts-upto, PartFits, first-past, HasRoom}
+use Rattle.restore.specs.Restored.{PlacesFor, carried, texts-before, texts-upto, PartFits, first-past, HasRoom}
 use Rattle.restore.proofs.FirstPast.{past-end, past-same}
 use Rattle.restore.proofs.Fitting.{AllReadable, exported-readable}
 use Rattle.restore.proofs.FreshParts.{Coming, coming-fresh, coming-held, coming-stuck}
@@ -44,7 +45,7 @@ use Rattle.restore.proofs.FreshRuns.{taken-within, lines-none, lines-short, cha
 use Rattle.restore.proofs.PartRuns.{channels-turn}
 use Rattle.restore.proofs.Requests.{request-in-size, exported-is}
 use Rattle.restore.proofs.Restored.{ComesTo}
-use Rattle.restore.proofs.TextRooms.{if-shared, less-room, room-or-past}
+use Rattle.restore.proofs.TextRooms.{less-room, room-or-past}
 use Rattle.laws_fitting.specs.Fits.{with-places, first-without, Refuses}
 use Rattle.laws_fitting.proofs.Deciding.{places?}
 
@@ -145,16 +146,16 @@ module _ (from to : Limits) (t : Tables) (ok : Allowed from t) where
     Lacks p = (s : Stuck (apply to) (exported p t) (forget u)) × (length (s .done) + 1 ≡ first-without to t p)
 
     -- the texts that are held are those of the parts before
-    held : (p : Part) (l : List Setting) → IfShared (to .texts) (Coming t (p ∷ ps) u) → first-past (to .texts) (text-sum (forget u)) l ≡ first-past (to .texts) (texts-before t p) l
-    held p l c = past-same (to .texts) (text-sum u) (texts-before t p) l (if-shared (to .texts) (coming-held t u p ps) c)
+    held : (p : Part) (l : List Setting) → WhereShared (to .texts) (Coming t (p ∷ ps) u) → first-past (to .texts) (text-sum (forget u)) l ≡ first-past (to .texts) (texts-before t p) l
+    held p l c = past-same (to .texts) (text-sum u) (texts-before t p) l (shared-then (to .texts) (coming-held t u p ps) c)
 
     -- the add of the first line without a place, or a setting before it with which the texts pass the area
-    lines-lack : IfShared (to .texts) (Coming t (Lines ∷ ps) u) → to .lines < length (t .lines) → Lacks Lines
+    lines-lack : WhereShared (to .texts) (Coming t (Lines ∷ ps) u) → to .lines < length (t .lines) → Lacks Lines
     lines-lack c h =
         let l : LinesOver = lines-over h in
         let o : Over (to .lines) (t .lines) = l .over-places in
         let (s, e) = lines-short to t (forget u) (o .placed) (o .next) (o .behind) (o .parts) (o .many) (l .apart) (l .new)
-        (if-shared (to .texts) (coming-fresh t u Lines ps) c) (old .texts) in
+        (shared-then (to .texts) (coming-fresh t u Lines ps) c) (old .texts) in
         let those : take (to .lines) (t .lines) ≡ o .placed = ap (take (to .lines)) (o .parts) ∙ take-at (o .placed) (o .next ∷ o .behind) (to .lines) (o .many) in
         (s, e ∙ held Lines (clear ∷ map line-add (o .placed)) c ∙ ap (λ (ls : List Line). first-past (to .texts) (texts-before t Lines) (clear ∷ map line-add ls)) (sym those))
 
@@ -163,7 +164,7 @@ module _ (from to : Limits) (t : Tables) (ok : Allowed from t) where
     channels-lack h = let (s, e) = channels-short to t (forget u) (channels-over h) (old .texts) in (s, e ∙ sym (first-channel to t h))
 
     -- a part has no places only for lines and channels
-    no-place : (p : Part) → IfShared (to .texts) (Coming t (p ∷ ps) u) → (PlacesFor to t p → ⊥) → Lacks p
+    no-place : (p : Part) → WhereShared (to .texts) (Coming t (p ∷ ps) u) → (PlacesFor to t p → ⊥) → Lacks p
     no-place Lines c n = lines-lack c (omega (arith, n))
     no-place Fixed c n = absurd (n tt)
     no-place QuickTexts c n = absurd (n tt)
@@ -176,7 +177,7 @@ module _ (from to : Limits) (t : Tables) (ok : Allowed from t) where
     no-place LineSlots c n = absurd (n tt)
 
     -- a part that has places and does not fit lacks room for its texts
-    lacks : (p : Part) → IfShared (to .texts) (Coming t (p ∷ ps) u) → (PlacesFor to t p → TextRoom (to .texts) (texts-upto t p) → ⊥) → Lacks p
+    lacks : (p : Part) → WhereShared (to .texts) (Coming t (p ∷ ps) u) → (PlacesFor to t p → TextRoom (to .texts) (texts-upto t p) → ⊥) → Lacks p
     lacks p c n = by (places? to t p) (room-or-past (to .texts) (texts-upto t p))
       where
         by : Dec (PlacesFor to t p) → TextRoom (to .texts) (texts-upto t p) ⊎ Passes (to .texts) (texts-upto t p) → Lacks p

@@ -11,6 +11,7 @@ use Rattle.tables.specs.Store.{Holds}
 use Rattle.tables.specs.Tables.{Tables}
 use Rattle.tables.specs.Texts.{text-sum, TextRoom}
 use Rattle.tables.proofs.RoomyLaws.{handheld-roomy, vehicle-roomy}
+use Rattle.tables.proofs.FormLaws.{shared-then}
 use Rattle.requests.specs.Requests.{forget}
 use Rattle.station.specs.Taking.{AfterTaking, taken}
 use Rattle.export.specs.declared.parts.Part.{Part}
@@ -21,7 +22,6 @@ use Rattle.restore.specs.Restored.{with-part, with-parts, Ready, requests, Take
 use Rattle.restore.proofs.FreshParts.{coming-first, coming-behind}
 use Rattle.restore.proofs.Requests.{exported-in-size}
 use Rattle.restore.proofs.Restored.{ComesTo, part-taken, after-holds, next-turn, then-comes, parts-taken, parts-takable}
-use Rattle.restore.proofs.TextRooms.{if-shared}
 use Rattle.laws_fitting.specs.Fits.{FitsIn, AllTaken, StopsAt}
 use Rattle.laws_fitting.proofs.Deciding.{FirstWithout, one-first, each-part, fits-each, each-fits, first-misfit}
 use Rattle.laws_fitting.proofs.Refusing.{taken-turn, part-refused, surely-refused}
@@ -106,7 +106,7 @@ module _ (from to : Limits) (x : Exportable from) (room : Roomy to) (t : Tables)
   module _ (u : Tables) (store : List ℕ) (holds : Holds to u store) (ready : Ready (to .texts) u) where
     -- it comes to the first of the ten
     comes-first : (ps behind : List Part) → ps ++ behind ≡ ten → ComesTo from to x room t ok ps u
-    comes-first ps behind e = if-shared (to .texts) (coming-first t u ps behind e) ready
+    comes-first ps behind e = shared-then (to .texts) (coming-first t u ps behind e) ready
 
     -- and so to all
     comes : ComesTo from to x room t ok ten u
@@ -144,7 +144,7 @@ module _ (from to : Limits) (x : Exportable from) (room : Roomy to) (t : Tables)
             let now : Holds to (with-parts t (r .before) u) (left-by (r .before))
             = parts-taken from to x room t ok (r .before) (r .have) u store (left-by (r .before)) holds c took in
             let here : ComesTo from to x room t ok (r .element ∷ r .behind) (with-parts t (r .before) u)
-            = if-shared (to .texts) (coming-behind t u (r .before) (r .element ∷ r .behind) (r .order)) ready in (
+            = shared-then (to .texts) (coming-behind t u (r .before) (r .element ∷ r .behind) (r .order)) ready in (
               r .element,
               record {
                 before = r .before;

@@ -13,11 +13,12 @@ use Rattle.tables.specs.Forms.{Roomy}
 use Rattle.tables.specs.Owns.{own}
 use Rattle.tables.specs.Store.{Works, Applied, TableSum, WorkSum}
 use Rattle.tables.specs.Tables.{Tables}
-use Rattle.tables.specs.Texts.{text-sum, text-size, TextRoom, Passes}
+use Rattle.tables.specs.Texts.{text-sum, text-size, TextRoom, Passes, WhereShared}
+use Rattle.tables.proofs.FormLaws.{shared-then}
 use Rattle.shared_texts.proofs.RoomLaws.{no-room-exactly, apply-exactly, sum-changed}
 use Rattle.requests.specs.declared.trying.Held.{Held}
 use Rattle.requests.specs.declared.trying.Held.the-variants.{Bytes, NoRoom}
-use Rattle.requests.specs.Trying.{read-kind, WhereShared, SumIs, HeldAfter, TryIs}
+use Rattle.requests.specs.Trying.{read-kind, SumIs, HeldAfter, TryIs}
 
 -- a setting that was read is of the kind that it was read as
 meant-kind : (m : List ℕ) (r : Read) (s : Setting) → Meant m r s → kind s ≡ read-kind r
@@ -37,12 +38,7 @@ meant-kind m (Last f p) s (v, e, _, _) = ap kind e
 
 -- ---- what is counted
 
--- what follows of what is counted
-shared-then : (x : Texts) {P Q : Type 0} → (P → Q) → WhereShared x P → WhereShared x Q
-shared-then Placed f p = tt
-shared-then (Shared a) f p = f p
-
--- and of two
+-- what follows of two counts
 both-then : (x : Texts) {P Q R : Type 0} → (P → Q → R) → WhereShared x P → WhereShared x Q → WhereShared x R
 both-then Placed f p q = tt
 both-then (Shared a) f p q = f p q

@@ -14,12 +14,11 @@ use Rattle.settings.specs.declared.settings.Setting.the-variants.{GroupContacts
 use Rattle.settings.specs.Meant.{Meant}
 use Rattle.tables.specs.declared.limits.Limits.{Limits}
 use Rattle.tables.specs.declared.limits.Texts.{Texts}
-use Rattle.tables.specs.declared.limits.Texts.the-variants.{Placed, Shared}
 use Rattle.tables.specs.Apply.{apply}
 use Rattle.tables.specs.Forms.{Roomy}
 use Rattle.tables.specs.Store.{Works}
 use Rattle.tables.specs.Tables.{Tables}
-use Rattle.tables.specs.Texts.{text-sum, TextRoom, Passes}
+use Rattle.tables.specs.Texts.{text-sum, TextRoom, Passes, WhereShared}
 use Rattle.requests.specs.declared.trying.Held.{Held}
 use Rattle.requests.specs.declared.trying.Held.the-variants.{Bytes, NoRoom}
 
@@ -38,11 +37,6 @@ read-kind (Group o f p) = kinds.Group
 read-kind (Individual o f p) = kinds.Individual
 read-kind (LineSlot o f p) = kinds.LineSlot
 read-kind (Last f p) = kinds.Last
-
--- what is said of a number of bytes that is counted only where texts share an area
-abbrev pub WhereShared : Texts → Type 0 → Type 0
-WhereShared Placed P = Unit {0}
-WhereShared (Shared a) P = P
 
 -- n is the bytes that the texts of the tables take
 abbrev pub SumIs : Limits → ℕ → Tables → Type 0

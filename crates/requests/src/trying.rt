@@ -9,8 +9,9 @@ use writing::Kind;
 ghost use mathlib.Core.Path.{_≡_};
 ghost use Prim.Native.Nat.{_+_, _-_};
 ghost use Rattle.tables.specs.Store.{TableSum, WorkSum};
+ghost use Rattle.tables.specs.Texts.{WhereShared};
 ghost use Rattle.tables.specs.declared.limits.Texts.the-variants.{Shared};
-ghost use Rattle.requests.specs.Trying.{read-kind, WhereShared, HeldAfter, TryIs};
+ghost use Rattle.requests.specs.Trying.{read-kind, HeldAfter, TryIs};
 
 // The bytes that all texts take after a setting, which are not counted where each has a place of its own; or it has no room.
 pub(crate) enum Held {

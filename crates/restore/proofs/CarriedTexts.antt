@@ -1,5 +1,5 @@
 -- CARRIED TEXTS: a setting adds at most the texts that it carries, so settings have room in turn where all that they carry has. Assumes nothing.
-use Rattle.lists.proofs.Kit.{ℕ, zero, suc, _+_, _*_, _≤_, _≡_, refl, sym, ap, _∙_, subst, Bool, true, false, cond, List, [], _∷_, _++_, map, Option, none, some, Option·some-injective, Option·none-ne-some, arith, ltb, length, getD, set, replicate, _-_}
+use Rattle.lists.proofs.Kit.{ℕ, zero, suc, _+_, _*_, _≤_, _≡_, refl, sym, ap, _∙_, subst, Bool, true, false, cond, List, [], _∷_, _++_, map, Option, none, some, Option·some-injective, arith, ltb, length, getD, set, replicate, _-_}
 use Rattle.slots.specs.Slots.{Present, unless, indexOf, putAt}
 use Rattle.writing.specs.declared.Kind.{Kind}
 use Rattle.writing.specs.declared.Operation.{Operation}
@@ -13,7 +13,7 @@ use Rattle.tables.specs.Tables.{Tables}
 use Rattle.tables.proofs.RoomSentences.{came}
 use Rattle.tables.specs.Texts.{rows, row-texts, present, units-of, text-sum, TextRoom, Passes}
 use Rattle.shared_texts.proofs.Sums.{sum-put, size-part}
-use Rattle.shared_texts.proofs.RoomLaws.{apply-exactly, freed, turn-change}
+use Rattle.shared_texts.proofs.RoomLaws.{then-some, apply-exactly, freed, turn-change}
 use Rattle.restore.specs.Restored.{carried}
 use Rattle.restore.proofs.TextRooms.{less-room, not-both}
 
@@ -21,11 +21,6 @@ use Rattle.restore.proofs.TextRooms.{less-room, not-both}
 pub carried-append : (a b : List Setting) → carried (a ++ b) ≡ carried a + carried b
 carried-append [] b = omega arith
 carried-append (s ∷ a) b = omega (arith, carried-append a b)
-
--- what comes of two steps came of both
-pub then-some : {A B : Type 0} (o : Option A) (f : A → Option B) (b : B) → and-then o f ≡ some b → (a : A) × (o ≡ some a) × (f a ≡ some b)
-then-some none f b e = absurd (Option·none-ne-some b e)
-then-some (some a) f b e = (a, refl, e)
 
 -- ---- entries in turn
 

@@ -6,12 +6,13 @@ use Rattle.tables.specs.declared.limits.Texts.{Texts}
 use Rattle.tables.specs.declared.limits.Texts.the-variants.{Placed, Shared}
 use Rattle.tables.specs.Apply.{and-then, in-turn, change, within, apply}
 use Rattle.tables.specs.Tables.{Tables}
-use Rattle.tables.specs.Texts.{units-of, text-sum, TextRoom, Passes}
+use Rattle.tables.specs.Texts.{units-of, text-sum, TextRoom, Passes, WhereShared}
 use Rattle.tables.proofs.RoomSentences.{Stuck, no-room, turn-append}
-use Rattle.shared_texts.proofs.RoomLaws.{no-room-exactly, turn-change}
-use Rattle.restore.specs.Restored.{IfShared, carried, first-past}
-use Rattle.restore.proofs.CarriedTexts.{carried-append, then-some, adds-at-most, turn-at-most, carried-turn, turn-kept, turn-past}
-use Rattle.restore.proofs.TextRooms.{if-shared, room-if, past-if, less-room, more-past, room-or-past, room-yes, room-no}
+use Rattle.tables.proofs.FormLaws.{shared-then}
+use Rattle.shared_texts.proofs.RoomLaws.{then-some, no-room-exactly, turn-change}
+use Rattle.restore.specs.Restored.{carried, first-past}
+use Rattle.restore.proofs.CarriedTexts.{carried-append, adds-at-most, turn-at-most, carried-turn, turn-kept, turn-past}
+use Rattle.restore.proofs.TextRooms.{room-if, past-if, less-room, more-past, room-or-past, room-yes, room-no}
 
 -- ---- the place
 
@@ -53,7 +54,7 @@ module _ (x : Texts) where
       )
 
 -- what was held before counts only where texts share an area
-pub past-same : (x : Texts) (m n : ℕ) (l : List Setting) → IfShared x (m ≡ n) → first-past x m l ≡ first-past x n l
+pub past-same : (x : Texts) (m n : ℕ) (l : List Setting) → WhereShared x (m ≡ n) → first-past x m l ≡ first-past x n l
 past-same Placed m n l e = past-end Placed m l tt ∙ sym (past-end Placed n l tt)
 past-same (Shared a) m n l e = ap (λ (k : ℕ). first-past (Shared a) k l) e
 
@@ -61,7 +62,7 @@ past-same (Shared a) m n l e = ap (λ (k : ℕ). first-past (Shared a) k l) e
 
 -- settings that change u to v and, where texts share an area, add all that they carry
 module _ (lim : Limits) (l : List Setting) (u v : Tables) (runs : in-turn (change lim) l u ≡ some v)
-    (adds : IfShared (lim .texts) (text-sum v ≡ text-sum u + carried l)) (held : TextRoom (lim .texts) (text-sum u)) where
+    (adds : WhereShared (lim .texts) (text-sum v ≡ text-sum u + carried l)) (held : TextRoom (lim .texts) (text-sum u)) where
   abbrev form : Texts
   form = lim .texts
 
@@ -83,8 +84,8 @@ module _ (lim : Limits) (l : List Setting) (u v : Tables) (runs : in-turn (chang
       let passed : Passes form (text-sum w) = by w p (no-room-exactly lim (s .entry) (s .table) .0 (s .full)) in
       sym (ap (first-past form (text-sum u)) (s .split)
       ∙ past-at form (text-sum u) (s .done) (s .entry) (s .rest)
-      (room-if form (text-sum u + carried (s .done)) (text-sum (s .table)) (if-shared form {P = text-sum v ≡ text-sum u + carried l} (λ e. omega arith) adds) kept)
-      (past-if form (text-sum w) (text-sum u + carried (s .done ++ s .entry ∷ [])) (if-shared form {P = text-sum v ≡ text-sum u + carried l} (λ e. omega arith) adds) passed))
+      (room-if form (text-sum u + carried (s .done)) (text-sum (s .table)) (shared-then form {P = text-sum v ≡ text-sum u + carried l} (λ e. omega arith) adds) kept)
+      (past-if form (text-sum w) (text-sum u + carried (s .done ++ s .entry ∷ [])) (shared-then form {P = text-sum v ≡ text-sum u + carried l} (λ e. omega arith) adds) passed))
     where
       -- the sum passes, for its table is not full
       by : (w : Tables) → change lim (s .entry) (s .table) ≡ some w
@@ -119,7 +120,7 @@ module _ (lim : Limits) (l : List Setting) (u v : Tables) (runs : in-turn (chang
   -- where it does not, the setting behind them lacks room if it finds its table full
   stuck-full : TextRoom form (text-sum v) → (s : Setting) → change lim s v ≡ none → (behind : List Setting) → StuckAt (s ∷ behind)
   stuck-full h s full behind =
-      let room : TextRoom form (text-sum u + carried l) = room-if form (text-sum u + carried l) (text-sum v) (if-shared form {P = text-sum v ≡ text-sum u + carried l} (λ e. omega arith) adds) h in (
+      let room : TextRoom form (text-sum u + carried l) = room-if form (text-sum u + carried l) (text-sum v) (shared-then form {P = text-sum v ≡ text-sum u + carried l} (λ e. omega arith) adds) h in (
         record {
           done = l;
           entry = s;
@@ -141,7 +142,7 @@ module _ (lim : Limits) (l : List Setting) (u v : Tables) (runs : in-turn (chang
       by (inr h) = stuck-before h (s ∷ behind)
 
 -- STUCK FULL: where a setting finds its table full, it lacks room, or one before it with which the sum passes the area
-pub stuck-at-full : (lim : Limits) (l : List Setting) (u : Tables) (s : Stuck (change lim) l u) → IfShared (lim .texts) (text-sum (s .table) ≡ text-sum u + carried (s .done))
+pub stuck-at-full : (lim : Limits) (l : List Setting) (u : Tables) (s : Stuck (change lim) l u) → WhereShared (lim .texts) (text-sum (s .table) ≡ text-sum u + carried (s .done))
     → TextRoom (lim .texts) (text-sum u) → (r : Stuck (apply lim) l u) × (length (r .done) + 1 ≡ first-past (lim .texts) (text-sum u) (s .done))
 stuck-at-full lim l u s adds held =
     subst⁻¹ (λ (k : List Setting). (r : Stuck (apply lim) k u) × (length (r .done) + 1 ≡ first-past (lim .texts) (text-sum u) (s .done))) (s .split)

@@ -8,10 +8,11 @@ use Rattle.tables.specs.Allowed.{Allowed}
 use Rattle.tables.specs.Apply.{apply}
 use Rattle.tables.specs.Owns.{Own, own, only}
 use Rattle.tables.specs.Tables.{Tables, no-hash, fresh}
-use Rattle.tables.specs.Texts.{text-sum, text-size, TextRoom, Passes}
+use Rattle.tables.specs.Texts.{text-sum, text-size, TextRoom, Passes, WhereShared}
 use Rattle.tables.proofs.AllowedLaws.{forget-allowed}
 use Rattle.tables.proofs.Owns.{own-mix, own-other, same-kind}
 use Rattle.tables.proofs.RoomSentences.{Stuck}
+use Rattle.tables.proofs.FormLaws.{shared-then}
 use Rattle.requests.specs.Requests.{forget}
 use Rattle.shared_texts.specs.Rooms.{Under}
 use Rattle.shared_texts.proofs.RegionLaws.{sum-append}
@@ -19,10 +20,10 @@ use Rattle.shared_texts.proofs.RoomLaws.{under-sum}
 use Rattle.export.specs.declared.parts.Part.{Part}
 use Rattle.export.specs.declared.parts.Part.the-variants.{Lines, Fixed, QuickTexts, Channels, StatusTexts, Groups, Individuals, GroupContacts, IndividualContacts, LineSlots}
 use Rattle.export.specs.Exported.{ten, part-number, exported}
-use Rattle.restore.specs.Restored.{part-kinds, with-part, with-parts, SameTables, IfShared, Ready, PlacesFor, carried, carried-by, texts-before, texts-upto, first-past, FreshPart, HasRoom}
+use Rattle.restore.specs.Restored.{part-kinds, with-part, with-parts, SameTables, Ready, PlacesFor, carried, carried-by, texts-before, texts-upto, first-past, FreshPart, HasRoom}
 use Rattle.restore.proofs.FirstPast.{past-same}
 use Rattle.restore.proofs.FreshRuns.{fresh-size, part-added, fresh-part-turn, fresh-stuck}
-use Rattle.restore.proofs.TextRooms.{if-shared, room-if, past-if}
+use Rattle.restore.proofs.TextRooms.{room-if, past-if}
 
 -- ---- each table is one part's
 
@@ -266,25 +267,25 @@ module _ (t : Tables) where
 
 module _ (from to : Limits) (t u : Tables) (ok : Allowed from t) (old : Allowed to u) (p : Part) (places : PlacesFor to t p) where
   -- COMING TURN: the settings of the part that a set comes to have room in turn where the texts up to it have
-  pub coming-turn : (ps : List Part) → IfShared (to .texts) (Coming t (p ∷ ps) u) → TextRoom (to .texts) (texts-upto t p) → HasRoom to t p u
+  pub coming-turn : (ps : List Part) → WhereShared (to .texts) (Coming t (p ∷ ps) u) → TextRoom (to .texts) (texts-upto t p) → HasRoom to t p u
   coming-turn ps c h =
-      fresh-part-turn from to t (forget u) ok (forget-allowed to u old) p places (if-shared (to .texts) (coming-fresh t u p ps) c)
+      fresh-part-turn from to t (forget u) ok (forget-allowed to u old) p places (shared-then (to .texts) (coming-fresh t u p ps) c)
       (room-if (to .texts) (text-sum (with-part p t (forget u))) (texts-upto t p)
-      (if-shared (to .texts) {P = Coming t (p ∷ ps) u} (λ y. omega (arith, coming-sum t u p ps y)) c) h)
+      (shared-then (to .texts) {P = Coming t (p ∷ ps) u} (λ y. omega (arith, coming-sum t u p ps y)) c) h)
 
   -- READY TURN: and those of any part, in a set that is ready, where all texts have
   pub ready-turn : Ready (to .texts) u → TextRoom (to .texts) (text-sum t) → HasRoom to t p u
   ready-turn r h =
       fresh-part-turn from to t (forget u) ok (forget-allowed to u old) p places
-      (if-shared (to .texts) {P = SameTables u fresh} (λ s. fresh-forget p u (fresh-set u s p)) r)
+      (shared-then (to .texts) {P = SameTables u fresh} (λ s. fresh-forget p u (fresh-set u s p)) r)
       (room-if (to .texts) (text-sum (with-part p t (forget u))) (text-sum t)
-      (if-shared (to .texts) {P = SameTables u fresh} (λ s. under-sum (with-part p t (forget u)) t (under-part t p (forget u) (under-forget t u (under-fresh t u s)))) r) h)
+      (shared-then (to .texts) {P = SameTables u fresh} (λ s. under-sum (with-part p t (forget u)) t (under-part t p (forget u) (under-forget t u (under-fresh t u s)))) r) h)
 
   -- COMING STUCK: where the texts up to it pass the area, they are stuck at the first setting with which the texts do
-  pub coming-stuck : (ps : List Part) → IfShared (to .texts) (Coming t (p ∷ ps) u) → Passes (to .texts) (texts-upto t p)
+  pub coming-stuck : (ps : List Part) → WhereShared (to .texts) (Coming t (p ∷ ps) u) → Passes (to .texts) (texts-upto t p)
       → (s : Stuck (apply to) (exported p t) (forget u)) × (length (s .done) + 1 ≡ first-past (to .texts) (texts-before t p) (exported p t))
   coming-stuck ps c h =
-      let (s, e) = fresh-stuck from to t (forget u) ok (forget-allowed to u old) p places (if-shared (to .texts) (coming-fresh t u p ps) c) (old .texts)
+      let (s, e) = fresh-stuck from to t (forget u) ok (forget-allowed to u old) p places (shared-then (to .texts) (coming-fresh t u p ps) c) (old .texts)
       (past-if (to .texts) (texts-upto t p) (text-sum (with-part p t (forget u)))
-      (if-shared (to .texts) {P = Coming t (p ∷ ps) u} (λ y. omega (arith, coming-sum t u p ps y)) c) h) in
-      (s, e ∙ past-same (to .texts) (text-sum u) (texts-before t p) (exported p t) (if-shared (to .texts) (coming-held t u p ps) c))
+      (shared-then (to .texts) {P = Coming t (p ∷ ps) u} (λ y. omega (arith, coming-sum t u p ps y)) c) h) in
+      (s, e ∙ past-same (to .texts) (text-sum u) (texts-before t p) (exported p t) (shared-then (to .texts) (coming-held t u p ps) c))

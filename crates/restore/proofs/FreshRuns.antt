@@ -11,8 +11,9 @@ use Rattle.tables.specs.Allowed.{Allowed}
 use Rattle.tables.specs.Apply.{and-then, in-turn, with-room, channel-step, change, apply}
 use Rattle.tables.specs.Owns.{own, put-own}
 use Rattle.tables.specs.Tables.{Line, line-key, Tables, fresh}
-use Rattle.tables.specs.Texts.{rows, present, units-of, text-sum, table-sum, text-size, TextRoom, Passes}
+use Rattle.tables.specs.Texts.{rows, present, units-of, text-sum, table-sum, text-size, TextRoom, Passes, WhereShared}
 use Rattle.tables.proofs.RoomSentences.{Stuck, no-room, line-no-room}
+use Rattle.tables.proofs.FormLaws.{shared-then, shared-too}
 use Rattle.shared_texts.proofs.RoomLaws.{turn-change}
 use Rattle.shared_texts.proofs.Sums.{units-append, sum-put}
 use Rattle.export.specs.declared.parts.Part.{Part}
@@ -23,11 +24,11 @@ use Rattle.export_write.specs.EntrySettings.{entries, quick-add, slots}
 use Rattle.export_write.specs.MemberWriters.{member-setting}
 use Rattle.export_write.proofs.SlotWriting.{slots-length}
 use Rattle.export.specs.Exported.{exported}
-use Rattle.restore.specs.Restored.{with-part, IfShared, PlacesFor, carried, first-past, FreshPart}
+use Rattle.restore.specs.Restored.{with-part, PlacesFor, carried, first-past, FreshPart}
 use Rattle.restore.proofs.CarriedTexts.{carried-turn, turn-within, turn-past}
 use Rattle.restore.proofs.FirstPast.{stuck-past, stuck-at-full}
 use Rattle.restore.proofs.PartRuns.{lines-turn, part-turn}
-use Rattle.restore.proofs.TextRooms.{if-shared, shared-too, room-if, room-or-past}
+use Rattle.restore.proofs.TextRooms.{room-if, room-or-past}
 
 -- ---- what an exported part carries: the texts of its tables
 
@@ -139,16 +140,16 @@ module _ (from to : Limits) (t u : Tables) (ok : Allowed from t) (old : Allowed 
   pub past-area : Passes (to .texts) (text-sum (with-part p t u)) → in-turn (apply to) (exported p t) u ≡ none
   past-area = turn-past to (exported p t) u (with-part p t u) changed (λ v e. taken-within v e .1)
 
-  module _ (f : IfShared (to .texts) (FreshPart p u)) where
+  module _ (f : WhereShared (to .texts) (FreshPart p u)) where
     -- then the part adds what its settings carry
-    adds : IfShared (to .texts) (text-sum (with-part p t u) ≡ text-sum u + carried (exported p t))
-    adds = if-shared (to .texts) (part-added t u p) f
+    adds : WhereShared (to .texts) (text-sum (with-part p t u) ≡ text-sum u + carried (exported p t))
+    adds = shared-then (to .texts) (part-added t u p) f
 
     -- FRESH PART TURN: where the texts with the part's have room, and the part's tables are those of a fresh set if texts share an area, they have room in turn and leave the part's tables as t has them
     pub fresh-part-turn : TextRoom (to .texts) (text-sum (with-part p t u)) → in-turn (apply to) (exported p t) u ≡ some (with-part p t u)
     fresh-part-turn h =
         carried-turn to (exported p t) u (with-part p t u) changed
-        (room-if (to .texts) (text-sum u + carried (exported p t)) (text-sum (with-part p t u)) (if-shared (to .texts) {P = text-sum (with-part p t u) ≡ text-sum u + carried (exported p t)} (λ e. omega arith) adds) h)
+        (room-if (to .texts) (text-sum u + carried (exported p t)) (text-sum (with-part p t u)) (shared-then (to .texts) {P = text-sum (with-part p t u) ≡ text-sum u + carried (exported p t)} (λ e. omega arith) adds) h)
 
     -- FRESH EXACTLY: and they have none exactly if the texts with the part's pass the area
     pub fresh-exactly : (in-turn (apply to) (exported p t) u ≡ none) ↔ Passes (to .texts) (text-sum (with-part p t u))
@@ -194,9 +195,9 @@ module _ (to : Limits) (t u : Tables) where
     lines-none = no-room (change to) (exported Lines t) u .1 lines-full
 
     -- LINES SHORT: and it lacks room, or a setting before it with which the texts pass the area
-    pub lines-short : IfShared (to .texts) (FreshPart Lines u) → TextRoom (to .texts) (text-sum u)
+    pub lines-short : WhereShared (to .texts) (FreshPart Lines u) → TextRoom (to .texts) (text-sum u)
         → (s : Stuck (apply to) (exported Lines t) u) × (length (s .done) + 1 ≡ first-past (to .texts) (text-sum u) before)
-    lines-short f held = stuck-at-full to (exported Lines t) u lines-full (if-shared (to .texts) (part-added (put-own K.Lines t placed) u Lines) f) held
+    lines-short f held = stuck-at-full to (exported Lines t) u lines-full (shared-then (to .texts) (part-added (put-own K.Lines t placed) u Lines) f) held
 
   -- more channels than places
   module _ (short : in-turn (channel-step (to .channels) Add) (t .channels) [] ≡ none) where

@@ -7,6 +7,7 @@ use Rattle.tables.specs.declared.start.Started.{Started}
 use Rattle.tables.specs.Store.{StoreOf, Begun, begins, starting, Holds}
 use Rattle.tables.specs.Tables.{Tables, no-hash, fresh}
 use Rattle.tables.proofs.FreshLaws.{fresh-allowed}
+use Rattle.tables.proofs.FormLaws.{shared-then}
 use Rattle.working.specs.Seen.{Lends}
 use Rattle.working.proofs.SeenLaws.{lends}
 use Rattle.station.specs.declared.answers.Answer.{Answer}
@@ -29,7 +30,6 @@ use Rattle.restore.proofs.ExportedBytes.{written-one}
 use Rattle.restore.proofs.FreshParts.{parts-more, coming-behind}
 use Rattle.restore.proofs.Requests.{own-fits}
 use Rattle.restore.proofs.Restored.{after-part, part-taken, after-holds, next-turn}
-use Rattle.restore.proofs.TextRooms.{if-shared}
 
 -- ---- the start
 
@@ -104,7 +104,7 @@ module _ (lim : Limits) (from to buffer reply : List ℕ) (t u : Tables) where
       let now : Tables = with-parts t (take k ten) u in
       let fits : PartFits lim t p = own-fits lim able t (h .0) p in
       let turn : HasRoom lim t p now = next-turn lim lim able roomy t (h .0) now to-now (z .holds) p (drop (suc k) ten)
-      (if-shared (lim .texts) (coming-behind t u (take k ten) (p ∷ drop (suc k) ten) (sym (split-at ten k Lines l))) ready) fits in
+      (shared-then (lim .texts) (coming-behind t u (take k ten) (p ∷ drop (suc k) ten) (sym (split-at ten k Lines l))) ready) fits in
       let x : PartMoved lim p t now to-then buffer-now buffer-then reply-now reply-then
       = v p t now (ten-at k l) able roomy h (z .holds) turn lent in
       let e : take k ten ++ (p ∷ []) ≡ take (k + 1) ten = sym (take-suc ten k Lines l) ∙ ap (λ (i : ℕ). take i ten) (let i : suc k ≡ k + 1 = omega arith in i) in

@@ -13,6 +13,8 @@ use Rattle.tables.specs.Forms.{layout, Roomy}
 use Rattle.tables.specs.Store.{Holds}
 use Rattle.tables.specs.Tables.{Tables, no-hash, fresh}
 use Rattle.tables.proofs.AllowedLaws.{forget-allowed}
+use Rattle.tables.specs.Texts.{WhereShared}
+use Rattle.tables.proofs.FormLaws.{shared-then, shared-too}
 use Rattle.shared_texts.proofs.Forms.{holds-store, layout-one}
 use Rattle.requests.specs.Judge.{kept, taken as all-taken}
 use Rattle.requests.specs.Requests.{forget, item-of, or-else, LastItem, last-item}
@@ -24,12 +26,11 @@ use Rattle.export.specs.declared.parts.Part.{Part}
 use Rattle.export.specs.declared.parts.Part.the-variants.{Lines, Fixed, QuickTexts, Channels, StatusTexts, Groups, Individuals, GroupContacts, IndividualContacts, LineSlots}
 use Rattle.export.specs.Exported.{ten, exported, request-bytes}
 use Rattle.export.specs.Exportable.{Exportable}
-use Rattle.restore.specs.Restored.{with-part, with-parts, SameTables, IfShared, Ready, requests, TakenInTurn, PartFits, HasRoom}
+use Rattle.restore.specs.Restored.{with-part, with-parts, SameTables, Ready, requests, TakenInTurn, PartFits, HasRoom}
 use Rattle.restore.proofs.Fitting.{exported-readable}
 use Rattle.restore.proofs.FreshParts.{Coming, coming-first, coming-next, coming-turn, ready-turn}
 use Rattle.restore.proofs.PartRuns.{part-runs}
 use Rattle.restore.proofs.Requests.{request-in-size, exported-is, own-fits}
-use Rattle.restore.proofs.TextRooms.{if-shared, shared-too}
 
 -- ---- one part
 
@@ -98,7 +99,7 @@ module _ (from to : Limits) (x : Exportable from) (room : Roomy to) (t : Tables)
 
   -- where texts share an area, the set is one that comes to these parts from a fresh start
   abbrev pub ComesTo : List Part → Tables → Type 0
-  ComesTo ps u = IfShared (to .texts) (Coming t ps u)
+  ComesTo ps u = WhereShared (to .texts) (Coming t ps u)
 
   -- then the first that fits has room
   pub next-turn : (u : Tables) (store : List ℕ) → Holds to u store → (p : Part) (ps : List Part) → ComesTo (p ∷ ps) u → PartFits to t p → HasRoom to t p u
@@ -106,7 +107,7 @@ module _ (from to : Limits) (x : Exportable from) (room : Roomy to) (t : Tables)
 
   -- and with it taken the set comes to the others
   pub then-comes : (u : Tables) (p : Part) (ps : List Part) → ComesTo (p ∷ ps) u → ComesTo ps (with-part p t (forget u))
-  then-comes u p ps c = if-shared (to .texts) (coming-next t u p ps) c
+  then-comes u p ps c = shared-then (to .texts) (coming-next t u p ps) c
 
   -- PARTS TAKEN: parts that fit, taken in turn, leave the store of these tables
   pub parts-taken : (ps : List Part) → All (PartFits to t) ps → (u : Tables) (store after : List ℕ) → Holds to u store → ComesTo ps u → TakenInTurn to (requests t ps) store after
@@ -159,7 +160,7 @@ module _ (lim : Limits) (x : Exportable lim) (room : Roomy lim) (t : Tables) (ok
 
   -- and a set that is ready comes to them
   ready-comes : (u : Tables) → Ready (lim .texts) u → ComesTo lim lim x room t ok ten u
-  ready-comes u ready = if-shared (lim .texts) (coming-first t u ten [] refl) ready
+  ready-comes u ready = shared-then (lim .texts) (coming-first t u ten [] refl) ready
 
   -- RESTORED: the ten requests in turn leave the store of the same tables, the kept hash aside
   pub restored : (u : Tables) (store after : List ℕ) → Holds lim u store → Ready (lim .texts) u → TakenInTurn lim (requests t ten) store after → after ≡ layout lim (forget t)

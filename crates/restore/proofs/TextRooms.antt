@@ -4,30 +4,17 @@ use borrow.Author.Tests.{lt-leb}
 use native.Mathlib.Decide.{decLe}
 use Rattle.tables.specs.declared.limits.Texts.{Texts}
 use Rattle.tables.specs.declared.limits.Texts.the-variants.{Placed, Shared}
-use Rattle.tables.specs.Texts.{TextRoom, Passes}
-use Rattle.restore.specs.Restored.{IfShared, room?}
-
--- ---- what is asked where texts share an area
-
--- what follows is asked no more
-pub if-shared : (x : Texts) {P Q : Type 0} → (P → Q) → IfShared x P → IfShared x Q
-if-shared Placed f p = tt
-if-shared (Shared a) f p = f p
-
--- what holds anyway holds there
-pub shared-too : (x : Texts) {P : Type 0} → P → IfShared x P
-shared-too Placed p = tt
-shared-too (Shared a) p = p
-
--- ---- room
+use Rattle.tables.specs.Texts.{TextRoom, Passes, WhereShared}
+use Rattle.tables.proofs.FormLaws.{shared-too}
+use Rattle.restore.specs.Restored.{room?}
 
 -- fewer bytes have room where more have, and need to be fewer only where texts share an area
-pub room-if : (x : Texts) (m n : ℕ) → IfShared x (m ≤ n) → TextRoom x n → TextRoom x m
+pub room-if : (x : Texts) (m n : ℕ) → WhereShared x (m ≤ n) → TextRoom x n → TextRoom x m
 room-if Placed m n h r = tt
 room-if (Shared a) m n h r = omega arith
 
 -- more bytes have none where fewer have none
-pub past-if : (x : Texts) (m n : ℕ) → IfShared x (m ≤ n) → Passes x m → Passes x n
+pub past-if : (x : Texts) (m n : ℕ) → WhereShared x (m ≤ n) → Passes x m → Passes x n
 past-if Placed m n h r = r
 past-if (Shared a) m n h r = omega arith
 

@@ -17,7 +17,7 @@ use Rattle.tables.specs.declared.limits.Texts.the-variants.{Placed, Shared}
 use Rattle.tables.specs.Apply.{in-turn, apply}
 use Rattle.tables.specs.Owns.{mix, only, Agree}
 use Rattle.tables.specs.Tables.{Tables, fresh}
-use Rattle.tables.specs.Texts.{units-of, TextRoom}
+use Rattle.tables.specs.Texts.{units-of, TextRoom, WhereShared}
 use Rattle.requests.specs.Requests.{forget}
 use Rattle.station.specs.Taking.{AfterTaking, taken}
 use Rattle.export.specs.declared.parts.Part.{Part}
@@ -52,14 +52,9 @@ SameTables t u = forget t ≡ forget u
 
 -- ---- which set is to take an export
 
--- what is asked of a set only if its texts share an area
-abbrev pub IfShared : Texts → Type 0 → Type 0
-IfShared Placed P = Unit {0}
-IfShared (Shared a) P = P
-
 -- "From here on demand 2's restoring and A10's condition hold for a fresh set, since another table's texts can take the room in a used one"; where each text has a place of its own, whatever was held
 abbrev pub Ready : Texts → Tables → Type 0
-Ready x u = IfShared x (SameTables u fresh)
+Ready x u = WhereShared x (SameTables u fresh)
 
 -- ---- the ten requests, taken in turn
 

@@ -41,9 +41,9 @@ within-none Placed t = (λ e. absurd (Option·some-ne-none t e), λ p. absurd p)
 within-none (Shared a) t = kept-none _ (a < text-sum t) (leb-false _ _, lt-leb _ _) t
 
 -- what comes of two steps came of both
-then-some : (o : Option Tables) (f : Tables → Option Tables) (u : Tables) → and-then o f ≡ some u → (v : Tables) × (o ≡ some v) × (f v ≡ some u)
-then-some none f u e = absurd (Option·none-ne-some u e)
-then-some (some v) f u e = (v, refl, e)
+pub then-some : {A B : Type 0} (o : Option A) (f : A → Option B) (b : B) → and-then o f ≡ some b → (a : A) × (o ≡ some a) × (f a ≡ some b)
+then-some none f b e = absurd (Option·none-ne-some b e)
+then-some (some a) f b e = (a, refl, e)
 
 -- ---- a setting
 

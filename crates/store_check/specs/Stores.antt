@@ -1,8 +1,7 @@
 -- The regions of a store in both forms, one after another, and where they start: inner steps, no promise cites these.
-use Prim.Native.Nat.{ℕ, suc, _+_, _*_, _<_}
+use Prim.Native.Nat.{ℕ, _+_, _*_, _<_}
 use mathlib.Core.Path.{_≡_}
 use mathlib.Core.List.{List, [], _∷_, _++_}
-use borrow.Rule.Slice.PartMut.{midOf}
 use Rattle.slots.specs.Slots.{places}
 use Rattle.store_check.specs.declared.checks_tables.Table.{Table}
 use Rattle.store_check.specs.declared.checks_tables.Table.the-variants.{QuickTexts, StatusTexts, Members as Of, Lines}
@@ -14,9 +13,7 @@ use Rattle.tables.specs.declared.members.Members.the-variants.{OfGroups, OfIndi
 use Rattle.tables.specs.Allowed.{HashOk, HomeOk, SystemOk, PlacesOk}
 use Rattle.tables.specs.Layout.{counted, hash-bytes, key-bytes, home-bytes, system-bytes, hash-size, key-size, home-size, system-size, quick-at, count-size, channels-size}
 use Rattle.tables.specs.Limits.{quick-places, status-places, slot-places, contact-places}
-use Rattle.shared_texts.specs.Regions.{Region, plain, last-bytes}
-use Rattle.tables.specs.Heads.{quick-own, status-own, member-own, line-own}
-use Rattle.tables.specs.SharedLayout.{status-heads-at, group-heads-at, individual-heads-at, line-slot-heads-at, group-contact-heads-at, individual-contact-heads-at, line-heads-at}
+use Rattle.shared_texts.specs.Regions.{Region, plain}
 use Rattle.shared_texts.specs.Shared.{channels-region}
 use Rattle.store_check.specs.Checks.{OkIn, bytes-in, width-in, KeyOk, ContactsOk, named-in, LinesIs, lines-in}
 
@@ -101,25 +98,3 @@ pub record StartsIn (f : Form) (r : Starts) : Type 0 where
   pub individual-contacts : r .«individual_contacts» ≡ individual-contacts-start f
   pub channels : r .channels ≡ channels-start f
   pub small : r .channels < 65536
-
--- ---- how many units the heads count: shut, so that no sum of bytes is written out where a number is asked for
-
--- n heads, each number behind `own` other bytes
-unfoldable pub units-in : (own n : ℕ) → List ℕ → ℕ
-units-in own n s = last-bytes own n s
-
--- those from a place on
-abbrev pub units-at : (at own n : ℕ) → List ℕ → ℕ
-units-at at own n s = units-in own n (midOf at (n * suc own) s)
-
--- of the indexed tables
-unfoldable pub indexed-units : List ℕ → ℕ
-indexed-units s =
-    units-at quick-at quick-own quick-places s + (units-at status-heads-at status-own status-places s + (units-at group-heads-at member-own slot-places s
-    + (units-at individual-heads-at member-own slot-places s + units-at line-slot-heads-at line-own slot-places s)))
-
--- and of the lists
-unfoldable pub listed-units : Limits → List ℕ → ℕ
-listed-units lim s =
-    units-at (group-contact-heads-at + count-size) member-own contact-places s
-    + (units-at (individual-contact-heads-at + count-size) member-own contact-places s + units-at (line-heads-at lim + count-size) line-own (lim .lines) s)

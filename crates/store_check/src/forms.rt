@@ -1,20 +1,18 @@
 // The two forms of a store: each text in a place of its own, or all in one area, where an entry keeps how many units its text has.
+use tables::head_places::GROUP_CONTACT_HEADS;
+use tables::head_places::GROUP_HEADS;
+use tables::head_places::INDIVIDUAL_CONTACT_HEADS;
+use tables::head_places::INDIVIDUAL_HEADS;
+use tables::head_places::LINE_SLOT_HEADS;
+use tables::head_places::SHARED_CHANNELS;
+use tables::head_places::STATUS_HEADS;
 use tables::places::CHANNELS;
-use tables::places::CONTACT_PLACES;
-use tables::places::COUNT;
 use tables::places::GROUP_CONTACTS;
 use tables::places::GROUPS;
 use tables::places::INDIVIDUAL_CONTACTS;
 use tables::places::INDIVIDUALS;
 use tables::places::LINE_SLOTS;
-use tables::places::LINE_TEXT;
-use tables::places::MEMBER_TEXT;
-use tables::places::QUICK;
-use tables::places::QUICK_PLACES;
-use tables::places::SLOT_PLACES;
 use tables::places::STATUS;
-use tables::places::STATUS_PLACES;
-use tables::places::STATUS_TEXT;
 ghost use mathlib.Core.Path.{_≡_};
 ghost use Prim.Native.Nat.{_+_, _*_, _≤_};
 ghost use Rattle.store_check.specs.Checks.{text-width};
@@ -39,32 +37,6 @@ pub(crate) fn text_width(form: Form, most: u8) -> usize
         Form::Shared => 1,
     }
 }
-
-// The widths of entries where the number of units stands for the text.
-pub(crate) const STATUS_HEAD: usize = STATUS_TEXT + 1;
-
-pub(crate) const MEMBER_HEAD: usize = MEMBER_TEXT + 1;
-
-pub(crate) const LINE_HEAD: usize = LINE_TEXT + 1;
-
-// Where such entries start; quick texts do so where they do in the other form.
-pub(crate) const STATUS_HEADS: usize = QUICK + QUICK_PLACES;
-
-pub(crate) const GROUP_HEADS: usize = STATUS_HEADS + STATUS_PLACES * STATUS_HEAD;
-
-pub(crate) const INDIVIDUAL_HEADS: usize = GROUP_HEADS + SLOT_PLACES * MEMBER_HEAD;
-
-pub(crate) const LINE_SLOT_HEADS: usize = INDIVIDUAL_HEADS + SLOT_PLACES * MEMBER_HEAD;
-
-pub(crate) const GROUP_CONTACT_HEADS: usize = LINE_SLOT_HEADS + SLOT_PLACES * LINE_HEAD;
-
-pub(crate) const INDIVIDUAL_CONTACT_HEADS: usize = GROUP_CONTACT_HEADS
-    + COUNT
-    + CONTACT_PLACES * MEMBER_HEAD;
-
-pub(crate) const SHARED_CHANNELS: usize = INDIVIDUAL_CONTACT_HEADS
-    + COUNT
-    + CONTACT_PLACES * MEMBER_HEAD;
 
 // Where the tables behind the quick texts start; the lines start where the channels end.
 pub(crate) struct Starts {

@@ -4,6 +4,7 @@ use Rattle.tables.specs.declared.limits.Limits.{Limits}
 use Rattle.tables.specs.declared.limits.Texts.{Texts}
 use Rattle.tables.specs.declared.limits.Texts.the-variants.{Placed, Shared}
 use Rattle.tables.specs.Forms.{by-form, start-in}
+use Rattle.tables.specs.Texts.{WhereShared}
 use Rattle.tables.specs.Layout.{quick-at, status-at, groups-at, individuals-at, line-slots-at, group-contacts-at, individual-contacts-at, channels-at, channels-size}
 use Rattle.tables.specs.SharedLayout.{status-heads-at, group-heads-at, individual-heads-at, line-slot-heads-at, group-contact-heads-at, individual-contact-heads-at, shared-channels-at}
 
@@ -40,3 +41,15 @@ form-most (Shared a) p h l = l
 pub form-times : (x : Texts) (n p h : ℕ) → n * by-form x p h ≡ by-form x (n * p) (n * h)
 form-times Placed n p h = refl
 form-times (Shared a) n p h = refl
+
+-- ---- what is asked where texts share an area
+
+-- SHARED-THEN: what follows from it is asked there too
+pub shared-then : (x : Texts) {P Q : Type 0} → (P → Q) → WhereShared x P → WhereShared x Q
+shared-then Placed f p = tt
+shared-then (Shared a) f p = f p
+
+-- SHARED-TOO: what holds anyway holds there
+pub shared-too : (x : Texts) {P : Type 0} → P → WhereShared x P
+shared-too Placed p = tt
+shared-too (Shared a) p = p

@@ -91,6 +91,11 @@ abbrev pub Passes : Texts → ℕ → Type 0
 Passes Placed n = ⊥
 Passes (Shared a) n = a < n
 
+-- what is asked only where texts share an area
+abbrev pub WhereShared : Texts → Type 0 → Type 0
+WhereShared Placed P = Unit {0}
+WhereShared (Shared a) P = P
+
 -- the units of all texts before row r of table k
 abbrev pub units-before : List (List (Option Text)) → ℕ → ℕ → ℕ
 units-before tables k r = units-of (texts-in (take k tables)) + units-of (present (take r (getD tables k [])))

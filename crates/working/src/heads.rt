@@ -4,8 +4,6 @@ use super::runs::heads_end;
 use super::runs::heads_size;
 use super::runs::run_of;
 use shared_texts::Run;
-use slots::bytes::is_clear;
-use slots::slots::used;
 use tables::limits::Limits;
 use tables::places::COUNTED;
 use tables::places::ORDERED;
@@ -17,7 +15,6 @@ ghost use lib.ListN.{length};
 ghost use Rattle.shared_texts.specs.Regions.{last-bytes};
 ghost use Rattle.tables.specs.SharedLayout.{heads-size};
 ghost use Rattle.shared_texts.specs.Shared.{run-units, SharedRoomy};
-ghost use Rattle.tables.specs.Texts.{AreaFilled};
 ghost use Rattle.working.specs.Loading.{UnitsAre};
 ghost use Rattle.working.specs.Runs.{heads-end, Small};
 
@@ -29,7 +26,7 @@ pub(crate) fn wide(x: u8) -> usize
 }
 
 // The units that the first n heads count: the last byte of each slot, behind own others.
-pub fn counted(heads: &[u8], own: usize, n: usize) -> usize
+fn counted(heads: &[u8], own: usize, n: usize) -> usize
     requires { ⌜ (n * suc own ≤ length (now heads)) × (own < 1000) × (n < 1000) ⌝ }
     ensures { λ r. ⌜ (r ≡ last-bytes own n (now (heads .entry))) × (r ≤ 255 * n) ⌝ }
 {
@@ -45,18 +42,6 @@ pub fn counted(heads: &[u8], own: usize, n: usize) -> usize
     sum
 }
 
-// Whether so many units stand in the area, none of them 0, and zeros behind them.
-pub fn area_ok(area: &[u8], units: usize) -> bool
-    ensures { λ r. ⌜ ((k : ℕ) → length (now (area .entry)) ≡ k * 2 → (r ≡ true) ↔ AreaFilled units (now (area .entry))) ⌝ }
-{
-    let end = used(area, 2);
-    if end / 2 < units {
-        return false;
-    }
-    let rest = units * 2;
-    is_clear(&area[rest..])
-}
-
 // The units that the first n heads of a table count.
 pub fn run_units(store: &[u8], run: Run, n: usize) -> usize
     requires { ⌜ Small run × (heads-end run ≤ length (now store)) × (n ≤ run .many) ⌝ }
@@ -68,7 +53,7 @@ pub fn run_units(store: &[u8], run: Run, n: usize) -> usize
 }
 
 // The units that the heads of all tables count.
-pub(crate) fn all_units(store: &[u8], limits: Limits) -> usize
+pub fn all_units(store: &[u8], limits: Limits) -> usize
     requires { ⌜ (limits .channels < 65536) × (limits .lines ≤ 255) × (heads-size limits ≤ length (now store)) ⌝ }
     ensures { λ r. ⌜ UnitsAre limits (now (store .entry)) r × (r ≤ 520200) ⌝ }
 {

@@ -19,14 +19,8 @@ regions-end-requires c κs = search needs
 add-spare : tie.Need-add-spare
 add-spare c = search needs
 
-indexed-units-requires : tie.Need-indexed-units-requires
-indexed-units-requires c κs = search needs
-
-listed-units-requires : tie.Need-listed-units-requires
-listed-units-requires c κs = search needs
-
-add-units : tie.Need-add-units
-add-units c = search needs
+all-units-requires : tie.Need-all-units-requires
+all-units-requires c κs = search needs
 
 sub-area-ok : tie.Need-sub-area-ok
 sub-area-ok c = search needs
@@ -42,13 +36,12 @@ area-ok-requires c κs = search needs
 
 returns-2 : tie.Need-returns-2
 returns-2 c =
-    let b = c .before .before .before .before .before .before .before .before .before in
+    let b = c .before .before .before .before .before .before .before .before in
     let a = b .args in
-    let i = c .before .before .before .before .indexed-units in
-    let l = c .before .before .before .listed-units in
-    let e = c .before .before .before .before .before .regions-end in
+    let u = c .before .before .before .all-units in
+    let e = c .before .before .before .before .regions-end in
     refused (λ x. not-said (c .before .area-ok .result) (c .before .area-ok .ensures) (c .if2 .taken)
-    (area-there (a .limits) (a .area) (a .store .now) (b .pre .0) (b .pre .1) (λ j. (c .before .before .before .before .before .before .before .before .shared-slice-known .given j) .fits) (e .result) (i .result) (l .result) (e .ensures) (i .ensures .0) (l .ensures .0) x))
+    (area-there (a .limits) (a .area) (a .store .now) (b .pre .0) (b .pre .1) (λ j. (c .before .before .before .before .before .before .before .shared-slice-known .given j) .fits) (e .result) (u .result) (e .ensures) (u .ensures .0) x))
 
 sub-is-clear : tie.Need-sub-is-clear
 sub-is-clear c = search needs
@@ -64,14 +57,13 @@ is-clear-requires c κs = search needs
 
 returns-3 : tie.Need-returns-3
 returns-3 c =
-    let b = c .before .before .before .before .before .before .before .before .before .before .before in
+    let b = c .before .before .before .before .before .before .before .before .before .before in
     let a = b .args in
-    let i = c .before .before .before .before .before .before .indexed-units in
-    let l = c .before .before .before .before .before .listed-units in
-    let e = c .before .before .before .before .before .before .before .regions-end in
-    let h = was-said (c .before .before .before .before .before .before .before .before .before .regions-ok .result) (c .before .before .before .before .before .before .before .before .before .regions-ok .ensures) (c .before .before .before .before .before .before .before .before .if1 .left) in
+    let u = c .before .before .before .before .before .all-units in
+    let e = c .before .before .before .before .before .before .regions-end in
+    let h = was-said (c .before .before .before .before .before .before .before .before .regions-ok .result) (c .before .before .before .before .before .before .before .before .regions-ok .ensures) (c .before .before .before .before .before .before .before .if1 .left) in
     let f = was-said (c .before .before .before .area-ok .result) (c .before .before .before .area-ok .ensures) (c .before .before .if2 .left) in
-    shared-told (a .limits) (a .area) (a .store .now) (b .pre .0) (b .pre .1) (λ j. (c .before .before .before .before .before .before .before .before .before .before .shared-slice-known .given j) .fits) (e .result) (i .result) (l .result) (e .ensures) (i .ensures .0) (l .ensures .0) h f (c .is-clear .result) (c .is-clear .ensures)
+    shared-told (a .limits) (a .area) (a .store .now) (b .pre .0) (b .pre .1) (λ j. (c .before .before .before .before .before .before .before .before .before .shared-slice-known .given j) .fits) (e .result) (u .result) (e .ensures) (u .ensures .0) h f (c .is-clear .result) (c .is-clear .ensures)
 
 pub is-shared-spec : {M : Type 1} → statement M
 is-shared-spec =
@@ -81,9 +73,7 @@ is-shared-spec =
     returns
     regions-end-requires
     add-spare
-    indexed-units-requires
-    listed-units-requires
-    add-units
+    all-units-requires
     sub-area-ok
     part-area-ok-start
     part-area-ok-end
