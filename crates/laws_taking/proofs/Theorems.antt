@@ -1,16 +1,17 @@
 -- Demands 1 to 3 for taking a message, over the contract of commit: for every message, store and reply buffer. Assumes nothing.
-use Rattle.lists.proofs.Kit.{ℕ, _+_, _*_, _-_, _≤_, _≡_, refl, sym, ap, _∙_, subst, subst₂, subst⁻¹, _≢_, _⊎_, inl, inr, ⊎-elim, _↔_, Bool, true, false, List, [], _++_, append-nil, nil≢cons, arith, length, midOf, take, drop, take-take}
+use Rattle.lists.proofs.Kit.{ℕ, _+_, _*_, _-_, _≤_, _<_, _≡_, refl, sym, ap, _∙_, subst, subst₂, subst⁻¹, _≢_, _⊎_, inl, inr, ⊎-elim, _↔_, Bool, true, false, List, [], _++_, append-nil, nil≢cons, arith, length, midOf, take, drop, take-take}
+use native.Mathlib.Decide.{decLe}
 use Rattle.lists.specs.Bytes.{Bytes}
 use Rattle.lists.specs.Ladder.{Answers}
 use Rattle.writing.specs.declared.Coding.{Coding}
-use Rattle.writing.specs.Carrier.{Counted}
+use Rattle.writing.specs.Carrier.{Counted, InSize}
 use Rattle.writing.specs.Fields.{bitsOf, Shows}
 use Rattle.writing.specs.Ranges.{text-limits, InRange}
 use Rattle.writing.specs.Settings.{Setting, Hash}
 use Rattle.writing.specs.Writing.{WrittenAll, WrittenAs, request-head}
 use Rattle.read_carrier.proofs.CarrierLaws.{carries-one}
 use Rattle.read_carrier.proofs.MessageOne.{coding-one, counted-one}
-use Rattle.read_carrier.proofs.KindLaws.{request-bytes, opens-no-query}
+use Rattle.read_carrier.proofs.KindLaws.{request-bytes, opens-no-query, in-size}
 use Rattle.tables.specs.declared.limits.Limits.{Limits}
 use Rattle.tables.specs.Apply.{apply}
 use Rattle.tables.specs.Allowed.{Allowed}
@@ -27,7 +28,7 @@ use Rattle.laws_taking.specs.Demands.{InTurn, Stand, Passes, Refused, no
 use Rattle.requests.specs.Judge as J
 use Rattle.requests.specs.Judge.{Outcome, kept, refused}
 use Rattle.requests.specs.Requests.{WrittenIn, Known, Runs, Judged, forget, last-item}
-use Rattle.station.specs.Taking.{AfterTaking, settled, replies, stays, turned-down, AsRequest, AsQuery, taken}
+use Rattle.station.specs.Taking.{AfterTaking, settled, replies, stays, turned-down, AsRequest, AsQuery, Handled, taken}
 use Rattle.laws_taking.proofs.Alike.{judged-alike}
 use Rattle.laws_taking.proofs.Demand.{run-allowed, run-written, written-runs, hash-own}
 use Rattle.laws_taking.proofs.Determined.{judged-determined, one-writing, type-first}
@@ -55,6 +56,10 @@ module _ (c : Coding) (lim : Limits) (t : Tables) {n : ℕ} {bs : List ℕ} {o :
 
 -- ---- how a message ends
 
+-- equal outcomes have equal numbers
+pub number-of : {x y : AfterTaking} → x ≡ y → x .answer .number ≡ y .answer .number
+number-of e = ap (λ (y : AfterTaking). y .answer .number) e
+
 module _ (lim : Limits) (message store reply : List ℕ) where
   -- nothing is touched, or a reply is written and the store stays, or a request is taken
   data Ends (x : AfterTaking) : Type 0 where
@@ -79,6 +84,30 @@ module _ (lim : Limits) (message store reply : List ℕ) where
   ends x (inr (_, inr (_, inr (_, inr (_, inr (_, inl (_, e))))))) = replied 1 0 true false no-hash (omega arith) e
   ends x (inr (_, inr (_, inr (_, inr (_, inr (_, inr (_, inl (_, e)))))))) = replied 4 0 true false no-hash (omega arith) e
   ends x (inr (_, inr (_, inr (_, inr (_, inr (_, inr (_, inr (_, h)))))))) = ⊎-elim (request-ends (h .tables) (h .holds .0) x) (query-ends (h .tables) x) (h .comes-to)
+
+  -- what is not under 20 bytes has them
+  big-enough : (length reply < 20 → ⊥) → 20 ≤ length reply
+  big-enough h = by (decLe 20 (length reply))
+    where
+      by : Dec (20 ≤ length reply) → 20 ≤ length reply
+      by (yes l) = l
+      by (no f) = absurd (h (omega arith))
+
+  -- only 10 says that the reply buffer is too short
+  pub had-room : (x : AfterTaking) → Answers (taken lim message store reply) x → x .answer .number ≢ 10 → 20 ≤ length reply
+  had-room x (inl (_, e)) n = absurd (n (number-of e))
+  had-room x (inr (h, _)) n = big-enough h
+
+  -- ANSWERED 0: such a message has passed every test
+  pub answered-0 : (x : AfterTaking) → Answers (taken lim message store reply) x → x .answer .number ≡ 0 → (20 ≤ length reply) × InSize (lim .message) message × Handled lim message store reply x
+  answered-0 x (inl (_, e)) n = absurd (omega (arith, n, number-of e))
+  answered-0 x (inr (_, inl (_, e))) n = absurd (omega (arith, n, number-of e))
+  answered-0 x (inr (_, inr (_, inl (_, e)))) n = absurd (omega (arith, n, number-of e))
+  answered-0 x (inr (_, inr (_, inr (_, inl (_, e))))) n = absurd (omega (arith, n, number-of e))
+  answered-0 x (inr (_, inr (_, inr (_, inr (_, inl (_, e)))))) n = absurd (omega (arith, n, number-of e))
+  answered-0 x (inr (_, inr (_, inr (_, inr (_, inr (_, inl (_, e))))))) n = absurd (omega (arith, n, number-of e))
+  answered-0 x (inr (_, inr (_, inr (_, inr (_, inr (_, inr (_, inl (_, e)))))))) n = absurd (omega (arith, n, number-of e))
+  answered-0 x (inr (big, inr (_, inr (sized, inr (_, inr (_, inr (_, inr (_, h)))))))) n = (big-enough big, in-size (lim .message) message sized, h)
 
   -- STORE STAYS: "Only .. a taken request change[s] it": any number but 0 leaves every byte of the store
   pub store-stays : (x : AfterTaking) → Answers (taken lim message store reply) x → x .answer .number ≢ 0 → x .store ≡ store
