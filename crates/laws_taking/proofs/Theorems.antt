@@ -148,7 +148,7 @@ module _ (lim : Limits) (message store reply : List ℕ) where
 -- ---- a request that passes the checks
 
 -- settings that are written as the data bytes are counted, and follow ParamSum
-written-counted : {c : Coding} {l : List Setting} {d : List ℕ} (w : WrittenAs c l d) → Counted (length l) (w .settings) d
+pub written-counted : {c : Coding} {l : List Setting} {d : List ℕ} (w : WrittenAs c l d) → Counted (length l) (w .settings) d
 written-counted w = record { head = w .head; parts = w .parts; says = w .counted; some-setting = w .some-setting }
 
 -- and back: as many settings as are counted, written as what follows ParamSum
