@@ -11,7 +11,7 @@
  *    that is what every archive takes; a size_t widens by itself.
  *  - The buffers of one call do not overlap. This is not checked.
  *  - While one task is in a call, no other task writes its buffers or reads those that the call may change. See "Screens".
- *  - The stack has room: OTAP_COMMIT_STACK and its like, below. otap_judge and otap_commit work on a copy of the store there.
+ *  - The stack has room: OTAP_COMMIT_STACK and its like, below. otap_judge, otap_commit, otap_export and otap_report work on a copy of the store there.
  *  - memcpy and memset are there to link with (on Cortex-M __aeabi_memcpy and __aeabi_memclr, which come with every C library for Arm); the archive
  *    needs nothing else.
  *
@@ -67,19 +67,21 @@ enum { OTAP_DIGITS = 18 };
 enum { OTAP_LAYOUT = 6 };
 
 /*
- * Stack in bytes: a ceiling for each call on every processor, which tests/stack.c holds it to, and the most that it measured on x86-64, AArch64,
- * Cortex-M4 and Cortex-M33 (docs/TESTING.md has each). It is tested on a full store with every kind of message; no theorem bounds it.
+ * Stack in bytes: a ceiling for each call on every processor, which tests/stack.c holds it to, and the most that it measured (docs/TESTING.md has each): of
+ * otap_start and the conversions on x86-64, AArch64, Cortex-M4 and Cortex-M33, of the others with layout 6 on x86-64 alone. With layout 5 a Cortex-M took up to
+ * two thirds more than x86-64 beside the working copy, and the ceilings have room for as much. It is tested on a full store with every kind of message; no
+ * theorem bounds it.
  */
 enum {
     OTAP_START_STACK = 256,      /* measured 40 */
-    OTAP_JUDGE_STACK = 26624,    /* 26,288: it has the working copy that otap_commit has */
-    OTAP_COMMIT_STACK = 26624,   /* 26,288: 24,576 of them are the working copy of the store */
-    OTAP_EXPORT_STACK = 1024,    /* 896 */
-    OTAP_REPORT_STACK = 1536,    /* 984 */
-    OTAP_ROW_STACK = 1024,       /* 816 otap_row_number, 896 otap_row_part */
-    OTAP_COUNTS_STACK = 1024,    /* 532 */
-    OTAP_LINE_OF_STACK = 1024,   /* 712 */
-    OTAP_VALUE_STACK = 1024,     /* 648 otap_entry, 640 otap_entry_digits; 540 otap_channel, otap_emergency_key and the others of a value */
+    OTAP_JUDGE_STACK = 29696,    /* 26,816: it has the working copy that otap_commit has */
+    OTAP_COMMIT_STACK = 29696,   /* 27,360: 24,576 of them are the working copy of the store */
+    OTAP_EXPORT_STACK = 27136,   /* 25,696, with a working copy too */
+    OTAP_REPORT_STACK = 27136,   /* 25,952, with a working copy too */
+    OTAP_ROW_STACK = 3072,       /* 1,632 otap_row_number, 1,648 otap_row_part */
+    OTAP_COUNTS_STACK = 2048,    /* 960 */
+    OTAP_LINE_OF_STACK = 2048,   /* 1,088 */
+    OTAP_VALUE_STACK = 2048,     /* 1,088 otap_entry, otap_entry_digits; 976 otap_channel, 960 otap_emergency_key and the others of a value */
     OTAP_CONVERSION_STACK = 256  /* 64 */
 };
 

@@ -41,10 +41,15 @@ enum {
     OTAP_VEHICLE_CHANNEL_PLACES = 256
 };
 
-/* Stack in bytes of the two calls that have a working copy of the store there, as in otap.h; the others have the ceilings of otap.h. */
+/*
+ * Stack in bytes, as in otap.h: judging and committing have a working copy of the store there, of 49,152 bytes; exporting and reporting need none, since each text
+ * has its place. The others have the ceilings of otap.h.
+ */
 enum {
-    OTAP_VEHICLE_JUDGE_STACK = 51200,
-    OTAP_VEHICLE_COMMIT_STACK = 51200
+    OTAP_VEHICLE_JUDGE_STACK = 53248,  /* measured 51,424 */
+    OTAP_VEHICLE_COMMIT_STACK = 53248, /* 51,440 */
+    OTAP_VEHICLE_EXPORT_STACK = 2560,  /* 1,136 */
+    OTAP_VEHICLE_REPORT_STACK = 2560   /* 1,424 */
 };
 
 /* As otap_start, of OTAP_VEHICLE_STORE_BYTES bytes. */
