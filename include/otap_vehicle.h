@@ -42,8 +42,8 @@ enum {
 };
 
 /*
- * Stack in bytes, as in otap.h: judging and committing have a working copy of the store there, of 49,152 bytes; exporting and reporting need none, since each text
- * has its place. The others have the ceilings of otap.h.
+ * Stack in bytes, as in otap.h: judging and committing have a working copy of the store there, of 49,152 bytes; exporting and reporting need none, since each
+ * text has its place. The others have the ceilings of otap.h.
  */
 enum {
     OTAP_VEHICLE_JUDGE_STACK = 53248,  /* measured 51,424 */

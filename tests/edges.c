@@ -116,6 +116,15 @@ static void give_texts(uint32_t table, unsigned first, unsigned count, unsigned 
     }
 }
 
+/* The same of a setting of these fields, under coding type 0100. */
+static void narrow_comes_to(const char *what, unsigned type, const uint8_t *fields, size_t length, uint64_t answer)
+{
+    open_request(&said, 1);
+    put_bytes(&said, type, fields, length);
+    said.bytes[5] = 4;
+    same(what, answer, take(), answer);
+}
+
 /* 4,086 bytes of texts, so that 5 units are left of a hand-held's area; the last quick text, codes from 70 on and all other tables are empty. */
 static void give_nearly_all(void)
 {
@@ -123,6 +132,13 @@ static void give_nearly_all(void)
     give_texts(OTAP_QUICK_TEXTS, 0, 63, 23);
     give_texts(OTAP_STATUS_TEXTS, 0, 37, 16);
     give_texts(OTAP_STATUS_TEXTS, 37, 1, 2);
+}
+
+/* And a line that takes the 5. */
+static void give_all(void)
+{
+    give_nearly_all();
+    give_texts(OTAP_LINES, 0, 1, 5);
 }
 
 /* In each table: a unit too many, then as many as are left, and no unit more; what a delete frees is used again, and leaves no trace. */
@@ -160,26 +176,32 @@ static void two_come_to(const char *what, unsigned first, unsigned first_units, 
     memcpy(store, before, sizeof store);
 }
 
+/* With no unit left, a line without a text and a channel need none; the name of a background group, which no row shows, needs its own. */
+static void without_texts(void)
+{
+    static const uint8_t background[] = {0x50, 0, 1, 0x10, 0, 1, 'A', 0};
+    give_all();
+    named_comes_to("a line without a text", OTAP_LINES, ADD, 1, 0, OTAP_OK);
+    open_request(&said, 1);
+    put_channels(&said, ADD, 1);
+    same("a channel", 0, OTAP_OK, take());
+    counts_are("two lines and a channel", store, 2, 1);
+    narrow_comes_to("a background group's name", 0xC8, background, sizeof background, with_room(4098, TEXT_ROOM));
+}
+
 /* Texts are summed after each setting: neither after an entry, nor after the request. Two bytes a unit, also of those that came in eight bits. */
 static void sums_in_turn(void)
 {
     static const uint8_t in_between[] = {0x40, 3, 80, 'A', 'B', 0, 80, 'C', 0, 80, 0}, two[] = {0x40, 1, 80, 'A', 'B', 0};
     uint64_t first = with_room(4098, TEXT_ROOM), second = first == OTAP_OK ? OTAP_OK : OTAP_NO_ROOM | 2 << 8;
-    give_nearly_all();
-    give_texts(OTAP_LINES, 0, 1, 5);
+    give_all();
     two_come_to("room that the first makes", 3, 15, 60, 1, OTAP_OK);
     two_come_to("too little of it", 3, 15, 60, 2, second);
     two_come_to("room that comes too late", 60, 1, 3, 15, first);
     two_come_to("none, behind what needs none", 60, 0, 61, 1, second);
-    open_request(&said, 1);
-    put_bytes(&said, 0xD0, in_between, sizeof in_between);
-    said.bytes[5] = 4;
-    same("too many in between", 0, OTAP_OK, take());
+    narrow_comes_to("too many in between", 0xD0, in_between, sizeof in_between, OTAP_OK);
     named_comes_to("one unit is freed", OTAP_STATUS_TEXTS, ADD, 3, 15, OTAP_OK);
-    open_request(&said, 1);
-    put_bytes(&said, 0xD0, two, sizeof two);
-    said.bytes[5] = 4;
-    same("two characters", first, take(), first);
+    narrow_comes_to("two characters", 0xD0, two, sizeof two, first);
 }
 
 /* Texts as long as they can be in every place, as far as there is room: of a vehicle in all, of a hand-held up to the last byte. */
@@ -201,12 +223,7 @@ static void every_place(void)
 /* The full store of the other tests: 4,096 bytes of texts in a hand-held, so that a status text of 15 units cannot have one more. */
 static void filled(void)
 {
-    unsigned each;
-    same("start", 0, OTAP_OK, otap_start(store, sizeof store));
-    for (each = 0; each < FILLING_MESSAGES; each++) {
-        write_filling(&said, each, 0);
-        same("filled", 0, OTAP_OK, take());
-    }
+    fill_store(store, 0);
     named_comes_to("as long as it was", OTAP_STATUS_TEXTS, ADD, 1, 15, OTAP_OK);
     named_comes_to("a unit more", OTAP_STATUS_TEXTS, ADD, 1, 16, with_room(4098, TEXT_ROOM));
 }
@@ -214,6 +231,7 @@ static void filled(void)
 static void texts(void)
 {
     last_units();
+    without_texts();
     sums_in_turn();
     every_place();
     filled();

@@ -44,16 +44,6 @@ static void fresh(void)
     same("start", 0, OTAP_OK, otap_start(store, sizeof store));
 }
 
-static void fill(unsigned vary)
-{
-    unsigned each;
-    fresh();
-    for (each = 0; each < FILLING_MESSAGES; each++) {
-        write_filling(&said, each, vary);
-        same("a store is filled", 0, OTAP_OK, take(&said, store));
-    }
-}
-
 /* A request of one setting of this operation with as many entries, of one of the six types that can replace. */
 static void write_list(Message *m, unsigned type, unsigned operation, unsigned count)
 {
@@ -116,7 +106,7 @@ static void write_named(Message *m, uint32_t table, unsigned key, unsigned units
 static void rooms_for_texts(void)
 {
     const int shared = TEXT_ROOM == 4096;
-    fill(0);
+    fill_store(store, 0);
     write_named(&first, OTAP_STATUS_TEXTS, 1, 14);
     write_named(&second, OTAP_GROUPS, 12, 5);
     both_come_to("room that the first makes", 0, 0);
@@ -183,7 +173,7 @@ static void begin(unsigned turn)
     if (turn % 3 == 2) {
         fresh();
     } else {
-        fill(turn % 3 * 20);
+        fill_store(store, turn % 3 * 20);
     }
 }
 

@@ -9,16 +9,6 @@ static uint64_t commit(void)
     return judge_and_commit(said.bytes, said.length, store, OTAP_STORE_BYTES, reply, sizeof reply);
 }
 
-static void fill(void)
-{
-    unsigned each;
-    same("start", 0, OTAP_OK, otap_start(store, OTAP_STORE_BYTES));
-    for (each = 0; each < FILLING_MESSAGES; each++) {
-        write_filling(&said, each, 0);
-        same("taken", 0, OTAP_OK, otap_answer_number(commit()));
-    }
-}
-
 /* 0 to 5: a reply is written. The last byte of the answer's low 32 bits is its length; bit 16 says send. */
 static void replied(void)
 {
@@ -355,7 +345,7 @@ static void conversions(void)
 int main(void)
 {
     sizes();
-    fill();
+    fill_store(store, 0);
     replied();
     untouched();
     exported();

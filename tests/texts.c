@@ -1,6 +1,6 @@
 /*
- * Texts where docs/STORE.md has them (request A11), as C sees them: its example byte by byte, what a row shows while others grow, shrink and go, and which bytes
- * are no store. A hand-held's share one area and move in it; a vehicle's have their places.
+ * Texts where docs/STORE.md has them (request A11), as C sees them: its example byte by byte, what a row shows while others grow, shrink and go, and which
+ * bytes are no store. A hand-held's share one area and move in it; a vehicle's have their places.
  */
 #include "answers.h"
 #include "named.h"

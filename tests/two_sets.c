@@ -69,7 +69,7 @@ static void give_status(unsigned units)
     same("status texts for the vehicle", 0, OTAP_OK, take_in_vehicle(said.bytes, said.length));
 }
 
-/* A vehicle with so many lines and channels, quick texts, contacts and slots as a full hand-held has them, and no status texts: 1,445 units beside the lines. */
+/* A vehicle with so many lines and channels, quick texts, contacts and slots as a full hand-held has them, 1,445 units of texts, and no status texts. */
 static void fill_vehicle(unsigned lines, unsigned channels)
 {
     unsigned each;
@@ -93,12 +93,7 @@ static void start_handheld(void)
 /* A full hand-held; its hash is kept. */
 static void fill_handheld(void)
 {
-    unsigned each;
-    start_handheld();
-    for (each = 0; each < FILLING_MESSAGES; each++) {
-        write_filling(&said, each, 0);
-        same("a full hand-held", 0, OTAP_OK, take_in_handheld(said.bytes, said.length));
-    }
+    fill_store(handheld, 0);
 }
 
 /* A part of the vehicle, left in `large`: how long it is. */
