@@ -362,7 +362,7 @@ fn deleted_contacts() -> Vec<u8> {
 }
 
 fn line_slot(place: usize, units: usize) -> Vec<u8> {
-    let LineEntry { digits, text } = line(place, units);
+    let LineEntry { digits, text } = line(place % 16, units);
     let flags = LineFlags { emergency: true, priority: 1, pabx: true, ..LineFlags::default() };
     let slot = Some(Line { digits, flags, text });
     Setting::LineSlot { index: place as u8 % 16, slot }.write()
