@@ -89,7 +89,7 @@ enum {
 enum {
     OTAP_OK = 0,               /* taken, or the query matches (of otap_judge: it would be, or matches); otherwise: done */
     OTAP_BAD_VERSION = 1,      /* OTAPVer is not 1 */
-    OTAP_NO_ROOM = 2,          /* a setting needs a place in a full table, or all texts after it are over OTAP_TEXT_BYTES */
+    OTAP_NO_ROOM = 2,          /* a setting needs a place in a full table, or the texts held after it are over OTAP_TEXT_BYTES */
     OTAP_UNKNOWN_TYPE = 3,     /* a setting's type is not among the thirteen */
     OTAP_BAD_FIELD = 4,        /* bad field, length or count */
     OTAP_NO_MATCH = 5,         /* query: code 0, nothing kept, or code or value differs */
@@ -308,7 +308,7 @@ uint32_t otap_row_number(uint32_t table, uint32_t row,
 
 /*
  * The part of the store or of the scratch that shows a row: 16-bit units, high byte first, without an end unit, also of texts that came in eight bits.
- * A row with a text shows the whole of it and nothing else, where it stands in the store's area of texts; no byte is touched. A line, group or
+ * A row with a text shows the whole of it and nothing else, the text's own part of the store; no byte is touched. A line, group or
  * individual without one, a contact or in a slot, shows its number: it is written at the scratch's start (line digits, eight dialled digits, or six
  * upper-case hex digits), and the scratch's other bytes stay. An empty status text is an empty part of the store. A row does not say a line's IDtype:
  * two lines with one number and no text look alike.

@@ -85,7 +85,7 @@ uint64_t otap_vehicle_line_of(uint32_t id_type,
                               const uint8_t *digits, uint64_t digits_length,
                               const uint8_t *store, uint64_t store_length);
 
-/* As otap_row_number and otap_row_part; OTAP_LINES has OTAP_VEHICLE_LINE_ROWS rows. */
+/* As otap_row_number and otap_row_part; OTAP_LINES has OTAP_VEHICLE_LINE_ROWS rows. Each text stands in a place of its own, where no other moves it. */
 uint32_t otap_vehicle_row_number(uint32_t table, uint32_t row,
                                  const uint8_t *store, uint64_t store_length,
                                  const uint8_t *scratch, uint64_t scratch_length);
