@@ -24,7 +24,8 @@ use Rattle.screen.specs.declared.names.SlotPlace.the-variants.{At}
 use Rattle.screen.specs.declared.rows.Row.{Row}
 use Rattle.screen.specs.declared.rows.Row.the-variants.{Line, QuickText, StatusText, Group, Individual, GroupContact, IndividualContact, LineSlot, NoTable}
 use Rattle.screen.specs.declared.spots.Spot.{Spot}
-use Rattle.screen.specs.Areas.{spot, spot-of, InHeads, shared-span}
+use Rattle.working.specs.Areas.{InHeads}
+use Rattle.screen.specs.Areas.{spot, spot-of, shared-span}
 use Rattle.screen.specs.Naming.{SlotBy, SlotIs, TextIs}
 use Rattle.screen.specs.Rows.{Caption, text, group, line-row, individual-row, group-row, caption, text-of, of, placed-start, table-of, place-of, start-by, text-start, unit-bytes}
 use Rattle.screen.proofs.EntryLaws.{Captioned, row-captioned, row-there}
@@ -191,11 +192,11 @@ module _ (lim : Limits) (s : List ℕ) (store : StoreOf lim s) (row : Row) (slot
       (b, n, omega (arith, text-inside lim t s h row c e (store .roomy), store .size))
 
   -- its table has heads in the store
-  pub text-in-heads : (at : Spot) → at ≡ spot-of row → (a : ℕ) → lim .texts ≡ Shared a → InHeads lim s at
+  pub text-in-heads : (at : Spot) → at ≡ spot-of row → (a : ℕ) → lim .texts ≡ Shared a → InHeads lim s (at .table) (at .place)
   text-in-heads at p a q =
       let w = slot-rowed (lim .texts) lim row slot z in
       let f : shared-size lim a ≤ lim .size = subst (λ (x : Texts). AreaFits x lim) q (store .roomy .area) in
-      subst (InHeads lim s) (sym (p ∙ w .spot-is))
+      subst (λ (o : Spot). InHeads lim s (o .table) (o .place)) (sym (p ∙ w .spot-is))
       (record { few-channels = store .roomy .few-channels; few-lines = store .roomy .few-lines; heads = omega (arith, store .size); table = w .table; place = omega (arith, w .place) })
 
   -- TEXT SHARED: in the area, by the heads

@@ -1,13 +1,12 @@
 -- Which table has a row, and how its text is found in the area that texts share: inner steps, no promise cites these.
-use Prim.Native.Nat.{ℕ, _+_, _*_, _-_, _≤_, _<_}
+use Prim.Native.Nat.{ℕ, _+_, _*_, _-_}
 use mathlib.Core.Bool.{cond}
 use mathlib.Core.List.{List}
 use lib.Dec.{ltb}
-use lib.ListN.{length, getD}
+use lib.ListN.{getD}
 use Rattle.tables.specs.declared.limits.Limits.{Limits}
 use Rattle.tables.specs.SharedLayout.{heads-size}
 use Rattle.shared_texts.specs.Shared.{text-runs, counted-before}
-use Rattle.working.specs.Runs.{run-of}
 use Rattle.screen.specs.declared.areas.Span.{Span}
 use Rattle.screen.specs.declared.rows.Row.{Row}
 use Rattle.screen.specs.declared.rows.Row.the-variants.{Line, QuickText, StatusText, Group, Individual, GroupContact, IndividualContact, LineSlot, NoTable}
@@ -32,14 +31,6 @@ spot-of (Line n) = spot 7 n
 spot-of NoTable = spot 8 0
 
 -- ---- the text of row n of table k
-
--- the row has a head in these bytes
-pub record InHeads (lim : Limits) (s : List ℕ) (at : Spot) : Type 0 where
-  pub few-channels : lim .channels < 65536
-  pub few-lines : lim .lines ≤ 255
-  pub heads : heads-size lim ≤ length s
-  pub table : at .table < 8
-  pub place : at .place ≤ run-of lim (at .table) .many
 
 -- behind the units that the heads before it count, as many as its head's last byte says
 abbrev pub shared-span : Limits → List ℕ → Spot → ℕ → Span

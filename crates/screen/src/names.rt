@@ -15,8 +15,8 @@ use tables::limits::Texts;
 use tables::limits::roomy;
 use tables::places::LINE_DIGITS;
 use tables::places::MEMBER_ADDRESS;
+use working::areas::table_run;
 use working::runs::TEXT_TABLES;
-use working::runs::run_of;
 ghost use Prim.Native.Nat.{ℕ, _+_, _*_, _^_, _≤_, _<_};
 ghost use mathlib.Core.Path.{_≡_};
 ghost use Rattle.lists.specs.Ladder.{Answers};
@@ -74,7 +74,7 @@ fn slot_of(row: Row, limits: Limits) -> SlotPlace
     if TEXT_TABLES <= k {
         return SlotPlace::Beyond;
     }
-    let run = run_of(limits, k);
+    let run = table_run(limits, k);
     let texts = limits.texts;
     let base = by_form(texts, run.from, run.start);
     let width = by_form(texts, run.own + run.room, run.own + 1);

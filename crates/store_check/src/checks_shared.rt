@@ -5,7 +5,7 @@ use super::forms::Form;
 use slots::bytes::is_clear;
 use slots::slots::used;
 use tables::limits::Limits;
-use working::heads::all_units;
+use working::areas::units_in;
 ghost use mathlib.Core.Path.{_≡_};
 ghost use mathlib.Core.Bool.{true};
 ghost use mathlib.Core.Logic.{_↔_};
@@ -36,7 +36,7 @@ pub(crate) fn is_shared(store: &[u8], limits: Limits, area: usize) -> bool
     }
     let texts = regions_end(Form::Shared, limits);
     let spare = texts + area;
-    let units = all_units(store, limits);
+    let units = units_in(store, limits);
     if !area_ok(&store[texts..spare], units) {
         return false;
     }

@@ -1,3 +1,4 @@
+pub mod AreaLaws
 pub mod CountLaws
 pub mod FormMoves
 pub mod LoadLaws

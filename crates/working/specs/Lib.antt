@@ -1,3 +1,4 @@
+pub mod Areas
 pub mod Loading
 pub mod Runs
 pub mod Saving

@@ -43,7 +43,7 @@ fn counted(heads: &[u8], own: usize, n: usize) -> usize
 }
 
 // The units that the first n heads of a table count.
-pub fn run_units(store: &[u8], run: Run, n: usize) -> usize
+pub(crate) fn run_units(store: &[u8], run: Run, n: usize) -> usize
     requires { ⌜ Small run × (heads-end run ≤ length (now store)) × (n ≤ run .many) ⌝ }
     ensures { λ r. ⌜ (r ≡ run-units (now (store .entry)) n run) × (r ≤ 65025) ⌝ }
 {
@@ -53,7 +53,7 @@ pub fn run_units(store: &[u8], run: Run, n: usize) -> usize
 }
 
 // The units that the heads of all tables count.
-pub fn all_units(store: &[u8], limits: Limits) -> usize
+pub(crate) fn all_units(store: &[u8], limits: Limits) -> usize
     requires { ⌜ (limits .channels < 65536) × (limits .lines ≤ 255) × (heads-size limits ≤ length (now store)) ⌝ }
     ensures { λ r. ⌜ UnitsAre limits (now (store .entry)) r × (r ≤ 520200) ⌝ }
 {

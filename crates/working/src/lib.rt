@@ -1,5 +1,6 @@
 // Working copies of a store whose texts share one area: in a working copy every text has a place of its own, as the settings that are tried on it need.
-pub mod heads;
+pub mod areas;
+mod heads;
 pub mod loading;
 mod parts;
 pub mod runs;

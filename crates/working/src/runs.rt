@@ -1,5 +1,13 @@
 // The tables that have texts, by number: where their slots stand in a store and in a working copy.
 use shared_texts::Run;
+use tables::head_places::GROUP_CONTACT_HEADS;
+use tables::head_places::GROUP_HEADS;
+use tables::head_places::INDIVIDUAL_CONTACT_HEADS;
+use tables::head_places::INDIVIDUAL_HEADS;
+use tables::head_places::LINE_HEAD;
+use tables::head_places::LINE_SLOT_HEADS;
+use tables::head_places::SHARED_CHANNELS;
+use tables::head_places::STATUS_HEADS;
 use tables::limits::Limits;
 use tables::places::CHANNEL_SLOT;
 use tables::places::CHANNELS;
@@ -33,25 +41,6 @@ pub const LINES: usize = 7;
 
 // The bytes of the longest text but a quick text's.
 const SHORT: usize = 32;
-
-// Where heads start in a store: the number of units is a slot's last byte.
-const STATUS_HEADS: usize = QUICK + QUICK_PLACES;
-
-const GROUP_HEADS: usize = STATUS_HEADS + STATUS_PLACES * (STATUS_TEXT + 1);
-
-const INDIVIDUAL_HEADS: usize = GROUP_HEADS + SLOT_PLACES * (MEMBER_TEXT + 1);
-
-const LINE_SLOT_HEADS: usize = INDIVIDUAL_HEADS + SLOT_PLACES * (MEMBER_TEXT + 1);
-
-const GROUP_CONTACT_HEADS: usize = LINE_SLOT_HEADS + SLOT_PLACES * (LINE_TEXT + 1);
-
-const INDIVIDUAL_CONTACT_HEADS: usize = GROUP_CONTACT_HEADS
-    + COUNT
-    + CONTACT_PLACES * (MEMBER_TEXT + 1);
-
-const SHARED_CHANNELS: usize = INDIVIDUAL_CONTACT_HEADS
-    + COUNT
-    + CONTACT_PLACES * (MEMBER_TEXT + 1);
 
 // All but the lines, whose places go by the limits.
 const RUNS: [Run; LINES] = [
@@ -128,7 +117,7 @@ pub(crate) fn number_of(kind: Kind) -> usize
 }
 
 // Table k.
-pub fn run_of(limits: Limits, k: usize) -> Run
+pub(crate) fn run_of(limits: Limits, k: usize) -> Run
     requires { ⌜ (k < 8) × (limits .channels < 65536) × (limits .lines ≤ 255) ⌝ }
     ensures { λ r. ⌜ (r ≡ run-of limits k) × Small r × Inside limits r ⌝ }
 {
@@ -156,7 +145,7 @@ pub(crate) fn slots_end(run: Run) -> usize
 }
 
 // Where its heads end in a store.
-pub fn heads_end(run: Run) -> usize
+pub(crate) fn heads_end(run: Run) -> usize
     requires { ⌜ Small run ⌝ }
     ensures { λ r. ⌜ r ≡ heads-end run ⌝ }
 {
@@ -164,11 +153,11 @@ pub fn heads_end(run: Run) -> usize
 }
 
 // How many bytes the heads take, which is where the area starts.
-pub fn heads_size(limits: Limits) -> usize
+pub(crate) fn heads_size(limits: Limits) -> usize
     requires { ⌜ (limits .channels < 65536) × (limits .lines ≤ 255) ⌝ }
     ensures { λ r. ⌜ r ≡ heads-size limits ⌝ }
 {
     let channels = COUNT + limits.channels * CHANNEL_SLOT;
-    let lines = COUNT + limits.lines * (LINE_TEXT + 1) + limits.lines;
+    let lines = COUNT + limits.lines * LINE_HEAD + limits.lines;
     SHARED_CHANNELS + (channels + lines)
 }

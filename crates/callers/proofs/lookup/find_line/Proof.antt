@@ -42,7 +42,7 @@ returns c =
     let slots = c .before .before .before .before .line-slots in
     let slot = c .before .line-slot in
     found-line (a .limits) (s .pre .0) (a .store .now) (a .key .now) (slot .result) (lines .result) (lines .result + (count-size + slots .result + a .limits .lines) - lines .result)
-    (slot .ensures) (lines .ensures .0) (omega (arith, slots .ensures .0)) (c .find-entry .result) (c .find-entry .ensures)
+    (slot .ensures) (lines .ensures .2 (s .pre .0 .few-channels) .0) (omega (arith, slots .ensures .1 (s .pre .0 .few-lines))) (c .find-entry .result) (c .find-entry .ensures)
 
 pub find-line-spec : {M : Type 1} → statement M
 find-line-spec =

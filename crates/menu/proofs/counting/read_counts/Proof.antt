@@ -56,9 +56,10 @@ returns c =
     let channels = c .before .before .before .before .before .before .channels-at in
     let lines = c .before .before .before .before .before .lines-at in
     let slots = c .before .before .before .before .line-slots in
+    let at = lines .ensures .2 (s .pre .0 .few-channels) in
     counts-read (a .limits) (s .pre .0) (a .store .now)
     (lines .result) (lines .result + (count-size + slots .result) - lines .result) (channels .result) (lines .result - channels .result)
-    (lines .ensures .0) (omega (arith, slots .ensures .0)) (channels .ensures .0) (omega (arith, channels .ensures .0, lines .ensures .1))
+    (at .0) (omega (arith, slots .ensures .1 (s .pre .0 .few-lines))) (channels .ensures .0) (omega (arith, channels .ensures .0, at .1))
     (c .before .before .count .result) (c .count2 .result) (c .before .before .count .ensures) (c .count2 .ensures)
 
 pub read-counts-spec : {M : Type 1} → statement M

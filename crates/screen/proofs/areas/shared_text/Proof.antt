@@ -7,8 +7,8 @@ use Rattle.screen.proofs.areas.shared_text.Tie as tie
 units-before-requires : tie.Need-units-before-requires
 units-before-requires c κs = search needs
 
-heads-size-requires : tie.Need-heads-size-requires
-heads-size-requires c κs = search needs
+area-at-requires : tie.Need-area-at-requires
+area-at-requires c κs = search needs
 
 mul-start : tie.Need-mul-start
 mul-start c = search needs
@@ -27,15 +27,17 @@ mul-t8 c = search needs
 
 returns : tie.Need-returns
 returns c =
-    let a = c .before .before .before .before .before .args in
-    span-is (a .limits) (a .store .now) (a .spot) (a .last) (c .before .before .heads-size .ensures) (c .before .before .before .units-before .ensures .0) (c .wide .ensures .0)
+    let s = c .before .before .before .before .before in
+    let a = s .args in
+    let h = s .pre .0 in
+    span-is (a .limits) (a .store .now) (a .spot) (a .last) (c .before .before .area-at .ensures .1 (h .few-channels, h .few-lines)) (c .before .before .before .units-before .ensures .1 h) (c .wide .ensures .0)
 
 pub shared-text-spec : {M : Type 1} → statement M
 shared-text-spec =
     tie.close
     (tie.spec
     units-before-requires
-    heads-size-requires
+    area-at-requires
     mul-start
     add-start
     shared-slice-read-wide

@@ -3,6 +3,9 @@ use Rattle.tables.proofs.FormLaws.{starts-are}
 use Rattle.tables.proofs.list_places.lines_at.Statement.{statement}
 use Rattle.tables.proofs.list_places.lines_at.Tie as tie
 
+at-most-requires : tie.Need-at-most-requires
+at-most-requires c κs = search needs
+
 channels-at-requires : tie.Need-channels-at-requires
 channels-at-requires c κs = search needs
 
@@ -19,8 +22,12 @@ returns : tie.Need-returns
 returns c =
     let lim = c .before .before .args .limits in
     let s = starts-are (lim .texts) lim in
-    let p = c .before .channels-at .ensures in
-    (omega (arith, p, s .channels, s .lines), omega (arith, p), omega (arith, p))
+    let p = c .channels-at .ensures in
+    let m = c .before .at-most .ensures in (
+      omega (arith, p, m .1),
+      omega (arith, p),
+      λ h. let i = m .2 (omega (arith, h)) in (omega (arith, p, i, s .channels, s .lines), omega (arith, p, i)),
+    )
 
 pub lines-at-spec : {M : Type 1} → statement M
-lines-at-spec = tie.close (tie.spec channels-at-requires mul-result add-result add-result-2 returns)
+lines-at-spec = tie.close (tie.spec at-most-requires channels-at-requires mul-result add-result add-result-2 returns)

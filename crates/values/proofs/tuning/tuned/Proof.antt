@@ -26,7 +26,7 @@ returns c =
     let s = c .before .before .before .before .before .before in
     let from = c .before .before .before .before .channels-at in
     let to = c .before .before .before .lines-at in
-    channel-absent (s .args .limits) (s .args .store .now) (s .pre) (from .result) (to .result) (from .ensures .0) (to .ensures .1) (c .before .count .result) (c .before .count .ensures) (s .args .position) (c .if1 .taken)
+    channel-absent (s .args .limits) (s .args .store .now) (s .pre) (from .result) (to .result) (from .ensures .0) (to .ensures .2 (s .pre .roomy .few-channels) .1) (c .before .count .result) (c .before .count .ensures) (s .args .position) (c .if1 .taken)
 
 add-start : tie.Need-add-start
 add-start c = search needs
@@ -51,8 +51,8 @@ part-pair-of-end c =
     let s = c .before .before .before .before .before .before in
     let from = c .before .before .before .before .channels-at in
     let to = c .before .before .before .lines-at in
-    let w = channel-within (s .args .limits) (s .args .store .now) (s .pre) (from .result) (to .result) (from .ensures .0) (to .ensures .1) (c .before .count .result) (c .before .count .ensures) (s .args .position) (c .if1 .left) in
-    omega (arith, w, to .ensures .2, s .pre .size, s .pre .roomy .fits)
+    let w = channel-within (s .args .limits) (s .args .store .now) (s .pre) (from .result) (to .result) (from .ensures .0) (to .ensures .2 (s .pre .roomy .few-channels) .1) (c .before .count .result) (c .before .count .ensures) (s .args .position) (c .if1 .left) in
+    omega (arith, w, to .ensures .0, s .pre .size, s .pre .roomy .fits)
 
 pair-of-requires : tie.Need-pair-of-requires
 pair-of-requires c κs = search needs
@@ -63,7 +63,7 @@ returns-2 c =
     let from = c .before .before .before .before .before .before .channels-at in
     let to = c .before .before .before .before .before .lines-at in
     let count = c .before .before .before .count in
-    channel-there (s .args .limits) (s .args .store .now) (s .pre) (from .result) (to .result) (from .ensures .0) (to .ensures .1) (count .result) (count .ensures) (s .args .position) (c .before .before .if1 .left) (c .pair-of .result) (c .pair-of .ensures)
+    channel-there (s .args .limits) (s .args .store .now) (s .pre) (from .result) (to .result) (from .ensures .0) (to .ensures .2 (s .pre .roomy .few-channels) .1) (count .result) (count .ensures) (s .args .position) (c .before .before .if1 .left) (c .pair-of .result) (c .pair-of .ensures)
 
 pub tuned-spec : {M : Type 1} → statement M
 tuned-spec =

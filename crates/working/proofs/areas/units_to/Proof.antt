@@ -1,14 +1,13 @@
--- `screen::areas::units_before` meets its contract. Assumes nothing.
 use Rattle.lists.proofs.Kit.{_-_, needs, arith}
-use Rattle.screen.proofs.AreaLaws.{rows-before, Counting, count-start, count-more, before-counted}
-use Rattle.screen.proofs.areas.units_before.Statement.{statement}
-use Rattle.screen.proofs.areas.units_before.Tie as tie
+use Rattle.working.proofs.AreaLaws.{rows-before, Counting, count-start, count-more, before-counted}
+use Rattle.working.proofs.areas.units_to.Statement.{statement}
+use Rattle.working.proofs.areas.units_to.Tie as tie
 
 abbrev Inv-loop : tie.InvT-loop
-Inv-loop store limits spot k sum₀ i₀ sum i = Counting limits store k sum i
+Inv-loop store limits k n sum₀ i₀ sum i = Counting limits store k sum i
 
 abbrev μ-loop : tie.MeasureT-loop
-μ-loop store limits spot k sum₀ i₀ sum i = k - i
+μ-loop store limits k n sum₀ i₀ sum i = k - i
 
 loop-holds : tie.Need-loop-holds Inv-loop μ-loop
 loop-holds c = count-start _ _ _
@@ -43,10 +42,10 @@ add-result : tie.Need-add-result Inv-loop μ-loop
 add-result c = search needs
 
 returns : tie.Need-returns Inv-loop μ-loop
-returns c = before-counted (c .before .before .before .loop .inv) (c .before .before .before .before .before .args .spot .place) (c .run-units2 .result) (c .before .run-of2 .result) (omega arith) (c .before .run-of2 .ensures .0) (c .run-units2 .ensures)
+returns c = before-counted (c .before .before .before .loop .inv) (c .before .before .before .before .before .args .n) (c .run-units2 .result) (c .before .run-of2 .result) (omega arith) (c .before .run-of2 .ensures .0) (c .run-units2 .ensures)
 
-pub units-before-spec : {M : Type 1} → statement M
-units-before-spec =
+pub units-to-spec : {M : Type 1} → statement M
+units-to-spec =
     tie.close
     (tie.spec
     Inv-loop
