@@ -78,7 +78,7 @@ enum {
     OTAP_COMMIT_STACK = 29696,   /* 27,360: 24,576 of them are the working copy of the store */
     OTAP_EXPORT_STACK = 27136,   /* 25,696, with a working copy too */
     OTAP_REPORT_STACK = 27136,   /* 25,952, with a working copy too */
-    OTAP_ROW_STACK = 3072,       /* 1,632 otap_row_number, 1,648 otap_row_part */
+    OTAP_ROW_STACK = 3072,       /* 1,616 otap_row_number, 1,632 otap_row_part */
     OTAP_COUNTS_STACK = 2048,    /* 960 */
     OTAP_LINE_OF_STACK = 2048,   /* 1,088 */
     OTAP_VALUE_STACK = 2048,     /* 1,088 otap_entry, otap_entry_digits; 976 otap_channel, 960 otap_emergency_key and the others of a value */
