@@ -1,8 +1,8 @@
 /*
  * A vehicle and its hand-held in one program, which links libotap_handheld.a and libotap_vehicle.a. What the vehicle exports is handed on part by part: as long
  * as it fits the hand-held's room it is taken whole, and both have the same tables. Then the vehicle gets more lines than the hand-held has room for, and the
- * first part is refused. What the hand-held exports the vehicle takes. examples/two_sets.out is what it prints. The first answer that is not what it must be
- * ends it with 1.
+ * first part is refused. What the hand-held exports the vehicle takes. Last the vehicle gets more texts than a hand-held's area holds, and the part with which
+ * they are too many is refused. examples/two_sets.out is what it prints. The first answer that is not what it must be ends it with 1.
  */
 #include "otap_vehicle.h"
 #include "text.h"
@@ -43,6 +43,29 @@ static size_t write_lines(uint8_t *message, unsigned first, unsigned count)
     for (each = first; each < first + count; each++) {
         message[at++] = (uint8_t)(each / 10 * 16 + each % 10);
         message[at++] = 0xFF; /* the number's end */
+        message[at++] = 0x00; /* the text's end */
+    }
+    return at;
+}
+
+/* A request of `count` texts of `units` letters each: quick texts (CC) from index 0 on, or status texts (D0) from code 32 on. How long it is. */
+static size_t write_texts(uint8_t *message, int quick, unsigned count, unsigned units)
+{
+    static const uint8_t head[] = {0x02, 0x02, 0x00, 0x00, 0x08, 0x04, 0x08, 0x01};
+    size_t at = sizeof head, data_length = (quick ? 3 : 4) + (size_t)count * (units + 2);
+    unsigned each;
+    memcpy(message, head, sizeof head);
+    message[at++] = quick ? 0xCC : 0xD0;
+    message[at++] = (uint8_t)(data_length >> 8);
+    message[at++] = (uint8_t)data_length;
+    message[at++] = (uint8_t)(quick ? 0x40 + count : 0x40); /* add; of quick texts the count is in the same byte */
+    if (!quick) {
+        message[at++] = (uint8_t)count;
+    }
+    for (each = 0; each < count; each++) {
+        message[at++] = (uint8_t)(quick ? each : 32 + each);
+        memset(message + at, 'x', units);
+        at += units;
         message[at++] = 0x00; /* the text's end */
     }
     return at;
@@ -119,5 +142,9 @@ int main(void)
     hand_on();
     hand_back(OTAP_EXPORT_LINES);
     print_room();
+    vehicle_takes(message, write_texts(message, 1, 63, 23));
+    vehicle_takes(message, write_texts(message, 0, 40, 16));
+    printf("the vehicle has 63 quick texts of 23 units and 40 status texts of 16\n");
+    hand_on();
     return 0;
 }

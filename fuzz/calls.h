@@ -1,12 +1,13 @@
 /*
  * Each call of the archive, made twice on buffers of their own, and what has to hold of it whatever was lent. No second implementation: what is checked
- * is the ladder of refusals by size, what may change, the bits that must be 0, the form of replies and exports, and where a row's part may lie; and that
- * judging says what committing then does.
+ * is the ladder of refusals by size, what may change, the bits that must be 0, the form of replies and exports, and that texts fit where they are kept; and
+ * that judging says what committing then does.
  */
 #ifndef CALLS_H
 #define CALLS_H
 
 #include "lent.h"
+#include "places.h"
 #include "set.h"
 
 /* Any bytes that the buffers hold before a call: what stays is compared with them. */
@@ -68,6 +69,20 @@ static void check_message(const uint8_t *message, size_t message_length, const L
     }
 }
 
+/* The texts of a set that has an area for them fit it, and stand in it without a gap: no unit of them is 0, and all behind them is. */
+static void check_texts(const uint8_t *store)
+{
+    size_t sum, at;
+    if (!shares(layout)) {
+        return;
+    }
+    sum = text_sum(layout, store);
+    must(sum <= SHARED_BYTES, "all texts together fit the area");
+    for (at = 0; at < SHARED_BYTES; at += 2) {
+        must((store[SHARED_AT + at] != 0 || store[SHARED_AT + at + 1] != 0) == (at < sum), "the area holds the texts that are counted, and no more");
+    }
+}
+
 /* A message judged on these bytes: the store stays. Its reply is left in `said`; the buffer held other bytes than that of committing. */
 static uint64_t judge_once(const uint8_t *message, size_t message_length, const uint8_t *store, size_t store_length,
                            size_t reply_length, int guarded, uint8_t *said)
@@ -95,6 +110,9 @@ static uint64_t commit_once(const uint8_t *message, size_t message_length, const
     must(same_bytes(m.bytes, message, message_length), "the message stays");
     must((otap_answer_number(answer) == OTAP_OK && !query) || same_bytes(s.bytes, store, store_length), "only a taken request changes the store");
     check_message(message, message_length, &r, stale(), answer);
+    if (otap_answer_number(answer) == OTAP_OK) {
+        check_texts(s.bytes);
+    }
     memcpy(after, s.bytes, store_length);
     memcpy(said, r.bytes, otap_answer_length(answer));
     give_back(&m);

@@ -81,10 +81,10 @@ static int known_behind(const uint8_t *store, int known)
     return agree;
 }
 
-/* How each table is exported: its part, how many settings stand before its first entry, and the bytes from DataLength to the address or the number. */
+/* How each table is exported: its part, how many settings stand before its first entry, and the bytes from DataLength to the address or the number, if any. */
 static const struct { uint32_t part, before, head; } exports[OTAP_TABLES + 1] = {
-    {0, 0, 0}, {OTAP_EXPORT_LINES, 1, 2}, {0, 0, 0}, {0, 0, 0}, {OTAP_EXPORT_GROUPS, 0, 2}, {OTAP_EXPORT_INDIVIDUALS, 0, 2},
-    {OTAP_EXPORT_GROUP_CONTACTS, 1, 3}, {OTAP_EXPORT_INDIVIDUAL_CONTACTS, 1, 2}, {OTAP_EXPORT_LINE_SLOTS, 0, 2}
+    {0, 0, 0}, {OTAP_EXPORT_LINES, 1, 2}, {OTAP_EXPORT_QUICK_TEXTS, 0, 0}, {OTAP_EXPORT_STATUS_TEXTS, 0, 0}, {OTAP_EXPORT_GROUPS, 0, 2},
+    {OTAP_EXPORT_INDIVIDUALS, 0, 2}, {OTAP_EXPORT_GROUP_CONTACTS, 1, 3}, {OTAP_EXPORT_INDIVIDUAL_CONTACTS, 1, 2}, {OTAP_EXPORT_LINE_SLOTS, 0, 2}
 };
 
 /* A setting of an exported part, counted from 0; NULL if there are fewer. */
@@ -150,7 +150,7 @@ static void check_behind(const uint8_t *store, const uint8_t *request, uint32_t 
     uint64_t answer = entry_once(table, index, store, OTAP_STORE_BYTES, 0);
     int there = at != NULL && at[3] >> 6 == 1, shown;
     must(answer == (there ? exported_entry(table, at) : OTAP_NOTHING_THERE), "an entry is what is exported");
-    shown = otap_row_number(table, index, store, OTAP_STORE_BYTES, stale(), OTAP_SCRATCH_BYTES) == OTAP_OK;
+    shown = row_once(table, index, store, OTAP_STORE_BYTES, OTAP_SCRATCH_BYTES, 0) == OTAP_OK;
     must(shown == (there && otap_entry_attribute(answer) != OTAP_BACKGROUND), "a row is shown exactly where an entry is no background group's");
     if (there) {
         key = at + 3 + exports[table].head;
@@ -188,6 +188,16 @@ static void check_fixed(const uint8_t *store, const uint8_t *request)
              == (lai << 8 | (code[4] & 15u) << 20 | (uint64_t)(code[5] >> 6) << 24 | (uint64_t)(code[5] >> 5 & 1u) << 26), "the system code too");
 }
 
+/* Texts have their rows, and nothing behind them. */
+static void check_alone(const uint8_t *store, uint32_t table)
+{
+    uint32_t row;
+    for (row = layout[table].from; lies(table, row); row++) {
+        must(!held(store, table, row) || row_once(table, row, store, OTAP_STORE_BYTES, OTAP_SCRATCH_BYTES, 0) == OTAP_OK, "a text has a row");
+    }
+    must(entry_once(table, layout[table].from, store, OTAP_STORE_BYTES, 0) == OTAP_NOTHING_THERE, "a text has nothing behind it");
+}
+
 /* Every place of the slots; of a list those in use, and the next. */
 static void check_entries(const uint8_t *store)
 {
@@ -195,8 +205,8 @@ static void check_entries(const uint8_t *store)
     uint8_t said[OTAP_DIGITS];
     uint32_t table, index, places;
     for (table = OTAP_LINES; table <= OTAP_TABLES; table++) {
-        if (exports[table].part == 0) {
-            must(entry_once(table, 32, store, OTAP_STORE_BYTES, 0) == OTAP_NOTHING_THERE, "a text has nothing behind it");
+        if (exports[table].head == 0) {
+            check_alone(store, table);
             continue;
         }
         export_once(exports[table].part, store, OTAP_STORE_BYTES, OTAP_EXPORT_BYTES, 0, request);

@@ -172,15 +172,12 @@ static void check_called(const Asked *asked, uint32_t table, const uint8_t *mess
     }
 }
 
-/* A text is that of the row's slot. */
+/* A text is that of the row. */
 static void check_reported_text(const uint8_t *store, uint32_t table, uint32_t row, const uint8_t *message, uint64_t places)
 {
-    Slot slot = slot_of(table, row);
-    size_t text = slot.first + slot.before, length = 0;
-    while (length < slot.most && !unit_is(store, text + length, 0)) {
-        length += 2;
-    }
-    must(otap_places_text_length(places) == length && same_bytes(message + otap_places_text(places), store + text, length), "a text is reported whole");
+    Text text = text_at(store, table, row - layout[table].from);
+    must(otap_places_text_length(places) == text.length, "a text is reported whole");
+    must(same_bytes(message + otap_places_text(places), store + text.offset, text.length), "a text is reported as it is");
 }
 
 /* What is always there, and a channel, is what its own call says; the hash is the one that is kept. */

@@ -4,45 +4,24 @@
 
 #include "calls.h"
 
-/* The tables of the screen in the store: their first row and how many they have, the first slot, its width, the bytes before its text and those of it. */
-static const struct { uint32_t from, rows; size_t first, width, before, most; } layout[OTAP_TABLES + 1] = {
-    {0, 0, 0, 0, 0, 0},
-    {0, LINE_ROOM, LINES_AT, LINE_BYTES, 20, 32}, /* lines */
-    {0, 64, 22, 46, 0, 46},     /* quick texts */
-    {32, 96, 2966, 33, 1, 32},  /* status texts */
-    {0, 16, 6134, 36, 4, 32},   /* groups */
-    {0, 16, 6710, 36, 4, 32},   /* individuals */
-    {0, 64, 8120, 36, 4, 32},   /* group contacts */
-    {0, 64, 10426, 36, 4, 32},  /* individual contacts */
-    {0, 16, 7286, 52, 20, 32}   /* line slots */
-};
-
-/* The row's own slot: its first byte, how many bytes stand before its text, and how long the text may be. */
-typedef struct {
-    size_t first, before, most;
-} Slot;
-
 static int lies(uint32_t table, uint32_t row)
 {
     return table >= 1 && table <= OTAP_TABLES && row >= layout[table].from && row - layout[table].from < layout[table].rows;
 }
 
-static Slot slot_of(uint32_t table, uint32_t row)
+/* The row's own slot: its first byte. */
+static size_t slot_of(uint32_t table, uint32_t row)
 {
-    Slot slot;
     must(lies(table, row), "a row that is shown is one that there can be");
-    slot.first = layout[table].first + layout[table].width * (row - layout[table].from);
-    slot.before = layout[table].before;
-    slot.most = layout[table].most;
-    return slot;
+    return slot_at(table, row - layout[table].from);
 }
 
 /* Whether something stands in the row's slot: an empty one is 0 before its text, and a quick text is never empty. */
 static int held(const uint8_t *store, uint32_t table, uint32_t row)
 {
     static const uint8_t none[20];
-    Slot slot = slot_of(table, row);
-    return !same_bytes(store + slot.first, none, slot.before == 0 ? 2 : slot.before);
+    size_t slot = slot_of(table, row), before = layout[table].before;
+    return before > 0 ? !same_bytes(store + slot, none, before) : text_length(layout, store, table, row - layout[table].from) > 0;
 }
 
 static int of_groups(uint32_t table)
@@ -54,7 +33,7 @@ static int of_groups(uint32_t table)
 static void check_shown(const uint8_t *store, uint32_t table, uint32_t row, uint32_t number)
 {
     int there = lies(table, row) && held(store, table, row);
-    int background = there && of_groups(table) && store[slot_of(table, row).first] >> 6 == 1;
+    int background = there && of_groups(table) && store[slot_of(table, row)] >> 6 == 1;
     must(!background || number == OTAP_NO_ROW, "a background group has no row");
     must(background || there == (number == OTAP_OK), "a row is shown exactly where something stands");
 }
@@ -64,15 +43,16 @@ static int unit_is(const uint8_t *bytes, size_t at, unsigned unit)
     return bytes[at] * 256u + bytes[at + 1] == unit;
 }
 
-/* The whole text of the row's own slot: no unit 0 in it, and one behind it. */
-static void check_text(const uint8_t *store, Slot slot, size_t offset, size_t length)
+/* The part is the row's own text and all of it, without a unit 0: in its place, or in the area behind the texts before it. */
+static void check_text(const uint8_t *store, uint32_t table, uint32_t row, uint64_t part)
 {
+    Text text = text_at(store, table, row - layout[table].from);
     size_t at;
-    must(offset == slot.first + slot.before && length % 2 == 0 && length <= slot.most, "a part lies in its row's own slot");
-    for (at = 0; at < length; at += 2) {
-        must(!unit_is(store, offset + at, 0), "no end unit in a text");
+    must(otap_part_offset(part) == text.offset, "a part lies where its row's own text does");
+    must(otap_part_length(part) == text.length && text.length <= layout[table].most, "the whole text, and no longer than one may be");
+    for (at = 0; at < text.length; at += 2) {
+        must(!unit_is(store, text.offset + at, 0), "no end unit in a text");
     }
-    must(length == slot.most || unit_is(store, offset + length, 0), "the whole text");
 }
 
 static size_t line_number(const uint8_t *slot, char *text)
@@ -98,11 +78,11 @@ static size_t number_of(uint32_t table, const uint8_t *slot, char *text)
                                                            : snprintf(text, 20, "%06X", (unsigned)address));
 }
 
-static void check_number(const uint8_t *store, Slot slot, uint32_t table, const uint8_t *scratch, uint64_t part)
+static void check_number(const uint8_t *store, uint32_t table, uint32_t row, const uint8_t *scratch, uint64_t part)
 {
     char text[20];
-    size_t count = number_of(table, store + slot.first, text), at;
-    must(unit_is(store, slot.first + slot.before, 0), "a number only where there is no text");
+    size_t count = number_of(table, store + slot_of(table, row), text), at;
+    must(text_at(store, table, row - layout[table].from).length == 0, "a number only where there is no text");
     must(otap_part_offset(part) == 0 && otap_part_length(part) == 2 * count, "a number stands at the scratch's start");
     for (at = 0; at < count; at++) {
         must(unit_is(scratch, 2 * at, (unsigned char)text[at]), "a number's own digits");
@@ -128,9 +108,9 @@ static uint32_t row_once(uint32_t table, uint32_t row, const uint8_t *store, siz
         check_shown(s.bytes, table, row, number);
     }
     if (number == OTAP_OK && otap_part_in_scratch(part)) {
-        check_number(s.bytes, slot_of(table, row), table, b.bytes, part);
+        check_number(s.bytes, table, row, b.bytes, part);
     } else if (number == OTAP_OK) {
-        check_text(s.bytes, slot_of(table, row), otap_part_offset(part), otap_part_length(part));
+        check_text(s.bytes, table, row, part);
     }
     give_back(&s);
     give_back(&b);
@@ -158,24 +138,25 @@ static uint64_t check_counts(const uint8_t *store)
     return counts;
 }
 
-/* The lists by a key: their table, where their count stands, and how many bytes the key has, which stands behind the flags of a slot. */
+/* The lists by a key, and how many bytes it has, which stand behind the flags of a slot. */
 typedef struct {
     uint32_t table;
-    size_t count, bytes;
+    size_t bytes;
 } List;
 
-static const List lists[] = {{OTAP_LINES, LINE_COUNT_AT, 19}, {OTAP_GROUP_CONTACTS, 8118, 3}, {OTAP_INDIVIDUAL_CONTACTS, 10424, 3}};
+static const List lists[] = {{OTAP_LINES, 19}, {OTAP_GROUP_CONTACTS, 3}, {OTAP_INDIVIDUAL_CONTACTS, 3}};
 
 static uint32_t count_of(const uint8_t *store, const List *list)
 {
-    return store[list->count] * 256u + store[list->count + 1];
+    size_t low = held_at(list->table);
+    return store[low - 1] * 256u + store[low];
 }
 
 /* Whether one of the list's first entries has the key of this slot. */
 static int has_key(const uint8_t *store, const List *list, uint32_t entries, const uint8_t *slot)
 {
     uint32_t row = 0;
-    while (row < entries && !same_bytes(store + slot_of(list->table, row).first + 1, slot + 1, list->bytes)) {
+    while (row < entries && !same_bytes(store + slot_of(list->table, row) + 1, slot + 1, list->bytes)) {
         row++;
     }
     return row < entries;
@@ -188,7 +169,7 @@ static void check_list(const uint8_t *store, const List *list)
     must(count <= layout[list->table].rows, "a count within the room");
     for (row = 0; row < layout[list->table].rows; row++) {
         must(held(store, list->table, row) == (row < count), "as many entries as are counted");
-        must(row >= count || !has_key(store, list, row, store + slot_of(list->table, row).first), "no two entries of one key");
+        must(row >= count || !has_key(store, list, row, store + slot_of(list->table, row)), "no two entries of one key");
     }
     must(row_once(list->table, count, store, OTAP_STORE_BYTES, OTAP_SCRATCH_BYTES, 0) == OTAP_NO_ROW, "no row behind those counted");
 }

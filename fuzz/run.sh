@@ -23,10 +23,10 @@ for archive in $archives; do
     exit 1
 done
 
-# of SET: the flags of its build, and of the wrong libraries before its calls and before the other set's.
+# of SET: the flags of its build, the numbers of its wrong libraries, and how they come before its calls and before the other set's.
 of() {
-    flags="-std=c11 -Wall -Wextra -Iinclude -Itests -g -O1" prefix=otap_ other=otap_vehicle_ last_wrong=101
-    [ "$1" = hand-held ] || { flags="$flags -DVEHICLE" prefix=otap_vehicle_ other=otap_ last_wrong=104; }
+    flags="-std=c11 -Wall -Wextra -Iinclude -Itests -g -O1" prefix=otap_ other=otap_vehicle_ wrongs="$(seq 101) $(seq 105 114)"
+    [ "$1" = hand-held ] || { flags="$flags -DVEHICLE" prefix=otap_vehicle_ other=otap_ wrongs="$(seq 107) 115"; }
     wrapped="-Wl,--wrap=otap_report_entry -Wl,--wrap=otap_report_places -Wl,--wrap=${other}commit" named=
     for call in $calls; do
         wrapped="$wrapped -Wl,--wrap=$prefix$call"
@@ -45,8 +45,7 @@ checks_can_fail() {
     for file in target fitting driver; do
         $CC $flags $sanitizers -c "fuzz/$file.c" -o "$work/$file.o" || return 1
     done
-    wrong=0
-    while [ $wrong -le $last_wrong ]; do
+    for wrong in 0 $wrongs; do
         $CC $flags $named -DWRONG=$wrong -c fuzz/wrong.c -o "$work/wrong.o" || return 1
         $CC $flags -DWRONG=$wrong -c fuzz/wrong_other.c -o "$work/wrong_other.o" || return 1
         $CC $sanitizers "$work"/*.o $archives $wrapped -o "$work/wrong" || return 1
@@ -57,9 +56,8 @@ checks_can_fail() {
             cat "$work/log"
             return 1
         fi
-        wrong=$((wrong + 1))
     done
-    echo "ok      $1: the checks find each of $last_wrong wrong libraries"
+    echo "ok      $1: the checks find each of $(echo $wrongs | wc -w) wrong libraries"
 }
 
 with_libfuzzer() {

@@ -1,36 +1,42 @@
 /*
  * The entry of a fuzzer over the C functions. An input is records, each a byte that chooses the call and the sizes, then what the call needs; one store
  * goes from record to record. Each message is judged and then committed, and the one before it once more after it; the two are joined too. After each the
- * store is still a store, and at the end it is written out into a fresh one that becomes the same, and to the other set as far as it fits there.
+ * store is still a store, and a hand-held lacked room only where its texts and entries do not fit. At the end it is written out into a fresh one that becomes
+ * the same, into one that was used, and to the other set as far as it fits there.
  */
 #include "asking.h"
 #include "callers.h"
 #include "conversions.h"
-#include "fitting.h"
-#include "joining.h"
+#include "editing.h"
+#include "restoring.h"
 
 enum { MOST_RECORDS = 64 };
 
 static uint8_t store[OTAP_STORE_BYTES + 64], after[OTAP_STORE_BYTES + 64], other[OTAP_STORE_BYTES + 64];
 
+/* The store before the last message that was taken: a used set. */
+static uint8_t earlier[OTAP_STORE_BYTES];
+
 /* The message before, which is judged once more and waits while the next is committed; none at the start of an input. */
 static uint8_t waiting[OTAP_MESSAGE_BYTES + 64];
 static size_t waiting_length;
 
-/* What the archive came to, since a fuzzer cannot see its branches: numbers by failed ID, and how many slots of each table are in use. */
+/* What the archive came to, since a fuzzer cannot see its branches: numbers by failed ID, how many slots of each table are in use, and the bytes of texts. */
 #if defined(__clang__) && defined(__linux__)
 __attribute__((section("__libfuzzer_extra_counters")))
 #endif
 static uint8_t reached[2560];
 
 /* Where in it the slots of the tables are, the channels first, and then what else records come to. */
-enum { SLOTS = 1024, EACH_TABLE = 144, OTHERS = SLOTS + EACH_TABLE * (OTAP_TABLES + 1) };
+enum { SLOTS = 1024, EACH_TABLE = 144, OTHERS = SLOTS + EACH_TABLE * (OTAP_TABLES + 1), TEXTS = OTHERS + 64, EACH_TEXTS = 64 };
 
 int LLVMFuzzerTestOneInput(const uint8_t *data, size_t size);
 
 static void note(uint64_t answer)
 {
     unsigned failed = otap_answer_failed(answer), table;
+    size_t texts = text_sum(layout, store) / EACH_TEXTS;
+    reached[TEXTS + (texts < sizeof reached - TEXTS ? texts : sizeof reached - TEXTS - 1)] = 1;
     reached[otap_answer_number(answer) * 32 + (failed < 31 ? failed : 31)] = 1;
     reached[SLOTS + (store[CHANNEL_COUNT_AT] * 256 + store[CHANNEL_COUNT_AT + 1]) / 2] = 1; /* channels, which have no row */
     for (table = 1; table <= OTAP_TABLES; table++) {
@@ -61,7 +67,11 @@ static void commit_message(const uint8_t *message, size_t length, unsigned choic
     memcpy(waiting, message, length);
     waiting_length = length;
     must(store_length != OTAP_STORE_BYTES || otap_answer_number(answer) != OTAP_NO_STORE, "a store is known as one");
+    if (otap_answer_number(answer) <= OTAP_BAD_FIELD && (message[6] & 7) == 0) {
+        check_room(store, message, answer);
+    }
     if (otap_answer_number(answer) == OTAP_OK) {
+        memcpy(earlier, store, OTAP_STORE_BYTES);
         memcpy(store, after, OTAP_STORE_BYTES);
         must(is_store(store, OTAP_STORE_BYTES), "a store stays a store");
         check_order(store);
@@ -124,47 +134,18 @@ static void ask_export(Input *input, unsigned choice)
     must(store_length != OTAP_STORE_BYTES || otap_answer_number(answer) != OTAP_NO_STORE, "a store is known as one");
 }
 
-/* The ten parts of a store, committed to a fresh one, make it the same but for the kept hash: the first 11 bytes. */
-static void restore_it(void)
+/* What holds of every store, at the end of an input. */
+static void check_whole(void)
 {
-    static uint8_t request[OTAP_EXPORT_BYTES], again[OTAP_EXPORT_BYTES];
-    uint32_t part;
-    must(otap_start(other, OTAP_STORE_BYTES) == OTAP_OK, "a store can be started");
-    for (part = 1; part <= OTAP_EXPORT_PARTS; part++) {
-        uint64_t written = export_once(part, store, OTAP_STORE_BYTES, OTAP_EXPORT_BYTES, 0, request), answer;
-        size_t length = otap_export_length(written);
-        must(otap_answer_number(written) == OTAP_OK, "a store can be exported");
-        answer = commit_judged(request, length, other, OTAP_STORE_BYTES, OTAP_REPLY_BYTES, 1, after);
-        must(otap_answer_number(answer) == OTAP_OK, "an export is taken");
-        memcpy(other, after, OTAP_STORE_BYTES);
-        must(written == export_once(part, other, OTAP_STORE_BYTES, OTAP_EXPORT_BYTES, 1, again), "the other store's export is as long");
-        must(same_bytes(request, again, length), "the other store's export is the same");
-    }
-    must(same_bytes(store + 11, other + 11, OTAP_STORE_BYTES - 11), "the other store has the same tables");
+    check_texts(store);
+    restore_fresh(store);
+    restore_used(store, earlier);
     check_lists(store, check_counts(store));
     check_callers(store);
     check_entries(store);
     check_reports(store);
     join_exports(store);
-    must(check_counts(other) == check_counts(store), "the other store has the same counts");
-}
-
-/* The ten parts in order to the other set, up to the first that does not fit; if all do, it exports the same. */
-static void hand_on(void)
-{
-    static uint8_t request[OTAP_EXPORT_BYTES];
-    uint64_t counts = counts_once(store, OTAP_STORE_BYTES, 0);
-    uint32_t turn;
-    int taken = 1;
-    for (turn = 0; turn < 2 * OTAP_EXPORT_PARTS && taken; turn++) {
-        uint32_t part = 1 + turn % OTAP_EXPORT_PARTS;
-        size_t length = otap_export_length(export_once(part, store, OTAP_STORE_BYTES, OTAP_EXPORT_BYTES, 0, request));
-        if (turn < OTAP_EXPORT_PARTS) {
-            taken = other_takes(part, request, length, otap_counts_lines(counts), otap_counts_channels(counts));
-        } else {
-            check_other_part(part, request, length);
-        }
-    }
+    hand_on(store);
 }
 
 /* Whether the store is one, on which every call agrees. */
@@ -198,6 +179,7 @@ static void poke(Input *input)
     if (!known) {
         memcpy(store, other, OTAP_STORE_BYTES);
     } else {
+        check_texts(store);
         check_counts(store);
     }
 }
@@ -205,8 +187,9 @@ static void poke(Input *input)
 /* A count of the store with any value: it is a store only with its own. */
 static void poke_count(Input *input)
 {
-    static const size_t counts[] = {CHANNEL_COUNT_AT, LINE_COUNT_AT, 8118, 10424}; /* channels, lines, group contacts, individual contacts */
-    size_t at = counts[next_byte(input) % 4];
+    static const uint32_t tables[] = {0, OTAP_LINES, OTAP_GROUP_CONTACTS, OTAP_INDIVIDUAL_CONTACTS}; /* channels have no rows */
+    uint32_t table = tables[next_byte(input) % 4];
+    size_t at = table == 0 ? CHANNEL_COUNT_AT : held_at(table) - 1;
     int own;
     memcpy(other, store, OTAP_STORE_BYTES);
     store[at] = (uint8_t)next_byte(input);
@@ -217,7 +200,7 @@ static void poke_count(Input *input)
     memcpy(store, other, OTAP_STORE_BYTES);
 }
 
-/* The order of the lines with two of its bytes exchanged, or with any value in one of them or right behind it: it is a store only with its own. */
+/* The order of the lines with two of its bytes exchanged, or with any value in one of them or in the first spare byte: it is a store only with its own. */
 static void poke_order(Input *input)
 {
     unsigned at = next_byte(input), value = next_byte(input);
@@ -225,7 +208,8 @@ static void poke_order(Input *input)
     int own;
     memcpy(other, store, OTAP_STORE_BYTES);
     if (at < 128) {
-        order[at % (OTAP_LINE_ROWS + 1)] = (uint8_t)value;
+        at %= OTAP_LINE_ROWS + 1;
+        store[at < OTAP_LINE_ROWS ? ORDER_AT + at : SPARE_AT] = (uint8_t)value;
     } else {
         order[at % OTAP_LINE_ROWS] = other[ORDER_AT + value % OTAP_LINE_ROWS];
         order[value % OTAP_LINE_ROWS] = other[ORDER_AT + at % OTAP_LINE_ROWS];
@@ -234,6 +218,43 @@ static void poke_order(Input *input)
     must(known_by_all() == own, "a false order is no store");
     reached[OTHERS + 6 + own] = 1;
     memcpy(store, other, OTAP_STORE_BYTES);
+}
+
+/* A unit of the area, or a text's number of units, with any value: whether it is a store. It is with a unit that is 0 exactly behind the last text. */
+static int poke_area(const uint8_t *said)
+{
+    unsigned table = 1 + said[1] % OTAP_TABLES;
+    size_t at = 2 * (said[0] + 256u * said[1]) % SHARED_BYTES, sum = text_sum(layout, store);
+    if (said[1] >= 128) {
+        store[slot_at(table, said[0] % layout[table].rows) + layout[table].before] = said[2];
+        return same_bytes(other, store, OTAP_STORE_BYTES);
+    }
+    memcpy(store + SHARED_AT + at, said + 3, 2);
+    return (said[3] != 0 || said[4] != 0) == (at < sum);
+}
+
+/* A unit of a text's place with any value: whether it is a store. It is with no unit but 0 behind an end, and with a text only where something stands. */
+static int poke_place(const uint8_t *said)
+{
+    unsigned table = 1 + said[1] % OTAP_TABLES, place = said[0] % layout[table].rows;
+    size_t length = text_length(layout, store, table, place), at = 2 * said[2] % layout[table].most;
+    memcpy(store + slot_at(table, place) + layout[table].before + at, said + 3, 2);
+    return said[3] == 0 && said[4] == 0 ? at + 2 >= length : at <= length && held(store, table, layout[table].from + place);
+}
+
+/* The texts with a change: it goes on from there if it is still a store. */
+static void poke_texts(Input *input)
+{
+    uint8_t said[5] = {0};
+    int good;
+    next_bytes(input, sizeof said, said);
+    memcpy(other, store, OTAP_STORE_BYTES);
+    good = (shares(layout) ? poke_area : poke_place)(said);
+    must(known_by_all() == good, "texts stand where their slots say, and nothing else does");
+    reached[OTHERS + 10 + good] = 1;
+    if (!good) {
+        memcpy(store, other, OTAP_STORE_BYTES);
+    }
 }
 
 /* Another key of a slot: a line's other IDtype, or an address that differs in its last bit. Whether it is one. */
@@ -255,14 +276,12 @@ static void poke_entry(Input *input)
     uint32_t count = count_of(store, list);
     uint8_t *slot;
     int good;
-    if (count == 0 || count == layout[list->table].rows) {
+    memcpy(other, store, OTAP_STORE_BYTES);
+    if (count == 0 || !repeat_entry(store, list->table, like % count)) {
         return;
     }
-    memcpy(other, store, OTAP_STORE_BYTES);
-    slot = store + slot_of(list->table, count).first;
-    memcpy(slot, store + slot_of(list->table, like % count).first, layout[list->table].width);
+    slot = store + slot_of(list->table, count);
     good = other_key(list, slot) && !has_key(store, list, count, slot);
-    store[list->count + 1]++;
     if (list->table == OTAP_LINES) {
         order_lines(store);
     }
@@ -344,7 +363,7 @@ static void one_record(Input *input)
     case 2: case 3: commit_built(input, choice); break;
     case 4: ask_row(input, choice); ask_counts(choice); break;
     case 5: ask_export(input, choice); ask_counts(choice); break;
-    case 6: (choice & 8 ? poke_count : choice & 16 ? poke_entry : choice & 32 ? poke_order : poke)(input); break;
+    case 6: (choice & 8 ? poke_count : choice & 16 ? poke_entry : choice & 32 ? poke_order : choice & 64 ? poke_texts : poke)(input); break;
     default:
         if (choice & 8) {
             convert(input);
@@ -370,10 +389,10 @@ int LLVMFuzzerTestOneInput(const uint8_t *data, size_t size)
     waiting_length = 0;
     memset(store, 0xEE, sizeof store);
     must(otap_start(store, OTAP_STORE_BYTES) == OTAP_OK, "any bytes can be started");
+    memcpy(earlier, store, OTAP_STORE_BYTES);
     for (records = 0; records < MOST_RECORDS && input.left > 0; records++) {
         one_record(&input);
     }
-    restore_it();
-    hand_on();
+    check_whole();
     return 0;
 }

@@ -3,11 +3,11 @@
 #define WRONG 0
 #endif
 
+#include "editing.h"
 #include "orders.h"
-#include "wrong_limits.h"
+#include "wrong_texts.h"
 
 uint32_t __real_otap_row_number(uint32_t, uint32_t, const uint8_t *, uint64_t, const uint8_t *, uint64_t);
-uint64_t __real_otap_row_part(uint32_t, uint32_t, const uint8_t *, uint64_t, uint8_t *, uint64_t);
 uint64_t __real_otap_line_of(uint32_t, const uint8_t *, uint64_t, const uint8_t *, uint64_t);
 uint64_t __real_otap_entry(uint32_t, uint32_t, const uint8_t *, uint64_t);
 uint64_t __real_otap_entry_digits(uint32_t, uint32_t, const uint8_t *, uint64_t, uint8_t *, uint64_t);
@@ -29,26 +29,27 @@ uint64_t __wrap_otap_emergency_key(const uint8_t *, uint64_t);
 uint64_t __wrap_otap_home_numbers(const uint8_t *, uint64_t);
 uint64_t __wrap_otap_system_code(const uint8_t *, uint64_t);
 
-/* Where a store has a line before the last with the last one's digits, whatever its IDtype; 0 if there is none. */
-static size_t same_number(const uint8_t *store)
+/* The first line with the last one's digits, whatever its IDtype: it may be the last itself. */
+static unsigned same_number(const uint8_t *store)
 {
-    size_t at, last = store[LINES_HELD_AT] > 0 ? LINES_AT + LINE_BYTES * (store[LINES_HELD_AT] - 1u) : 0;
-    for (at = LINES_AT; at < last; at += LINE_BYTES) {
-        if (memcmp(store + at + 2, store + last + 2, 18) == 0) {
-            return at;
-        }
+    unsigned row = 0, last = store[LINES_HELD_AT] - 1u;
+    while (row < last && memcmp(key_at(store, row) + 1, key_at(store, last) + 1, KEY_BYTES - 1) != 0) {
+        row++;
     }
-    return 0;
+    return row;
+}
+
+/* Whether a line before the last has its digits. */
+static int has_same_number(const uint8_t *store)
+{
+    return store[LINES_HELD_AT] > 0 && same_number(store) + 1 < store[LINES_HELD_AT];
 }
 
 /* The second line with a number wipes the first. */
 static void wipe(uint8_t *store)
 {
-    size_t first = same_number(store), last = LINES_AT + LINE_BYTES * (store[LINES_HELD_AT] - 1u);
-    if (first != 0) {
-        memcpy(store + first, store + last, LINE_BYTES);
-        memset(store + last, 0, LINE_BYTES);
-        store[LINES_HELD_AT]--;
+    if (has_same_number(store)) {
+        drop_entry(store, OTAP_LINES, same_number(store));
         order_lines(store);
     }
 }
@@ -56,11 +57,12 @@ static void wipe(uint8_t *store)
 /* A group contact that was overwritten in its place is put at the end as well. */
 static void add_twice(const uint8_t *before, uint8_t *store)
 {
-    size_t at, end = 8120 + 36u * store[8119];
-    for (at = 8120; store[8119] == before[8119] && store[8119] < 64 && at < end; at += 36) {
-        if (memcmp(store + at, before + at, 36) != 0 && memcmp(store + at + 1, before + at + 1, 3) == 0) {
-            memcpy(store + end, store + at, 36);
-            store[8119]++;
+    size_t held = held_at(OTAP_GROUP_CONTACTS), at;
+    uint32_t place, count = store[held];
+    for (place = 0; count == before[held] && place < count; place++) {
+        at = slot_at(OTAP_GROUP_CONTACTS, place);
+        if (memcmp(store + at, before + at, layout[OTAP_GROUP_CONTACTS].width) != 0 && memcmp(store + at + 1, before + at + 1, 3) == 0) {
+            repeat_entry(store, OTAP_GROUP_CONTACTS, place);
         }
     }
 }
@@ -69,18 +71,14 @@ static void add_twice(const uint8_t *before, uint8_t *store)
 static const uint8_t *without_background(const uint8_t *store)
 {
     static uint8_t other[OTAP_STORE_BYTES];
-    size_t at, end;
+    uint32_t place = 0;
     memcpy(other, store, sizeof other);
-    end = 8120 + 36u * other[8119];
-    for (at = 8120; at < end;) {
-        if (other[at] >> 6 != 1) {
-            at += 36;
-            continue;
+    while (place < other[held_at(OTAP_GROUP_CONTACTS)]) {
+        if (other[slot_at(OTAP_GROUP_CONTACTS, place)] >> 6 == 1) {
+            drop_entry(other, OTAP_GROUP_CONTACTS, place);
+        } else {
+            place++;
         }
-        end -= 36;
-        memmove(other + at, other + at + 36, end - at);
-        memset(other + end, 0, 36);
-        other[8119]--;
     }
     return other;
 }
@@ -88,13 +86,29 @@ static const uint8_t *without_background(const uint8_t *store)
 /* A store whose background groups are response groups: the same names in the same places. */
 static const uint8_t *all_shown(const uint8_t *store)
 {
+    static const uint32_t tables[] = {OTAP_GROUPS, OTAP_GROUP_CONTACTS};
     static uint8_t other[OTAP_STORE_BYTES];
-    size_t at;
+    uint32_t each, place;
     memcpy(other, store, sizeof other);
-    for (at = 6134; at < 10424; at += at + 36 == 6710 ? 8120 - at : 36) { /* the group slots, then the group contacts */
-        other[at] = (uint8_t)(other[at] >> 6 == 1 ? other[at] + 64 : other[at]);
+    for (each = 0; each < 2; each++) {
+        for (place = 0; place < layout[tables[each]].rows; place++) {
+            uint8_t *flags = other + slot_at(tables[each], place);
+            flags[0] = (uint8_t)(flags[0] >> 6 == 1 ? flags[0] + 64 : flags[0]);
+        }
     }
     return other;
+}
+
+/* A refusal that comes before the message is looked at; 0 where there is none. */
+static uint64_t refused_first(const uint8_t *message, uint64_t message_length, const uint8_t *store, uint64_t store_length, uint8_t *reply,
+                              uint64_t reply_length)
+{
+    switch (WRONG) {
+    case 92: return refuse_late(message, message_length, store, store_length, reply, reply_length);
+    case 93: case 94: case 95: case 110: case 115: return refuse_large(message, message_length, store, store_length, reply, reply_length);
+    case 112: return refuse_overwrite(message, message_length, store, store_length, reply, reply_length);
+    default: return 0;
+    }
 }
 
 /* The last message that was judged good, what was said of it, and the store that it would leave. */
@@ -143,6 +157,7 @@ uint64_t __wrap_otap_judge(const uint8_t *message, uint64_t message_length, cons
     if (answer != 0) {
         return answer;
     }
+    message = WRONG == 111 ? in_best_order(message, message_length, store, store_length) : message;
     answer = __real_otap_judge(message, message_length, store, store_length, reply, reply_length);
     if (WRONG == 90) {
         return early_failed(reply, answer);
@@ -156,7 +171,7 @@ uint64_t __wrap_otap_judge(const uint8_t *message, uint64_t message_length, cons
     if (WRONG == 24 && otap_answer_number(answer) == OTAP_OK) {
         return with_kept_hash(store, reply, answer); /* the hash kept, and not the request's own */
     }
-    return answer;
+    return wrong_room(message, store, reply, answer);
 }
 
 /* What is wrong with a message that was taken. */
@@ -168,6 +183,7 @@ static void wrong_taken(const uint8_t *message, const uint8_t *before, uint8_t *
     case 16: wipe(store); break; /* lines by their digits alone */
     case 18: add_twice(before, store); break; /* a known address added twice */
     case 91: lose_late(message, before, store); break;
+    case 114: keep_freed(before, store); break;
     default: break;
     }
 }
@@ -186,10 +202,11 @@ uint64_t __wrap_otap_commit(const uint8_t *message, uint64_t message_length, uin
         return trust(store, reply); /* committing trusts an earlier verdict */
     }
     memcpy(before, store, store_length < sizeof before ? store_length : sizeof before);
+    message = WRONG == 111 ? in_best_order(message, message_length, store, store_length) : message;
     answer = __real_otap_commit(message, message_length, store, store_length, reply, reply_length);
     number = otap_answer_number(answer);
     if (WRONG == 1 && number == OTAP_BAD_FIELD) {
-        store[6138] = (uint8_t)(store[6138] + 1); /* the setting before the fault was applied */
+        store[slot_at(OTAP_GROUPS, 0) + 3]++; /* the setting before the fault was applied */
     }
     if (WRONG == 4 && number == OTAP_NO_ROOM) {
         answer -= answer & 0xFF00; /* the setting at fault is not named */
@@ -200,14 +217,27 @@ uint64_t __wrap_otap_commit(const uint8_t *message, uint64_t message_length, uin
     if (WRONG == 90) {
         return early_failed(reply, answer);
     }
+    answer = wrong_room(message, before, reply, answer);
+    if (WRONG == 109 && number == OTAP_NO_ROOM) {
+        overfill(store);
+    }
     return WRONG == 5 && number == OTAP_BAD_CARRIER ? answer + 0x10000 : answer; /* sends what there is not */
+}
+
+/* The store as it is exported. */
+static const uint8_t *exported(uint32_t part, const uint8_t *store, uint64_t store_length)
+{
+    if (otap_answer_number(__real_otap_counts(store, store_length)) != OTAP_OK) {
+        return store;
+    }
+    return WRONG == 19 && part == OTAP_EXPORT_GROUP_CONTACTS ? without_background(store) /* a background group is not exported */
+         : WRONG == 107 ? without_last_text(store) : store; /* the last text is not */
 }
 
 uint64_t __wrap_otap_export(uint32_t part, const uint8_t *store, uint64_t store_length, uint8_t *buffer, uint64_t buffer_length)
 {
-    int lost = WRONG == 19 && part == OTAP_EXPORT_GROUP_CONTACTS && store_length == OTAP_STORE_BYTES; /* a background group is not exported */
     uint64_t answer = takes_short(96, buffer_length) ? export_short(part, store, store_length, buffer, buffer_length)
-                    : __real_otap_export(part, lost ? without_background(store) : store, store_length, buffer, buffer_length);
+                    : __real_otap_export(part, exported(part, store, store_length), store_length, buffer, buffer_length);
     if (WRONG == 6 && part == OTAP_EXPORT_CHANNELS && otap_export_length(answer) > 13) {
         buffer[14] ^= 1; /* another channel */
     }
@@ -225,7 +255,7 @@ uint32_t __wrap_otap_row_number(uint32_t table, uint32_t row, const uint8_t *sto
     if (WRONG == 8 && number == OTAP_NO_STORE && store_length == OTAP_STORE_BYTES) {
         return OTAP_NO_ROW; /* takes any bytes for a store */
     }
-    if (WRONG == 17 && (number == OTAP_OK || number == OTAP_NO_ROW) && same_number(store) != 0) {
+    if (WRONG == 17 && (number == OTAP_OK || number == OTAP_NO_ROW) && has_same_number(store)) {
         return OTAP_NO_STORE; /* knows no store with two lines of one number */
     }
     return past_quarter(table, row) && number == OTAP_OK ? OTAP_NO_ROW : number;
@@ -236,8 +266,8 @@ uint64_t __wrap_otap_row_part(uint32_t table, uint32_t row, const uint8_t *store
     int shown = (WRONG == 20 || WRONG == 21) && store_length == OTAP_STORE_BYTES; /* 21: they have a part, though no number 0 */
     uint64_t part = past_quarter(table, row) ? 0
                   : __real_otap_row_part(table, row, shown ? all_shown(store) : store, store_length, scratch, scratch_length);
-    if (WRONG == 9 && table == OTAP_GROUPS && part != 0 && !otap_part_in_scratch(part)) {
-        return part + ((uint64_t)36 << 16); /* the next group's name */
+    if (WRONG == 9 && table == OTAP_GROUPS) {
+        return part_of(table, row + 1, store, store_length, part); /* the next group's name */
     }
     if (WRONG == 10 && otap_part_in_scratch(part)) {
         scratch[1] = '9'; /* another number */
@@ -245,7 +275,10 @@ uint64_t __wrap_otap_row_part(uint32_t table, uint32_t row, const uint8_t *store
     if (WRONG == 11 && otap_part_length(part) > 2) {
         return part - ((uint64_t)2 << 32); /* a name cut short */
     }
-    return part;
+    if (WRONG == 105 && part != 0 && !otap_part_in_scratch(part)) {
+        return part + ((uint64_t)2 << 32); /* a name and a unit of what stands behind it */
+    }
+    return WRONG == 106 ? part_of(table, row - 1, store, store_length, part) : part; /* the name of the row before */
 }
 
 uint64_t __wrap_otap_counts(const uint8_t *store, uint64_t store_length)

@@ -2,6 +2,7 @@
 #ifndef WRONG_LIMITS_H
 #define WRONG_LIMITS_H
 
+#include "places.h"
 #include "wrong_sets.h"
 
 uint64_t __real_otap_commit(const uint8_t *, uint64_t, uint8_t *, uint64_t, uint8_t *, uint64_t);
@@ -16,7 +17,14 @@ static int takes_last(uint64_t before, uint64_t after)
                        : WRONG == 94 && otap_counts_channels(before) < OTAP_CHANNEL_PLACES && otap_counts_channels(after) == OTAP_CHANNEL_PLACES;
 }
 
-/* 93, 94: the last place lacks room; 95: half the bytes that a message may have are too many. The refusal, or 0 where this is none. */
+/* Whether a message takes the last bytes of a hand-held's area (110), or has a vehicle hold more texts than such an area could (115). */
+static int fills_area(const uint8_t *store, const uint8_t *after)
+{
+    size_t sum = text_sum(layout, after);
+    return WRONG == 110 ? sum == SHARED_BYTES && sum > text_sum(layout, store) : WRONG == 115 && sum > SHARED_BYTES;
+}
+
+/* 93, 94, 110, 115: the last place lacks room; 95: half the bytes that a message may have are too many. The refusal, or 0 where this is none. */
 static uint64_t refuse_large(const uint8_t *message, uint64_t message_length, const uint8_t *store, uint64_t store_length, uint8_t *reply,
                              uint64_t reply_length)
 {
@@ -30,7 +38,7 @@ static uint64_t refuse_large(const uint8_t *message, uint64_t message_length, co
     if (otap_answer_number(__real_otap_commit(message, message_length, after, sizeof after, other, sizeof other)) != OTAP_OK) {
         return 0;
     }
-    if (takes_last(before, __real_otap_counts(after, sizeof after))) {
+    if (takes_last(before, __real_otap_counts(after, sizeof after)) || fills_area(store, after)) {
         return lacks_room(reply, 1);
     }
     return WRONG == 95 && message_length > OTAP_MESSAGE_BYTES / 2 ? OTAP_MESSAGE_LENGTH : 0;
@@ -66,14 +74,6 @@ static uint64_t report_short(const uint8_t *query, uint64_t query_length, uint32
 static int past_quarter(uint32_t table, uint32_t row)
 {
     return WRONG == 98 && table == OTAP_LINES && row >= OTAP_LINE_ROWS / 4;
-}
-
-/* A refusal that comes before the message is looked at; 0 where there is none. */
-static uint64_t refused_first(const uint8_t *message, uint64_t message_length, const uint8_t *store, uint64_t store_length, uint8_t *reply,
-                              uint64_t reply_length)
-{
-    return WRONG == 92 ? refuse_late(message, message_length, store, store_length, reply, reply_length)
-         : WRONG >= 93 && WRONG <= 95 ? refuse_large(message, message_length, store, store_length, reply, reply_length) : 0;
 }
 
 #endif

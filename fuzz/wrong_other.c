@@ -1,4 +1,4 @@
-/* Wrong libraries of the other set, for the checks of fitting.c, as those of wrong.c: 101 of either set, those behind it of a hand-held beside a vehicle. */
+/* Wrong libraries of the other set, for the checks of fitting.c, as those of wrong.c: 101 of either set, 102 to 104 of a hand-held beside a vehicle. */
 #include "otap_vehicle.h"
 
 #ifdef VEHICLE

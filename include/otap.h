@@ -11,7 +11,7 @@
  *    that is what every archive takes; a size_t widens by itself.
  *  - The buffers of one call do not overlap. This is not checked.
  *  - While one task is in a call, no other task writes its buffers or reads those that the call may change. See "Screens".
- *  - The stack has room: OTAP_COMMIT_STACK and its like, below. otap_judge and otap_commit work on a copy of the store there.
+ *  - The stack has room: OTAP_COMMIT_STACK and its like, below. otap_judge, otap_commit, otap_export and otap_report work on a copy of the store there.
  *  - memcpy and memset are there to link with (on Cortex-M __aeabi_memcpy and __aeabi_memclr, which come with every C library for Arm); the archive
  *    needs nothing else.
  *
@@ -19,10 +19,11 @@
  * docs/FIRMWARE.md says how firmware calls this: tasks and their lock, power-on, saving a store so that a power cut loses nothing, and updates.
  *
  * Screens. A row's part is not a copy: it is a place in the store, or in the scratch. It is good until the store or the scratch is next written: by
- * otap_commit and otap_start (the store), by otap_row_part (the scratch), or by anything else. A screen task that draws a list while another task commits
- * a message can draw one row's name beside another row's number. So either draw while holding the lock under which otap_commit is called, or, under that
- * lock, ask for the rows and copy their bytes out (at most OTAP_ROW_BYTES each), then draw the copies. Copy all rows that are drawn together under one
- * hold of the lock: rows asked for in two holds can be of two lists. Asking twice without a lock does not help.
+ * otap_commit and otap_start (the store), by otap_row_part (the scratch), or by anything else. All texts stand one behind the other in one area, so that
+ * a message which changes one text can move the others: what was a row's part may then be parts of two names. And a screen task that draws a list while
+ * another task commits a message can draw one row's name beside another row's number. So either draw while holding the lock under which otap_commit is
+ * called, or, under that lock, ask for the rows and copy their bytes out (at most OTAP_ROW_BYTES each), then draw the copies. Copy all rows that are
+ * drawn together under one hold of the lock: rows asked for in two holds can be of two lists. Asking twice without a lock does not help.
  *
  * Calling. An officer picks a row by its name and presses PTT. Ask for the name and for what stands behind it, otap_entry and for a line otap_entry_digits
  * too, under one hold of the lock, and keep both together. What is called is the target that was kept with the name that was drawn, never the row as it is
@@ -52,29 +53,35 @@ enum {
     OTAP_EXPORT_BYTES = 4096,  /* an export buffer has at least as many */
     OTAP_REPORT_BYTES = 4096,  /* a report buffer has at least as many */
     OTAP_SCRATCH_BYTES = 36,   /* a scratch has at least as many */
-    OTAP_ROW_BYTES = 46        /* a row's part has at most as many: 23 units */
+    OTAP_ROW_BYTES = 46,       /* a row's part has at most as many: 23 units */
+    OTAP_TEXT_BYTES = 4096     /* all texts of a store together have at most as many, two a unit: see otap_commit */
 };
 
 /* A line's number has at most as many digits, and at least 1; a buffer for digits has at least as many bytes. */
 enum { OTAP_DIGITS = 18 };
 
-/* The number of a store's layout, docs/STORE.md: it changes where the layout does. No store holds it; firmware saves it beside the store. */
-enum { OTAP_LAYOUT = 5 };
+/*
+ * The number of a store's layout, docs/STORE.md: it changes where the layout does. No store holds it; firmware saves it beside the store. From 5 to 6 the
+ * texts of a hand-held went into one area; a vehicle's store stayed as it was, so that its firmware may keep what it has saved under 5.
+ */
+enum { OTAP_LAYOUT = 6 };
 
 /*
- * Stack in bytes: a ceiling for each call on every processor, which tests/stack.c holds it to, and the most that it measured on x86-64, AArch64,
- * Cortex-M4 and Cortex-M33 (docs/TESTING.md has each). It is tested on a full store with every kind of message; no theorem bounds it.
+ * Stack in bytes: a ceiling for each call on every processor, which tests/stack.c holds it to, and the most that it measured (docs/TESTING.md has each): of
+ * otap_start and the conversions on x86-64, AArch64, Cortex-M4 and Cortex-M33, of the others with layout 6 on x86-64 alone. With layout 5 a Cortex-M took up to
+ * two thirds more than x86-64 beside the working copy, and the ceilings have room for as much. It is tested on a full store with every kind of message; no
+ * theorem bounds it.
  */
 enum {
     OTAP_START_STACK = 256,      /* measured 40 */
-    OTAP_JUDGE_STACK = 26624,    /* 26,288: it has the working copy that otap_commit has */
-    OTAP_COMMIT_STACK = 26624,   /* 26,288: 24,576 of them are the working copy of the store */
-    OTAP_EXPORT_STACK = 1024,    /* 896 */
-    OTAP_REPORT_STACK = 1536,    /* 984 */
-    OTAP_ROW_STACK = 1024,       /* 816 otap_row_number, 896 otap_row_part */
-    OTAP_COUNTS_STACK = 1024,    /* 532 */
-    OTAP_LINE_OF_STACK = 1024,   /* 712 */
-    OTAP_VALUE_STACK = 1024,     /* 648 otap_entry, 640 otap_entry_digits; 540 otap_channel, otap_emergency_key and the others of a value */
+    OTAP_JUDGE_STACK = 29696,    /* 26,816: it has the working copy that otap_commit has */
+    OTAP_COMMIT_STACK = 29696,   /* 27,360: 24,576 of them are the working copy of the store */
+    OTAP_EXPORT_STACK = 27136,   /* 25,696, with a working copy too */
+    OTAP_REPORT_STACK = 27136,   /* 25,952, with a working copy too */
+    OTAP_ROW_STACK = 3072,       /* 1,616 otap_row_number, 1,632 otap_row_part */
+    OTAP_COUNTS_STACK = 2048,    /* 960 */
+    OTAP_LINE_OF_STACK = 2048,   /* 1,088 */
+    OTAP_VALUE_STACK = 2048,     /* 1,088 otap_entry, otap_entry_digits; 976 otap_channel, 960 otap_emergency_key and the others of a value */
     OTAP_CONVERSION_STACK = 256  /* 64 */
 };
 
@@ -82,7 +89,7 @@ enum {
 enum {
     OTAP_OK = 0,               /* taken, or the query matches (of otap_judge: it would be, or matches); otherwise: done */
     OTAP_BAD_VERSION = 1,      /* OTAPVer is not 1 */
-    OTAP_NO_ROOM = 2,          /* a setting needs a place in a full table */
+    OTAP_NO_ROOM = 2,          /* a setting needs a place in a full table, or the texts held after it are over OTAP_TEXT_BYTES */
     OTAP_UNKNOWN_TYPE = 3,     /* a setting's type is not among the thirteen */
     OTAP_BAD_FIELD = 4,        /* bad field, length or count */
     OTAP_NO_MATCH = 5,         /* query: code 0, nothing kept, or code or value differs */
@@ -209,6 +216,9 @@ uint64_t otap_judge(const uint8_t *message, uint64_t message_length,
  * place, flags and text; a delete closes the gap; a replace empties the list first. There are OTAP_CONTACT_ROWS places for each of the two lists: one
  * more address is 2. Slots go by their index and are never full. The same address may stand among the contacts and in slots, of groups and of
  * individuals; the same number among the line contacts and in line slots. A setting changes its own table and no other.
+ * All texts share OTAP_TEXT_BYTES bytes, two a unit: those of the eight tables of the screen, background groups' too. A setting has no room, 2, also where the
+ * texts that are held after it are more. That is judged after each whole setting, by what is then held alone: not after an entry of it, and not at the
+ * message's end. So text that an earlier setting of the message deletes or makes shorter gives room, and a later one comes too late.
  * A reply has 10, 14 or 20 bytes; bytes of the reply buffer past them stay. It is written for 0 to 5 also where send is no.
  * Unpack with otap_answer_number, otap_answer_failed, otap_answer_send, otap_answer_reboot, otap_answer_length.
  */
@@ -217,8 +227,9 @@ uint64_t otap_commit(const uint8_t *message, uint64_t message_length,
                      uint8_t *reply, uint64_t reply_length);
 
 /*
- * Writes a part of the store as a request at the buffer's start. The ten parts, committed to any other started set, give it the same tables,
- * background groups too. Its coding type is 0111, whatever the texts came in.
+ * Writes a part of the store as a request at the buffer's start. The ten parts, committed to a fresh set, give it the same tables, background groups too. A
+ * set that holds other texts may refuse one of them with 2, since those of a table whose part is still to come take the room: start it first. Its coding
+ * type is 0111, whatever the texts came in.
  *   0   the request is written; bytes of the buffer past its length stay
  *   15  buffer_length is under OTAP_EXPORT_BYTES; no byte is touched, length 0
  *   11  not a store; no byte is touched, length 0
@@ -256,7 +267,8 @@ uint64_t otap_report(const uint8_t *query, uint64_t query_length, uint32_t index
  *   11  not a store; both counts are 0
  * Ask the number first: a refusal's 0 and 0 look like an empty set. It is 0 exactly where the bytes are a store: that is how power-on knows whether to
  * keep them or to start. The store keeps both counts, so no entry is counted here; but the whole store is judged, as in every call. Group and individual
- * contacts have counts in the store too, which are judged and not answered.
+ * contacts have counts in the store too, which are judged and not answered. What is free are places: a free place promises no room for its text, which it
+ * shares with all others; a line without a text, and a channel, need none.
  * In the answer, bits 0 to 7 are the number, 16 to 31 the lines, 32 to 47 the channels; all others are 0.
  * Unpack with otap_answer_number, otap_counts_lines, otap_counts_channels; what is free, with otap_counts_free_lines, otap_counts_free_channels.
  */
@@ -296,9 +308,10 @@ uint32_t otap_row_number(uint32_t table, uint32_t row,
 
 /*
  * The part of the store or of the scratch that shows a row: 16-bit units, high byte first, without an end unit, also of texts that came in eight bits.
- * A row with a text shows it, where it stands in the store; no byte is touched. A line, group or individual without one, a contact or in a slot, shows
- * its number: it is written at the scratch's start (line digits, eight dialled digits, or six upper-case hex digits), and the scratch's other bytes
- * stay. An empty status text is an empty part of the store. A row does not say a line's IDtype: two lines with one number and no text look alike.
+ * A row with a text shows the whole of it and nothing else, the text's own part of the store; no byte is touched. A line, group or
+ * individual without one, a contact or in a slot, shows its number: it is written at the scratch's start (line digits, eight dialled digits, or six
+ * upper-case hex digits), and the scratch's other bytes stay. An empty status text is an empty part of the store. A row does not say a line's IDtype:
+ * two lines with one number and no text look alike.
  * The answer is 0, and no byte is touched, exactly where otap_row_number would not answer 0. So one call is enough for a row: an answer that is not 0 is
  * a row that is shown, also where its part is empty, and a program that gets 0 may ask otap_row_number why. The store is only read.
  * The part is good until the store or the scratch is next written: see "Screens" above.

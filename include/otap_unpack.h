@@ -71,13 +71,13 @@ static inline uint32_t otap_counts_channels(uint64_t answer)
     return (uint32_t)((answer >> 32) & 0xFFFFu);
 }
 
-/* How many more line contacts have room in a hand-held; 0 of a refusal. Of a vehicle: otap_vehicle_counts_free_lines. */
+/* How many more line contacts have a place in a hand-held, if not room for a text; 0 of a refusal. Of a vehicle: otap_vehicle_counts_free_lines. */
 static inline uint32_t otap_counts_free_lines(uint64_t answer)
 {
     return otap_answer_number(answer) == OTAP_OK ? (uint32_t)OTAP_LINE_ROWS - otap_counts_lines(answer) : 0;
 }
 
-/* How many more scan channels have room in a hand-held; 0 of a refusal. Of a vehicle: otap_vehicle_counts_free_channels. */
+/* How many more scan channels have a place in a hand-held; 0 of a refusal. Of a vehicle: otap_vehicle_counts_free_channels. */
 static inline uint32_t otap_counts_free_channels(uint64_t answer)
 {
     return otap_answer_number(answer) == OTAP_OK ? (uint32_t)OTAP_CHANNEL_PLACES - otap_counts_channels(answer) : 0;

@@ -1,4 +1,4 @@
-/* What several tests of C share: an answer that must be, the counts of a store, bytes that are none, a message to a fresh one, and requests of any size. */
+/* What several tests of C share: an answer that must be, counts of a store, bytes that are none, a message to a fresh one, full ones, requests of any size. */
 #ifndef ANSWERS_H
 #define ANSWERS_H
 
@@ -63,6 +63,17 @@ static inline void told(const char *what, const uint8_t *message, size_t length,
     same(what, number, number, otap_answer_number(answer));
     same(what, failed, failed, otap_answer_failed(answer));
     same("coding type of the reply", 0, 0, reply[5]);
+}
+
+/* A store that is full with `vary` 0, and has shorter lists with another. */
+static inline void fill_store(uint8_t *bytes, unsigned vary)
+{
+    unsigned each;
+    same("start", 0, OTAP_OK, otap_start(bytes, OTAP_STORE_BYTES));
+    for (each = 0; each < FILLING_MESSAGES; each++) {
+        write_filling(&said, each, vary);
+        same("a filling message", 0, OTAP_OK, otap_answer_number(judge_and_commit(said.bytes, said.length, bytes, OTAP_STORE_BYTES, reply, sizeof reply)));
+    }
 }
 
 /* An empty status text, as often: 5 bytes, and 3 for each. */

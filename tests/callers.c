@@ -4,6 +4,7 @@
  */
 #include "answers.h"
 #include "lines.h"
+#include "places.h"
 
 static uint8_t store[OTAP_STORE_BYTES];
 static const uint8_t zeros[OTAP_LINE_ROWS];
@@ -94,7 +95,7 @@ static void shown(void)
 {
     uint32_t row = otap_line_row(ask_number(OTAP_PABX, "2345"));
     uint64_t part = otap_row_part(OTAP_LINES, row, store, sizeof store, scratch, sizeof scratch);
-    same("the name of PABX 2345", (uint64_t)2 << 32 | (LINES_AT + LINE_BYTES + 20) << 16, part, part);
+    same("the name of PABX 2345", (uint64_t)2 << 32 | text_at(store, OTAP_LINES, row) << 16, part, part);
     same("A", 'A', 'A', otap_part_bytes(part, store, scratch)[1]);
     row = otap_line_row(ask_number(OTAP_PSTN, "23"));
     part = otap_row_part(OTAP_LINES, row, store, sizeof store, scratch, sizeof scratch);
@@ -196,12 +197,12 @@ static void false_orders(void)
     }
     memcpy(store + ORDER_AT, "\3\1\4\2\0", 5);
     for (each = 0; each <= OTAP_LINE_ROWS; each++) {
-        uint8_t right = store[ORDER_AT + each];
+        uint8_t *byte = store + (each < OTAP_LINE_ROWS ? ORDER_AT + each : SPARE_AT), right = *byte;
         for (value = 1; value < 256; value <<= 1) {
-            store[ORDER_AT + each] = (uint8_t)(right ^ value);
-            no_store("another byte of the order, or the first behind it", store);
+            *byte = (uint8_t)(right ^ value);
+            no_store("another byte of the order, or of what is spare", store);
         }
-        store[ORDER_AT + each] = right;
+        *byte = right;
     }
     row_is(OTAP_PSTN, "3", 3);
 }

@@ -3,6 +3,7 @@
  * at fault in C8, C9 and D3, and what is exported of them. Each case was worked out by hand from docs/RULES.md.
  */
 #include "answers.h"
+#include "places.h"
 
 /* A request with one setting of lines without texts; their numbers are three digits, from the first on. Operations are 1 add, 2 delete, 3 replace. */
 static void write_lines(unsigned operation, unsigned pabx, unsigned first, unsigned count)
@@ -141,7 +142,7 @@ static void keys_of_contacts(uint8_t *other, unsigned type, size_t region)
     same("start", 0, otap_start(fresh, sizeof fresh), otap_start(other, OTAP_STORE_BYTES));
     for (each = 0; each < sizeof steps / sizeof steps[0]; each++) {
         uint64_t answer;
-        size_t last = region + 2 + 36u * (steps[each].held - (steps[each].held > 0));
+        size_t last = region + 2 + (size_t)SLOT_BYTES * (steps[each].held - (steps[each].held > 0));
         write_contacts(type, steps[each].operation, steps[each].first, steps[each].count);
         answer = judge_and_commit(said.bytes, said.length, other, OTAP_STORE_BYTES, reply, sizeof reply);
         same("a contact by its address", steps[each].number, steps[each].number, otap_answer_number(answer));
@@ -157,11 +158,11 @@ static void address_twice(uint8_t *other, unsigned type, size_t region)
 {
     write_contacts(type, 1, 0, 2);
     told("two contacts", said.bytes, said.length, OTAP_OK, 0, other);
-    other[region + 2 + 36 + 3] = 1;
+    other[region + 2 + SLOT_BYTES + 3] = 1;
     no_store("one address twice", other);
-    other[region + 2 + 36] ^= 1;
+    other[region + 2 + SLOT_BYTES] ^= 1;
     no_store("the same with other flags", other);
-    other[region + 2 + 36 + 2] = 1;
+    other[region + 2 + SLOT_BYTES + 2] = 1;
     counts_are("another address", other, 0, 0);
 }
 
@@ -192,11 +193,12 @@ static void background_groups(uint8_t *other)
         same("nothing behind it", 17, OTAP_NO_ROW, row(tables[each], 3, other));
     }
     part = otap_row_part(OTAP_GROUP_CONTACTS, 2, other, OTAP_STORE_BYTES, scratch, sizeof scratch);
-    same("its own name", 8120 + 2 * 36 + 4, 8120 + 2 * 36 + 4, otap_part_offset(part));
+    same("its own name", text_at(other, OTAP_GROUP_CONTACTS, 2), otap_part_offset(part), text_at(other, OTAP_GROUP_CONTACTS, 2));
+    same("c", 'c', 'c', otap_part_bytes(part, other, scratch)[1]);
     part = otap_export(OTAP_EXPORT_GROUP_CONTACTS, other, OTAP_STORE_BYTES, buffer, sizeof buffer);
     same("settings of the part", 4, 4, buffer[7]);
     same("the background group is exported", 0, 0, (uint64_t)(memcmp(buffer + 8 + 6 + 13, background, sizeof background) != 0));
-    other[8120 + 36] ^= 0xC0;
+    other[GROUP_CONTACTS_AT + SLOT_BYTES] ^= 0xC0;
     same("as a response group it is shown", 0, OTAP_OK, row(OTAP_GROUP_CONTACTS, 1, other));
 }
 
@@ -204,14 +206,15 @@ static void background_groups(uint8_t *other)
 static void line_slots(uint8_t *other)
 {
     static const uint8_t first[] = {0x42, 3, 0x23, 0x45, 0xFF, 0, 0}, again[] = {0x7C, 3, 0x1F, 0, 'b', 0, 0}, gone[] = {0x80, 3, 0x0F, 0, 0};
+    const uint8_t *third = other + LINE_SLOTS_AT + 3 * LINE_BYTES;
     unsigned slot;
     write_fields(0xD3, first, sizeof first);
     told("a line slot", said.bytes, said.length, OTAP_OK, 0, other);
     same("its number", 1 | (uint64_t)8 << 32, 1 | (uint64_t)8 << 32, otap_row_part(OTAP_LINE_SLOTS, 3, other, OTAP_STORE_BYTES, scratch, sizeof scratch));
-    same("flags and IDtype", 1, 1, other[7286 + 3 * 52] * 256u + other[7286 + 3 * 52 + 1]);
+    same("flags and IDtype", 1, 1, third[0] * 256u + third[1]);
     write_fields(0xD3, again, sizeof again);
     same("overwritten", 0, OTAP_OK, otap_answer_number(judge_and_commit(said.bytes, said.length, other, OTAP_STORE_BYTES, reply, sizeof reply)));
-    same("flags and IDtype", 0x0F00, 0x0F00, other[7286 + 3 * 52] * 256u + other[7286 + 3 * 52 + 1]);
+    same("flags and IDtype", 0x0F00, 0x0F00, third[0] * 256u + third[1]);
     write_fields(0xD3, gone, sizeof gone);
     same("deleted", 0, OTAP_OK, otap_answer_number(judge_and_commit(said.bytes, said.length, other, OTAP_STORE_BYTES, reply, sizeof reply)));
     same("no row", 17, OTAP_NO_ROW, row(OTAP_LINE_SLOTS, 3, other));
@@ -253,10 +256,10 @@ int main(void)
     static uint8_t other[OTAP_STORE_BYTES];
     both_lines();
     fields_at_fault(other);
-    keys_of_contacts(other, 0xC8, 8118);
-    keys_of_contacts(other, 0xC9, 10424);
-    address_twice(other, 0xC8, 8118);
-    address_twice(other, 0xC9, 10424);
+    keys_of_contacts(other, 0xC8, GROUP_COUNT_AT);
+    keys_of_contacts(other, 0xC9, INDIVIDUAL_COUNT_AT);
+    address_twice(other, 0xC8, GROUP_COUNT_AT);
+    address_twice(other, 0xC9, INDIVIDUAL_COUNT_AT);
     background_groups(other);
     line_slots(other);
     parts(other);

@@ -3,6 +3,8 @@
  * sent twice. Each case was worked out by hand from docs/RULES.md, D3 to D6.
  */
 #include "joins.h"
+#include "named.h"
+#include "places.h"
 
 static uint8_t store[OTAP_STORE_BYTES];
 
@@ -94,6 +96,27 @@ static void rooms(void)
     both_come_to("counted through to 255", 2, 255);
 }
 
+static void write_named(Message *m, uint32_t table, unsigned key, unsigned units)
+{
+    open_request(m, 1);
+    put_named(m, table, ADD, key, units);
+}
+
+/* A full store, whose status text 33 has 15 units and whose group slot 12 has 4: of a hand-held, one can grow only where the other shrinks before it. */
+static void rooms_for_texts(void)
+{
+    const int shared = TEXT_ROOM == 4096;
+    fill_store(store, 0);
+    write_named(&first, OTAP_STATUS_TEXTS, 1, 14);
+    write_named(&second, OTAP_GROUPS, 12, 5);
+    both_come_to("room that the first makes", 0, 0);
+    write_named(&second, OTAP_GROUPS, 12, 6);
+    both_come_to("too little of it", shared ? OTAP_NO_ROOM : OTAP_OK, shared ? 2 : 0);
+    write_named(&first, OTAP_GROUPS, 12, 7);
+    write_named(&second, OTAP_GROUPS, 12, 4);
+    both_come_to("room that comes too late", shared ? OTAP_NO_ROOM : OTAP_OK, shared ? 1 : 0);
+}
+
 /* Coding type 0100, and a hash that was kept: no request without an FF item keeps one. */
 static void other_stores(void)
 {
@@ -108,8 +131,8 @@ static void other_stores(void)
     write_bytes(&first, group, sizeof group);
     write_bytes(&second, text, sizeof text - 1);
     both_come_to("coding type 0100", 0, 0);
-    same("a name", 'A', store[6139], store[6138] + (unsigned)'A');
-    same("a text", 'B', store[22 + 5 * 46 + 1], 'B');
+    same("a name", 'A', store[text_at(store, OTAP_GROUPS, 0) + 1], store[text_at(store, OTAP_GROUPS, 0)] + (unsigned)'A');
+    same("a text", 'B', store[text_at(store, OTAP_QUICK_TEXTS, 5) + 1], 'B');
     same("no hash", 0, store[0], store[1]);
 }
 
@@ -144,19 +167,28 @@ static void twice(void)
     both_come_to("an add that has room once", 2, 2);
 }
 
-/* Two of every kind, to full stores and to others, which go from pair to pair: all three that can come of it come often. */
+/* The store that pairs of this turn go to: a full one, one with shorter lists, or a fresh one. */
+static void begin(unsigned turn)
+{
+    if (turn % 3 == 2) {
+        fresh();
+    } else {
+        fill_store(store, turn % 3 * 20);
+    }
+}
+
+/* Two of every kind, to stores that go from pair to pair, and in turn 6 each to a full one: all three that can come of it come often. */
 static void every_pair(void)
 {
     unsigned long taken = 0, of_first = 0, all = 0;
     unsigned turn, each;
-    for (turn = 0; turn < 6; turn++) {
-        fresh();
-        for (each = 0; each < FILLING_MESSAGES && turn % 3 != 2; each++) {
-            write_filling(&said, each, turn % 3 * 20);
-            same("a store is filled", 0, OTAP_OK, take(&said, store));
-        }
+    for (turn = 0; turn < 7; turn++) {
+        begin(turn);
         for (each = 0; each < REQUEST_KINDS * REQUEST_KINDS; each++, all++) {
             uint64_t answer;
+            if (turn == 6) {
+                begin(turn);
+            }
             write_joinable(&first, each % REQUEST_KINDS, turn + each);
             write_joinable(&second, each / REQUEST_KINDS, turn + each / 2);
             answer = both_ways();
@@ -172,6 +204,7 @@ static void every_pair(void)
 int main(void)
 {
     rooms();
+    rooms_for_texts();
     other_stores();
     twice();
     every_pair();

@@ -13,6 +13,13 @@ typedef struct {
 
 enum { MESSAGE_KINDS = 20, REQUEST_KINDS = 17, FILLING_MESSAGES = 11 };
 
+/* A hand-held's texts share one area: those behind the first of every length have two fifths of theirs, and some status texts more fill the rest. */
+#ifdef VEHICLE
+enum { LATER_FIFTHS = 5, LONGER_STATUS = 0 };
+#else
+enum { LATER_FIFTHS = 2, LONGER_STATUS = 11 };
+#endif
+
 enum { ADD = 1, DELETE = 2, REPLACE = 3 };
 
 static uint64_t random_state = 0x9E3779B97F4A7C15u;
@@ -65,6 +72,14 @@ static inline void put_text(Message *m, unsigned units)
     put(m, 0);
 }
 
+/* How many units an entry's text has: the most, and one fewer from entry to entry down to the least, then the most again; `vary` moves that on. */
+static inline unsigned units_of(unsigned most, unsigned least, unsigned each, unsigned vary)
+{
+    unsigned lengths = most - least + 1, units = most - (each + vary) % lengths;
+    unsigned later = units * LATER_FIFTHS / 5;
+    return each < lengths ? units : later < least ? least : later;
+}
+
 /* The number of a line, in as many digits, 1 to 18: the last three say which line it is. */
 static inline void put_number(Message *m, unsigned which, unsigned digits)
 {
@@ -87,7 +102,7 @@ static inline void put_lines(Message *m, unsigned operation, unsigned count, uns
     put(m, count);
     for (each = 0; each < count; each++) {
         put_number(m, each, 18 - (each + 6 * vary) % (vary == 0 || each >= 64 ? 16 : 18));
-        put_text(m, 16 - (each + vary) % 17);
+        put_text(m, units_of(16, 0, each, vary));
     }
     close_setting(m, at);
 }
@@ -99,7 +114,7 @@ static inline void put_quick(Message *m, unsigned operation, unsigned first, uns
     put(m, operation * 64 + count);
     for (each = 0; each < count; each++) {
         put(m, first + each);
-        put_text(m, 23 - (each + vary) % 23);
+        put_text(m, units_of(23, 1, each, vary));
     }
     close_setting(m, at);
 }
@@ -112,7 +127,7 @@ static inline void put_status(Message *m, unsigned operation, unsigned count, un
     put(m, count);
     for (each = 0; each < count; each++) {
         put(m, 32 + (each + vary * 7) % 96);
-        put_text(m, 16 - (each + vary) % 17);
+        put_text(m, units_of(16, 0, each, vary));
     }
     close_setting(m, at);
 }
@@ -143,7 +158,7 @@ static inline void put_slot(Message *m, unsigned type, unsigned operation, unsig
     put(m, index == 15 ? 0xFF : 0x10);
     put(m, index == 15 ? 0xFF : index == 14 ? 0x3C : 0x00);
     put(m, index == 14 ? 0x29 + vary : 1 + index);
-    put_text(m, index >= 13 ? 0 : 16 - (index + vary) % 17);
+    put_text(m, index >= 13 ? 0 : units_of(16, 0, index, vary));
     close_setting(m, at);
 }
 
@@ -161,7 +176,7 @@ static inline void put_contacts(Message *m, unsigned type, unsigned operation, u
         put(m, each % 2 == 0 ? 0x10 : 0xFF);
         put(m, each % 2 == 0 ? 0x00 : 0x7F);
         put(m, 1 + each);
-        put_text(m, 16 - (each + vary) % 17);
+        put_text(m, units_of(16, 0, each, vary));
     }
     close_setting(m, at);
 }
@@ -173,7 +188,7 @@ static inline void put_line_slot(Message *m, unsigned operation, unsigned index,
     put(m, operation * 64 + vary % 32 * 2);
     put(m, vary % 16 * 16 + index);
     put_number(m, index, 18 - (index + vary) % 18);
-    put_text(m, index >= 13 ? 0 : 16 - (index + vary) % 17);
+    put_text(m, index >= 13 ? 0 : units_of(16, 0, index, vary));
     close_setting(m, at);
 }
 
@@ -278,16 +293,19 @@ static inline void write_joinable(Message *m, unsigned kind, unsigned turn)
     m->bytes[2] = m->bytes[3] = 0;
 }
 
-/* One of the messages that together leave no place of a fresh store empty, with `vary` 0; with another, some of the lists are shorter. */
+/*
+ * One of the messages that together leave no place of a fresh store empty, and no byte of a hand-held's area of texts, with `vary` 0; with another, some of the
+ * lists and texts are shorter.
+ */
 static inline void write_filling(Message *m, unsigned each, unsigned vary)
 {
     unsigned slot;
-    open_request(m, each == 5 || each == 6 || each == 9 ? 16 : each == 10 ? 4 : 1);
+    open_request(m, each == 5 || each == 6 || each == 9 ? 16 : each == 10 ? 4 : each == 3 ? 2 : 1);
     switch (each) {
     case 0: put_lines(m, 3, LINE_ROOM - vary, vary); break;
     case 1: put_quick(m, 3, 0, 63, vary); break;
     case 2: put_quick(m, 1, 63, 1, vary); break;
-    case 3: put_status(m, 3, 96, vary); break;
+    case 3: put_status(m, 3, 96, vary); put_status(m, 1, LONGER_STATUS, vary + 4); break;
     case 4: put_channels(m, 3, CHANNEL_ROOM - vary); break;
     case 7: put_contacts(m, 0xC8, 3, 64 - vary, vary); break;
     case 8: put_contacts(m, 0xC9, 3, 64 - vary, vary); break;
@@ -302,12 +320,13 @@ static inline void write_filling(Message *m, unsigned each, unsigned vary)
     }
 }
 
-/* A request of as many bytes: line contacts that a cut or a length over the limit ends. */
+/* A request of as many bytes: lines and texts that a cut, bytes left over or a length over the limit ends. */
 static inline void write_long(Message *m, size_t length)
 {
     memset(m->bytes, 0x12, sizeof m->bytes);
-    open_request(m, 3);
+    open_request(m, 4);
     put_lines(m, 3, LINE_ROOM, 0);
+    put_quick(m, 3, 0, 63, 0);
     put_status(m, 3, 96, 0);
     put_last(m);
     m->length = length;

@@ -1,21 +1,12 @@
 /* The header's constants and the archive's answers: each number of document 01's table is provoked, and is the constant that is named after it. */
 #include "answers.h"
+#include "places.h"
 
 static uint8_t store[OTAP_STORE_BYTES + 1];
 
 static uint64_t commit(void)
 {
     return judge_and_commit(said.bytes, said.length, store, OTAP_STORE_BYTES, reply, sizeof reply);
-}
-
-static void fill(void)
-{
-    unsigned each;
-    same("start", 0, OTAP_OK, otap_start(store, OTAP_STORE_BYTES));
-    for (each = 0; each < FILLING_MESSAGES; each++) {
-        write_filling(&said, each, 0);
-        same("taken", 0, OTAP_OK, otap_answer_number(commit()));
-    }
 }
 
 /* 0 to 5: a reply is written. The last byte of the answer's low 32 bits is its length; bit 16 says send. */
@@ -49,6 +40,7 @@ static void sizes(void)
     same("a join buffer", MESSAGE_SIZE, OTAP_JOIN_BYTES, MESSAGE_SIZE);
     same("room for lines", LINE_ROOM, OTAP_LINE_ROWS, LINE_ROOM);
     same("room for channels", CHANNEL_ROOM, OTAP_CHANNEL_PLACES, CHANNEL_ROOM);
+    same("room for a hand-held's texts", 4096, OTAP_TEXT_BYTES, 4096);
 }
 
 /* 10 to 14: the number is the whole answer. */
@@ -95,20 +87,21 @@ static void exported(void)
     same("part", 16, OTAP_NO_PART, otap_export(0, store, OTAP_STORE_BYTES, buffer, OTAP_EXPORT_BYTES));
 }
 
-/* A full store reports 388 entries, a vehicle's 676, in three messages; the bytes of each are in reports.c. */
+/* A full store reports 388 entries in two messages, a vehicle's 676 in three; the bytes of each are in reports.c. */
 static void reported(void)
 {
+    const uint32_t messages = LINE_ROOM > 32 ? 3 : 2;
     uint32_t index, entries = 0;
     write_asking_all(&said, 10, 0);
-    for (index = 1; index <= 3; index++) {
+    for (index = 1; index <= messages; index++) {
         uint64_t answer = otap_report(said.bytes, said.length, index, store, OTAP_STORE_BYTES, buffer, sizeof buffer);
         same("report", 0, OTAP_OK, otap_answer_number(answer));
-        same("messages", 3, otap_report_total(answer), answer >> 8 & 0xFF);
+        same("messages", messages, otap_report_total(answer), answer >> 8 & 0xFF);
         same("a message's length", otap_report_length(answer), buffer[2] * 256u + buffer[3] + 4u, answer >> 16);
         entries += buffer[9];
     }
     same("entries", 64 + 64 + LINE_ROOM + 64 + CHANNEL_ROOM + 96 + 4, entries, entries);
-    same("message", 16, OTAP_NO_MESSAGE, otap_report(said.bytes, said.length, 4, store, OTAP_STORE_BYTES, buffer, OTAP_REPORT_BYTES));
+    same("message", 16, OTAP_NO_MESSAGE, otap_report(said.bytes, said.length, index, store, OTAP_STORE_BYTES, buffer, OTAP_REPORT_BYTES));
     same("message", 16, OTAP_NO_MESSAGE, otap_report(said.bytes, said.length, 0, store, OTAP_STORE_BYTES, buffer, OTAP_REPORT_BYTES));
     same("short buffer", 15, OTAP_SHORT_BUFFER, otap_report(said.bytes, said.length, 1, store, OTAP_STORE_BYTES, buffer, OTAP_REPORT_BYTES - 1));
     said.bytes[3] = 0; /* its length is not stated */
@@ -127,30 +120,37 @@ static uint32_t row(uint32_t table, uint32_t at)
     return otap_row_number(table, at, store, OTAP_STORE_BYTES, scratch, sizeof scratch);
 }
 
-/* Each table's first and last row is there, and none beside them; store offsets are those of docs/STORE.md. */
+/* Each row of a table is there, and none beside them. A text is a part of the store, where docs/STORE.md has it. */
+static void rows_of(uint32_t table, uint32_t first, uint32_t last)
+{
+    uint32_t at;
+    same("row before", 17, OTAP_NO_ROW, row(table, first - 1));
+    same("row after", 17, OTAP_NO_ROW, row(table, last + 1));
+    for (at = first; at <= last; at++) {
+        uint64_t part = otap_row_part(table, at, store, OTAP_STORE_BYTES, scratch, sizeof scratch);
+        same("a row", 0, OTAP_OK, row(table, at));
+        same("in the scratch", part & 1, (uint64_t)otap_part_in_scratch(part), part & 1);
+        same("place", at > first && (part & 1) != 0 ? 0 : text_at(store, table, at), otap_part_offset(part), part >> 16 & 0xFFFF);
+        same("the longest first", at == first ? (table == OTAP_QUICK_TEXTS ? OTAP_ROW_BYTES : 32) : part >> 32, otap_part_length(part), part >> 32);
+    }
+}
+
 static void rows(void)
 {
-    static const struct { uint32_t table, number, first, last; size_t offset; } tables[OTAP_TABLES] = {
-        {OTAP_LINES, 1, 0, OTAP_LINE_ROWS - 1, LINES_AT + 20},
-        {OTAP_QUICK_TEXTS, 2, 0, OTAP_QUICK_ROWS - 1, 22},
-        {OTAP_STATUS_TEXTS, 3, OTAP_STATUS_FIRST, OTAP_STATUS_LAST, 2966 + 1},
-        {OTAP_GROUPS, 4, 0, OTAP_SLOT_ROWS - 1, 6134 + 4},
-        {OTAP_INDIVIDUALS, 5, 0, OTAP_SLOT_ROWS - 1, 6710 + 4},
-        {OTAP_GROUP_CONTACTS, 6, 0, OTAP_CONTACT_ROWS - 1, 8120 + 4},
-        {OTAP_INDIVIDUAL_CONTACTS, 7, 0, OTAP_CONTACT_ROWS - 1, 10426 + 4},
-        {OTAP_LINE_SLOTS, 8, 0, OTAP_SLOT_ROWS - 1, 7286 + 20}
+    static const struct { uint32_t table, first, last; } tables[OTAP_TABLES] = {
+        {OTAP_LINES, 0, OTAP_LINE_ROWS - 1},
+        {OTAP_QUICK_TEXTS, 0, OTAP_QUICK_ROWS - 1},
+        {OTAP_STATUS_TEXTS, OTAP_STATUS_FIRST, OTAP_STATUS_LAST},
+        {OTAP_GROUPS, 0, OTAP_SLOT_ROWS - 1},
+        {OTAP_INDIVIDUALS, 0, OTAP_SLOT_ROWS - 1},
+        {OTAP_GROUP_CONTACTS, 0, OTAP_CONTACT_ROWS - 1},
+        {OTAP_INDIVIDUAL_CONTACTS, 0, OTAP_CONTACT_ROWS - 1},
+        {OTAP_LINE_SLOTS, 0, OTAP_SLOT_ROWS - 1}
     };
-    size_t each;
+    uint32_t each;
     for (each = 0; each < OTAP_TABLES; each++) {
-        uint64_t part = otap_row_part(tables[each].table, tables[each].first, store, OTAP_STORE_BYTES, scratch, sizeof scratch);
-        same("table", tables[each].number, tables[each].table, tables[each].table);
-        same("first row", 0, OTAP_OK, row(tables[each].table, tables[each].first));
-        same("last row", 0, OTAP_OK, row(tables[each].table, tables[each].last));
-        same("row before", 17, OTAP_NO_ROW, row(tables[each].table, tables[each].first - 1));
-        same("row after", 17, OTAP_NO_ROW, row(tables[each].table, tables[each].last + 1));
-        same("place", tables[each].offset, otap_part_offset(part), part >> 16 & 0xFFFF);
-        same("in the store", 0, (uint64_t)otap_part_in_scratch(part), part & 1);
-        same("units", tables[each].table == OTAP_QUICK_TEXTS ? OTAP_ROW_BYTES : 32, otap_part_length(part), part >> 32);
+        same("table", each + 1, tables[each].table, tables[each].table);
+        rows_of(tables[each].table, tables[each].first, tables[each].last);
     }
     same("no table", 17, OTAP_NO_ROW, row(0, 0));
     same("no table", 17, OTAP_NO_ROW, row(OTAP_TABLES + 1, 0));
@@ -201,7 +201,8 @@ static void asked_of_stores(void)
 /* Another value of a byte of a count, which stand where docs/STORE.md says, makes a store none: group contacts, individual ones, channels, lines. */
 static void poked_counts(uint8_t *bytes)
 {
-    static const size_t places[] = {8118, 8119, 10424, 10425, CHANNEL_COUNT_AT, CHANNEL_COUNT_AT + 1, LINE_COUNT_AT, LINE_COUNT_AT + 1};
+    static const size_t places[] = {GROUP_COUNT_AT, GROUP_COUNT_AT + 1, INDIVIDUAL_COUNT_AT, INDIVIDUAL_COUNT_AT + 1,
+                                    CHANNEL_COUNT_AT, CHANNEL_COUNT_AT + 1, LINE_COUNT_AT, LINE_COUNT_AT + 1};
     static const uint8_t steps[] = {1, 2, 32, 64, 128, 192, 255};
     size_t each, step;
     for (each = 0; each < sizeof places / sizeof places[0]; each++) {
@@ -266,14 +267,15 @@ static void lengths_of_narrow(uint8_t *other)
         {0xD1, 0, 8, OTAP_OK}, {0xD1, 16, 24, OTAP_OK}, {0xD1, 17, 25, OTAP_BAD_FIELD}, {0xD1, 0, 9, OTAP_BAD_FIELD},
         {0xCC, 23, 28, OTAP_OK}, {0xCC, 24, 29, OTAP_BAD_FIELD}, {0xCC, 0, 5, OTAP_BAD_FIELD}
     };
-    size_t each;
+    size_t each, at;
     for (each = 0; each < sizeof rows / sizeof rows[0]; each++) {
         write_narrow(rows[each].type, rows[each].units, rows[each].data_length);
         told("a text under 0100", said.bytes, said.length, rows[each].number, rows[each].number == OTAP_OK ? 0 : 1, other);
     }
     write_narrow(0xD1, 1, 9);
     told("the last character", said.bytes, said.length, OTAP_OK, 0, other);
-    same("its unit", 0x00FF, 0x00FF, other[6138] * 256u + other[6139]);
+    at = text_at(other, OTAP_GROUPS, 0);
+    same("its unit", 0x00FF, 0x00FF, other[at] * 256u + other[at + 1]);
     write_narrow(0xD1, 2, 9);
     told("a text without its end", said.bytes, said.length - 1, OTAP_BAD_FIELD, 1, other);
 }
@@ -307,7 +309,7 @@ static void coding_types(void)
 #ifdef VEHICLE
 #define FULL_STORE_SUM 0xFE36F173u
 #else
-#define FULL_STORE_SUM 0xE71CBB0Du
+#define FULL_STORE_SUM 0x749DFC7Eu
 #endif
 
 /* The bytes of the full store, summed (FNV-1a). If the layout has changed, OTAP_LAYOUT must be another number, and this sum too. */
@@ -318,8 +320,8 @@ static void layout(void)
     for (at = 0; at < OTAP_STORE_BYTES; at++) {
         sum = (sum ^ store[at]) * 16777619u;
     }
-    same("layout", 5, OTAP_LAYOUT, 5);
-    same("sum of a full store of layout 5", FULL_STORE_SUM, sum, sum);
+    same("layout", 6, OTAP_LAYOUT, 6);
+    same("sum of a full store of layout 6", FULL_STORE_SUM, sum, sum);
 }
 
 static void conversions(void)
@@ -343,7 +345,7 @@ static void conversions(void)
 int main(void)
 {
     sizes();
-    fill();
+    fill_store(store, 0);
     replied();
     untouched();
     exported();

@@ -243,6 +243,22 @@ static void cuts_by_size(void)
     cut_by_size("what is shorter does not pass what is longer", same_text, 2, 0, 6, 2, 2);
 }
 
+/* 96 status texts of 16 units, which have room in a hand-held's area: no other type has it report as many bytes. */
+static void write_longest_texts(void)
+{
+    size_t at;
+    unsigned code;
+    open_request(&said, 1);
+    at = open_setting(&said, 0xD0);
+    put(&said, REPLACE * 64);
+    put(&said, 96);
+    for (code = OTAP_STATUS_FIRST; code <= OTAP_STATUS_LAST; code++) {
+        put(&said, code);
+        put_text(&said, 16);
+    }
+    close_setting(&said, at);
+}
+
 /* 255 types, as many as a query can have: each message but the last is full, and all entries come in it. */
 static void longest_query(void)
 {
@@ -250,10 +266,11 @@ static void longest_query(void)
     uint32_t index, total, parameters = 0;
     same("most types", 255, OTAP_QUERY_MOST_TYPES, 255);
     memset(types, OTAP_ASK_STATUS_TEXTS, sizeof types);
-    write_filling(&said, 3, 0);
+    write_longest_texts();
     told("96 status texts", said.bytes, said.length, OTAP_OK, 0, store);
     write_asking(&said, types, sizeof types);
     total = otap_report_total(ask(1));
+    same("107 parameters in a message, of a vehicle 215", MESSAGE_SIZE > 4096 ? 114 : 229, total, total);
     for (index = 1; index <= total; index++) {
         uint64_t answer = ask(index);
         same("a full message", 1, index == total || buffer[9] == 255 || otap_report_length(answer) > OTAP_REPORT_BYTES - 38, 1);

@@ -10,7 +10,7 @@
 
 #ifdef VEHICLE
 #define PREFIX "otap_vehicle_"
-enum { LINE_ROOM = 128, CHANNEL_ROOM = 256, MESSAGE_SIZE = 8192, STORE_SIZE = 49152, OTHER_STORE_SIZE = 24576 };
+enum { LINE_ROOM = 128, CHANNEL_ROOM = 256, TEXT_ROOM = 15744, MESSAGE_SIZE = 8192, STORE_SIZE = 49152, OTHER_STORE_SIZE = 24576 };
 
 #define OTAP_STORE_BYTES OTAP_VEHICLE_STORE_BYTES
 #define OTAP_MESSAGE_BYTES OTAP_VEHICLE_MESSAGE_BYTES
@@ -21,6 +21,8 @@ enum { LINE_ROOM = 128, CHANNEL_ROOM = 256, MESSAGE_SIZE = 8192, STORE_SIZE = 49
 #define OTAP_CHANNEL_PLACES OTAP_VEHICLE_CHANNEL_PLACES
 #define OTAP_JUDGE_STACK OTAP_VEHICLE_JUDGE_STACK
 #define OTAP_COMMIT_STACK OTAP_VEHICLE_COMMIT_STACK
+#define OTAP_EXPORT_STACK OTAP_VEHICLE_EXPORT_STACK
+#define OTAP_REPORT_STACK OTAP_VEHICLE_REPORT_STACK
 
 #define otap_start otap_vehicle_start
 #define otap_judge otap_vehicle_judge
@@ -43,17 +45,28 @@ enum { LINE_ROOM = 128, CHANNEL_ROOM = 256, MESSAGE_SIZE = 8192, STORE_SIZE = 49
 #define otap_join otap_vehicle_join
 #else
 #define PREFIX "otap_"
-enum { LINE_ROOM = 32, CHANNEL_ROOM = 64, MESSAGE_SIZE = 4096, STORE_SIZE = 24576, OTHER_STORE_SIZE = 49152 };
+enum { LINE_ROOM = 32, CHANNEL_ROOM = 64, TEXT_ROOM = 4096, MESSAGE_SIZE = 4096, STORE_SIZE = 24576, OTHER_STORE_SIZE = 49152 };
 #endif
 
-/* Where docs/STORE.md has the channels and the lines: the count of each, its slots, and behind those of the lines their order. */
+/*
+ * Where docs/STORE.md has the tables: their first slot or, of lists, the count before it; how long a slot is; the order of the lines; and what is spare. Each
+ * text of a vehicle ends its slot, and TEXT_ROOM is all their places together; a hand-held's slot ends with the number of units, and the text is in the area.
+ */
+#ifdef VEHICLE
 enum {
-    CHANNEL_COUNT_AT = 12730,
-    LINE_COUNT_AT = 12732 + 2 * CHANNEL_ROOM,
-    LINES_AT = LINE_COUNT_AT + 2,
-    LINE_BYTES = 52,
-    ORDER_AT = LINES_AT + LINE_BYTES * LINE_ROOM,
-    SPARE_AT = ORDER_AT + LINE_ROOM
+    QUICK_AT = 22, STATUS_AT = 2966, GROUPS_AT = 6134, INDIVIDUALS_AT = 6710, LINE_SLOTS_AT = 7286, GROUP_COUNT_AT = 8118, INDIVIDUAL_COUNT_AT = 10424,
+    CHANNEL_COUNT_AT = 12730, LINE_COUNT_AT = 13244, ORDER_AT = 19902, SPARE_AT = 20030
 };
+enum { QUICK_BYTES = 46, STATUS_BYTES = 33, SLOT_BYTES = 36, LINE_BYTES = 52 };
+#else
+enum {
+    QUICK_AT = 22, STATUS_AT = 86, GROUPS_AT = 278, INDIVIDUALS_AT = 358, LINE_SLOTS_AT = 438, GROUP_COUNT_AT = 774, INDIVIDUAL_COUNT_AT = 1096,
+    CHANNEL_COUNT_AT = 1418, LINE_COUNT_AT = 1548, ORDER_AT = 2222, AREA_AT = 2254, SPARE_AT = 6350
+};
+enum { QUICK_BYTES = 1, STATUS_BYTES = 2, SLOT_BYTES = 5, LINE_BYTES = 21 };
+#endif
+
+/* Behind the count of a list stand its slots. */
+enum { GROUP_CONTACTS_AT = GROUP_COUNT_AT + 2, INDIVIDUAL_CONTACTS_AT = INDIVIDUAL_COUNT_AT + 2, LINES_AT = LINE_COUNT_AT + 2 };
 
 #endif

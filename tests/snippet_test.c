@@ -1,6 +1,7 @@
 /* The README's snippet does what it says: each of its calls of the firmware is noted by a letter, and the letters must come in this order. */
 #include "snippet.c"
 #include "messages.h"
+#include "places.h"
 
 #include <stdio.h>
 #include <stdlib.h>
@@ -90,7 +91,7 @@ void draw_row(uint32_t row, const uint8_t *units, size_t length, uint64_t target
     must(otap_answer_number(target) == OTAP_OK && otap_entry_address(target) == address_of(row), "a row's own target, kept with its name");
     must(!contacts || (length == 16 && units == scratch), "a contact without a name is shown by its number");
     must(contacts || row != 13 || (length == 16 && memcmp(units, "\0003\0002\0008\0002\0000\0009\0001\0003", 16) == 0), "group 13 is shown by its number");
-    must(contacts || row != 0 || (length == 32 && units == store + 6134 + 4), "group 0 is shown by its name, where it stands");
+    must(contacts || row != 0 || (length == 32 && units == store + text_at(store, OTAP_GROUPS, row)), "group 0 is shown by its name, where it stands");
 }
 
 void draw_room(uint32_t lines, uint32_t channels)
@@ -106,7 +107,7 @@ void show_caller(const uint8_t *units, size_t length)
     note('n');
     must(held, "a name is shown without the lock");
     must(length == 2 && units[0] == 0 && units[1] == (units == scratch ? '3' : 'A'), "the name of the caller");
-    must(units == scratch || units == store + LINES_AT + 20, "where it stands");
+    must(units == scratch || units == store + text_at(store, OTAP_LINES, 0), "where it stands");
 }
 
 void show_digits(const uint8_t *digits, size_t length)

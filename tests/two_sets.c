@@ -1,6 +1,6 @@
 /*
- * Both sets in one program, which links both archives (request A10): when a hand-held takes what a vehicle has exported and what it refuses it with, that a
- * vehicle takes a hand-held's, and that neither knows the other's store. Each case was worked out by hand from docs/RULES.md, Y3 to Y7.
+ * Both sets in one program, which links both archives (requests A10 and A11): when a hand-held takes what a vehicle has exported and what it refuses it with,
+ * that a vehicle takes a hand-held's, and that neither knows the other's store. Each case was worked out by hand from docs/RULES.md, Y3 to Y7.
  */
 #include "answers.h"
 
@@ -50,7 +50,26 @@ static void give_channels(unsigned count)
     same("channels for the vehicle", 0, OTAP_OK, take_in_vehicle(said.bytes, said.length));
 }
 
-/* A vehicle with so many lines and channels, and with texts, contacts and slots as a full store has them. */
+/* Status texts of so many units in all, of 16 each and the last of what is left; no others. */
+static void give_status(unsigned units)
+{
+    size_t at;
+    unsigned code;
+    open_request(&said, 1);
+    at = open_setting(&said, 0xD0);
+    put(&said, REPLACE * 64);
+    put(&said, (units + 15) / 16);
+    for (code = 32; units > 0; code++) {
+        unsigned now = units < 16 ? units : 16;
+        put(&said, code);
+        put_text(&said, now);
+        units -= now;
+    }
+    close_setting(&said, at);
+    same("status texts for the vehicle", 0, OTAP_OK, take_in_vehicle(said.bytes, said.length));
+}
+
+/* A vehicle with so many lines and channels, quick texts, contacts and slots as a full hand-held has them, 1,445 units of texts, and no status texts. */
 static void fill_vehicle(unsigned lines, unsigned channels)
 {
     unsigned each;
@@ -59,21 +78,22 @@ static void fill_vehicle(unsigned lines, unsigned channels)
         write_filling(&said, each, 0);
         same("a full vehicle", 0, OTAP_OK, take_in_vehicle(said.bytes, said.length));
     }
+    give_status(0);
     for (each = 0; each < lines; each += 64) {
         give_lines(each, lines - each < 64 ? lines - each : 64);
     }
     give_channels(channels);
 }
 
+static void start_handheld(void)
+{
+    same("start", 0, OTAP_OK, otap_start(handheld, sizeof handheld));
+}
+
 /* A full hand-held; its hash is kept. */
 static void fill_handheld(void)
 {
-    unsigned each;
-    same("start", 0, OTAP_OK, otap_start(handheld, sizeof handheld));
-    for (each = 0; each < FILLING_MESSAGES; each++) {
-        write_filling(&said, each, 0);
-        same("a full hand-held", 0, OTAP_OK, take_in_handheld(said.bytes, said.length));
-    }
+    fill_store(handheld, 0);
 }
 
 /* A part of the vehicle, left in `large`: how long it is. */
@@ -106,11 +126,51 @@ static void same_tables(void)
     }
 }
 
-/* At the edges of a hand-held's room, and of its message size. The hand-held is full, and what it had has no say in it. */
+/*
+ * Texts at the edge of a hand-held's area: 512 units of lines, 497 of quick texts, the status texts, three times 130 of slots and twice 279 of contacts, in the
+ * order of the parts. The last text of the line slots is in slot 12, and the last individual contact has one unit.
+ */
+static void texts_to_handheld(void)
+{
+    static const struct { unsigned status; uint32_t part; uint64_t number, failed; } rows[] = {
+        {0, 11, 0, 0}, {91, 11, 0, 0}, {92, OTAP_EXPORT_LINE_SLOTS, 2, 13}, {221, OTAP_EXPORT_LINE_SLOTS, 2, 1},
+        {222, OTAP_EXPORT_INDIVIDUAL_CONTACTS, 2, 65}, {1039, OTAP_EXPORT_GROUPS, 2, 1}, {1040, OTAP_EXPORT_STATUS_TEXTS, 2, 1}
+    };
+    size_t each;
+    fill_vehicle(32, 64);
+    for (each = 0; each < sizeof rows / sizeof rows[0]; each++) {
+        give_status(rows[each].status);
+        start_handheld();
+        handheld_takes("32 lines, 64 channels, and so many texts", rows[each].part, rows[each].number, rows[each].failed);
+        counts_are("all lines are there, and the channels", handheld, 32, 64);
+        if (rows[each].number == OTAP_OK) {
+            same_tables();
+        }
+    }
+}
+
+/* A hand-held that holds other texts: those of parts that are still to come are in the way, or leave room enough. */
+static void used_handheld(void)
+{
+    unsigned each;
+    fill_vehicle(32, 64);
+    give_status(91);
+    fill_handheld();
+    handheld_takes("1,864 units of a full hand-held, and 12 lines", OTAP_EXPORT_LINES, 2, 13);
+    start_handheld();
+    for (each = 4; each < 7; each++) {
+        write_filling(&said, each, 1);
+        same("channels and slots", 0, OTAP_OK, take_in_handheld(said.bytes, said.length));
+    }
+    handheld_takes("room enough", 11, 0, 0);
+    same_tables();
+}
+
+/* At the edges of a hand-held's places, and of its message size. The hand-held holds what the vehicle held before. */
 static void vehicle_to_handheld(void)
 {
-    fill_handheld();
     fill_vehicle(32, 64);
+    start_handheld();
     handheld_takes("32 lines, 64 channels", 11, 0, 0);
     same_tables();
     counts_are("all are there", handheld, 32, 64);
@@ -139,12 +199,13 @@ static void too_many_channels(void)
     counts_are("no line, and the old channels", handheld, 0, 64);
 }
 
-/* A full hand-held's parts to a full vehicle: all are taken. */
+/* A full hand-held's parts to a full vehicle, whose texts are far more: all are taken. */
 static void handheld_to_vehicle(void)
 {
     uint32_t part;
     fill_handheld();
     fill_vehicle(128, 256);
+    give_status(96 * 16);
     for (part = 1; part <= OTAP_EXPORT_PARTS; part++) {
         size_t length = otap_export_length(otap_export(part, handheld, sizeof handheld, buffer, sizeof buffer));
         same("taken by a vehicle", 0, OTAP_OK, take_in_vehicle(buffer, length));
@@ -173,6 +234,8 @@ static void other_stores(void)
 int main(void)
 {
     vehicle_to_handheld();
+    texts_to_handheld();
+    used_handheld();
     too_many_channels();
     handheld_to_vehicle();
     other_stores();

@@ -1,6 +1,6 @@
 // tests/wasm.mjs: the modules for wasm32 in node: no imports; the stored inputs of the programs `take` and `put`, judged and committed, come to their
 // stored outputs; callers are found; what stands behind a row is answered; what a set reports, the office's module reads; and what it joins, the set takes. A
-// vehicle's module has its own sizes, and its export is taken by the hand-held's as far as it fits.
+// vehicle's module has its own sizes, its export is taken by the hand-held's as far as it fits, and no sum binds its texts, as it does a hand-held's.
 import { readFileSync } from "node:fs";
 import { fileURLToPath } from "node:url";
 
@@ -186,5 +186,17 @@ for (let part = 1; part <= 10; part++) same("both exports", exported(part), expo
 take(linesOf(42, 1), vehicle);
 if (handOn()[0] !== (2n | 34n << 8n)) throw new Error("an export that does not fit");
 if (vehicle.call("export", 1, ...vehicle.lent("store"), ...vehicle.lent("buffer", 8191)) !== 15n) throw new Error("a short buffer");
+// 64 quick texts of 23 units and 36 status texts of 16 fill a hand-held's area: an empty text has room then, and one unit more has only in a vehicle.
+const textsOf = (type, first, count, units) => {
+    const entries = Array.from({ length: count }, (_, each) => [first + each, ...Array(units).fill(0x78), 0]).flat();
+    const fields = type === 0xcc ? [0x40 + count, ...entries] : [0x40, count, ...entries];
+    return [2, 2, 0, 0, 8, 4, 8, 1, type, (fields.length + 2) >> 8, (fields.length + 2) & 255, ...fields];
+};
+const filling = [textsOf(0xcc, 0, 63, 23), textsOf(0xcc, 63, 1, 23), textsOf(0xd0, 32, 36, 16), textsOf(0xd0, 68, 1, 0), textsOf(0xd0, 69, 1, 1)];
+const filled = [handheld, vehicle].map((set) => {
+    set.call("start", ...set.lent("store"));
+    return filling.map((message) => take(message, set) & 0xffffn);
+});
+if (filled.join() !== "0,0,0,0,258,0,0,0,0,0") throw new Error(`texts that fill a hand-held: ${filled}`);
 console.log("no imports; take and put, judged and committed, as stored; callers are found, what stands behind a row, what is reported and read, and joined;" +
-    " a hand-held takes a vehicle's export where it fits");
+    " a hand-held takes a vehicle's export where it fits, and texts up to the last unit");

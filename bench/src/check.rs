@@ -5,21 +5,13 @@ use crate::sides::{Call, Rattle, Side};
 use crate::timing::median;
 use otap::{Handheld, Kind, Set, Vehicle};
 use otap_reference::inputs::pokes::order_lines;
-use otap_reference::layout;
+use otap_reference::layout::{self, Regions, Slots};
 use otap_reference::reference::limits::{Limits, HANDHELD, VEHICLE};
 use std::hint::black_box;
 use std::time::Instant;
 
 const BATCHES: usize = 301;
 const CALLS: u32 = 20;
-/// The first line of a hand-held's store, and the bytes of one (docs/STORE.md).
-const LINES: usize = 12_862;
-const LINE: usize = 52;
-/// The last byte of their order.
-const LAST_OF_ORDER: usize = 14_557;
-/// The first group contact and the first individual contact, and the bytes of one.
-const CONTACTS: [usize; 2] = [8_120, 10_426];
-const CONTACT: usize = 36;
 
 pub fn table() {
     println!(
@@ -49,9 +41,9 @@ fn full<K: Kind>(limits: Limits) -> Rattle<K> {
 
 fn stores() -> Vec<(&'static str, Vec<u8>)> {
     let full = full::<Handheld>(HANDHELD);
-    let changed = |change: fn(&mut [u8])| {
+    let changed = |change: fn(&Regions, &mut [u8])| {
         let mut bytes = full.bytes.clone();
-        change(&mut bytes);
+        change(&HANDHELD.regions(), &mut bytes);
         bytes
     };
     let without = |message| {
@@ -60,47 +52,54 @@ fn stores() -> Vec<(&'static str, Vec<u8>)> {
         fewer.bytes
     };
     vec![
+        ("a fresh one", Rattle::<Handheld>::fresh().bytes),
         ("full: 64 group contacts, 64 individual contacts and 32 lines", full.bytes.clone()),
         ("full, but for both lists of contacts", without(messages::without_contacts())),
         ("full, but for the lines", without(messages::without_lines())),
         ("full, addresses of contacts with other first bytes", changed(other_first_bytes)),
         ("full, line numbers with other first digits", changed(other_first_digits)),
-        ("last two group contacts equal: ends behind their list", changed(equal_contacts)),
         (
-            "last byte of the order wrong: ends before the spare bytes",
-            changed(|bytes| bytes[LAST_OF_ORDER] ^= 1),
+            "last two group contacts equal: ends behind their list",
+            changed(|regions, bytes| equal_last(regions.group_contacts, bytes)),
         ),
-        ("last two lines equal: ends in their order", changed(equal_lines)),
+        (
+            "first unit of the area 0: ends before the spare bytes",
+            changed(|regions, bytes| bytes[regions.area.start..][..2].fill(0)),
+        ),
+        (
+            "last byte of the order wrong: ends before the area",
+            changed(|regions, bytes| bytes[regions.order.end - 1] ^= 1),
+        ),
+        (
+            "last two lines equal: ends in their order",
+            changed(|regions, bytes| equal_last(regions.lines, bytes)),
+        ),
         (
             "last line wrong: ends before their order",
-            changed(|bytes| bytes[LINES + 31 * LINE] = 0xFF),
+            changed(|regions, bytes| bytes[regions.lines.slot(31)] = 0xFF),
         ),
-        ("first byte wrong: ends at once", changed(|bytes| bytes[0] = 0xFF)),
+        ("first byte wrong: ends at once", changed(|_, bytes| bytes[0] = 0xFF)),
     ]
 }
 
-fn other_first_digits(bytes: &mut [u8]) {
-    for (place, line) in bytes[LINES..].chunks_exact_mut(LINE).take(32).enumerate() {
-        line[2] = 1 + (place % 10) as u8;
+fn other_first_digits(regions: &Regions, bytes: &mut [u8]) {
+    for place in 0..regions.lines.places {
+        bytes[regions.lines.slot(place) + 2] = 1 + (place % 10) as u8;
     }
     order_lines(HANDHELD, bytes);
 }
 
-fn other_first_bytes(bytes: &mut [u8]) {
-    for first in CONTACTS {
-        for (place, slot) in bytes[first..].chunks_exact_mut(CONTACT).take(64).enumerate() {
-            slot[1] = 0x10 + place as u8;
+fn other_first_bytes(regions: &Regions, bytes: &mut [u8]) {
+    for contacts in [regions.group_contacts, regions.individual_contacts] {
+        for place in 0..contacts.places {
+            bytes[contacts.slot(place) + 1] = 0x10 + place as u8;
         }
     }
 }
 
-fn equal_contacts(bytes: &mut [u8]) {
-    let (from, to) = (CONTACTS[0] + 62 * CONTACT, CONTACTS[0] + 63 * CONTACT);
-    bytes.copy_within(from..to, to);
-}
-
-fn equal_lines(bytes: &mut [u8]) {
-    let (from, to) = (LINES + 30 * LINE, LINES + 31 * LINE);
+/// Makes the last entry of a full list the one before it.
+fn equal_last(list: Slots, bytes: &mut [u8]) {
+    let (from, to) = (list.slot(list.places - 2), list.slot(list.places - 1));
     bytes.copy_within(from..to, to);
 }
 

@@ -1,6 +1,6 @@
 //! Two requests for the office to join: by the archive and by plain Rust.
 
-use crate::messages::{groups_in_halves, of_groups};
+use crate::messages::groups_and_halves;
 use crate::sides::answered;
 use otap_reference::reference::joining::join;
 use otap_reference::reference::limits::HANDHELD;
@@ -36,8 +36,7 @@ impl Pair {
 
 /// A name and a number for each pair: two that fill one message when joined, and two full ones, which are read to their ends before they are too long.
 pub fn pairs() -> [(&'static str, Pair, u8); 2] {
-    let full = of_groups();
-    let [first, second] = groups_in_halves();
+    let (full, [first, second]) = groups_and_halves();
     let halves = Pair { first, second, written: full.len() };
     let refused = Pair { first: full.clone(), second: full, written: 0 };
     [("groups", halves, 0), ("refused", refused, 12)]

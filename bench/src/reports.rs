@@ -62,12 +62,13 @@ pub fn queries_to_a_vehicle() -> [(&'static str, Asked); 4] {
     ]
 }
 
-/// A name for each query to a hand-held: every table by itself, which is one message; all ten, and status texts as often as can be asked, by their first and last message.
+/// A name for each query to a hand-held: every table by itself, which is one message; all ten, and quick texts, which are the most bytes, as often as can be asked, by
+/// their first and last message.
 pub fn queries() -> Vec<(String, Asked)> {
     let one = |(name, byte): (&str, u8)| (name.to_string(), asked(&[byte], 1, 1));
     let mut queries: Vec<_> = TABLES.into_iter().map(one).collect();
     let all = TABLES.map(|(_, byte)| byte);
-    for (name, types, total) in [("all", &all[..], 4), ("longest", &[0xD0; 255], 229)] {
+    for (name, types, total) in [("all", &all[..], 2), ("longest", &[0xCC; 255], 125)] {
         queries.push((format!("{name}-first"), asked(types, 1, total)));
         queries.push((format!("{name}-last"), asked(types, total, total)));
     }
@@ -84,7 +85,7 @@ pub fn messages() -> [(&'static str, Vec<u8>); 2] {
         let messages = reports::messages(types, &set).expect("at most 255 messages");
         messages.into_iter().next().expect("a report has a message")
     };
-    [("status-texts", first(&[0xD0; 2])), ("channels", first(&[0xCE; 4]))]
+    [("quick-texts", first(&[0xCC; 3])), ("channels", first(&[0xCE; 4]))]
 }
 
 /// Reads a message and every parameter of it: the number, by the face.

@@ -120,8 +120,8 @@ static void count_reports(void)
     static const uint8_t channels[] = {OTAP_ASK_CHANNELS};
     write_asking_all(&said, 10, 0);
     which = 1;
-    count("report, all types, the first of three messages", report);
-    which = 3;
+    count("report, all types, the first of two messages", report);
+    which = 2;
     count("report, all types, the last", report);
     write_asking(&said, channels, sizeof channels);
     which = 1;

@@ -72,6 +72,7 @@ for each in cortex-m4 cortex-m4f cortex-m33 cortex-m33f; do
     step "$each: numbers and constants" bare "" tests/numbers.c
     step "$each: judging and committing" bare "" tests/judging.c
     step "$each: contacts and slots" bare "" tests/contacts.c
+    step "$each: where texts stand" bare "" tests/texts.c
     step "$each: who is calling" bare "" tests/callers.c
     step "$each: behind a row" bare "" tests/entries.c
     step "$each: reports" bare "" tests/reports.c

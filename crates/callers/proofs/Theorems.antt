@@ -8,11 +8,11 @@ use Rattle.counted_lists.specs.Counted.{Distinct}
 use Rattle.writing.specs.Ranges.{InNumber}
 use Rattle.writing.specs.Settings.{Number}
 use Rattle.tables.specs.declared.limits.Limits.{Limits}
-use Rattle.tables.specs.Layout.{Roomy}
+use Rattle.tables.specs.Forms.{Roomy}
 use Rattle.tables.specs.Store.{StoreOf, Holds}
 use Rattle.tables.specs.Tables.{Line, line-key, Tables}
 use Rattle.tables.proofs.EntryCodes.{bit-one}
-use Rattle.tables.proofs.LayoutLaws.{layout-one, holds-store}
+use Rattle.shared_texts.proofs.Forms.{layout-one, holds-store}
 use Rattle.callers.specs.declared.lookup.Caller.{Caller}
 use Rattle.callers.specs.declared.lookup.Caller.the-variants.{Row, NoRow, NotAStore, NotANumber}
 use Rattle.callers.specs.Callers.{Told, told, Calls, ByNumber, looking-up}

@@ -12,7 +12,8 @@ use Rattle.writing.specs.Ranges.{InNumber}
 use Rattle.writing.specs.Settings.{Number}
 use Rattle.writing.specs.Writing.{bit}
 use Rattle.tables.specs.declared.limits.Limits.{Limits}
-use Rattle.tables.specs.Layout.{line-bytes, line-key-at, line-key-size}
+use Rattle.tables.specs.Forms.{line-as}
+use Rattle.tables.specs.Layout.{line-key-at, line-key-size}
 use Rattle.tables.specs.Store.{StoreOf, Holds}
 use Rattle.tables.specs.Tables.{Line, Tables}
 use Rattle.callers.specs.declared.lookup.Caller.{Caller}
@@ -50,4 +51,4 @@ looking-up lim idtype digits store =
 
 -- the line found is one that has the key, or none has it
 abbrev pub LineFound : Limits → List ℕ → List ℕ → Found → Type 0
-LineFound lim store key r = (t : Tables) → Holds lim t store → length key ≡ line-key-size → Has line-key-at key (map line-bytes (t .lines)) r
+LineFound lim store key r = (t : Tables) → Holds lim t store → length key ≡ line-key-size → Has line-key-at key (map (line-as (lim .texts)) (t .lines)) r

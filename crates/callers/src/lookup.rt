@@ -4,12 +4,12 @@ use orders::search::find_entry;
 use store_check::checks::is_store;
 use store_check::checks_entries::at_most;
 use tables::limits::Limits;
-use tables::places::CHANNEL_SLOT;
-use tables::places::CHANNELS;
+use tables::list_places::line_slot;
+use tables::list_places::line_slots;
+use tables::list_places::lines_at;
 use tables::places::COUNT;
 use tables::places::KEY_BYTES;
 use tables::places::LINE_KEY;
-use tables::places::LINE_SLOT;
 ghost use mathlib.Core.Path.{_≡_};
 ghost use mathlib.Core.Bool.{true};
 ghost use mathlib.Core.Logic.{_↔_};
@@ -17,7 +17,8 @@ ghost use mathlib.Core.List.{_∷_};
 ghost use lib.ListN.{length};
 ghost use Rattle.lists.specs.Ladder.{Answers};
 ghost use Rattle.writing.specs.Ranges.{InNumber};
-ghost use Rattle.tables.specs.Layout.{Roomy, digit-bytes};
+ghost use Rattle.tables.specs.Forms.{Roomy};
+ghost use Rattle.tables.specs.Layout.{digit-bytes};
 ghost use Rattle.callers.specs.Callers.{LineFound, looking-up, told};
 
 pub enum Caller {
@@ -60,9 +61,15 @@ fn find_line(store: &[u8], limits: Limits, key: &[u8]) -> Found
     requires { ⌜ Roomy limits × (length (now store) ≡ limits .size) ⌝ }
     ensures { λ r. ⌜ LineFound limits (now (store .entry)) (now (key .entry)) r ⌝ }
 {
-    let lines = CHANNELS + (COUNT + limits.channels * CHANNEL_SLOT);
-    let spare = lines + (COUNT + limits.lines * LINE_SLOT + limits.lines);
-    find_entry(&store[lines..spare], LINE_SLOT, LINE_KEY, limits.lines, key)
+    let lines = lines_at(limits);
+    let spare = lines + (COUNT + line_slots(limits) + limits.lines);
+    find_entry(
+        &store[lines..spare],
+        line_slot(limits),
+        LINE_KEY,
+        limits.lines,
+        key,
+    )
 }
 
 // The row of the line that has an IDtype and digits, in a store of a set with these limits.

@@ -63,18 +63,19 @@ fn waiting(high: u8, low: u8) -> u8 {
     if high == NONE { low } else { NONE }
 }
 
-// Puts the byte that a mark stands for: the number as it is, or as two decimal digits of a half byte each.
+// Puts the byte that a mark stands for: the number as it is, as two decimal digits of a half byte each, or as the status code of that place.
 fn put_mark(m: &mut [u8], at: usize, mark: u8, number: u8) -> usize
     ensures { λ r. ⌜ r ≤ length (now (m .exit)) ⌝ }
 {
     match mark {
         b'#' => put_bytes(m, at, &[number]),
         b'%' => put_bytes(m, at, &[number / 10 % 10 * 16 + number % 10]),
+        b'$' => put_bytes(m, at, &[number % 96 + 32]),
         _ => put_bytes(m, at, b""),
     }
 }
 
-// Puts the bytes that are written in digits, two each; # and % are marks of the number, and any other character says nothing.
+// Puts the bytes that are written in digits, two each; #, % and $ are marks of the number, and any other character says nothing.
 fn put(m: &mut [u8], at: usize, digits: &[u8], number: u8) -> usize
     ensures { λ r. ⌜ r ≤ length (now (m .exit)) ⌝ }
 {

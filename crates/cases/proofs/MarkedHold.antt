@@ -44,7 +44,7 @@ line-ok : (f : LineFlags) → f .priority < 4 → LineOk (record { flags = f; nu
 line-ok f p = record { priority = p; number = number-in-range; text = record { short = lit≤ tt; units = tt } }
 
 both-2345 : Allowed handheld (put-own Lines fresh (line-2345 ∷ pstn-2345 ∷ []))
-both-2345 = both-types handheld fresh (fresh-allowed handheld) (lit≤ tt) line-2345 pstn-2345 (line-ok _ (lit≤ tt)) (line-ok _ (lit≤ tt)) true≢false
+both-2345 = both-types handheld fresh (fresh-allowed handheld) (lit≤ tt) line-2345 pstn-2345 (line-ok _ (lit≤ tt)) (line-ok _ (lit≤ tt)) true≢false (lit≤ tt)
 
 -- THE MARKED CASES
 pub marked-hold : All CaseHolds marked

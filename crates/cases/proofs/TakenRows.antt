@@ -12,10 +12,10 @@ use Rattle.writing.proofs.CanonicalLaws.{plain-bytes}
 use Rattle.writing.proofs.Computed.{fits?, written}
 use Rattle.tables.specs.Allowed.{Allowed}
 use Rattle.tables.specs.Apply.{apply}
-use Rattle.tables.specs.Layout.{layout}
+use Rattle.tables.specs.Forms.{layout}
 use Rattle.tables.specs.Limits.{handheld}
 use Rattle.tables.specs.Tables.{Tables, no-hash}
-use Rattle.tables.proofs.LayoutLaws.{holds-store}
+use Rattle.shared_texts.proofs.Forms.{holds-store}
 use Rattle.requests.specs.Judge.{kept, done, step, taken as all-taken}
 use Rattle.station.specs.Replies.{reply-bytes}
 use Rattle.requests.specs.Requests.{Judged, forget, last-item}

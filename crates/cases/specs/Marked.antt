@@ -18,7 +18,7 @@ use Rattle.writing.specs.Ranges.{text-limits, InRange}
 use Rattle.writing.specs.Settings.{Setting, home, channels, lines, unicode16}
 use Rattle.writing.specs.Writing.{number, Written}
 use Rattle.tables.specs.declared.limits.Limits.{Limits}
-use Rattle.tables.specs.Layout.{layout}
+use Rattle.tables.specs.Forms.{layout}
 use Rattle.tables.specs.Limits.{handheld}
 use Rattle.tables.specs.Tables.{Line, Tables, fresh}
 use Rattle.writing.specs.declared.Kind.the-variants.{Lines, Channels}

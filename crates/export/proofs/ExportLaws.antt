@@ -4,8 +4,9 @@ use Rattle.lists.specs.Ladder.{Answers}
 use Rattle.writing.specs.Canonical.{canonical-all}
 use Rattle.writing.specs.Settings.{Setting, unicode16}
 use Rattle.tables.specs.declared.limits.Limits.{Limits}
-use Rattle.tables.specs.Store.{StoreOf, Holds}
+use Rattle.tables.specs.Store.{StoreOf, Holds, Works}
 use Rattle.tables.specs.Tables.{Tables}
+use Rattle.working.specs.Seen.{Seen}
 use Rattle.export.specs.declared.parts.Export.the-variants.{Written}
 use Rattle.export.specs.declared.parts.Part.{Part}
 use Rattle.export_write.specs.declared.writers.Settings.{Settings}
@@ -30,17 +31,18 @@ module _ (lim : Limits) (part : ℕ) (store buffer : List ℕ) where
   says-16 h s n = inr (λ l. omega arith, inr (λ k. k s, inl (not-numbered part n, refl)))
 
   -- the request was written
-  pub says-0 : (which : Part) (mid after : List ℕ) (r : Settings) (end : ℕ) → lim .message ≤ length buffer → StoreOf lim store → part-at part ≡ some which
-      → PartWritten lim which store buffer mid r → ((8 ≤ r .end) × (r .end ≤ length mid) × (r .end < 65540) → Headed (r .count) (r .end) mid after end)
+  pub says-0 : (which : Part) (work mid after : List ℕ) (r : Settings) (end : ℕ) → lim .message ≤ length buffer → StoreOf lim store → Seen lim store work → part-at part ≡ some which
+      → PartWritten lim which work buffer mid r → ((8 ≤ r .end) × (r .end ≤ length mid) × (r .end < 65540) → Headed (r .count) (r .end) mid after end)
       → Answers (exporting lim part store buffer) (record { answer = record { number = 0; request-length = end }; buffer = after })
-  says-0 which mid after r end h s found w headed =
+  says-0 which work mid after r end h s see found w headed =
       let t : Tables = s .store .tables in
       let held : Holds lim t store = (s .store .allowed, s .store .bytes-are) in
+      let works : Works lim t work = see .1 t held in
       let ss : List Setting = exported which t in
       let n : part-number which ≡ part = numbered part which found in
-      let v : Wrote (canonical-all unicode16 ss) 8 buffer mid (r .end) = w .writes .writes .wrote t held in
+      let v : Wrote (canonical-all unicode16 ss) 8 buffer mid (r .end) = w .writes .writes .wrote t works in
       let k = headed (w .writes .writes .from, omega (arith, v .fits, v .next, wrote-length (canonical-all unicode16 ss) 8 (r .end) buffer mid v), w .small) in
-      let z : Wrote (request-bytes ss) 0 buffer after end = k .request ss buffer (sym (w .writes .counted t held)) v in
+      let z : Wrote (request-bytes ss) 0 buffer after end = k .request ss buffer (sym (w .writes .counted t works)) v in
       let b : List ℕ = request-bytes ss in
       let e : end ≡ length b = z .next ∙ zero-add (length b) in
       let c : after ≡ b ++ drop (length b) buffer = z .content ∙ ap (λ (i : ℕ). b ++ drop i buffer) (zero-add (length b)) in

@@ -1,4 +1,4 @@
--- A part of the store was written as the settings that export it. Assumes nothing.
+-- A part of a working copy was written as the settings that export it. Assumes nothing.
 use Rattle.lists.proofs.Kit.{ℕ, zero, suc, _+_, _-_, _*_, _≤_, _<_, _≡_, refl, sym, ap, _∙_, subst, subst⁻¹, List, [], _∷_, _++_, map, none, some, arith, midOf, mid-len, length, getD, take, drop, List·getD-eq-default, take-add, drop-drop}
 use Rattle.lists.proofs.Seqs.{getD-map}
 use Rattle.slots.specs.Slots.{u16, Listed}
@@ -7,10 +7,10 @@ use Rattle.writing.specs.Ranges.{InChannel}
 use Rattle.writing.specs.Settings.{Setting, unicode16}
 use Rattle.tables.specs.declared.limits.Limits.{Limits}
 use Rattle.tables.specs.Allowed.{LineOk}
-use Rattle.tables.specs.Layout.{count-size, layout, line-bytes, groups-at, individuals-at, line-slots-at, line-slots-size, line-width, lines-at, channels-at, member-size, member-width, quick-at, quick-size, status-at, status-size}
+use Rattle.tables.specs.Layout.{count-size, line-bytes, groups-at, individuals-at, line-slots-at, line-slots-size, line-width, lines-at, channels-at, member-size, member-width, quick-at, quick-size, status-at, status-size, placed-layout}
 use Rattle.tables.specs.Limits.{contact-places}
 use Rattle.tables.specs.Members.{member-ok, member-bytes, contacts-in, contacts-at}
-use Rattle.tables.specs.Store.{Holds}
+use Rattle.tables.specs.Store.{Works}
 use Rattle.tables.specs.Tables.{Tables}
 use Rattle.tables.proofs.Frames.{key-get, home-get, system-get, quick-placed, status-placed, groups-placed, individuals-placed, line-slots-placed, contacts-listed, channels-listed, lines-listed}
 use Rattle.tables.specs.declared.members.Members.{Members}
@@ -80,11 +80,11 @@ past-parts n h = List·getD-eq-default (none ∷ map some ten) none {n = n} (ome
 pub part-within : (n k : ℕ) → n ≡ suc k → k < length ten → part-at n ≡ some (getD ten k Lines)
 part-within n k e h = ap part-at e ∙ getD-map some ten k Lines none h
 
--- ---- what stands in a part of the store
+-- ---- what stands in a part of a working copy
 
-module _ (lim : Limits) (t : Tables) (s : List ℕ) (h : Holds lim t s) where
-  -- a part of the store is that part of the layout
-  at-part : (P : List ℕ → Type 0) (a n k : ℕ) → k ≡ n → P (midOf a n (layout lim t)) → P (midOf a k s)
+module _ (lim : Limits) (t : Tables) (s : List ℕ) (h : Works lim t s) where
+  -- a part of it is that part of the layout
+  at-part : (P : List ℕ → Type 0) (a n k : ℕ) → k ≡ n → P (midOf a n (placed-layout lim t)) → P (midOf a k s)
   at-part P a n k e p = subst⁻¹ (λ (i : ℕ). P (midOf a i s)) e (subst⁻¹ (λ (x : List ℕ). P (midOf a n x)) (h .1) p)
 
   pub lines-in : (k : ℕ) → k ≡ lim .lines * line-width → LinesIn (midOf (lines-at lim + count-size) k s) (t .lines)
@@ -114,7 +114,7 @@ module _ (lim : Limits) (t : Tables) (s : List ℕ) (h : Holds lim t s) where
 
   pub fixed-in : FixedIn (midOf 11 11 s) (t .key, (t .home, t .system))
   fixed-in =
-      let l : List ℕ = layout lim t in
+      let l : List ℕ = placed-layout lim t in
       let a : midOf 11 11 l ≡ midOf 11 4 l ++ (midOf 15 4 l ++ midOf 19 3 l)
       = take-add 4 7 (drop 11 l) ∙ ap (λ (x : List ℕ). midOf 11 4 l ++ take 7 x) (drop-drop 4 11 l)
       ∙ ap (λ (x : List ℕ). midOf 11 4 l ++ x) (take-add 4 3 (drop 15 l) ∙ ap (λ (x : List ℕ). midOf 15 4 l ++ take 3 x) (drop-drop 4 15 l)) in (
@@ -132,10 +132,10 @@ starts lim = part-from (lines-at lim) (lines-at lim + (count-size + lim .lines *
 abbrev ends : Limits → Part → ℕ
 ends lim = part-to (lines-at lim) (lines-at lim + (count-size + lim .lines * line-width))
 
-module _ (lim : Limits) (store s u : List ℕ) (r : Settings) (x : Exportable lim) (big : lim .message ≤ length s) where
+module _ (lim : Limits) (work s u : List ℕ) (r : Settings) (x : Exportable lim) (big : lim .message ≤ length s) where
   -- what was written of what a part holds are the part's settings, where they fit
-  part-of : (p : Part) {A : Type 0} {Long : Type 0} {Held : A → Type 0} {g : A → List Setting} {room : ℕ} (f : Tables → A) → ((t : Tables) → Holds lim t store → Held (f t))
-      → ((t : Tables) → g (f t) ≡ exported p t) → Long → room ≤ lim .message - 8 → room ≤ 60000 → WritesTable Long Held g room s u r → PartWritten lim p store s u r
+  part-of : (p : Part) {A : Type 0} {Long : Type 0} {Held : A → Type 0} {g : A → List Setting} {room : ℕ} (f : Tables → A) → ((t : Tables) → Works lim t work → Held (f t))
+      → ((t : Tables) → g (f t) ≡ exported p t) → Long → room ≤ lim .message - 8 → room ≤ 60000 → WritesTable Long Held g room s u r → PartWritten lim p work s u r
   part-of p f is e long l k table =
       let w = table (long, omega (arith, x .status)) in
       record {
@@ -151,24 +151,24 @@ module _ (lim : Limits) (store s u : List ℕ) (r : Settings) (x : Exportable li
       }
 
   -- the settings of the bytes of each part were written
-  part-held : (p : Part) → length (midOf (starts lim p) (ends lim p - starts lim p) store) ≡ ends lim p - starts lim p → WritesPart p (midOf (starts lim p) (ends lim p - starts lim p) store) s u r → PartWritten lim p store s u r
+  part-held : (p : Part) → length (midOf (starts lim p) (ends lim p - starts lim p) work) ≡ ends lim p - starts lim p → WritesPart p (midOf (starts lim p) (ends lim p - starts lim p) work) s u r → PartWritten lim p work s u r
   part-held Lines l =
-      part-of Lines (λ t. t .lines) (λ t h. lines-in lim t store h (ends lim Lines - starts lim Lines) (omega arith)) (λ t. refl) (omega (arith, x .counted)) (omega (arith, x .lines)) (omega (arith, x .counted))
-  part-held Fixed l = part-of Fixed (λ t. (t .key, (t .home, t .system))) (λ t h. fixed-in lim t store h) (λ t. refl) l (omega (arith, x .status)) (omega arith)
-  part-held QuickTexts l = part-of QuickTexts (λ t. t .quick) (λ t h. quick-in lim t store h) (λ t. refl) l (omega (arith, x .status)) (omega arith)
+      part-of Lines (λ t. t .lines) (λ t h. lines-in lim t work h (ends lim Lines - starts lim Lines) (omega arith)) (λ t. refl) (omega (arith, x .counted)) (omega (arith, x .lines)) (omega (arith, x .counted))
+  part-held Fixed l = part-of Fixed (λ t. (t .key, (t .home, t .system))) (λ t h. fixed-in lim t work h) (λ t. refl) l (omega (arith, x .status)) (omega arith)
+  part-held QuickTexts l = part-of QuickTexts (λ t. t .quick) (λ t h. quick-in lim t work h) (λ t. refl) l (omega (arith, x .status)) (omega arith)
   part-held Channels l =
-      part-of Channels (λ t. t .channels) (λ t h. channels-in lim t store h (ends lim Channels - starts lim Channels) (omega arith)) (λ t. refl) (omega (arith, x .channels)) (omega (arith, x .status, x .channels)) (omega (arith, x .channels))
-  part-held StatusTexts l = part-of StatusTexts (λ t. t .status) (λ t h. status-in lim t store h) (λ t. refl) l (omega (arith, x .status)) (omega arith)
-  part-held Groups l = part-of Groups (λ t. t .groups) (λ t h. groups-in lim t store h) (λ t. refl) l (omega (arith, x .status)) (omega arith)
-  part-held Individuals l = part-of Individuals (λ t. t .individuals) (λ t h. individuals-in lim t store h) (λ t. refl) l (omega (arith, x .status)) (omega arith)
+      part-of Channels (λ t. t .channels) (λ t h. channels-in lim t work h (ends lim Channels - starts lim Channels) (omega arith)) (λ t. refl) (omega (arith, x .channels)) (omega (arith, x .status, x .channels)) (omega (arith, x .channels))
+  part-held StatusTexts l = part-of StatusTexts (λ t. t .status) (λ t h. status-in lim t work h) (λ t. refl) l (omega (arith, x .status)) (omega arith)
+  part-held Groups l = part-of Groups (λ t. t .groups) (λ t h. groups-in lim t work h) (λ t. refl) l (omega (arith, x .status)) (omega arith)
+  part-held Individuals l = part-of Individuals (λ t. t .individuals) (λ t h. individuals-in lim t work h) (λ t. refl) l (omega (arith, x .status)) (omega arith)
   part-held GroupContacts l =
-      part-of GroupContacts (λ t. t .group-contacts) (λ t h. contacts-held lim t store h OfGroups) (λ t. refl) (omega arith) (omega (arith, x .status)) (omega arith)
+      part-of GroupContacts (λ t. t .group-contacts) (λ t h. contacts-held lim t work h OfGroups) (λ t. refl) (omega arith) (omega (arith, x .status)) (omega arith)
   part-held IndividualContacts l =
-      part-of IndividualContacts (λ t. t .individual-contacts) (λ t h. contacts-held lim t store h OfIndividuals) (λ t. refl) (omega arith) (omega (arith, x .status)) (omega arith)
-  part-held LineSlots l = part-of LineSlots (λ t. t .line-slots) (λ t h. line-slots-in lim t store h) (λ t. refl) l (omega (arith, x .status)) (omega arith)
+      part-of IndividualContacts (λ t. t .individual-contacts) (λ t h. contacts-held lim t work h OfIndividuals) (λ t. refl) (omega arith) (omega (arith, x .status)) (omega arith)
+  part-held LineSlots l = part-of LineSlots (λ t. t .line-slots) (λ t h. line-slots-in lim t work h) (λ t. refl) l (omega (arith, x .status)) (omega arith)
 
   -- the settings of the bytes from the part's start to its end were written
-  pub part-written : (p : Part) (a b : ℕ) → a ≡ starts lim p → b ≡ ends lim p → b ≤ length store → WritesPart p (midOf a (b - a) store) s u r → PartWritten lim p store s u r
+  pub part-written : (p : Part) (a b : ℕ) → a ≡ starts lim p → b ≡ ends lim p → b ≤ length work → WritesPart p (midOf a (b - a) work) s u r → PartWritten lim p work s u r
   part-written p a b e d inside w =
-      part-held p (mid-len (starts lim p) (ends lim p) store (omega arith))
-      (subst (λ (i : ℕ). WritesPart p (midOf (starts lim p) (i - starts lim p) store) s u r) d (subst (λ (i : ℕ). WritesPart p (midOf i (b - i) store) s u r) e w))
+      part-held p (mid-len (starts lim p) (ends lim p) work (omega arith))
+      (subst (λ (i : ℕ). WritesPart p (midOf (starts lim p) (i - starts lim p) work) s u r) d (subst (λ (i : ℕ). WritesPart p (midOf i (b - i) work) s u r) e w))

@@ -8,7 +8,7 @@ use Rattle.writing.specs.Canonical.{canonical-all}
 use Rattle.writing.specs.Settings.{Setting, unicode16}
 use Rattle.tables.specs.declared.limits.Limits.{Limits}
 use Rattle.tables.specs.Layout.{count-size, key-at, quick-at, status-at, groups-at, individuals-at, line-slots-at, group-contacts-at, individual-contacts-at, channels-at}
-use Rattle.tables.specs.Store.{Holds}
+use Rattle.tables.specs.Store.{Works}
 use Rattle.export.specs.declared.exporting.FoundPart.{FoundPart}
 use Rattle.export.specs.declared.exporting.FoundPart.the-variants.{Is, NoneSuch}
 use Rattle.export.specs.declared.parts.Part.{Part}
@@ -33,7 +33,7 @@ abbrev pub FoundAs : ℕ → FoundPart → Type 0
 FoundAs n (Is p) = part-at n ≡ some p
 FoundAs n NoneSuch = part-at n ≡ none
 
--- where a part's slots stand in a store whose lines' region and whose order of the lines start here, behind a list's count: from this byte on
+-- where a part's slots stand in a working copy whose lines' region and whose order of the lines start here, behind a list's count: from this byte on
 abbrev pub part-from : (lines order : ℕ) → Part → ℕ
 part-from lines order Lines = lines + count-size
 part-from lines order Fixed = key-at
@@ -72,10 +72,10 @@ WritesPart GroupContacts = WritesContacts OfGroups
 WritesPart IndividualContacts = WritesContacts OfIndividuals
 WritesPart LineSlots = WritesLineSlots
 
--- the settings of a part of a store were written behind a request's head, and the request fits its length field and the buffer
-pub record PartWritten (lim : Limits) (part : Part) (store before after : List ℕ) (r : Settings) : Type 0 where
+-- the settings of a part of a working copy were written behind a request's head, and the request fits its length field and the buffer
+pub record PartWritten (lim : Limits) (part : Part) (work before after : List ℕ) (r : Settings) : Type 0 where
   pub small : r .end < 65540
-  pub writes : WritesAll (λ t. Holds lim t store) (exported part) 8 (lim .message - 8) before after r
+  pub writes : WritesAll (λ t. Works lim t work) (exported part) 8 (lim .message - 8) before after r
 
 -- the settings that were written up to `end` were given a request's head
 pub record Headed (count end : ℕ) (before after : List ℕ) (r : ℕ) : Type 0 where

@@ -32,11 +32,14 @@ use tables::places::LINE_SLOT;
 use tables::places::LINE_SLOTS;
 use tables::places::QUICK;
 use tables::places::STATUS;
+use working::seen::seen;
 ghost use mathlib.Core.Path.{_≡_};
 ghost use Prim.Native.Nat.{_+_, _≤_, _<_};
 ghost use lib.ListN.{length};
 ghost use Rattle.lists.specs.Ladder.{Answers};
-ghost use Rattle.tables.specs.Layout.{Roomy, count-size, channels-at};
+ghost use Rattle.tables.specs.Forms.{Roomy};
+ghost use Rattle.tables.specs.Layout.{count-size, channels-at};
+ghost use Rattle.working.specs.Seen.{Lends};
 ghost use Rattle.export.specs.Exportable.{Exportable};
 ghost use Rattle.export.specs.Exporting.{exporting, told};
 ghost use Rattle.export.specs.PartWriters.{FoundAs, part-from, part-to, WritesPart, PartWritten, Headed};
@@ -78,7 +81,7 @@ fn part_of(number: u32) -> FoundPart
     FoundPart::Is(which)
 }
 
-// Where a part's slots stand in a store whose lines' region and whose order of the lines start here, behind a list's count: from this byte up to that one. docs/STORE.md.
+// Where a part's slots stand in a working copy whose lines' region and whose order of the lines start here, behind a list's count: from this byte up to that one. docs/STORE.md.
 pub(crate) struct Span(usize, usize);
 
 fn span_of(part: Part, lines: usize, order: usize) -> Span
@@ -117,17 +120,17 @@ fn write_held(buffer: &mut [u8], part: Part, held: &[u8]) -> Settings
     }
 }
 
-// The settings of a part of a store.
-fn write_part(buffer: &mut [u8], part: Part, store: &[u8], limits: Limits) -> Settings
-    requires { ⌜ Roomy limits × (length (now store) ≡ limits .size) × (limits .message ≤ length (now buffer)) ⌝ }
-    ensures { λ r. ⌜ (Exportable limits → PartWritten limits part (now (store .entry)) (now (buffer .entry)) (now (buffer .exit)) r) ⌝ }
+// The settings of a part of a working copy.
+fn write_part(buffer: &mut [u8], part: Part, work: &[u8], limits: Limits) -> Settings
+    requires { ⌜ Roomy limits × (length (now work) ≡ limits .size) × (limits .message ≤ length (now buffer)) ⌝ }
+    ensures { λ r. ⌜ (Exportable limits → PartWritten limits part (now (work .entry)) (now (buffer .entry)) (now (buffer .exit)) r) ⌝ }
 {
     let lines = CHANNELS + (COUNT + limits.channels * CHANNEL_SLOT);
     let order = lines + (COUNT + limits.lines * LINE_SLOT);
     let span = span_of(part, lines, order);
     let start = span.0;
     let end = span.1;
-    write_held(buffer, part, &store[start..end])
+    write_held(buffer, part, &work[start..end])
 }
 
 // The carrier and the first data bytes of a request whose settings were written up to end.
@@ -155,9 +158,15 @@ fn start_request(buffer: &mut [u8], count: u8, end: usize) -> usize
     end
 }
 
-// The request that exports a part of a store of a set with these limits; or why there is none, and the buffer stays.
-pub fn export_in(part: u32, store: &[u8], buffer: &mut [u8], limits: Limits) -> Export
-    ensures { λ r. ⌜ (told r .request-length ≤ length (now (buffer .exit))) × (Exportable limits → Answers (exporting limits part (now (store .entry)) (now (buffer .entry))) (record { answer = told r; buffer = now (buffer .exit) })) ⌝ }
+// The request that exports a part of a store of a set with these limits, which lends bytes to work in; or why there is none, and the buffer stays.
+pub fn export_in(
+    part: u32,
+    store: &[u8],
+    buffer: &mut [u8],
+    limits: Limits,
+    work: &mut [u8],
+) -> Export
+    ensures { λ r. ⌜ (told r .request-length ≤ length (now (buffer .exit))) × (Exportable limits → Lends limits (now (work .entry)) → Answers (exporting limits part (now (store .entry)) (now (buffer .entry))) (record { answer = told r; buffer = now (buffer .exit) })) ⌝ }
 {
     if buffer.len() < limits.message {
         return Export::Untouched(NoExport::Buffer);
@@ -168,6 +177,11 @@ pub fn export_in(part: u32, store: &[u8], buffer: &mut [u8], limits: Limits) -> 
     let FoundPart::Is(which) = part_of(part) else {
         return Export::Untouched(NoExport::NoPart);
     };
-    let settings = write_part(buffer, which, store, limits);
+    let from = seen(store, work, limits);
+    // What is lent to work in has another size.
+    if from.len() != limits.size {
+        return Export::Untouched(NoExport::NotAStore);
+    }
+    let settings = write_part(buffer, which, from, limits);
     Export::Written(start_request(buffer, settings.count, settings.end))
 }

@@ -1,7 +1,8 @@
-// The call of the handheld.
+// The call of the handheld, which owns the working copy.
 use super::exporting::export_in;
 use super::parts::Export;
 use tables::limits::HANDHELD;
+use tables::limits::HANDHELD_SIZE;
 ghost use Rattle.lists.specs.Ladder.{Answers};
 ghost use Rattle.tables.specs.Limits.{handheld};
 ghost use Rattle.export.specs.Exporting.{told, exporting};
@@ -10,5 +11,6 @@ ghost use Rattle.export.specs.Exporting.{told, exporting};
 pub fn export(part: u32, store: &[u8], buffer: &mut [u8]) -> Export
     ensures { λ r. ⌜ Answers (exporting handheld part (now (store .entry)) (now (buffer .entry))) (record { answer = told r; buffer = now (buffer .exit) }) ⌝ }
 {
-    export_in(part, store, buffer, HANDHELD)
+    let mut work = [0u8; HANDHELD_SIZE];
+    export_in(part, store, buffer, HANDHELD, &mut work)
 }

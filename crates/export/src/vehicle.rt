@@ -1,4 +1,4 @@
-// The call of the vehicle.
+// The call of the vehicle, whose store is read as it is.
 use super::exporting::export_in;
 use super::parts::Export;
 use tables::limits::VEHICLE;
@@ -10,5 +10,6 @@ ghost use Rattle.export.specs.Exporting.{told, exporting};
 pub fn export(part: u32, store: &[u8], buffer: &mut [u8]) -> Export
     ensures { λ r. ⌜ Answers (exporting vehicle part (now (store .entry)) (now (buffer .entry))) (record { answer = told r; buffer = now (buffer .exit) }) ⌝ }
 {
-    export_in(part, store, buffer, VEHICLE)
+    let mut none = [0u8; 0];
+    export_in(part, store, buffer, VEHICLE, &mut none)
 }

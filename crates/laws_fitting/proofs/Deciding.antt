@@ -4,11 +4,14 @@ use native.Mathlib.Decide.{decLe}
 use Rattle.lists.specs.Every.{All}
 use Rattle.tables.specs.declared.limits.Limits.{Limits}
 use Rattle.tables.specs.Tables.{Tables}
+use Rattle.tables.specs.Texts.{text-sum, TextRoom, Passes}
 use Rattle.export.specs.declared.parts.Part.{Part}
 use Rattle.export.specs.declared.parts.Part.the-variants.{Lines, Fixed, QuickTexts, Channels, StatusTexts, Groups, Individuals, GroupContacts, IndividualContacts, LineSlots}
 use Rattle.export.specs.Exported.{ten, exported, request-bytes}
-use Rattle.restore.specs.Restored.{PlacesFor, PartFits}
+use Rattle.restore.specs.Restored.{PlacesFor, texts-upto, PartFits}
+use Rattle.restore.proofs.FreshParts.{sum-all, sum-most}
 use Rattle.restore.proofs.Requests.{places-for}
+use Rattle.restore.proofs.TextRooms.{less-room, room-or-past, not-both}
 use Rattle.laws_fitting.specs.Fits.{FitsIn}
 
 -- ---- the first that does not have P
@@ -43,7 +46,7 @@ module _ {A : Type 0} (P : A → Type 0) where
 -- ---- parts
 
 -- what all ten have, each part has
-each-part : (P : Part → Type 0) → All P ten → (p : Part) → P p
+pub each-part : (P : Part → Type 0) → All P ten → (p : Part) → P p
 each-part P h Lines = h .0
 each-part P h Fixed = h .1 .0
 each-part P h QuickTexts = h .1 .1 .0
@@ -57,7 +60,7 @@ each-part P h LineSlots = h .1 .1 .1 .1 .1 .1 .1 .1 .1 .0
 
 module _ (to : Limits) (t : Tables) where
   -- whether there are places
-  places? : (p : Part) → Dec (PlacesFor to t p)
+  pub places? : (p : Part) → Dec (PlacesFor to t p)
   places? Lines = decLe (length (t .lines)) (to .lines)
   places? Fixed = yes tt
   places? QuickTexts = yes tt
@@ -70,23 +73,34 @@ module _ (to : Limits) (t : Tables) where
   places? LineSlots = yes tt
 
   -- whether a part fits
-  pub fits? : (p : Part) → Dec (PartFits to t p)
-  fits? p = by (decLe (length (request-bytes (exported p t))) (to .message)) (places? p)
+  fits? : (p : Part) → Dec (PartFits to t p)
+  fits? p = by (decLe (length (request-bytes (exported p t))) (to .message)) (places? p) (room-or-past (to .texts) (texts-upto t p))
     where
-      by : Dec (length (request-bytes (exported p t)) ≤ to .message) → Dec (PlacesFor to t p) → Dec (PartFits to t p)
-      by (yes r) (yes h) = yes (record { request = r; places = h })
-      by (yes r) (no n) = no (λ f. n (f .places))
-      by (no n) h = no (λ f. n (f .request))
+      by : Dec (length (request-bytes (exported p t)) ≤ to .message) → Dec (PlacesFor to t p) → TextRoom (to .texts) (texts-upto t p) ⊎ Passes (to .texts) (texts-upto t p)
+          → Dec (PartFits to t p)
+      by (yes r) (yes h) (inl i) = yes (record { request = r; places = h; texts = i })
+      by (yes r) (yes h) (inr l) = no (λ f. not-both (to .texts) (texts-upto t p) (f .texts) l)
+      by (yes r) (no n) i = no (λ f. n (f .places))
+      by (no n) h i = no (λ f. n (f .request))
 
   -- what fits, fits part by part
   pub fits-each : FitsIn to t → (p : Part) → PartFits to t p
-  fits-each f p = record { request = f .requests p; places = places-for to t (omega (arith, f .lines)) (omega (arith, f .channels)) p }
+  fits-each f p = record {
+    request = f .requests p;
+    places = places-for to t (omega (arith, f .lines)) (omega (arith, f .channels)) p;
+    texts = less-room (to .texts) (texts-upto t p) (text-sum t) (sum-most t p) (f .texts);
+  }
 
   -- and back
   pub each-fits : All (PartFits to t) ten → FitsIn to t
   each-fits h =
       let each : (p : Part) → PartFits to t p = each-part (PartFits to t) h in
-      record { lines = omega (arith, each Lines .places); channels = omega (arith, each Channels .places); requests = λ p. each p .request }
+      record {
+        lines = omega (arith, each Lines .places);
+        channels = omega (arith, each Channels .places);
+        requests = λ p. each p .request;
+        texts = subst (TextRoom (to .texts)) (sum-all t) (each LineSlots .texts);
+      }
 
   -- all ten fit, or there is a first that does not
   pub first-misfit : All (PartFits to t) ten ⊎ FirstWithout (PartFits to t) ten

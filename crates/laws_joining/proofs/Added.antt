@@ -7,13 +7,13 @@ use Rattle.writing.specs.Settings.{Setting, channels}
 use Rattle.writing.specs.Writing.{request-head}
 use Rattle.writing.proofs.Computed.{written, shown}
 use Rattle.read_carrier.proofs.TrueLength.{plain-carries}
-use Rattle.tables.specs.Layout.{layout}
+use Rattle.tables.specs.Forms.{layout}
 use Rattle.tables.specs.Limits.{handheld}
 use Rattle.tables.specs.Owns.{put-own}
 use Rattle.tables.specs.Store.{StoreOf}
 use Rattle.tables.specs.Tables.{Tables, fresh}
 use Rattle.tables.proofs.FreshLaws.{fresh-allowed}
-use Rattle.tables.proofs.LayoutLaws.{layout-one, holds-store}
+use Rattle.shared_texts.proofs.Forms.{layout-one, holds-store}
 use Rattle.station.specs.Taking.{AfterTaking}
 use Rattle.joining.specs.Joining.{Joinable}
 use Rattle.laws_joining.specs.Sending.{Sent, add-241}

@@ -5,11 +5,15 @@ use Rattle.lists.specs.Every.{All}
 use Rattle.lists.proofs.Every.{all-left, all-right, all-turn}
 use Rattle.writing.specs.declared.Coding.{Coding}
 use Rattle.writing.specs.declared.Kind.the-variants.{Last}
+use Rattle.writing.specs.Carrier.{Request, RequestOf}
 use Rattle.writing.specs.Ranges.{text-limits, InRange}
 use Rattle.writing.specs.Settings.{Setting, group-contacts, individual-contacts, lines, key, quick-texts, home, channels, system, status-texts, group, individual, line-slot, last}
 use Rattle.writing.specs.Writing.{WrittenAll}
 use Rattle.read_fields.proofs.Parts.{bytes-left}
-use Rattle.read_carrier.proofs.KindLaws.{bytes-right, request-bytes}
+use Rattle.read_carrier.proofs.CarrierLaws.{carries-one}
+use Rattle.read_carrier.proofs.KindLaws.{bytes-right, request-bytes, not-both}
+use Rattle.read_carrier.proofs.MessageOne.{coding-one}
+use Rattle.read_carrier.proofs.OneMeaning.{settings-one}
 use Rattle.tables.specs.declared.limits.Limits.{Limits}
 use Rattle.tables.specs.Apply.{apply, and-then, in-turn}
 use Rattle.tables.specs.Owns.{put-own}
@@ -25,8 +29,11 @@ use Rattle.requests.proofs.RunLaws.{not-ff}
 use Rattle.station.specs.Taking.{AfterTaking, settled}
 use Rattle.station.proofs.TakeLaws.{request-answers}
 use Rattle.laws_taking.specs.Demands.{InTurn}
+use Rattle.laws_taking.specs.Judging.{AllSettings, AsKept}
 use Rattle.laws_taking.proofs.Demand.{run-allowed, written-runs, hash-own}
 use Rattle.laws_taking.proofs.Determined.{outcome-determined, type-first}
+use Rattle.laws_taking.proofs.Judging.{judged-committed}
+use Rattle.laws_taking.proofs.Theorems.{written-counted}
 use Rattle.joining.specs.Joining.{Joinable}
 use Rattle.laws_joining.specs.Sending.{Sent, LacksRoom}
 
@@ -58,7 +65,7 @@ none-last [] p = refl
 none-last (s ∷ l) p = ap (λ (o : Option LastItem). or-else o (last-item l)) (p .0) ∙ none-last l (p .1)
 
 -- tables that keep no hash have none to forget
-nothing-kept : (u : Tables) → u .hash ≡ no-hash → forget u ≡ u
+pub nothing-kept : (u : Tables) → u .hash ≡ no-hash → forget u ≡ u
 nothing-kept u e = ap (put-own Last u) (sym e)
 
 -- ---- in turn
@@ -159,3 +166,24 @@ module _ {lim : Limits} {store : List ℕ} {c : Coding} {l : List Setting} {bs m
       go : (o : Option Tables) → in-turn (apply lim) l (forget t) ≡ o → Came
       go none e = let s = no-room (apply lim) l (forget t) .0 e in inr (s, one-lacks s)
       go (some u) e = inl (u, all-full u e)
+
+-- ---- a request of any settings that was taken
+
+-- such a request, as it counts them
+pub request-of : {c : Coding} {l : List Setting} {message : List ℕ} (r : Request c l message) → RequestOf c (length l) (r .written .settings) message
+request-of r = record { data-bytes = r .data-bytes; carried = r .carried; counted = written-counted (r .written) }
+
+-- TAKEN IN TURN: answered 0, all its settings were taken in turn
+pub taken-in-turn : (lim : Limits) {c : Coding} {l : List Setting} {message store : List ℕ} {x : AfterTaking} → Request c l message → Sent lim message store x → x .answer .number ≡ 0
+    → (t : Tables) × (u : Tables) × Holds lim t store × InTurn lim (length l) (forget t) l u × Holds lim u (x .store)
+taken-in-turn lim {c} {l} {message} {store} {x} r s n =
+    by (judged-committed lim message store (s .reply) (s .reply) (x .answer) (x .reply) (record { after = x; allowed = s .comes-to; says = refl; writes = refl })
+    n (s .long) x (s .comes-to) .2)
+  where
+    by : AllSettings lim message store (x .store) ⊎ AsKept lim message store (x .store)
+        → (t : Tables) × (u : Tables) × Holds lim t store × InTurn lim (length l) (forget t) l u × Holds lim u (x .store)
+    by (inl k) =
+        let d : k .coding ≡ c = coding-one (k .coding) c (carries-one (k .request .carried) (r .carried) .0) in
+        let e : k .settings ≡ l = settings-one c (k .settings) l message (subst (λ (i : Coding). Request i (k .settings) message) d (k .request)) r in
+        (k .before, k .tables, k .held, subst (λ (i : List Setting). InTurn lim (length i) (forget (k .before)) i (k .tables)) e (k .in-turn), k .holds)
+    by (inr k) = absurd (not-both (request-of r) (k .query))

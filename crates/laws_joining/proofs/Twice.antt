@@ -9,29 +9,24 @@ use Rattle.writing.specs.declared.Operation.the-variants.{Replace}
 use Rattle.writing.specs.Carrier.{Request, RequestOf}
 use Rattle.writing.specs.Settings.{Setting, kind, group-contacts, individual-contacts, lines, key, quick-texts, home, channels, system, status-texts, group, individual, line-slot, last}
 use Rattle.writing.specs.Writing.{WrittenAll}
-use Rattle.read_carrier.proofs.CarrierLaws.{carries-one}
-use Rattle.read_carrier.proofs.KindLaws.{not-both}
-use Rattle.read_carrier.proofs.MessageOne.{coding-one}
-use Rattle.read_carrier.proofs.OneMeaning.{settings-one}
 use Rattle.tables.specs.declared.limits.Limits.{Limits}
 use Rattle.tables.specs.declared.members.Members.the-variants.{OfGroups, OfIndividuals}
 use Rattle.tables.specs.Apply.{apply, in-turn, own-after, contacts-after, lines-after, quick-after, status-after, channels-after}
 use Rattle.tables.specs.Limits.{contact-places}
-use Rattle.tables.specs.Layout.{layout}
+use Rattle.tables.specs.Forms.{layout}
 use Rattle.tables.specs.Owns.{Own, own, only, touches, put-own}
 use Rattle.tables.specs.Store.{Holds}
 use Rattle.tables.specs.Tables.{Tables, no-hash}
-use Rattle.tables.proofs.LayoutLaws.{layout-one}
+use Rattle.shared_texts.proofs.Forms.{layout-one}
 use Rattle.tables.proofs.Owns.{alike, own-put, own-other, first, untouched-stays, same-kind}
-use Rattle.tables.proofs.RoomSentences.{came}
+use Rattle.tables.proofs.RoomSentences.{came, apply-change}
 use Rattle.requests.specs.Requests.{forget}
 use Rattle.station.specs.Taking.{AfterTaking}
-use Rattle.laws_taking.specs.Judging.{AllSettings, AsKept}
-use Rattle.laws_taking.proofs.Judging.{judged-committed}
+use Rattle.laws_taking.specs.Demands.{InTurn}
 use Rattle.laws_taking.proofs.Theorems.{store-stays, counted-written}
 use Rattle.joining.specs.Twice.{Replaces}
 use Rattle.laws_joining.specs.Sending.{Sent}
-use Rattle.laws_joining.proofs.OneRequest.{in-turn-of}
+use Rattle.laws_joining.proofs.OneRequest.{in-turn-of, taken-in-turn}
 
 -- ---- tables
 
@@ -59,8 +54,8 @@ module _ (lim : Limits) where
   -- so what it leaves in its table is its own
   replaced : (s : Setting) (t t′ u u′ : Tables) → Replaces s → apply lim s t ≡ some u → apply lim s t′ ≡ some u′ → own (kind s) u ≡ own (kind s) u′
   replaced s t t′ u u′ r e e′ =
-      let (a, p, q) = came (put-own (kind s) t) (own-after lim s (own (kind s) t)) u e in
-      let (b, p′, q′) = came (put-own (kind s) t′) (own-after lim s (own (kind s) t′)) u′ e′ in
+      let (a, p, q) = came (put-own (kind s) t) (own-after lim s (own (kind s) t)) u (apply-change lim s t u e) in
+      let (b, p′, q′) = came (put-own (kind s) t′) (own-after lim s (own (kind s) t′)) u′ (apply-change lim s t′ u′ e′) in
       let same : a ≡ b = Option·some-injective a b (sym p ∙ whatever-was s r (own (kind s) t) (own (kind s) t′) ∙ p′) in
       sym (ap (own (kind s)) q) ∙ own-put (kind s) t a ∙ same ∙ sym (own-put (kind s) t′ b) ∙ ap (own (kind s)) q′
 
@@ -104,27 +99,6 @@ module _ (lim : Limits) {c : Coding} (l : List Setting) {bs message : List ℕ} 
   abbrev request : Request c l message
   request = record { data-bytes = r .data-bytes; carried = r .carried; written = counted-written (r .counted) refl refl w }
 
-  -- answered 0, all of them were taken in turn
-  taken-in-turn : {store : List ℕ} {x : AfterTaking} → Sent lim message store x → x .answer .number ≡ 0
-      → (t : Tables) × (u : Tables) × Holds lim t store × (in-turn (apply lim) l (forget t) ≡ some u) × Holds lim u (x .store)
-  taken-in-turn {store} {x} s n =
-      by (judged-committed lim message store (s .reply) (s .reply) (x .answer) (x .reply) (record { after = x; allowed = s .comes-to; says = refl; writes = refl })
-      n (s .long) x (s .comes-to) .2)
-    where
-      by : AllSettings lim message store (x .store) ⊎ AsKept lim message store (x .store)
-          → (t : Tables) × (u : Tables) × Holds lim t store × (in-turn (apply lim) l (forget t) ≡ some u) × Holds lim u (x .store)
-      by (inl k) =
-          let d : k .coding ≡ c = coding-one (k .coding) c (carries-one (k .request .carried) (r .carried) .0) in
-          let e : k .settings ≡ l = settings-one c (k .settings) l message (subst (λ (i : Coding). Request i (k .settings) message) d (k .request)) request in (
-            k .before,
-            k .tables,
-            k .held,
-            subst (λ (i : List Setting). in-turn (apply lim) i (forget (k .before)) ≡ some (k .tables)) e
-                (in-turn-of lim (length (k .settings)) (forget (k .before)) (k .tables) (k .settings) (k .in-turn)),
-            k .holds,
-          )
-      by (inr k) = absurd (not-both r (k .query))
-
   -- REPLACE TWICE: D6, "A request whose settings all replace .. leaves the same store when it is sent twice as when it is sent once"
   pub replace-twice : All Replaces l → {store : List ℕ} {x y : AfterTaking} → Sent lim message store x → Sent lim message (x .store) y → x .answer .number ≡ 0 → y .store ≡ x .store
   replace-twice replaces {store} {x} {y} once again n = by (eqb (y .answer .number) 0) refl
@@ -132,8 +106,9 @@ module _ (lim : Limits) {c : Coding} (l : List Setting) {bs message : List ℕ} 
       by : (b : Bool) → eqb (y .answer .number) 0 ≡ b → y .store ≡ x .store
       by false e = store-stays lim message (x .store) (again .reply) y (again .comes-to) (eqb-false (y .answer .number) 0 e)
       by true e =
-          let (t, u, _, p, h) = taken-in-turn once n in
-          let (u′, v, i, q, j) = taken-in-turn again (eqb-true (y .answer .number) 0 e) in
+          let (t, u, _, p, h) = taken-in-turn lim request once n in
+          let (u′, v, i, q, j) = taken-in-turn lim request again (eqb-true (y .answer .number) 0 e) in
           let z : u′ ≡ u = layout-one lim u′ u (i .0) (h .0) (sym (i .1) ∙ h .1) in
-          let same : v ≡ u = twice lim l t u v replaces p (subst (λ (s : Tables). in-turn (apply lim) l (forget s) ≡ some v) z q) in
+          let same : v ≡ u = twice lim l t u v replaces (in-turn-of lim (length l) (forget t) u l p)
+          (in-turn-of lim (length l) (forget u) v l (subst (λ (s : Tables). InTurn lim (length l) (forget s) l v) z q)) in
           j .1 ∙ ap (layout lim) same ∙ sym (h .1)

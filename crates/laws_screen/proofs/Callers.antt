@@ -7,11 +7,11 @@ use Rattle.writing.specs.Settings.{Text, Number, Setting}
 use Rattle.writing.specs.Writing.{bit}
 use Rattle.tables.specs.declared.limits.Limits.{Limits}
 use Rattle.tables.specs.Apply.{has-key}
-use Rattle.tables.specs.Layout.{Roomy}
+use Rattle.tables.specs.Forms.{Roomy}
 use Rattle.tables.specs.Store.{Holds}
 use Rattle.tables.specs.Tables.{Line, LineKey, line-key, Tables, fresh}
 use Rattle.tables.proofs.EntryCodes.{bit-one}
-use Rattle.tables.proofs.LayoutLaws.{holds-store}
+use Rattle.shared_texts.proofs.Forms.{holds-store}
 use Rattle.tables.proofs.Sentences.{key-is-both}
 use Rattle.screen.specs.declared.rows.Row.the-variants.{Line as LineRow}
 use Rattle.screen.specs.Rows.{Caption, line, line-row, of, ascii, units, unit-bytes}

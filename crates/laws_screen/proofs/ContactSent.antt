@@ -14,7 +14,7 @@ use Rattle.tables.specs.Owns.{put-own}
 use Rattle.tables.specs.Tables.{Tables}
 use Rattle.tables.proofs.ContactSentences.{has-number, key-is-number}
 use Rattle.tables.proofs.Owns.{others-stay}
-use Rattle.tables.proofs.RoomSentences.{came}
+use Rattle.tables.proofs.RoomSentences.{apply-change, came}
 use Rattle.requests.specs.Requests.{or-else}
 use Rattle.laws_screen.specs.ByKey.{found, under-key, to-group-contact, to-individual-contact, to-contact}
 use Rattle.laws_screen.proofs.KeyLaws.{looks-by, key-left}
@@ -30,7 +30,7 @@ contacts-left w a o f es xs ys e =
 group-contact-step : (lim : Limits) (a : AddressIn OfGroups) (s : Setting) (t u : Tables) → apply lim s t ≡ some u
     → found (has-address OfGroups a) (u .group-contacts) ≡ or-else (to-group-contact a s) (found (has-address OfGroups a) (t .group-contacts))
 group-contact-step lim a (group-contacts o f es) t u e =
-    let (ys, made, is) = came (put-own GroupContacts t) (contacts-after OfGroups contact-places o f es (t .group-contacts)) u e in
+    let (ys, made, is) = came (put-own GroupContacts t) (contacts-after OfGroups contact-places o f es (t .group-contacts)) u (apply-change lim (group-contacts o f es) t u e) in
     ap (λ x. found (has-address OfGroups a) (x .group-contacts)) (sym is) ∙ contacts-left OfGroups a o f es (t .group-contacts) ys made
 group-contact-step lim a (individual-contacts o f es) t u e = ap (found (has-address OfGroups a)) (others-stay lim (individual-contacts o f es) t u GroupContacts e refl)
 group-contact-step lim a (lines o f es) t u e = ap (found (has-address OfGroups a)) (others-stay lim (lines o f es) t u GroupContacts e refl)
@@ -49,7 +49,7 @@ individual-contact-step : (lim : Limits) (a : AddressIn OfIndividuals) (s : Sett
     → found (has-address OfIndividuals a) (u .individual-contacts) ≡ or-else (to-individual-contact a s) (found (has-address OfIndividuals a) (t .individual-contacts))
 individual-contact-step lim a (group-contacts o f es) t u e = ap (found (has-address OfIndividuals a)) (others-stay lim (group-contacts o f es) t u IndividualContacts e refl)
 individual-contact-step lim a (individual-contacts o f es) t u e =
-    let (ys, made, is) = came (put-own IndividualContacts t) (contacts-after OfIndividuals contact-places o f es (t .individual-contacts)) u e in
+    let (ys, made, is) = came (put-own IndividualContacts t) (contacts-after OfIndividuals contact-places o f es (t .individual-contacts)) u (apply-change lim (individual-contacts o f es) t u e) in
     ap (λ x. found (has-address OfIndividuals a) (x .individual-contacts)) (sym is) ∙ contacts-left OfIndividuals a o f es (t .individual-contacts) ys made
 individual-contact-step lim a (lines o f es) t u e = ap (found (has-address OfIndividuals a)) (others-stay lim (lines o f es) t u IndividualContacts e refl)
 individual-contact-step lim a (key x f) t u e = ap (found (has-address OfIndividuals a)) (others-stay lim (key x f) t u IndividualContacts e refl)

@@ -8,7 +8,7 @@ use Rattle.tables.specs.Limits.{slot-places}
 use Rattle.tables.specs.Store.{StoreOf, Holds}
 use Rattle.tables.specs.Apply.{and-then}
 use Rattle.tables.specs.Tables.{Tables, Line, GroupMember, IndividualMember, fresh}
-use Rattle.tables.proofs.LayoutLaws.{holds-store}
+use Rattle.shared_texts.proofs.Forms.{holds-store}
 use Rattle.menu.specs.Menu.{Told, counting, counts-of}
 use Rattle.menu.proofs.Theorems.{counts-are}
 use Rattle.screen.specs.declared.rows.Row.{Row}

@@ -7,7 +7,7 @@ use Rattle.tables.specs.Apply.{apply, has-key, line-of, lines-after}
 use Rattle.tables.specs.Owns.{put-own}
 use Rattle.tables.specs.Tables.{LineKey, line-key, Tables}
 use Rattle.tables.proofs.Owns.{others-stay}
-use Rattle.tables.proofs.RoomSentences.{came}
+use Rattle.tables.proofs.RoomSentences.{apply-change, came}
 use Rattle.tables.proofs.Sentences.{key-is-both}
 use Rattle.requests.specs.Requests.{or-else}
 use Rattle.laws_screen.specs.ByKey.{found, to-line}
@@ -20,7 +20,7 @@ line-step : (lim : Limits) (k : LineKey) (s : Setting) (t u : Tables) → apply 
 line-step lim k (group-contacts o f es) t u e = ap (found (has-key k)) (others-stay lim (group-contacts o f es) t u Lines e refl)
 line-step lim k (individual-contacts o f es) t u e = ap (found (has-key k)) (others-stay lim (individual-contacts o f es) t u Lines e refl)
 line-step lim k (lines o f es) t u e =
-    let (ys, made, is) = came (put-own Lines t) (lines-after (lim .lines) o f es (t .lines)) u e in
+    let (ys, made, is) = came (put-own Lines t) (lines-after (lim .lines) o f es (t .lines)) u (apply-change lim (lines o f es) t u e) in
     ap (λ x. found (has-key k) (x .lines)) (sym is)
     ∙ key-left (λ l. has-key (line-key l)) (has-key k) (looks-by line-key has-key key-is-both k) (line-of f) (lim .lines) o es (t .lines) ys made
 line-step lim k (key x f) t u e = ap (found (has-key k)) (others-stay lim (key x f) t u Lines e refl)

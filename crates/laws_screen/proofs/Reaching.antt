@@ -1,25 +1,24 @@
 -- After any messages from a start the store is that of the tables after the settings taken, in order. Assumes nothing.
-use Rattle.lists.proofs.Kit.{ℕ, zero, suc, _≤_, _<_, _≡_, refl, sym, ap, _∙_, subst, _⊎_, inl, inr, Bool, true, false, List, [], _∷_, _++_, append-nil, Option, Option·some-injective, arith, eqb-true, eqb-false, ltb-true, ltb-false, eqb, ltb, length}
+use Rattle.lists.proofs.Kit.{ℕ, zero, suc, _≡_, refl, sym, ap, _∙_, subst, _⊎_, inl, inr, Bool, true, false, List, [], _∷_, _++_, append-nil, Option, Option·some-injective, arith, eqb-true, eqb-false, eqb, length}
 use Rattle.lists.specs.Bytes.{Bytes}
 use Rattle.lists.specs.Ladder.{Answers}
-use Rattle.writing.specs.Carrier.{InSize}
 use Rattle.writing.specs.declared.Coding.{Coding}
 use Rattle.writing.specs.Settings.{Setting}
 use Rattle.writing.specs.Writing.{WrittenAll}
 use Rattle.writing.proofs.CanonicalLaws.{has-writing}
-use Rattle.read_carrier.proofs.KindLaws.{request-opens, opens-no-query, in-size}
+use Rattle.read_carrier.proofs.KindLaws.{request-opens, opens-no-query}
 use Rattle.tables.specs.declared.limits.Limits.{Limits}
 use Rattle.tables.specs.Allowed.{Allowed}
-use Rattle.tables.specs.Layout.{Roomy}
+use Rattle.tables.specs.Forms.{Roomy}
 use Rattle.tables.specs.Store.{Begun, StoreOf, Holds}
 use Rattle.tables.specs.Tables.{Tables, fresh}
 use Rattle.tables.proofs.AllowedLaws.{apply-allowed, forget-allowed}
 use Rattle.tables.proofs.FreshLaws.{fresh-allowed}
-use Rattle.tables.proofs.LayoutLaws.{holds-store}
+use Rattle.shared_texts.proofs.Forms.{holds-store}
 use Rattle.laws_taking.specs.Demands.{InTurn, Passes}
 use Rattle.requests.specs.Requests.{forget}
 use Rattle.station.specs.Taking.{AfterTaking, AsRequest, AsQuery, Handled, taken}
-use Rattle.laws_taking.proofs.Theorems.{taken-leaves, taken-exactly, store-stays}
+use Rattle.laws_taking.proofs.Theorems.{answered-0, taken-leaves, taken-exactly, store-stays}
 use Rattle.laws_screen.specs.Reached.{Takes, Adds, its-settings, nothing, Reached, from-start, then-message, InOrder}
 use Rattle.screen.proofs.AnswerLaws.{one-tables}
 
@@ -53,30 +52,11 @@ order-append lim t v u (l ∷ log) more (t′, a, p) q = (t′, a, order-append 
 -- ---- one message
 
 module _ (lim : Limits) (message store reply : List ℕ) (b : Bytes message) (s : StoreOf lim store) (x : AfterTaking) where
-  -- what is not under 20 bytes has them
-  big-enough : (length reply < 20 → ⊥) → 20 ≤ length reply
-  big-enough h = go (ltb (length reply) 20) refl
-    where
-      go : (c : Bool) → ltb (length reply) 20 ≡ c → 20 ≤ length reply
-      go true e = absurd (h (ltb-true (length reply) 20 e))
-      go false e = ltb-false (length reply) 20 e
-
-  -- a message that is answered 0 passes every test
-  answered-0 : x .answer .number ≡ 0 → Answers (taken lim message store reply) x → (20 ≤ length reply) × InSize (lim .message) message × Handled lim message store reply x
-  answered-0 n (inl (_, e)) = absurd (omega (arith, n, ap (λ (y : AfterTaking). y .answer .number) e))
-  answered-0 n (inr (_, inl (_, e))) = absurd (omega (arith, n, ap (λ (y : AfterTaking). y .answer .number) e))
-  answered-0 n (inr (_, inr (_, inl (_, e)))) = absurd (omega (arith, n, ap (λ (y : AfterTaking). y .answer .number) e))
-  answered-0 n (inr (_, inr (_, inr (_, inl (_, e))))) = absurd (omega (arith, n, ap (λ (y : AfterTaking). y .answer .number) e))
-  answered-0 n (inr (_, inr (_, inr (_, inr (_, inl (_, e)))))) = absurd (omega (arith, n, ap (λ (y : AfterTaking). y .answer .number) e))
-  answered-0 n (inr (_, inr (_, inr (_, inr (_, inr (_, inl (_, e))))))) = absurd (omega (arith, n, ap (λ (y : AfterTaking). y .answer .number) e))
-  answered-0 n (inr (_, inr (_, inr (_, inr (_, inr (_, inr (_, inl (_, e)))))))) = absurd (omega (arith, n, ap (λ (y : AfterTaking). y .answer .number) e))
-  answered-0 n (inr (big, inr (_, inr (sized, inr (_, inr (_, inr (_, inr (_, h)))))))) = (big-enough big, in-size (lim .message) message sized, h)
-
   module _ (a : Answers (taken lim message store reply) x) where
     -- a request that is answered 0 is taken
     takes-it : x .answer .number ≡ 0 → (h : Handled lim message store reply x) → AsRequest lim message store reply (h .tables) x → (l : List Setting) × Takes lim message store reply l
     takes-it n h (c, count, settings, r, _, _, _) =
-        let (big, sized, _) = answered-0 n a in
+        let (big, sized, _) = answered-0 lim message store reply x a n in
         let p : Passes c lim message store reply (h .tables) (r .data-bytes)
         = record { buffer = big; store-is = s; holds = h .holds; in-size = sized; opens = request-opens r } in
         let (l, u, w, z) = taken-exactly c lim message store reply b (h .tables) (r .data-bytes) p x a .0 n in
@@ -95,7 +75,7 @@ module _ (lim : Limits) (message store reply : List ℕ) (b : Bytes message) (s 
         by false e = store-stays lim message store reply x a (eqb-false (x .answer .number) 0 e)
         by true e =
             let n : x .answer .number ≡ 0 = eqb-true (x .answer .number) 0 e in
-            let (_, _, h) = answered-0 n a in
+            let (_, _, h) = answered-0 lim message store reply x a n in
             by-kind n h (h .comes-to)
 
     -- and what takes settings leaves the tables after them
@@ -126,7 +106,7 @@ module _ (lim : Limits) (message store reply : List ℕ) (b : Bytes message) (s 
         by false e = ([], nothing (λ l k. eqb-false (x .answer .number) 0 e (taken-0 l k)))
         by true e =
             let n : x .answer .number ≡ 0 = eqb-true (x .answer .number) 0 e in
-            let (_, _, h) = answered-0 n a in
+            let (_, _, h) = answered-0 lim message store reply x a n in
             by-kind n h (h .comes-to)
 
 -- ---- any messages

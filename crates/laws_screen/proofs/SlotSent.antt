@@ -8,6 +8,7 @@ use Rattle.tables.specs.Apply.{apply, slot-after}
 use Rattle.tables.specs.Tables.{Tables}
 use Rattle.tables.specs.Owns.{own, put-own}
 use Rattle.tables.proofs.Owns.{others-stay}
+use Rattle.tables.proofs.RoomSentences.{apply-change}
 use Rattle.requests.specs.Requests.{forget, or-else}
 use Rattle.laws_screen.specs.Reached.{to-group, to-individual, to-line-slot}
 use Rattle.laws_screen.proofs.Sent.{Sees}
@@ -51,7 +52,7 @@ group-step lim (system x) t u e = stays (others-stay lim (system x) t u Group e 
 group-step lim (status-texts o es) t u e = stays (others-stay lim (status-texts o es) t u Group e refl)
 group-step lim (group o f s) t u e =
     is-set (t .groups) (u .groups) (s .index) (slot-after o (record { flags = f; address = s .address; text = s .text }))
-    (sym (ap (λ x. x .groups) (Option·some-injective (put-own Group t (set (t .groups) (s .index) (slot-after o (record { flags = f; address = s .address; text = s .text })))) u e)))
+    (sym (ap (λ x. x .groups) (Option·some-injective (put-own Group t (set (t .groups) (s .index) (slot-after o (record { flags = f; address = s .address; text = s .text })))) u (apply-change lim (group o f s) t u e))))
 group-step lim (individual o f s) t u e = stays (others-stay lim (individual o f s) t u Group e refl)
 group-step lim (line-slot o f s) t u e = stays (others-stay lim (line-slot o f s) t u Group e refl)
 group-step lim (last f h) t u e = stays (others-stay lim (last f h) t u Group e refl)
@@ -69,7 +70,7 @@ individual-step lim (status-texts o es) t u e = stays (others-stay lim (status-t
 individual-step lim (group o f s) t u e = stays (others-stay lim (group o f s) t u Individual e refl)
 individual-step lim (individual o f s) t u e =
     is-set (t .individuals) (u .individuals) (s .index) (slot-after o (record { flags = f; address = s .address; text = s .text }))
-    (sym (ap (λ x. x .individuals) (Option·some-injective (put-own Individual t (set (t .individuals) (s .index) (slot-after o (record { flags = f; address = s .address; text = s .text })))) u e)))
+    (sym (ap (λ x. x .individuals) (Option·some-injective (put-own Individual t (set (t .individuals) (s .index) (slot-after o (record { flags = f; address = s .address; text = s .text })))) u (apply-change lim (individual o f s) t u e))))
 individual-step lim (line-slot o f s) t u e = stays (others-stay lim (line-slot o f s) t u Individual e refl)
 individual-step lim (last f h) t u e = stays (others-stay lim (last f h) t u Individual e refl)
 
@@ -87,7 +88,7 @@ line-slot-step lim (group o f s) t u e = stays (others-stay lim (group o f s) t 
 line-slot-step lim (individual o f s) t u e = stays (others-stay lim (individual o f s) t u LineSlot e refl)
 line-slot-step lim (line-slot o f s) t u e =
     is-set (t .line-slots) (u .line-slots) (s .index) (slot-after o (record { flags = f; number = s .address; text = s .text }))
-    (sym (ap (λ x. x .line-slots) (Option·some-injective (put-own LineSlot t (set (t .line-slots) (s .index) (slot-after o (record { flags = f; number = s .address; text = s .text })))) u e)))
+    (sym (ap (λ x. x .line-slots) (Option·some-injective (put-own LineSlot t (set (t .line-slots) (s .index) (slot-after o (record { flags = f; number = s .address; text = s .text })))) u (apply-change lim (line-slot o f s) t u e))))
 line-slot-step lim (last f h) t u e = stays (others-stay lim (last f h) t u LineSlot e refl)
 
 -- GROUP PLACES, INDIVIDUAL PLACES, LINE PLACES

@@ -14,7 +14,7 @@ use Rattle.tables.specs.Apply.{apply}
 use Rattle.tables.specs.Tables.{Tables, no-hash}
 use Rattle.writing.specs.declared.Kind.the-variants.{Last}
 use Rattle.tables.specs.Owns.{put-own}
-use Rattle.tables.proofs.RoomSentences.{own-table}
+use Rattle.tables.proofs.RoomSentences.{apply-change, own-table}
 use Rattle.laws_taking.specs.Demands.{InTurn}
 use Rattle.requests.specs.Judge.{done, step}
 use Rattle.requests.proofs.RunLaws.{not-ff}
@@ -69,7 +69,7 @@ module _ (lim : Limits) where
   kept-by (group o f x) t u e = ap (λ (x : Tables). x .hash) (own-table lim (group o f x) t u e)
   kept-by (individual o f x) t u e = ap (λ (x : Tables). x .hash) (own-table lim (individual o f x) t u e)
   kept-by (line-slot o f x) t u e = ap (λ (x : Tables). x .hash) (own-table lim (line-slot o f x) t u e)
-  kept-by (last f h) t u e = sym (ap (λ (x : Tables). x .hash) (Option·some-injective (put-own Last t h) u e))
+  kept-by (last f h) t u e = sym (ap (λ (x : Tables). x .hash) (Option·some-injective (put-own Last t h) u (apply-change lim (last f h) t u e)))
 
   hash-or-none : (o : Option LastItem) → hash-or o no-hash ≡ or-else o (last-item []) .hash
   hash-or-none none = refl

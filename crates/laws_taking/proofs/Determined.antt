@@ -13,7 +13,7 @@ use Rattle.read_carrier.proofs.MessageOne.{query-hash}
 use Rattle.tables.specs.declared.limits.Limits.{Limits}
 use Rattle.tables.specs.Apply.{apply}
 use Rattle.tables.specs.Tables.{Tables}
-use Rattle.tables.proofs.LayoutLaws.{layout-one}
+use Rattle.shared_texts.proofs.Forms.{layout-one}
 use Rattle.requests.specs.Judge.{Outcome}
 use Rattle.requests.specs.Requests.{WrittenIn, Known, Judged, forget}
 use Rattle.station.specs.declared.answers.Answer.{Answer}

@@ -5,7 +5,7 @@ use Rattle.lists.specs.Ladder.{Answers}
 use Rattle.slots.specs.Slots.{written-over}
 use Rattle.writing.specs.Settings.{Setting, Hash}
 use Rattle.tables.specs.declared.limits.Limits.{Limits}
-use Rattle.tables.specs.Layout.{layout}
+use Rattle.tables.specs.Forms.{layout}
 use Rattle.tables.specs.Store.{Holds}
 use Rattle.tables.specs.Tables.{Tables, no-hash}
 use Rattle.tables.proofs.AllowedLaws.{forget-allowed}
@@ -15,14 +15,14 @@ use Rattle.station.specs.declared.answers.Answer.{Answer}
 use Rattle.station.specs.Answers.{Said, said}
 use Rattle.station.specs.Judging.{Judges}
 use Rattle.station.specs.Replies.{reply-bytes}
-use Rattle.station.specs.Taking.{AfterTaking, leaves, stays, replies, turned-down, settled, AsRequest, AsQuery, taken}
+use Rattle.station.specs.Taking.{AfterTaking, leaves, stays, replies, turned-down, settled, AsRequest, AsQuery, Handled, taken}
 use Rattle.station.proofs.AnswerLaws.{said-one}
 use Rattle.station.proofs.StandardReply.{reply-length}
 use Rattle.laws_taking.specs.Demands.{InTurn}
 use Rattle.laws_taking.specs.Judging.{SameInBoth, AllSettings, AsKept}
 use Rattle.laws_taking.proofs.Demand.{run-allowed, run-written}
 use Rattle.laws_taking.proofs.Determined.{outcome-determined}
-use Rattle.laws_taking.proofs.Theorems.{numbered, store-stays, counted-written}
+use Rattle.laws_taking.proofs.Theorems.{numbered, number-of, had-room, answered-0, store-stays, counted-written}
 
 -- ---- with one reply buffer
 
@@ -36,19 +36,6 @@ module _ (lim : Limits) (message store reply : List ℕ) where
   -- JUDGE IS COMMIT: "the same numbers and order from both", and "the reply that committing would write"
   pub judge-is-commit : (a b : Answer) (r s q : List ℕ) → Judges lim message store reply (said a) r → Answers (taken lim message store reply) (leaves b s q) → (a ≡ b) × (r ≡ q)
   judge-is-commit a b r s q x y = judge-determined a b r q x (record { after = leaves b s q; allowed = y; says = refl; writes = refl })
-
-  -- equal outcomes have equal numbers
-  number-of : {x y : AfterTaking} → x ≡ y → x .answer .number ≡ y .answer .number
-  number-of e = ap (λ (y : AfterTaking). y .answer .number) e
-
-  -- only 10 says that the reply buffer is too short
-  had-room : (x : AfterTaking) → Answers (taken lim message store reply) x → x .answer .number ≢ 10 → 20 ≤ length reply
-  had-room x (inl (_, e)) n = absurd (n (number-of e))
-  had-room x (inr (h, _)) n = by (decLe 20 (length reply))
-    where
-      by : Dec (20 ≤ length reply) → 20 ≤ length reply
-      by (yes l) = l
-      by (no f) = absurd (h (omega arith))
 
   -- a request with 0: all its settings were taken
   good-request : (t : Tables) → Holds lim t store → (x : AfterTaking) → AsRequest lim message store reply t x → x .answer .number ≡ 0 → AllSettings lim message store (x .store)
@@ -74,19 +61,12 @@ module _ (lim : Limits) (message store reply : List ℕ) where
 
   -- a message with 0 is one of the two
   good : (x : AfterTaking) → Answers (taken lim message store reply) x → x .answer .number ≡ 0 → AllSettings lim message store (x .store) ⊎ AsKept lim message store (x .store)
-  good x (inl (_, e)) z = absurd (omega (arith, z, number-of e))
-  good x (inr (_, inl (_, e))) z = absurd (omega (arith, z, number-of e))
-  good x (inr (_, inr (_, inl (_, e)))) z = absurd (omega (arith, z, number-of e))
-  good x (inr (_, inr (_, inr (_, inl (_, e))))) z = absurd (omega (arith, z, number-of e))
-  good x (inr (_, inr (_, inr (_, inr (_, inl (_, e)))))) z = absurd (omega (arith, z, number-of e))
-  good x (inr (_, inr (_, inr (_, inr (_, inr (_, inl (_, e))))))) z = absurd (omega (arith, z, number-of e))
-  good x (inr (_, inr (_, inr (_, inr (_, inr (_, inr (_, inl (_, e)))))))) z = absurd (omega (arith, z, number-of e))
-  good x (inr (_, inr (_, inr (_, inr (_, inr (_, inr (_, inr (_, h)))))))) z = by (h .comes-to)
+  good x a z = let (_, _, h) = answered-0 lim message store reply x a z in by h (h .comes-to)
     where
-      by : AsRequest lim message store reply (h .tables) x ⊎ AsQuery lim message store reply (h .tables) x
+      by : (h : Handled lim message store reply x) → AsRequest lim message store reply (h .tables) x ⊎ AsQuery lim message store reply (h .tables) x
           → AllSettings lim message store (x .store) ⊎ AsKept lim message store (x .store)
-      by (inl r) = inl (good-request (h .tables) (h .holds) x r z)
-      by (inr q) = inr (good-query (h .tables) (h .holds) x q z)
+      by h (inl r) = inl (good-request (h .tables) (h .holds) x r z)
+      by h (inr q) = inr (good-query (h .tables) (h .holds) x q z)
 
 -- ---- with another one
 

@@ -9,7 +9,7 @@ use Rattle.read_carrier.proofs.OneMeaning.{reply-one}
 use Rattle.tables.specs.declared.limits.Limits.{Limits}
 use Rattle.tables.specs.Allowed.{Allowed, HashOk}
 use Rattle.tables.specs.Apply.{apply}
-use Rattle.tables.specs.Layout.{layout}
+use Rattle.tables.specs.Forms.{layout}
 use Rattle.tables.specs.Store.{Holds}
 use Rattle.tables.specs.Tables.{Tables, no-hash}
 use Rattle.tables.proofs.AllowedLaws.{forget-allowed}

@@ -1,35 +1,47 @@
 -- Demands 1 to 3 for taking a message, over the contract of commit: for every message, store and reply buffer. Assumes nothing.
-use Rattle.lists.proofs.Kit.{ℕ, _-_, _≤_, _≡_, refl, sym, ap, _∙_, subst, subst₂, subst⁻¹, _≢_, _⊎_, inl, inr, ⊎-elim, _↔_, Bool, true, false, List, [], _++_, append-nil, nil≢cons, arith, length, midOf}
+use Rattle.lists.proofs.Kit.{ℕ, _+_, _*_, _-_, _≤_, _<_, _≡_, refl, sym, ap, _∙_, subst, subst₂, subst⁻¹, _≢_, _⊎_, inl, inr, ⊎-elim, _↔_, Bool, true, false, List, [], _++_, append-nil, nil≢cons, arith, length, midOf, take, drop, take-take}
+use native.Mathlib.Decide.{decLe}
 use Rattle.lists.specs.Bytes.{Bytes}
 use Rattle.lists.specs.Ladder.{Answers}
 use Rattle.writing.specs.declared.Coding.{Coding}
-use Rattle.writing.specs.Carrier.{Counted}
+use Rattle.writing.specs.Carrier.{Counted, InSize}
 use Rattle.writing.specs.Fields.{bitsOf, Shows}
 use Rattle.writing.specs.Ranges.{text-limits, InRange}
 use Rattle.writing.specs.Settings.{Setting, Hash}
 use Rattle.writing.specs.Writing.{WrittenAll, WrittenAs, request-head}
 use Rattle.read_carrier.proofs.CarrierLaws.{carries-one}
 use Rattle.read_carrier.proofs.MessageOne.{coding-one, counted-one}
-use Rattle.read_carrier.proofs.KindLaws.{request-bytes, opens-no-query}
+use Rattle.read_carrier.proofs.KindLaws.{request-bytes, opens-no-query, in-size}
 use Rattle.tables.specs.declared.limits.Limits.{Limits}
 use Rattle.tables.specs.Apply.{apply}
 use Rattle.tables.specs.Allowed.{Allowed}
-use Rattle.tables.specs.Layout.{layout, count-size, channels-at, lines-at}
+use Rattle.tables.specs.Forms.{layout, region-start, slot-width}
+use Rattle.tables.specs.Heads.{line-own}
+use Rattle.tables.specs.Layout.{count-size, channels-size}
 use Rattle.tables.specs.Store.{StoreOf, Holds}
 use Rattle.slots.specs.Slots.{u16}
-use Rattle.tables.proofs.Frames.{counts-stand}
+use Rattle.shared_texts.proofs.FormFrames.{channels-region, lines-region, short-units}
 use Rattle.tables.proofs.AllowedLaws.{forget-allowed}
+use Rattle.shared_texts.proofs.Forms.{layout-one, holds-store}
 use Rattle.tables.specs.Tables.{Tables, no-hash}
-use Rattle.tables.proofs.LayoutLaws.{layout-one, holds-store}
 use Rattle.laws_taking.specs.Demands.{InTurn, Stand, Passes, Refused, no-count, left-over, at-setting}
 use Rattle.requests.specs.Judge as J
 use Rattle.requests.specs.Judge.{Outcome, kept, refused}
 use Rattle.requests.specs.Requests.{WrittenIn, Known, Runs, Judged, forget, last-item}
-use Rattle.station.specs.Taking.{AfterTaking, settled, replies, stays, turned-down, AsRequest, AsQuery, taken}
+use Rattle.station.specs.Taking.{AfterTaking, settled, replies, stays, turned-down, AsRequest, AsQuery, Handled, taken}
 use Rattle.laws_taking.proofs.Alike.{judged-alike}
 use Rattle.laws_taking.proofs.Demand.{run-allowed, run-written, written-runs, hash-own}
 use Rattle.laws_taking.proofs.Determined.{judged-determined, one-writing, type-first}
 use Rattle.laws_taking.proofs.JudgeLaws.{Says, Stands, judged-says, RefusedWith, refused-number}
+
+-- the bytes that the lists begin with are their lengths, in either form
+counts-stand : (lim : Limits) (t : Tables) → Allowed lim t
+    → (midOf (region-start lim 11) count-size (layout lim t) ≡ u16 (length (t .channels))) × (midOf (region-start lim 12) count-size (layout lim t) ≡ u16 (length (t .lines)))
+counts-stand lim t ok = (
+  sym (take-take count-size (channels-size lim) (drop (region-start lim 11) (layout lim t)) (omega arith)) ∙ ap (take count-size) (channels-region lim t ok),
+  sym (take-take count-size (count-size + lim .lines * slot-width (lim .texts) line-own short-units + lim .lines) (drop (region-start lim 12) (layout lim t)) (omega arith))
+      ∙ ap (take count-size) (lines-region lim t ok),
+)
 
 -- ---- what judging says
 
@@ -43,6 +55,10 @@ module _ (c : Coding) (lim : Limits) (t : Tables) {n : ℕ} {bs : List ℕ} {o :
   numbered = refused-number Setting Tables (WrittenIn c) (InRange text-limits) (apply lim) Known (one-writing c) (type-first c)
 
 -- ---- how a message ends
+
+-- equal outcomes have equal numbers
+pub number-of : {x y : AfterTaking} → x ≡ y → x .answer .number ≡ y .answer .number
+number-of e = ap (λ (y : AfterTaking). y .answer .number) e
 
 module _ (lim : Limits) (message store reply : List ℕ) where
   -- nothing is touched, or a reply is written and the store stays, or a request is taken
@@ -68,6 +84,30 @@ module _ (lim : Limits) (message store reply : List ℕ) where
   ends x (inr (_, inr (_, inr (_, inr (_, inr (_, inl (_, e))))))) = replied 1 0 true false no-hash (omega arith) e
   ends x (inr (_, inr (_, inr (_, inr (_, inr (_, inr (_, inl (_, e)))))))) = replied 4 0 true false no-hash (omega arith) e
   ends x (inr (_, inr (_, inr (_, inr (_, inr (_, inr (_, inr (_, h)))))))) = ⊎-elim (request-ends (h .tables) (h .holds .0) x) (query-ends (h .tables) x) (h .comes-to)
+
+  -- what is not under 20 bytes has them
+  big-enough : (length reply < 20 → ⊥) → 20 ≤ length reply
+  big-enough h = by (decLe 20 (length reply))
+    where
+      by : Dec (20 ≤ length reply) → 20 ≤ length reply
+      by (yes l) = l
+      by (no f) = absurd (h (omega arith))
+
+  -- only 10 says that the reply buffer is too short
+  pub had-room : (x : AfterTaking) → Answers (taken lim message store reply) x → x .answer .number ≢ 10 → 20 ≤ length reply
+  had-room x (inl (_, e)) n = absurd (n (number-of e))
+  had-room x (inr (h, _)) n = big-enough h
+
+  -- ANSWERED 0: such a message has passed every test
+  pub answered-0 : (x : AfterTaking) → Answers (taken lim message store reply) x → x .answer .number ≡ 0 → (20 ≤ length reply) × InSize (lim .message) message × Handled lim message store reply x
+  answered-0 x (inl (_, e)) n = absurd (omega (arith, n, number-of e))
+  answered-0 x (inr (_, inl (_, e))) n = absurd (omega (arith, n, number-of e))
+  answered-0 x (inr (_, inr (_, inl (_, e)))) n = absurd (omega (arith, n, number-of e))
+  answered-0 x (inr (_, inr (_, inr (_, inl (_, e))))) n = absurd (omega (arith, n, number-of e))
+  answered-0 x (inr (_, inr (_, inr (_, inr (_, inl (_, e)))))) n = absurd (omega (arith, n, number-of e))
+  answered-0 x (inr (_, inr (_, inr (_, inr (_, inr (_, inl (_, e))))))) n = absurd (omega (arith, n, number-of e))
+  answered-0 x (inr (_, inr (_, inr (_, inr (_, inr (_, inr (_, inl (_, e)))))))) n = absurd (omega (arith, n, number-of e))
+  answered-0 x (inr (big, inr (_, inr (sized, inr (_, inr (_, inr (_, inr (_, h)))))))) n = (big-enough big, in-size (lim .message) message sized, h)
 
   -- STORE STAYS: "Only .. a taken request change[s] it": any number but 0 leaves every byte of the store
   pub store-stays : (x : AfterTaking) → Answers (taken lim message store reply) x → x .answer .number ≢ 0 → x .store ≡ store
@@ -99,16 +139,16 @@ module _ (lim : Limits) (message store reply : List ℕ) where
 
   -- COUNTS KEPT: and its counts are the lengths of the lists that it then holds
   pub counts-kept : StoreOf lim store → (x : AfterTaking) → Answers (taken lim message store reply) x
-      → (t : Tables) × Holds lim t (x .store) × (midOf channels-at count-size (x .store) ≡ u16 (length (t .channels))) × (midOf (lines-at lim) count-size (x .store) ≡ u16 (length (t .lines)))
+      → (t : Tables) × Holds lim t (x .store) × (midOf (region-start lim 11) count-size (x .store) ≡ u16 (length (t .channels))) × (midOf (region-start lim 12) count-size (x .store) ≡ u16 (length (t .lines)))
   counts-kept s x a =
       let k = store-kept s x a .store in
       let c = counts-stand lim (k .tables) (k .allowed) in
-      (k .tables, (k .allowed, k .bytes-are), ap (midOf channels-at count-size) (k .bytes-are) ∙ c .0, ap (midOf (lines-at lim) count-size) (k .bytes-are) ∙ c .1)
+      (k .tables, (k .allowed, k .bytes-are), ap (midOf (region-start lim 11) count-size) (k .bytes-are) ∙ c .0, ap (midOf (region-start lim 12) count-size) (k .bytes-are) ∙ c .1)
 
 -- ---- a request that passes the checks
 
 -- settings that are written as the data bytes are counted, and follow ParamSum
-written-counted : {c : Coding} {l : List Setting} {d : List ℕ} (w : WrittenAs c l d) → Counted (length l) (w .settings) d
+pub written-counted : {c : Coding} {l : List Setting} {d : List ℕ} (w : WrittenAs c l d) → Counted (length l) (w .settings) d
 written-counted w = record { head = w .head; parts = w .parts; says = w .counted; some-setting = w .some-setting }
 
 -- and back: as many settings as are counted, written as what follows ParamSum

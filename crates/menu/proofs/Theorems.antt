@@ -8,10 +8,10 @@ use Rattle.counted_lists.specs.Counted.{Without}
 use Rattle.counted_lists.proofs.KeyedLists.{keyed-new, last-room, none-found}
 use Rattle.tables.specs.declared.limits.Limits.{Limits}
 use Rattle.tables.specs.Apply.{has-key, put-line, put-channel}
-use Rattle.tables.specs.Layout.{Roomy}
+use Rattle.tables.specs.Forms.{Roomy}
 use Rattle.tables.specs.Store.{Holds}
 use Rattle.tables.specs.Tables.{Line, line-key, Tables}
-use Rattle.tables.proofs.LayoutLaws.{layout-one, holds-store}
+use Rattle.shared_texts.proofs.Forms.{layout-one, holds-store}
 use Rattle.tables.proofs.Sentences.{key-is-both}
 use Rattle.menu.specs.declared.counting.Counts.{Counts}
 use Rattle.menu.specs.declared.counting.Counts.the-variants.{Held, NotAStore}

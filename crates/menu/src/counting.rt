@@ -2,14 +2,14 @@
 use counted_lists::counts::count;
 use store_check::checks::is_store;
 use tables::limits::Limits;
-use tables::places::CHANNEL_SLOT;
-use tables::places::CHANNELS;
+use tables::list_places::channels_at;
+use tables::list_places::line_slots;
+use tables::list_places::lines_at;
 use tables::places::COUNT;
-use tables::places::LINE_SLOT;
 ghost use mathlib.Core.Path.{_≡_};
 ghost use lib.ListN.{length};
 ghost use Rattle.lists.specs.Ladder.{Answers};
-ghost use Rattle.tables.specs.Layout.{Roomy};
+ghost use Rattle.tables.specs.Forms.{Roomy};
 ghost use Rattle.menu.specs.Menu.{Reads, counting, told};
 
 pub enum Counts {
@@ -22,10 +22,11 @@ fn read_counts(store: &[u8], limits: Limits) -> Counts
     requires { ⌜ Roomy limits × (length (now store) ≡ limits .size) ⌝ }
     ensures { λ r. ⌜ Reads limits (now (store .entry)) (told r) ⌝ }
 {
-    let lines = CHANNELS + (COUNT + limits.channels * CHANNEL_SLOT);
-    let order = lines + (COUNT + limits.lines * LINE_SLOT);
+    let start = channels_at(limits);
+    let lines = lines_at(limits);
+    let order = lines + (COUNT + line_slots(limits));
     let held = count(&store[lines..order]);
-    let channels = count(&store[CHANNELS..lines]);
+    let channels = count(&store[start..lines]);
     Counts::Held(held as u16, channels as u16)
 }
 

@@ -1,6 +1,7 @@
 // Writing a store out.
 use packed_calls::exports::packed_export;
 use tables::limits::HANDHELD;
+use tables::limits::HANDHELD_SIZE;
 ghost use Rattle.tables.specs.Limits.{handheld};
 ghost use Rattle.packing.specs.Packing.{Exports};
 
@@ -9,5 +10,6 @@ ghost use Rattle.packing.specs.Packing.{Exports};
 pub extern "C" fn otap_export(part: u32, store: &[u8], buffer: &mut [u8]) -> u64
     ensures { λ r. ⌜ Exports handheld part (now (store .entry)) (now (buffer .entry)) (now (buffer .exit)) r ⌝ }
 {
-    packed_export(part, store, buffer, HANDHELD)
+    let mut work = [0u8; HANDHELD_SIZE];
+    packed_export(part, store, buffer, HANDHELD, &mut work)
 }

@@ -1,6 +1,7 @@
 // Answering queries.
 use packed_calls::queries::packed_report;
 use tables::limits::HANDHELD;
+use tables::limits::HANDHELD_SIZE;
 ghost use Rattle.tables.specs.Limits.{handheld};
 ghost use Rattle.packing.specs.PackedReports.{AnswersReport};
 
@@ -9,5 +10,6 @@ ghost use Rattle.packing.specs.PackedReports.{AnswersReport};
 pub extern "C" fn otap_report(query: &[u8], index: u32, store: &[u8], buffer: &mut [u8]) -> u64
     ensures { λ r. ⌜ AnswersReport handheld (now (query .entry)) index (now (store .entry)) (now (buffer .entry)) (now (buffer .exit)) r ⌝ }
 {
-    packed_report(query, index, store, buffer, HANDHELD)
+    let mut work = [0u8; HANDHELD_SIZE];
+    packed_report(query, index, store, buffer, HANDHELD, &mut work)
 }

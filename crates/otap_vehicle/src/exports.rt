@@ -9,5 +9,6 @@ ghost use Rattle.packing.specs.Packing.{Exports};
 pub extern "C" fn otap_vehicle_export(part: u32, store: &[u8], buffer: &mut [u8]) -> u64
     ensures { λ r. ⌜ Exports vehicle part (now (store .entry)) (now (buffer .entry)) (now (buffer .exit)) r ⌝ }
 {
-    packed_export(part, store, buffer, VEHICLE)
+    let mut none = [0u8; 0];
+    packed_export(part, store, buffer, VEHICLE, &mut none)
 }

@@ -14,5 +14,6 @@ pub extern "C" fn otap_vehicle_report(
 ) -> u64
     ensures { λ r. ⌜ AnswersReport vehicle (now (query .entry)) index (now (store .entry)) (now (buffer .entry)) (now (buffer .exit)) r ⌝ }
 {
-    packed_report(query, index, store, buffer, VEHICLE)
+    let mut none = [0u8; 0];
+    packed_report(query, index, store, buffer, VEHICLE, &mut none)
 }

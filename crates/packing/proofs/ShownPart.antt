@@ -2,6 +2,7 @@
 use Rattle.lists.proofs.Kit.{ℕ, _<_, _≡_, refl, sym, _∙_, _≢_, _↔_, List, arith}
 use Rattle.lists.specs.Ladder.{Answers}
 use Rattle.tables.specs.declared.limits.Limits.{Limits}
+use Rattle.tables.specs.Tables.{Tables}
 use Rattle.screen.specs.declared.rows.Refusal.{Refusal}
 use Rattle.screen.specs.declared.rows.Refusal.the-variants.{ScratchSize, NotAStore, Absent}
 use Rattle.screen.specs.declared.rows.Row.{Row}
@@ -24,12 +25,12 @@ module _ (lim : Limits) (store scratch : List ℕ) (row : Row) where
   refused-told Absent = (λ e. absurd (omega arith), λ k. absurd (k refl))
 
   -- and of what is shown
-  shown-told : (d : Display) → 0 < text-start lim row → Told (shows lim scratch row d)
-  shown-told (stored us) h = (λ e k. omega arith, λ k. refl)
-  shown-told (written us) h = (λ e k. omega arith, λ k. refl)
+  shown-told : (t : Tables) (d : Display) → 0 < text-start lim t row → Told (shows lim t scratch row d)
+  shown-told t (stored us) h = (λ e k. omega arith, λ k. refl)
+  shown-told t (written us) h = (λ e k. omega arith, λ k. refl)
 
   told : (a : AfterRow) → Answers (showing lim store scratch row) a → Told a
-  told = shown-by lim store scratch row Told refused-told (λ a p big. shown-told (p .display) (text-starts-late lim (p .tables) row (p .row-is) (p .there)))
+  told = shown-by lim store scratch row Told refused-told (λ a p big. shown-told (p .tables) (p .display) (text-starts-late lim (p .tables) row (p .row-is) (p .there)))
 
 -- SHOWN PART: the row's number is 0 exactly where the other call answers another number than 0
 pub shown-part : (lim : Limits) (table row : ℕ) (store scratch after : List ℕ) (n r : ℕ) → AnswersNumber lim table row store scratch n → AnswersPart lim table row store scratch after r → (n ≡ 0) ↔ (r ≢ 0)

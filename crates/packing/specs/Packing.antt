@@ -7,7 +7,7 @@ use Rattle.lists.specs.Ladder.{Answers}
 use Rattle.plan.specs.Answers.{Answer, Answered}
 use Rattle.writing.specs.Writing.{bit}
 use Rattle.tables.specs.declared.limits.Limits.{Limits}
-use Rattle.tables.specs.Layout.{Roomy}
+use Rattle.tables.specs.Forms.{Roomy}
 use Rattle.tables.specs.Store.{starting}
 use Rattle.station.specs.Answers.{Said}
 use Rattle.station.specs.Judging.{Judges}

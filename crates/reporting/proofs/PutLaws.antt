@@ -2,7 +2,7 @@
 use Rattle.lists.proofs.Kit.{ℕ, suc, _+_, _-_, _≤_, _<_, _≡_, refl, sym, ap, _∙_, subst, subst⁻¹, _≢_, Option, none, some, List, [], _∷_, _++_, append-assoc, append-nil, add-one, arith, midOf, length, getD, take, drop, length-append, drop-of-length-le, take-nil}
 use Rattle.writing.specs.Fields.{val}
 use Rattle.tables.specs.declared.limits.Limits.{Limits}
-use Rattle.tables.specs.Store.{Holds}
+use Rattle.tables.specs.Store.{Works}
 use Rattle.tables.specs.Tables.{Tables}
 use Rattle.export_write.specs.Writers.{Wrote}
 use Rattle.export_write.proofs.PlainLaws.{plain-byte}
@@ -56,13 +56,13 @@ puts-both a b c s r q x y z f g h = let w = f h in some-both w (g (room-left w h
 
 -- ---- a place
 
-module _ (lim : Limits) (a : Asked) (store : List ℕ) (s : Spot) (buffer scratch after : List ℕ) (size : ℕ) (l : s .place < slot-count lim a) (o : s .rank ≤ s .place) (long : 51 ≤ length scratch)
-    (k : PlaceWritten lim a store (s .place) (s .rank) scratch after size) where
-  at-place : (t : Tables) → Holds lim t store → PlaceIs lim t a (s .place) (s .rank) size
-  at-place t h = place-is lim t store h a (s .place) (s .rank) size l (size-is lim a store (s .place) (s .rank) scratch after size long k t h)
+module _ (lim : Limits) (a : Asked) (work : List ℕ) (s : Spot) (buffer scratch after : List ℕ) (size : ℕ) (l : s .place < slot-count lim a) (o : s .rank ≤ s .place) (long : 51 ≤ length scratch)
+    (k : PlaceWritten lim a work (s .place) (s .rank) scratch after size) where
+  at-place : (t : Tables) → Works lim t work → PlaceIs lim t a (s .place) (s .rank) size
+  at-place t h = place-is lim t work h a (s .place) (s .rank) size l (size-is lim a work (s .place) (s .rank) scratch after size long k t h)
 
   -- an empty one
-  pub put-empty : size ≡ 0 → PlacePut lim a store s buffer buffer (record { end = s .end; place = s .place + 1; rank = s .rank; left = s .left })
+  pub put-empty : size ≡ 0 → PlacePut lim a work s buffer buffer (record { end = s .end; place = s .place + 1; rank = s .rank; left = s .left })
   put-empty z = record {
     next = refl;
     ranked = omega arith;
@@ -75,14 +75,14 @@ module _ (lim : Limits) (a : Asked) (store : List ℕ) (s : Spot) (buffer scratc
   -- a used one
   pub put-used : (u : List ℕ) (next : ℕ) → size ≢ 0 → 0 < s .left
       → (s .end + length (midOf 0 (size - 0) after) ≤ length buffer → Wrote (midOf 0 (size - 0) after) (s .end) buffer u next)
-      → PlacePut lim a store s buffer u (record { end = next; place = s .place + 1; rank = s .rank + 1; left = s .left - 1 })
+      → PlacePut lim a work s buffer u (record { end = next; place = s .place + 1; rank = s .rank + 1; left = s .left - 1 })
   put-used u next n low w = record {
     next = refl;
     ranked = omega arith;
     puts = λ t h more room. used t h more room;
   }
     where
-      used : (t : Tables) (h : Holds lim t store) (more : List Item)
+      used : (t : Tables) (h : Works lim t work) (more : List Item)
           → Puts (from-here lim t a (s .place) (s .rank) more) s (from-here lim t a (s .place + 1) (s .rank + 1) more) buffer u (record { end = next; place = s .place + 1; rank = s .rank + 1; left = s .left - 1 })
       used t h more room =
           let i = at-place t h in
@@ -105,21 +105,21 @@ module _ (lim : Limits) (a : Asked) (store : List ℕ) (s : Spot) (buffer scratc
 
 -- ---- the places of a table
 
-module _ (lim : Limits) (a : Asked) (store : List ℕ) (s : Spot) (before : List ℕ) where
+module _ (lim : Limits) (a : Asked) (work : List ℕ) (s : Spot) (before : List ℕ) where
   -- some of its places are passed
   abbrev pub Passing : (buffer : List ℕ) → Spot → Type 0
-  Passing buffer r = PutsFrom lim store (from-place lim a s) (from-place lim a r) s before buffer r
+  Passing buffer r = PutsFrom lim work (from-place lim a s) (from-place lim a r) s before buffer r
 
   pub passing-start : Passing before s
   passing-start t h more = puts-start (from-here lim t a (s .place) (s .rank) more) s before
 
-  pub passing-more : (buffer after : List ℕ) (r q : Spot) → Passing buffer r → PlacePut lim a store r buffer after q → Passing after q
+  pub passing-more : (buffer after : List ℕ) (r q : Spot) → Passing buffer r → PlacePut lim a work r buffer after q → Passing after q
   passing-more buffer after r q p k t h more =
       puts-both (from-here lim t a (s .place) (s .rank) more) (from-here lim t a (r .place) (r .rank) more) (from-here lim t a (q .place) (q .rank) more) s r q before buffer after
       (p t h more) (k .puts t h more)
 
   -- nothing is left to write
-  pub passing-full : (buffer : List ℕ) (r : Spot) → Passing buffer r → r .left ≡ 0 → TablePut lim a store s before buffer (record { end = r .end; place = 0; rank = 0; left = 0 })
+  pub passing-full : (buffer : List ℕ) (r : Spot) → Passing buffer r → r .left ≡ 0 → TablePut lim a work s before buffer (record { end = r .end; place = 0; rank = 0; left = 0 })
   passing-full buffer r p z = record {
     first = (refl, refl);
     puts = λ t h more room.
@@ -127,7 +127,7 @@ module _ (lim : Limits) (a : Asked) (store : List ℕ) (s : Spot) (before : List
   }
 
   -- all are passed
-  pub passing-end : (buffer : List ℕ) (r : Spot) → Passing buffer r → slot-count lim a ≤ r .place → TablePut lim a store s before buffer (record { end = r .end; place = 0; rank = 0; left = r .left })
+  pub passing-end : (buffer : List ℕ) (r : Spot) → Passing buffer r → slot-count lim a ≤ r .place → TablePut lim a work s before buffer (record { end = r .end; place = 0; rank = 0; left = r .left })
   passing-end buffer r p l = record {
     first = (refl, refl);
     puts = λ t h more room. some-as refl (ap (take (r .left)) (here-end lim t a (r .place) (r .rank) more (omega (arith, slots-many lim t (h .0) a)))) (p t h more room);
@@ -139,9 +139,9 @@ module _ (lim : Limits) (a : Asked) (store : List ℕ) (s : Spot) (before : List
 error-is : (b : ℕ) → b < 256 → items-bytes (unknown b ∷ []) ≡ b ∷ 0x83 ∷ []
 error-is b l = append-nil (item-bytes (unknown b)) ∙ plain-byte b (val 8 b ∷ []) failed refl (omega arith) l (1, refl) (omega arith, (omega arith, tt))
 
-module _ (lim : Limits) (b : ℕ) (store : List ℕ) (s : Spot) (before after : List ℕ) where
+module _ (lim : Limits) (b : ℕ) (work : List ℕ) (s : Spot) (before after : List ℕ) where
   -- a known one is its table
-  pub type-put : (a : Asked) (r : Spot) → asked-by b ≡ some a → TablePut lim a store s before after r → TypePut lim b store s before after r
+  pub type-put : (a : Asked) (r : Spot) → asked-by b ≡ some a → TablePut lim a work s before after r → TypePut lim b work s before after r
   type-put a r e k = record {
     first = k .first;
     puts = λ t h more.
@@ -151,7 +151,7 @@ module _ (lim : Limits) (b : ℕ) (store : List ℕ) (s : Spot) (before after : 
   -- an unknown one is an error, and nothing is left to write
   pub error-put : (end left : ℕ) → left ≡ 0 → asked-by b ≡ none → b < 256 → 0 < s .left
       → (s .end + length (b ∷ 0x83 ∷ []) ≤ length before → Wrote (b ∷ 0x83 ∷ []) (s .end) before after end)
-      → TypePut lim b store s before after (record { end = end; place = 0; rank = 0; left = left })
+      → TypePut lim b work s before after (record { end = end; place = 0; rank = 0; left = left })
   error-put end left z e l low w = record {
     first = (refl, refl);
     puts = λ t h more. subst⁻¹ (λ (o : Option Asked). Puts (from-type lim t b o (s .place) (s .rank) more) s more before after (record { end = end; place = 0; rank = 0; left = left })) e (error more);
@@ -170,19 +170,19 @@ module _ (lim : Limits) (b : ℕ) (store : List ℕ) (s : Spot) (before after : 
 
 -- ---- the types
 
-module _ (lim : Limits) (types store : List ℕ) (first : ℕ) (s : Spot) (before : List ℕ) where
+module _ (lim : Limits) (types work : List ℕ) (first : ℕ) (s : Spot) (before : List ℕ) where
   -- the parameters of a message
   abbrev message : Tables → List Item
   message t = items-from lim t types (record { ask = first; place = s .place; rank = s .rank })
 
   -- the types before this one are passed
   abbrev pub Putting : (ask : ℕ) → (buffer : List ℕ) → Spot → Type 0
-  Putting ask buffer r = (t : Tables) → Holds lim t store → Puts (message t) s (items-from lim t types (record { ask = ask; place = r .place; rank = r .rank })) before buffer r
+  Putting ask buffer r = (t : Tables) → Works lim t work → Puts (message t) s (items-from lim t types (record { ask = ask; place = r .place; rank = r .rank })) before buffer r
 
   pub putting-start : Putting first before s
   putting-start t h = puts-start (message t) s before
 
-  pub putting-more : (ask : ℕ) (buffer after : List ℕ) (r q : Spot) → ask < length types → Putting ask buffer r → TypePut lim (getD types ask 0) store r buffer after q → Putting (ask + 1) after q
+  pub putting-more : (ask : ℕ) (buffer after : List ℕ) (r q : Spot) → ask < length types → Putting ask buffer r → TypePut lim (getD types ask 0) work r buffer after q → Putting (ask + 1) after q
   putting-more ask buffer after r q l p k t h room =
       let more : List Item = asked t (drop (suc ask) types) in
       let v = p t h room in
@@ -193,7 +193,7 @@ module _ (lim : Limits) (types store : List ℕ) (first : ℕ) (s : Spot) (befor
 
   -- all of them are written
   abbrev Done : (buffer : List ℕ) → ℕ → Type 0
-  Done buffer end = (t : Tables) → Holds lim t store → s .end + length (items-bytes (take (s .left) (message t))) ≤ length before
+  Done buffer end = (t : Tables) → Works lim t work → s .end + length (items-bytes (take (s .left) (message t))) ≤ length before
       → Wrote (items-bytes (take (s .left) (message t))) (s .end) before buffer end
 
   putting-done : (ask : ℕ) (buffer : List ℕ) (r : Spot) → Putting ask buffer r → ((t : Tables) → take (r .left) (items-from lim t types (record { ask = ask; place = r .place; rank = r .rank })) ≡ [])

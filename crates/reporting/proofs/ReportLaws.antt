@@ -8,6 +8,7 @@ use Rattle.tables.specs.declared.limits.Limits.{Limits}
 use Rattle.tables.specs.Limits.{handheld, vehicle}
 use Rattle.tables.specs.Store.{StoreOf, Holds}
 use Rattle.tables.specs.Tables.{Tables}
+use Rattle.working.specs.Seen.{Seen}
 use Rattle.export_write.specs.Writers.{Wrote}
 use Rattle.export_write.proofs.WroteLaws.{wrote-length}
 use Rattle.reports.specs.Cut.{item-size, messages, report-bytes}
@@ -71,11 +72,11 @@ module _ (lim : Limits) (query : List ℕ) (index : ℕ) (store buffer : List �
 -- ---- behind it
 
 -- a plan under other names
-pub plan-as : {lim : Limits} {types store : List ℕ} {w : Walk} {room room′ j j′ : ℕ} → room ≡ room′ → j ≡ j′ → PlanIs lim types store room j w → PlanIs lim types store room′ j′ w
-plan-as {lim} {types} {store} {w} e d p = subst (λ (z : ℕ × ℕ). PlanIs lim types store (z .0) (z .1) w) (λ i. (e i, d i)) p
+pub plan-as : {lim : Limits} {types work : List ℕ} {w : Walk} {room room′ j j′ : ℕ} → room ≡ room′ → j ≡ j′ → PlanIs lim types work room j w → PlanIs lim types work room′ j′ w
+plan-as {lim} {types} {work} {w} e d p = subst (λ (z : ℕ × ℕ). PlanIs lim types work (z .0) (z .1) w) (λ i. (e i, d i)) p
 
-module _ (lim : Limits) (query : List ℕ) (index : ℕ) (store buffer types : List ℕ) (s : StoreOf lim store) (q : TypesOf types query) (w : Walk)
-    (p : PlanIs lim types store (lim .message - 10) (index - 1) w) where
+module _ (lim : Limits) (query : List ℕ) (index : ℕ) (store work buffer types : List ℕ) (s : StoreOf lim store) (see : Seen lim store work) (q : TypesOf types query) (w : Walk)
+    (p : PlanIs lim types work (lim .message - 10) (index - 1) w) where
   held : Holds lim (s .store .tables) store
   held = (s .store .allowed, s .store .bytes-are)
 
@@ -85,7 +86,7 @@ module _ (lim : Limits) (query : List ℕ) (index : ℕ) (store buffer types : L
   -- the plan has the report's total
   total-is : (t : Tables) (r : List ℕ) → Asks lim query index store buffer t r → length (messages lim t r) ≡ w .closed + 1
   unfolding messages
-  total-is t r a = ap (λ (x : List ℕ). length (messages lim t x)) (queries-one (a .asks) q) ∙ p .total t (a .holds)
+  total-is t r a = ap (λ (x : List ℕ). length (messages lim t x)) (queries-one (a .asks) q) ∙ p .total t (see .1 t (a .holds))
 
   -- "4"
   pub says-many : 255 < w .closed + 1 → Answers (answering lim query index store buffer) (record { answer = told (Untouched BadQuery); buffer = buffer })
@@ -101,10 +102,10 @@ module _ (lim : Limits) (query : List ℕ) (index : ℕ) (store buffer types : L
       message-is : (getD (messages lim (s .store .tables) types) (index - 1) [] ≡ take (w .own) (items-from lim (s .store .tables) types (w .from)))
           × (length (getD (messages lim (s .store .tables) types) (index - 1) []) ≡ w .own)
       unfolding messages
-      message-is = p .message (s .store .tables) held (omega arith)
+      message-is = p .message (s .store .tables) (see .1 (s .store .tables) held) (omega arith)
 
       -- the message was written
-      pub says-0 : Reportable lim → All (_< 256) types → lim .message ≤ length buffer → (mid after : List ℕ) (end r : ℕ) → ItemsPut lim types store w buffer mid end
+      pub says-0 : Reportable lim → All (_< 256) types → lim .message ≤ length buffer → (mid after : List ℕ) (end r : ℕ) → ItemsPut lim types work w buffer mid end
           → ((10 ≤ end) × (end ≤ length mid) × (end < 65540) → Headed (w .closed + 1) index (w .own % 256) end mid after r)
           → Answers (answering lim query index store buffer) (record { answer = told (Written (w .closed + 1) r); buffer = after })
       says-0 rep b big mid after end r put head =
@@ -116,7 +117,7 @@ module _ (lim : Limits) (query : List ℕ) (index : ℕ) (store buffer types : L
           let (e, c) = message-is in
           let room : 10 + length (items-bytes g) ≤ lim .message = omega (arith, items-length g, f .bytes, rep .wide) in
           let v : Wrote (items-bytes g) 10 buffer mid end = subst⁻¹ (λ (x : List Item). Wrote (items-bytes x) 10 buffer mid end) e
-          (put t held (subst (λ (x : List Item). 10 + length (items-bytes x) ≤ length buffer) e (omega arith))) in
+          (put t (see .1 t held) (subst (λ (x : List Item). 10 + length (items-bytes x) ≤ length buffer) e (omega arith))) in
           let k : Headed (w .closed + 1) index (w .own % 256) end mid after r
           = head (omega (arith, v .next), omega (arith, v .next, wrote-length (items-bytes g) 10 end buffer mid v), omega (arith, v .next, rep .short)) in
           let bs : List ℕ = report-bytes (length ms) index g in

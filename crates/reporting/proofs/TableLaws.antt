@@ -1,4 +1,4 @@
--- The tables of a store as slots: where they stand, and what stands in them. Assumes nothing.
+-- The tables of a working copy as slots: where they stand, and what stands in them. Assumes nothing.
 use Rattle.lists.proofs.Kit.{ℕ, suc, _+_, _-_, _*_, _≤_, _<_, _≡_, refl, sym, ap, _∙_, subst⁻¹, List, [], _∷_, Option, none, some, Bool, true, false, cond, eqb, eqb-false, mul-le-mul-right, suc-mul, zero-add, mod-lt, arith, midOf, length, getD, drop, take-take}
 use Rattle.lists.proofs.Every.{all-get}
 use Rattle.slots.specs.Slots.{front, slot, Present, Placed, Listed}
@@ -8,9 +8,10 @@ use Rattle.writing.specs.Settings.{Hash}
 use Rattle.tables.specs.declared.limits.Limits.{Limits}
 use Rattle.tables.specs.declared.members.Members.the-variants.{OfGroups, OfIndividuals}
 use Rattle.tables.specs.Allowed.{Allowed, HashOk}
-use Rattle.tables.specs.Layout.{Roomy, layout}
-use Rattle.tables.specs.Limits.{contact-places}
-use Rattle.tables.specs.Store.{Holds}
+use Rattle.tables.specs.Forms.{Roomy}
+use Rattle.tables.specs.Layout.{placed-layout}
+use Rattle.tables.specs.Limits.{placed, contact-places}
+use Rattle.tables.specs.Store.{Works}
 use Rattle.tables.specs.Tables.{Tables}
 use Rattle.tables.proofs.EntryCodes.{quick-code, status-code, channel-code, line-code, group-code, individual-code}
 use Rattle.tables.proofs.Frames.{hash-get, key-get, home-get, system-get, quick-placed, status-placed, contacts-listed, channels-listed, lines-listed}
@@ -37,7 +38,7 @@ module _ (lim : Limits) (r : Roomy lim) where
   table-ends StatusTexts = omega (arith, r .fits)
   table-ends AHash = omega (arith, r .fits)
 
-  -- a place lies in the store
+  -- a place lies in the working copy
   pub place-inside : (a : Asked) (p : ℕ) → p < slot-count lim a → slots-start lim a + p * slot-width a + slot-width a ≤ lim .size
   place-inside a p h =
       let m : suc p * slot-width a ≤ slot-count lim a * slot-width a = mul-le-mul-right (slot-width a) h in
@@ -70,7 +71,7 @@ in-places lim AHash p h = tt
 
 -- ---- what stands in them
 
-pub slots-many : (lim : Limits) (t : Tables) → Allowed lim t → (a : Asked) → length (slots-of lim t a) ≡ slot-count lim a
+pub slots-many : (lim : Limits) (t : Tables) → Allowed (placed lim) t → (a : Asked) → length (slots-of lim t a) ≡ slot-count lim a
 slots-many lim t h Groups = front-length contact-places (t .group-contacts)
 slots-many lim t h Individuals = front-length contact-places (t .individual-contacts)
 slots-many lim t h Lines = front-length (lim .lines) (t .lines)
@@ -81,6 +82,19 @@ slots-many lim t h Channels = front-length (lim .channels) (t .channels)
 slots-many lim t h System = refl
 slots-many lim t h StatusTexts = h .status .0
 slots-many lim t h AHash = refl
+
+-- they are the same however texts are kept
+pub slots-same : (lim : Limits) (t : Tables) (a : Asked) → slots-of (placed lim) t a ≡ slots-of lim t a
+slots-same lim t Groups = refl
+slots-same lim t Individuals = refl
+slots-same lim t Lines = refl
+slots-same lim t Key = refl
+slots-same lim t QuickTexts = refl
+slots-same lim t Home = refl
+slots-same lim t Channels = refl
+slots-same lim t System = refl
+slots-same lim t StatusTexts = refl
+slots-same lim t AHash = refl
 
 -- bytes in a part are bytes of the whole
 mid-inner : (a n k w : ℕ) (s : List ℕ) → k + w ≤ n → midOf k w (midOf a n s) ≡ midOf (a + k) w s
@@ -115,21 +129,21 @@ at-one a at s x p h k e =
     subst⁻¹ (λ (i : ℕ). InSlot a (midOf (at + i * slot-width a) (slot-width a) s) (getD (some x ∷ []) i none)) z
     (k, ap (λ (i : ℕ). midOf i (slot-width a) s) (let y : at + 0 * slot-width a ≡ at = omega arith in y) ∙ e)
 
-slots-in : (lim : Limits) (t : Tables) → Allowed lim t → (a : Asked) (p : ℕ) → p < slot-count lim a
-    → InSlot a (midOf (slots-start lim a + p * slot-width a) (slot-width a) (layout lim t)) (getD (slots-of lim t a) p none)
-slots-in lim t h Groups p l = at-listed Groups tt (group-code .long) _ contact-places (layout lim t) p l (t .group-contacts) (contacts-listed lim t h OfGroups)
-slots-in lim t h Individuals p l = at-listed Individuals tt (individual-code .long) _ contact-places (layout lim t) p l (t .individual-contacts) (contacts-listed lim t h OfIndividuals)
-slots-in lim t h Lines p l = at-listed Lines tt (line-code .long) _ (lim .lines) (layout lim t) p l (t .lines) (lines-listed lim t h)
-slots-in lim t h Key p l = at-one Key _ (layout lim t) (t .key) p l (h .key) (key-get lim t h)
-slots-in lim t h QuickTexts p l = at-placed QuickTexts tt (quick-code .long) _ _ (layout lim t) p l (t .quick) (quick-placed lim t h)
-slots-in lim t h Home p l = at-one Home _ (layout lim t) (t .home) p l (h .home) (home-get lim t h)
-slots-in lim t h Channels p l = at-listed Channels tt (channel-code .long) _ (lim .channels) (layout lim t) p l (t .channels) (channels-listed lim t h)
-slots-in lim t h System p l = at-one System _ (layout lim t) (t .system) p l (h .system) (system-get lim t h)
-slots-in lim t h StatusTexts p l = at-placed StatusTexts tt (status-code .long) _ _ (layout lim t) p l (t .status) (status-placed lim t h)
-slots-in lim t h AHash p l = at-one AHash _ (layout lim t) (t .hash) p l (h .hash) (hash-get lim t h)
+slots-in : (lim : Limits) (t : Tables) → Allowed (placed lim) t → (a : Asked) (p : ℕ) → p < slot-count lim a
+    → InSlot a (midOf (slots-start lim a + p * slot-width a) (slot-width a) (placed-layout lim t)) (getD (slots-of lim t a) p none)
+slots-in lim t h Groups p l = at-listed Groups tt (group-code .long) _ contact-places (placed-layout lim t) p l (t .group-contacts) (contacts-listed lim t h OfGroups)
+slots-in lim t h Individuals p l = at-listed Individuals tt (individual-code .long) _ contact-places (placed-layout lim t) p l (t .individual-contacts) (contacts-listed lim t h OfIndividuals)
+slots-in lim t h Lines p l = at-listed Lines tt (line-code .long) _ (lim .lines) (placed-layout lim t) p l (t .lines) (lines-listed lim t h)
+slots-in lim t h Key p l = at-one Key _ (placed-layout lim t) (t .key) p l (h .key) (key-get lim t h)
+slots-in lim t h QuickTexts p l = at-placed QuickTexts tt (quick-code .long) _ _ (placed-layout lim t) p l (t .quick) (quick-placed lim t h)
+slots-in lim t h Home p l = at-one Home _ (placed-layout lim t) (t .home) p l (h .home) (home-get lim t h)
+slots-in lim t h Channels p l = at-listed Channels tt (channel-code .long) _ (lim .channels) (placed-layout lim t) p l (t .channels) (channels-listed lim t h)
+slots-in lim t h System p l = at-one System _ (placed-layout lim t) (t .system) p l (h .system) (system-get lim t h)
+slots-in lim t h StatusTexts p l = at-placed StatusTexts tt (status-code .long) _ _ (placed-layout lim t) p l (t .status) (status-placed lim t h)
+slots-in lim t h AHash p l = at-one AHash _ (placed-layout lim t) (t .hash) p l (h .hash) (hash-get lim t h)
 
 -- SLOT THERE: the bytes of a place are the slot of what stands there
-pub slot-there : (lim : Limits) (t : Tables) (s : List ℕ) → Holds lim t s → (a : Asked) (p : ℕ) → p < slot-count lim a
+pub slot-there : (lim : Limits) (t : Tables) (s : List ℕ) → Works lim t s → (a : Asked) (p : ℕ) → p < slot-count lim a
     → InSlot a (midOf (slots-start lim a + p * slot-width a) (slot-width a) s) (getD (slots-of lim t a) p none)
 slot-there lim t s h a p l =
     subst⁻¹ (λ (x : List ℕ). InSlot a (midOf (slots-start lim a + p * slot-width a) (slot-width a) x) (getD (slots-of lim t a) p none)) (h .1) (slots-in lim t (h .0) a p l)
@@ -163,26 +177,26 @@ item-in AHash p r x k l = kept-in x k
 -- ---- a place that was written
 
 module _ (lim : Limits) (a : Asked) {start width : ℕ} (e : start ≡ slots-start lim a) (d : width ≡ slot-width a) (place : ℕ) (l : place < slot-count lim a) where
-  -- it lies in the store
+  -- it lies in the working copy
   pub place-within : Roomy lim → start + place * width + width ≤ lim .size
   place-within r = rw (e, d) (place-inside lim r a place l)
 
   -- its slot was written
-  pub place-written : (store : List ℕ) (rank : ℕ) (before after : List ℕ) (r : ℕ)
-      → WritesItem a (midOf (start + place * width) (start + place * width + width - (start + place * width)) store) place rank before after r
-      → PlaceWritten lim a store place rank before after r
-  place-written store rank before after r w =
+  pub place-written : (work : List ℕ) (rank : ℕ) (before after : List ℕ) (r : ℕ)
+      → WritesItem a (midOf (start + place * width) (start + place * width + width - (start + place * width)) work) place rank before after r
+      → PlaceWritten lim a work place rank before after r
+  place-written work rank before after r w =
       let f : start + place * width ≡ slots-start lim a + place * slot-width a = rw (e, d) refl in
       let g : start + place * width + width - (start + place * width) ≡ slot-width a = omega (arith, d) in
       record {
         most = w .most;
         wrote = λ t h long.
             w .wrote (getD (slots-of lim t a) place none)
-            (subst⁻¹ (λ (z : ℕ × ℕ). InSlot a (midOf (z .0) (z .1) store) (getD (slots-of lim t a) place none)) (λ i. (f i, g i)) (slot-there lim t store h a place l))
+            (subst⁻¹ (λ (z : ℕ × ℕ). InSlot a (midOf (z .0) (z .1) work) (getD (slots-of lim t a) place none)) (λ i. (f i, g i)) (slot-there lim t work h a place l))
             (in-places lim a place l) long;
       }
 
 -- its length is the parameter's
-pub size-is : (lim : Limits) (a : Asked) (store : List ℕ) (place rank : ℕ) (before after : List ℕ) (r : ℕ) → 51 ≤ length before
-    → PlaceWritten lim a store place rank before after r → SizeIs lim a store place rank r
-size-is lim a store place rank before after r long w t h = w .wrote t h long .next ∙ zero-add (length (place-item lim t a place rank))
+pub size-is : (lim : Limits) (a : Asked) (work : List ℕ) (place rank : ℕ) (before after : List ℕ) (r : ℕ) → 51 ≤ length before
+    → PlaceWritten lim a work place rank before after r → SizeIs lim a work place rank r
+size-is lim a work place rank before after r long w t h = w .wrote t h long .next ∙ zero-add (length (place-item lim t a place rank))

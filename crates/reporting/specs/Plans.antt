@@ -6,7 +6,7 @@ use mathlib.Core.List.{List, [], _∷_}
 use mathlib.Core.Option.{Option, none, some}
 use lib.ListN.{length, getD, take, drop}
 use Rattle.tables.specs.declared.limits.Limits.{Limits}
-use Rattle.tables.specs.Store.{Holds}
+use Rattle.tables.specs.Store.{Works}
 use Rattle.tables.specs.Tables.{Tables}
 use Rattle.reports.specs.declared.Asked.{Asked}
 use Rattle.reports.specs.Asked.{asked}
@@ -61,22 +61,22 @@ pub record Steps (room j size : ℕ) (here : Cursor) (w r : Walk) : Type 0 where
       → At all room j from (i ∷ rest) w → At all room j from rest r
 
 -- from the first parameter of a table up to what is left of it, past at most n places
-pub record Walked (lim : Limits) (a : Asked) (store : List ℕ) (ask room j n : ℕ) (rest : Tables → List Item → List Item) (w r : Walk) : Type 0 where
+pub record Walked (lim : Limits) (a : Asked) (work : List ℕ) (ask room j n : ℕ) (rest : Tables → List Item → List Item) (w r : Walk) : Type 0 where
   pub grown : Grown n w r
   pub ranked : Ranked (w .from) → Ranked (r .from)
-  pub steps : (t : Tables) → Holds lim t store → (all : List (List Item)) (from : Cursor → List Item) (more : List Item)
+  pub steps : (t : Tables) → Works lim t work → (all : List (List Item)) (from : Cursor → List Item) (more : List Item)
       → ((p q : ℕ) → from (record { ask = ask; place = p; rank = q }) ≡ from-here lim t a p q more)
       → At all room j from (from-here lim t a 0 0 more) w → At all room j from (rest t more) r
 
 -- all of them
-abbrev pub TableWalked : Limits → Asked → (store : List ℕ) → (ask room j : ℕ) → Walk → Walk → Type 0
-TableWalked lim a store ask room j w r = Walked lim a store ask room j 65535 (λ t more. more) w r
+abbrev pub TableWalked : Limits → Asked → (work : List ℕ) → (ask room j : ℕ) → Walk → Walk → Type 0
+TableWalked lim a work ask room j w r = Walked lim a work ask room j 65535 (λ t more. more) w r
 
 -- how many messages there are, and message j: as many as it has, from where it starts
-pub record PlanIs (lim : Limits) (types store : List ℕ) (room j : ℕ) (r : Walk) : Type 0 where
+pub record PlanIs (lim : Limits) (types work : List ℕ) (room j : ℕ) (r : Walk) : Type 0 where
   pub closed : r .closed ≤ 16777216
   pub ranked : Ranked (r .from)
-  pub total : (t : Tables) → Holds lim t store → length (split item-size room 255 0 0 (asked t types)) ≡ r .closed + 1
-  pub message : (t : Tables) → Holds lim t store → j ≤ r .closed
+  pub total : (t : Tables) → Works lim t work → length (split item-size room 255 0 0 (asked t types)) ≡ r .closed + 1
+  pub message : (t : Tables) → Works lim t work → j ≤ r .closed
       → (getD (split item-size room 255 0 0 (asked t types)) j [] ≡ take (r .own) (items-from lim t types (r .from)))
       × (length (getD (split item-size room 255 0 0 (asked t types)) j []) ≡ r .own)

@@ -5,7 +5,7 @@ use mathlib.Core.List.{List, _++_}
 use lib.ListN.{length, take}
 use Rattle.lists.specs.Ladder.{Ladder, rung, foot}
 use Rattle.tables.specs.declared.limits.Limits.{Limits}
-use Rattle.tables.specs.Store.{Holds}
+use Rattle.tables.specs.Store.{Works}
 use Rattle.tables.specs.Tables.{Tables}
 use Rattle.export_write.specs.Writers.{Wrote}
 use Rattle.reports.specs.declared.Asked.{Asked}
@@ -29,36 +29,36 @@ abbrev pub Puts : (here : List Item) → Spot → (more : List Item) → (before
 Puts here s more before after r =
     s .end + length (items-bytes (take (s .left) here)) ≤ length before → WroteSome here (s .left) more (r .left) (s .end) before after (r .end)
 
--- whatever the tables of the store, and whatever follows
-abbrev pub PutsFrom : Limits → (store : List ℕ) → (here rest : Tables → List Item → List Item) → Spot → (before after : List ℕ) → Spot → Type 0
-PutsFrom lim store here rest s before after r = (t : Tables) → Holds lim t store → (more : List Item) → Puts (here t more) s (rest t more) before after r
+-- whatever the tables of the working copy, and whatever follows
+abbrev pub PutsFrom : Limits → (work : List ℕ) → (here rest : Tables → List Item → List Item) → Spot → (before after : List ℕ) → Spot → Type 0
+PutsFrom lim work here rest s before after r = (t : Tables) → Works lim t work → (more : List Item) → Puts (here t more) s (rest t more) before after r
 
 -- from a place of a table on
 abbrev pub from-place : Limits → Asked → Spot → Tables → List Item → List Item
 from-place lim a s t more = from-here lim t a (s .place) (s .rank) more
 
 -- the parameter of a place
-pub record PlacePut (lim : Limits) (a : Asked) (store : List ℕ) (s : Spot) (before after : List ℕ) (r : Spot) : Type 0 where
+pub record PlacePut (lim : Limits) (a : Asked) (work : List ℕ) (s : Spot) (before after : List ℕ) (r : Spot) : Type 0 where
   pub next : r .place ≡ s .place + 1
   pub ranked : r .rank ≤ r .place
-  pub puts : PutsFrom lim store (from-place lim a s) (from-place lim a r) s before after r
+  pub puts : PutsFrom lim work (from-place lim a s) (from-place lim a r) s before after r
 
 -- all parameters up to what follows, which is then to be written from its first place on
-pub record AllPut (lim : Limits) (store : List ℕ) (here : Tables → List Item → List Item) (s : Spot) (before after : List ℕ) (r : Spot) : Type 0 where
+pub record AllPut (lim : Limits) (work : List ℕ) (here : Tables → List Item → List Item) (s : Spot) (before after : List ℕ) (r : Spot) : Type 0 where
   pub first : (r .place ≡ 0) × (r .rank ≡ 0)
-  pub puts : PutsFrom lim store here (λ t more. more) s before after r
+  pub puts : PutsFrom lim work here (λ t more. more) s before after r
 
 -- those of a table, and of a type that may be unknown
-abbrev pub TablePut : Limits → Asked → (store : List ℕ) → Spot → (before after : List ℕ) → Spot → Type 0
-TablePut lim a store s before after r = AllPut lim store (from-place lim a s) s before after r
+abbrev pub TablePut : Limits → Asked → (work : List ℕ) → Spot → (before after : List ℕ) → Spot → Type 0
+TablePut lim a work s before after r = AllPut lim work (from-place lim a s) s before after r
 
-abbrev pub TypePut : Limits → (b : ℕ) → (store : List ℕ) → Spot → (before after : List ℕ) → Spot → Type 0
-TypePut lim b store s before after r = AllPut lim store (λ t more. from-type lim t b (asked-by b) (s .place) (s .rank) more) s before after r
+abbrev pub TypePut : Limits → (b : ℕ) → (work : List ℕ) → Spot → (before after : List ℕ) → Spot → Type 0
+TypePut lim b work s before after r = AllPut lim work (λ t more. from-type lim t b (asked-by b) (s .place) (s .rank) more) s before after r
 
 -- the parameters of a message, behind a report's head
-abbrev pub ItemsPut : Limits → (types store : List ℕ) → Walk → (before after : List ℕ) → ℕ → Type 0
-ItemsPut lim types store w before after r =
-    (t : Tables) → Holds lim t store → 10 + length (items-bytes (take (w .own) (items-from lim t types (w .from)))) ≤ length before
+abbrev pub ItemsPut : Limits → (types work : List ℕ) → Walk → (before after : List ℕ) → ℕ → Type 0
+ItemsPut lim types work w before after r =
+    (t : Tables) → Works lim t work → 10 + length (items-bytes (take (w .own) (items-from lim t types (w .from)))) ≤ length before
     → Wrote (items-bytes (take (w .own) (items-from lim t types (w .from)))) 10 before after r
 
 -- the parameters that were written up to `end` were given a report's head

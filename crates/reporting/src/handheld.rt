@@ -1,7 +1,8 @@
-// The call of the handheld.
+// The call of the handheld, which owns the working copy.
 use super::answers::Report;
 use super::report::report_in;
 use tables::limits::HANDHELD;
+use tables::limits::HANDHELD_SIZE;
 ghost use Rattle.lists.specs.Ladder.{Answers};
 ghost use Rattle.tables.specs.Limits.{handheld};
 ghost use Rattle.reports.specs.Reporting.{reporting};
@@ -11,5 +12,6 @@ ghost use Rattle.reporting.specs.Told.{told};
 pub fn report(query: &[u8], index: u32, store: &[u8], buffer: &mut [u8]) -> Report
     ensures { λ r. ⌜ Answers (reporting handheld (now (query .entry)) index (now (store .entry)) (now (buffer .entry))) (record { answer = told r; buffer = now (buffer .exit) }) ⌝ }
 {
-    report_in(query, index, store, buffer, HANDHELD)
+    let mut work = [0u8; HANDHELD_SIZE];
+    report_in(query, index, store, buffer, HANDHELD, &mut work)
 }

@@ -15,7 +15,7 @@ use tables::limits::Limits;
 ghost use mathlib.Core.Path.{_≡_};
 ghost use Prim.Native.Nat.{_≤_, _<_};
 ghost use lib.ListN.{length};
-ghost use Rattle.tables.specs.Layout.{Roomy};
+ghost use Rattle.tables.specs.Forms.{Roomy};
 ghost use Rattle.reports.specs.TableSlots.{slot-count};
 ghost use Rattle.reporting.specs.Plans.{Ranked};
 ghost use Rattle.reporting.specs.Written.{PlacePut, TablePut, TypePut, ItemsPut, Headed};
@@ -38,16 +38,16 @@ pub(crate) struct Spot {
 }
 
 // The parameter in a place, where there is one.
-fn put_place(buffer: &mut [u8], spot: Spot, asked: Asked, store: &[u8], limits: Limits) -> Spot
-    requires { ⌜ Roomy limits × (length (now store) ≡ limits .size) × (spot .place < slot-count limits asked) × (spot .rank ≤ spot .place) × (0 < spot .left) ⌝ }
-    ensures { λ r. ⌜ PlacePut limits asked (now (store .entry)) spot (now (buffer .entry)) (now (buffer .exit)) r ⌝ }
+fn put_place(buffer: &mut [u8], spot: Spot, asked: Asked, work: &[u8], limits: Limits) -> Spot
+    requires { ⌜ Roomy limits × (length (now work) ≡ limits .size) × (spot .place < slot-count limits asked) × (spot .rank ≤ spot .place) × (0 < spot .left) ⌝ }
+    ensures { λ r. ⌜ PlacePut limits asked (now (work .entry)) spot (now (buffer .entry)) (now (buffer .exit)) r ⌝ }
 {
     let place = spot.place;
     let rank = spot.rank;
     let left = spot.left;
     let end = spot.end;
     let mut scratch = [0u8; ITEM];
-    let size = write_place(&mut scratch, asked, store, limits, place, rank);
+    let size = write_place(&mut scratch, asked, work, limits, place, rank);
     if size == 0 {
         return Spot {
             end,
@@ -66,9 +66,9 @@ fn put_place(buffer: &mut [u8], spot: Spot, asked: Asked, store: &[u8], limits: 
 }
 
 // The parameters of a table from a place on, as long as some are left to write.
-fn put_table(buffer: &mut [u8], spot: Spot, asked: Asked, store: &[u8], limits: Limits) -> Spot
-    requires { ⌜ Roomy limits × (length (now store) ≡ limits .size) × (spot .rank ≤ spot .place) ⌝ }
-    ensures { λ r. ⌜ TablePut limits asked (now (store .entry)) spot (now (buffer .entry)) (now (buffer .exit)) r ⌝ }
+fn put_table(buffer: &mut [u8], spot: Spot, asked: Asked, work: &[u8], limits: Limits) -> Spot
+    requires { ⌜ Roomy limits × (length (now work) ≡ limits .size) × (spot .rank ≤ spot .place) ⌝ }
+    ensures { λ r. ⌜ TablePut limits asked (now (work .entry)) spot (now (buffer .entry)) (now (buffer .exit)) r ⌝ }
 {
     let places = places_of(asked, limits);
     let mut s = spot;
@@ -81,7 +81,7 @@ fn put_table(buffer: &mut [u8], spot: Spot, asked: Asked, store: &[u8], limits: 
                 left: 0,
             };
         }
-        s = put_place(buffer, s, asked, store, limits);
+        s = put_place(buffer, s, asked, work, limits);
     }
     Spot {
         end: s.end,
@@ -92,9 +92,9 @@ fn put_table(buffer: &mut [u8], spot: Spot, asked: Asked, store: &[u8], limits: 
 }
 
 // The parameters of the type that a byte asks for; an unknown one is its error, and the last.
-fn put_type(buffer: &mut [u8], spot: Spot, byte: u8, store: &[u8], limits: Limits) -> Spot
-    requires { ⌜ Roomy limits × (length (now store) ≡ limits .size) × (spot .rank ≤ spot .place) × (0 < spot .left) ⌝ }
-    ensures { λ r. ⌜ TypePut limits byte (now (store .entry)) spot (now (buffer .entry)) (now (buffer .exit)) r ⌝ }
+fn put_type(buffer: &mut [u8], spot: Spot, byte: u8, work: &[u8], limits: Limits) -> Spot
+    requires { ⌜ Roomy limits × (length (now work) ≡ limits .size) × (spot .rank ≤ spot .place) × (0 < spot .left) ⌝ }
+    ensures { λ r. ⌜ TypePut limits byte (now (work .entry)) spot (now (buffer .entry)) (now (buffer .exit)) r ⌝ }
 {
     let Asks::Known(asked) = asked_by(byte) else {
         let error = [byte, NOT_SUPPORTED];
@@ -108,19 +108,19 @@ fn put_type(buffer: &mut [u8], spot: Spot, byte: u8, store: &[u8], limits: Limit
             left,
         };
     };
-    put_table(buffer, spot, asked, store, limits)
+    put_table(buffer, spot, asked, work, limits)
 }
 
 // The parameters of the planned message, behind a report's head: the byte behind them.
 pub(crate) fn put_items(
     buffer: &mut [u8],
     types: &[u8],
-    store: &[u8],
+    work: &[u8],
     limits: Limits,
     plan: Walk,
 ) -> usize
-    requires { ⌜ Roomy limits × (length (now store) ≡ limits .size) × Ranked (plan .from) ⌝ }
-    ensures { λ r. ⌜ ItemsPut limits (now (types .entry)) (now (store .entry)) plan (now (buffer .entry)) (now (buffer .exit)) r ⌝ }
+    requires { ⌜ Roomy limits × (length (now work) ≡ limits .size) × Ranked (plan .from) ⌝ }
+    ensures { λ r. ⌜ ItemsPut limits (now (types .entry)) (now (work .entry)) plan (now (buffer .entry)) (now (buffer .exit)) r ⌝ }
 {
     let from = plan.from;
     let mut ask = from.ask;
@@ -135,7 +135,7 @@ pub(crate) fn put_items(
             return spot.end;
         }
         let byte = types[ask];
-        spot = put_type(buffer, spot, byte, store, limits);
+        spot = put_type(buffer, spot, byte, work, limits);
         ask += 1;
     }
     spot.end

@@ -8,7 +8,7 @@ use tables::limits::Limits;
 ghost use mathlib.Core.Path.{_≡_};
 ghost use Prim.Native.Nat.{_≤_, _<_};
 ghost use lib.ListN.{length};
-ghost use Rattle.tables.specs.Layout.{Roomy};
+ghost use Rattle.tables.specs.Forms.{Roomy};
 ghost use Rattle.reporting.specs.Plans.{FitsIs, Steps, TableWalked, PlanIs};
 
 // The most parameters of a message.
@@ -96,21 +96,21 @@ fn step(w: Walk, size: usize, here: Cursor, room: usize, j: usize) -> Walk
 fn plan_table(
     walk: Walk,
     asked: Asked,
-    store: &[u8],
+    work: &[u8],
     limits: Limits,
     ask: usize,
     room: usize,
     j: usize,
 ) -> Walk
-    requires { ⌜ Roomy limits × (length (now store) ≡ limits .size) × (walk .closed ≤ 4294901760) × (walk .own ≤ 4294901760) ⌝ }
-    ensures { λ r. ⌜ TableWalked limits asked (now (store .entry)) ask room j walk r ⌝ }
+    requires { ⌜ Roomy limits × (length (now work) ≡ limits .size) × (walk .closed ≤ 4294901760) × (walk .own ≤ 4294901760) ⌝ }
+    ensures { λ r. ⌜ TableWalked limits asked (now (work .entry)) ask room j walk r ⌝ }
 {
     let places = places_of(asked, limits);
     let mut w = walk;
     let mut rank: usize = 0;
     let mut place: usize = 0;
     while place < places {
-        let size = place_size(asked, store, limits, place, rank);
+        let size = place_size(asked, work, limits, place, rank);
         if size != 0 {
             let here = Cursor { ask, place, rank };
             w = step(w, size, here, room, j);
@@ -122,9 +122,9 @@ fn plan_table(
 }
 
 // The plan of message j, where a message has room for so many bytes of parameters.
-pub(crate) fn plan_report(types: &[u8], store: &[u8], limits: Limits, room: usize, j: usize) -> Walk
-    requires { ⌜ Roomy limits × (length (now store) ≡ limits .size) × (length (now types) ≤ 255) ⌝ }
-    ensures { λ r. ⌜ PlanIs limits (now (types .entry)) (now (store .entry)) room j r ⌝ }
+pub(crate) fn plan_report(types: &[u8], work: &[u8], limits: Limits, room: usize, j: usize) -> Walk
+    requires { ⌜ Roomy limits × (length (now work) ≡ limits .size) × (length (now types) ≤ 255) ⌝ }
+    ensures { λ r. ⌜ PlanIs limits (now (types .entry)) (now (work .entry)) room j r ⌝ }
 {
     let start = Cursor {
         ask: 0,
@@ -148,7 +148,7 @@ pub(crate) fn plan_report(types: &[u8], store: &[u8], limits: Limits, room: usiz
             };
             return step(w, ERROR, here, room, j);
         };
-        w = plan_table(w, asked, store, limits, ask, room, j);
+        w = plan_table(w, asked, work, limits, ask, room, j);
         ask += 1;
     }
     w

@@ -1,4 +1,4 @@
-// The call of the vehicle.
+// The call of the vehicle, whose store is read as it is.
 use super::answers::Report;
 use super::report::report_in;
 use tables::limits::VEHICLE;
@@ -11,5 +11,6 @@ ghost use Rattle.reporting.specs.Told.{told};
 pub fn report(query: &[u8], index: u32, store: &[u8], buffer: &mut [u8]) -> Report
     ensures { λ r. ⌜ Answers (reporting vehicle (now (query .entry)) index (now (store .entry)) (now (buffer .entry))) (record { answer = told r; buffer = now (buffer .exit) }) ⌝ }
 {
-    report_in(query, index, store, buffer, VEHICLE)
+    let mut none = [0u8; 0];
+    report_in(query, index, store, buffer, VEHICLE, &mut none)
 }

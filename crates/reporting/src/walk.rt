@@ -1,4 +1,4 @@
-// The tables of a store, place by place.
+// The tables of a working copy, place by place.
 use report_write::items::ITEM;
 use report_write::items::write_item;
 use reports::Asked;
@@ -24,7 +24,7 @@ use tables::places::SYSTEM;
 ghost use mathlib.Core.Path.{_≡_};
 ghost use Prim.Native.Nat.{_<_};
 ghost use lib.ListN.{length};
-ghost use Rattle.tables.specs.Layout.{Roomy};
+ghost use Rattle.tables.specs.Forms.{Roomy};
 ghost use Rattle.reports.specs.TableSlots.{slot-count, slot-width, slots-start};
 ghost use Rattle.reporting.specs.Walks.{PlaceWritten, SizeIs};
 
@@ -87,31 +87,31 @@ pub(crate) fn places_of(asked: Asked, limits: Limits) -> usize
 pub(crate) fn write_place(
     scratch: &mut [u8],
     asked: Asked,
-    store: &[u8],
+    work: &[u8],
     limits: Limits,
     place: usize,
     rank: usize,
 ) -> usize
-    requires { ⌜ Roomy limits × (length (now store) ≡ limits .size) × (place < slot-count limits asked) ⌝ }
-    ensures { λ r. ⌜ PlaceWritten limits asked (now (store .entry)) place rank (now (scratch .entry)) (now (scratch .exit)) r ⌝ }
+    requires { ⌜ Roomy limits × (length (now work) ≡ limits .size) × (place < slot-count limits asked) ⌝ }
+    ensures { λ r. ⌜ PlaceWritten limits asked (now (work .entry)) place rank (now (scratch .entry)) (now (scratch .exit)) r ⌝ }
 {
     let width = width_of(asked);
     let start = start_of(asked, limits) + place * width;
     let end = start + width;
-    write_item(scratch, asked, &store[start..end], place, rank)
+    write_item(scratch, asked, &work[start..end], place, rank)
 }
 
 // Its length alone.
 pub(crate) fn place_size(
     asked: Asked,
-    store: &[u8],
+    work: &[u8],
     limits: Limits,
     place: usize,
     rank: usize,
 ) -> usize
-    requires { ⌜ Roomy limits × (length (now store) ≡ limits .size) × (place < slot-count limits asked) ⌝ }
-    ensures { λ r. ⌜ SizeIs limits asked (now (store .entry)) place rank r ⌝ }
+    requires { ⌜ Roomy limits × (length (now work) ≡ limits .size) × (place < slot-count limits asked) ⌝ }
+    ensures { λ r. ⌜ SizeIs limits asked (now (work .entry)) place rank r ⌝ }
 {
     let mut scratch = [0u8; ITEM];
-    write_place(&mut scratch, asked, store, limits, place, rank)
+    write_place(&mut scratch, asked, work, limits, place, rank)
 }

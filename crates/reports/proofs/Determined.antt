@@ -7,7 +7,7 @@ use Rattle.lists.specs.Ladder.{Answers}
 use Rattle.lists.proofs.Ladder.{one-answer}
 use Rattle.tables.specs.declared.limits.Limits.{Limits}
 use Rattle.tables.specs.Tables.{Tables}
-use Rattle.tables.proofs.LayoutLaws.{layout-one}
+use Rattle.shared_texts.proofs.Forms.{layout-one}
 use Rattle.reports.specs.Cut.{messages, report-bytes}
 use Rattle.reports.specs.Reading.{Read, Reads, reading}
 use Rattle.reports.specs.Reporting.{After, writes, Asks, Reports, reporting}

@@ -1,4 +1,4 @@
--- The tables that can be asked for, as slots of the store: how a report is made. No promise cites these.
+-- The tables that can be asked for, as slots of a working copy: how a report is made. No promise cites these.
 use Prim.Native.Nat.{ℕ, _+_, _%_, _<_}
 use mathlib.Core.Path.{_≡_}
 use mathlib.Core.List.{List, [], _∷_}

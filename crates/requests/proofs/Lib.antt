@@ -1,3 +1,4 @@
 pub mod Joining
 pub mod RunLaws
 pub mod Steps
+pub mod TryLaws

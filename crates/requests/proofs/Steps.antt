@@ -1,5 +1,5 @@
 -- One setting of a request after another, as the code takes them on its working copy. Assumes nothing.
-use Rattle.lists.proofs.Kit.{ℕ, suc, _+_, _-_, _≤_, _<_, _≡_, refl, sym, ap, _∙_, subst, List, [], _∷_, _++_, Bool, true, false, Option, none, arith, length, drop, length-append, length-drop, drop-of-length-le, drop-cons}
+use Rattle.lists.proofs.Kit.{ℕ, suc, _+_, _-_, _≤_, _<_, _≡_, refl, sym, ap, _∙_, subst, List, [], _∷_, _++_, Option, none, arith, length, drop, length-append, length-drop, drop-of-length-le, drop-cons}
 use denote.Enum.Declared.{tagOf}
 use types.Run.{OneOf, miss}
 use Rattle.lists.specs.Bytes.{Bytes}
@@ -18,12 +18,16 @@ use Rattle.settings.specs.declared.settings.Setting.the-variants.{GroupContacts
 use Rattle.read_fields.specs.Places.{StandsAt}
 use Rattle.read_setting.specs.SettingAt.{SettingAt}
 use Rattle.tables.specs.declared.limits.Limits.{Limits}
-use Rattle.tables.specs.Store.{Works, Applied}
+use Rattle.tables.specs.Allowed.{Allowed}
+use Rattle.tables.specs.Store.{Works}
 use Rattle.tables.specs.Tables.{Tables}
+use Rattle.tables.proofs.AllowedLaws.{allowed-within, apply-room}
 use Rattle.requests.specs.declared.run.Step.the-variants.{Next, Fault as StepFault}
+use Rattle.requests.specs.declared.trying.Held.the-variants.{Bytes as HeldBytes, NoRoom as HeldNoRoom}
 use Rattle.requests.specs.Judge.{done, taken, over, fault, refused}
 use Rattle.requests.specs.Running.{FlagsAre, Stepped, StepIs, Ran}
 use Rattle.requests.specs.Requests.{Runs, Fault, Judged, item-of, or-else, LastItem, last-item}
+use Rattle.requests.specs.Trying.{SumIs, TryIs}
 use Rattle.requests.proofs.RunLaws.{one-more, item-end, stands-in, at-full}
 
 -- ---- FF's bits of a setting that was read
@@ -65,45 +69,48 @@ module _ (c : Coding) (lim : Limits) (m : List ℕ) where
     fits : (x : Setting) (next : ℕ) → StandsAt c m at next x → Fits c x
     fits x next y = has-writing c x (y .bytes) (y .written)
 
-    pub step-taken : (r : Read) (next : ℕ) (f : LastFlags) (k : Bool) → SettingAt c left m at (Taken r next) → FlagsAre r f
-        → Applied lim m r s t k → k ≡ true → StepIs c lim left m at s t (Next next f)
-    step-taken r next f k (x, means, i, stands) g a e was roomy holds =
-        let (u, q, h) = a was x c left roomy holds means i (fits x next stands) .room e in
-        record { setting = x; tables = u; range = i; stands = stands; applied = q; holds = h; flags = g m x means }
+    pub step-taken : (r : Read) (next sum n : ℕ) (f : LastFlags) → SettingAt c left m at (Taken r next) → FlagsAre r f
+        → TryIs lim m r sum s t (HeldBytes n) → StepIs c lim left m at sum s t (Next next f n)
+    step-taken r next sum n f (x, means, i, stands) g a was roomy holds is =
+        let (u, q, h, e) = a was x c left roomy holds is means i (fits x next stands) in
+        record { setting = x; tables = u; range = i; stands = stands; applied = q; holds = h; summed = e; flags = g m x means }
 
-    pub step-full : (r : Read) (next : ℕ) (k : Bool) → SettingAt c left m at (Taken r next)
-        → Applied lim m r s t k → k ≡ false → StepIs c lim left m at s t (StepFault NoRoom)
-    step-full r next k (x, means, i, stands) a e was roomy holds =
-        at-full c lim m b left was at x next (stands-within x next stands) i stands (a was x c left roomy holds means i (fits x next stands) .full e)
+    pub step-full : (r : Read) (next sum : ℕ) → SettingAt c left m at (Taken r next) → TryIs lim m r sum s t HeldNoRoom → StepIs c lim left m at sum s t (StepFault NoRoom)
+    step-full r next sum (x, means, i, stands) a was roomy holds is =
+        at-full c lim m b left was at x next (stands-within x next stands) i stands (a was x c left roomy holds is means i (fits x next stands))
 
   -- ---- all of them
 
   module _ (count at : ℕ) (was : Tables) where
     -- so many settings were taken, up to the place p
-    pub record Along (work : List ℕ) (p n : ℕ) (f : LastFlags) : Type 0 where
+    pub record Along (work : List ℕ) (p n : ℕ) (f : LastFlags) (sum : ℕ) : Type 0 where
       pub settings : List Setting
       pub tables : Tables
+      pub allowed : Allowed lim tables
       pub counted : length settings ≡ n
       pub runs : Runs c lim count was (drop at m) settings tables (drop p m)
       pub holds : Works lim tables work
+      pub summed : SumIs lim sum tables
       pub flags : f ≡ last-item settings .flags
 
-    pub along-start : (work : List ℕ) → Works lim was work → Along work at 0 (last-item [] .flags)
-    along-start work h = record { settings = []; tables = was; counted = refl; runs = done; holds = h; flags = refl }
+    pub along-start : (work : List ℕ) (sum : ℕ) → Allowed lim was → Works lim was work → SumIs lim sum was → Along work at 0 (last-item [] .flags) sum
+    along-start work sum ok h e = record { settings = []; tables = was; allowed = ok; counted = refl; runs = done; holds = h; summed = e; flags = refl }
 
-    module _ (work : List ℕ) (p n : ℕ) (f : LastFlags) (l : Along work p n f) where
+    module _ (work : List ℕ) (p n : ℕ) (f : LastFlags) (sum : ℕ) (l : Along work p n f sum) where
       -- one setting more
-      pub along-on : Bytes m → (t : List ℕ) (next : ℕ) (g : LastFlags) → n < count → Stepped c lim (count - n - 1) m p next (l .tables) t g → Along t next (n + 1) g
-      along-on b t next g h z =
+      pub along-on : Bytes m → (t : List ℕ) (next : ℕ) (g : LastFlags) (k : ℕ) → n < count → Stepped c lim (count - n - 1) m p next (l .tables) t g k → Along t next (n + 1) g k
+      along-on b t next g k h z =
           let (w, e, q) = stands-in c lim m b (count - n - 1) was p (z .setting) next (z .stands) in
           let d : length (l .settings) ≡ n = l .counted in
-          let k : length (l .settings ++ (z .setting ∷ [])) ≡ n + 1 = length-append (l .settings) (z .setting ∷ []) ∙ omega arith in
+          let more : length (l .settings ++ (z .setting ∷ [])) ≡ n + 1 = length-append (l .settings) (z .setting ∷ []) ∙ omega arith in
           record {
             settings = l .settings ++ (z .setting ∷ []);
             tables = z .tables;
-            counted = k;
+            allowed = allowed-within lim (z .tables) (z .holds .0) (apply-room lim (z .setting) (l .tables) (z .tables) (z .applied));
+            counted = more;
             runs = one-more c lim (count - n - 1) (z .setting) w (drop next m) (l .runs) (omega arith) e q (z .range) (z .applied);
             holds = z .holds;
+            summed = z .summed;
             flags = z .flags ∙ sym (ap (λ (x : LastItem). x .flags) (item-end c lim (l .runs) (omega arith) (z .setting)));
           }
 
@@ -125,4 +132,4 @@ module _ (c : Coding) (lim : Limits) (m : List ℕ) where
       along-end x y h =
           let d : length (l .settings) ≡ n = l .counted in
           let q = subst (λ (r : List ℕ). Runs c lim count was (drop at m) (l .settings) (l .tables) r) (drop-of-length-le m h) (l .runs) in
-          record { settings = l .settings; tables = l .tables; judged = taken {l = l .settings} (omega arith) q; holds = l .holds; flags = l .flags }
+          record { settings = l .settings; tables = l .tables; allowed = l .allowed; judged = taken {l = l .settings} (omega arith) q; holds = l .holds; flags = l .flags }

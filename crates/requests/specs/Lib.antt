@@ -1,3 +1,4 @@
 pub mod Judge
 pub mod Requests
 pub mod Running
+pub mod Trying

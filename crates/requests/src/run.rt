@@ -1,17 +1,19 @@
 // The settings of a request, read and applied in turn on a working copy of the store.
+use super::trying::Held;
+use super::trying::all_bytes;
+use super::trying::try_setting;
 use read_setting::reader::SettingRead;
 use read_setting::reader::read_setting;
 use settings::settings::Setting;
-use store_apply::store::apply;
 use tables::limits::Limits;
 use writing::Coding;
 use writing::LastFlags;
 use writing::Result;
 ghost use Rattle.requests.specs.Running.{FlagsAre, StepIs, RunIs};
 
-// The place after a setting that was taken, with FF's bits, or its fault.
+// The place after a setting that was taken, with FF's bits and the bytes that texts take then, or its fault.
 pub(crate) enum Step {
-    Next(usize, LastFlags),
+    Next(usize, LastFlags, usize),
     Fault(Result),
 }
 
@@ -34,7 +36,7 @@ fn flags_of(setting: Setting) -> LastFlags
     }
 }
 
-// The setting at a place, where so many settings are still counted after it and texts are coded so.
+// The setting at a place, where so many settings are still counted after it, texts are coded so, and those held take so many bytes.
 fn take_setting(
     work: &mut [u8],
     limits: Limits,
@@ -42,17 +44,19 @@ fn take_setting(
     at: usize,
     left: usize,
     coding: Coding,
+    sum: usize,
 ) -> Step
-    ensures { λ r. ⌜ StepIs coding limits left (now (m .entry)) at (now (work .entry)) (now (work .exit)) r ⌝ }
+    ensures { λ r. ⌜ StepIs coding limits left (now (m .entry)) at sum (now (work .entry)) (now (work .exit)) r ⌝ }
 {
     let read = read_setting(m, at, left, coding);
     match read {
         SettingRead::Taken(setting, next) => {
             let flags = flags_of(setting);
-            if !apply(work, limits, m, setting) {
-                return Step::Fault(Result::NoRoom);
+            let held = try_setting(work, limits, m, setting, sum);
+            match held {
+                Held::Bytes(bytes) => Step::Next(next, flags, bytes),
+                Held::NoRoom => Step::Fault(Result::NoRoom),
             }
-            Step::Next(next, flags)
         }
         SettingRead::Missing => Step::Fault(Result::BadField),
         SettingRead::Unknown => Step::Fault(Result::UnknownType),
@@ -71,6 +75,7 @@ pub fn take_settings(
 ) -> Run
     ensures { λ r. ⌜ RunIs coding limits count (now (m .entry)) at (now (work .entry)) (now (work .exit)) r ⌝ }
 {
+    let mut sum = all_bytes(work, limits);
     let mut p = at;
     let mut taken: u8 = 0;
     let mut flags = LastFlags {
@@ -79,11 +84,12 @@ pub fn take_settings(
     };
     while taken < count {
         let left = (count - taken - 1) as usize;
-        let step = take_setting(work, limits, m, p, left, coding);
+        let step = take_setting(work, limits, m, p, left, coding, sum);
         match step {
-            Step::Next(next, said) => {
+            Step::Next(next, said, held) => {
                 p = next;
                 flags = said;
+                sum = held;
             }
             Step::Fault(result) => return Run::Fault(result, taken + 1),
         }

@@ -5,7 +5,7 @@ use Rattle.lists.proofs.Ladder.{one-answer}
 use Rattle.lists.proofs.OneToOne.{decoded}
 use Rattle.tables.specs.declared.limits.Limits.{Limits}
 use Rattle.tables.specs.Tables.{Tables}
-use Rattle.tables.proofs.LayoutLaws.{layout-one}
+use Rattle.shared_texts.proofs.Forms.{layout-one}
 use Rattle.restore.specs.declared.restore.Restored.{Restored}
 use Rattle.restore.specs.declared.restore.Restored.the-variants.{Same, ReplyBuffer, NotAStore, Buffer}
 use Rattle.restore.specs.Restoring.{number, AfterRestore, restores, restoring}

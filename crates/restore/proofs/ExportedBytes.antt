@@ -2,10 +2,10 @@
 use Rattle.lists.proofs.Kit.{ℕ, _≤_, _≡_, sym, ap, _∙_, inl, inr, List, arith, length, take, drop, take-append-seam}
 use Rattle.lists.specs.Ladder.{Answers}
 use Rattle.tables.specs.declared.limits.Limits.{Limits}
-use Rattle.tables.specs.Layout.{Roomy}
+use Rattle.tables.specs.Forms.{Roomy}
 use Rattle.tables.specs.Store.{Holds}
 use Rattle.tables.specs.Tables.{Tables}
-use Rattle.tables.proofs.LayoutLaws.{holds-store, layout-one}
+use Rattle.shared_texts.proofs.Forms.{holds-store, layout-one}
 use Rattle.export.specs.declared.parts.Part.{Part}
 use Rattle.export.specs.Exported.{part-number, exported, request-bytes}
 use Rattle.export.proofs.Determined.{one-part}

@@ -1,9 +1,14 @@
+pub mod CarriedTexts
 pub mod Determined
 pub mod ExportedBytes
+pub mod FirstPast
 pub mod Fitting
+pub mod FreshParts
+pub mod FreshRuns
 pub mod PartRuns
 pub mod Readable
 pub mod Requests
 pub mod RestoreLaws
 pub mod Restored
 pub mod StandardRequests
+pub mod TextRooms

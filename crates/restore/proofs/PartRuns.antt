@@ -1,4 +1,4 @@
--- PART RUNS: an exported part's settings, taken in turn, leave the part's tables as they were exported, whatever was there. Assumes nothing.
+-- PART RUNS: an exported part's settings, in turn, change the part's tables to what they were exported of, whatever was there; their texts' room aside. Assumes nothing.
 use Rattle.lists.proofs.Kit.{ℕ, suc, _+_, _-_, _≤_, _≡_, refl, sym, ap, _∙_, subst, _↔_, Bool, true, List, [], _∷_, _++_, map, append-nil, Option, none, some, arith, length, set, take, drop, replicate, length-append, take-append-drop, append-snoc, set-at, getD-at}
 use Rattle.lists.proofs.Bytes.{all-bytes}
 use Rattle.lists.specs.Every.{All}
@@ -14,7 +14,7 @@ use Rattle.tables.specs.declared.limits.Limits.{Limits}
 use Rattle.tables.specs.declared.members.Members.{Members}
 use Rattle.tables.specs.declared.members.Members.the-variants.{OfGroups, OfIndividuals}
 use Rattle.tables.specs.Allowed.{Allowed}
-use Rattle.tables.specs.Apply.{and-then, in-turn, has-key, put-contact, with-room, quick-step, status-step, channel-step, apply}
+use Rattle.tables.specs.Apply.{and-then, in-turn, has-key, put-contact, with-room, quick-step, status-step, channel-step, change, apply}
 use Rattle.tables.specs.Limits.{contact-places}
 use Rattle.tables.specs.MemberKinds.{MemberIn, contact-key}
 use Rattle.tables.specs.Tables.{Line, line-key, Tables}
@@ -52,7 +52,7 @@ turn-append {T = T} next (x ∷ a) b t = go (next x t) (turn-append next a b)
     go (some u) h = h u
 
 -- settings that fit, are in range and have room in turn run to their end
-pub turn-runs : (lim : Limits) (ss : List Setting) (u v : Tables) → All (Fits unicode16) ss → All (λ s. (left : ℕ) → InRange text-limits left s) ss
+turn-runs : (lim : Limits) (ss : List Setting) (u v : Tables) → All (Fits unicode16) ss → All (λ s. (left : ℕ) → InRange text-limits left s) ss
     → in-turn (apply lim) ss u ≡ some v → Runs unicode16 lim (length ss) u (canonical-all unicode16 ss) ss v []
 turn-runs lim [] u v f r e = subst (λ (w : Tables). Runs unicode16 lim 0 u [] [] w []) (cc) done
 turn-runs lim (s ∷ ss) u v f r e = go (apply lim s u) refl e (λ w. turn-runs lim ss w v (f .1) (r .1))
@@ -69,27 +69,27 @@ turn-runs lim (s ∷ ss) u v f r e = go (apply lim s u) refl e (λ w. turn-runs 
 -- settings that add one entry each, of which each has a new key, put their entries to the end in turn
 module _ {A K : Type 0} (key : A → K) (has : K → A → Bool) (decides : (k : K) (a : A) → (has k a ≡ true) ↔ (key a ≡ k)) (lim : Limits) (room : ℕ)
     (setting : A → Setting) (with-it : List A → Tables)
-    (puts : (a : A) (ls : List A) → apply lim (setting a) (with-it ls) ≡ with-room with-it (and-then (put-keyed (has (key a)) room a ls) some))
+    (puts : (a : A) (ls : List A) → change lim (setting a) (with-it ls) ≡ with-room with-it (and-then (put-keyed (has (key a)) room a ls) some))
   where
     keyed-turn : (before after : List A) → Distinct key (before ++ after) → length before + length after ≤ room
-        → in-turn (apply lim) (map setting after) (with-it before) ≡ some (with-it (before ++ after))
+        → in-turn (change lim) (map setting after) (with-it before) ≡ some (with-it (before ++ after))
     keyed-turn before [] d h = ap (λ ls. some (with-it ls)) (sym (append-nil before))
     keyed-turn before (a ∷ after) d h =
-        let e : apply lim (setting a) (with-it before) ≡ some (with-it (before ++ (a ∷ [])))
+        let e : change lim (setting a) (with-it before) ≡ some (with-it (before ++ (a ∷ [])))
         = puts a before ∙ ap (λ o. with-room with-it (and-then o some)) (keyed-new key has decides room a before (others-without key before a after d .0) (omega arith)) in
-        then-turn (apply lim) (setting a) (map setting after) (with-it before) (with-it (before ++ (a ∷ []))) e
+        then-turn (change lim) (setting a) (map setting after) (with-it before) (with-it (before ++ (a ∷ []))) e
         ∙ keyed-turn (before ++ (a ∷ [])) after (subst (Distinct key) (sym (append-snoc before a after)) d) (omega (arith, length-append before (a ∷ [])))
         ∙ ap (λ ls. some (with-it ls)) (append-snoc before a after)
 
 -- lines, whose key is IDtype and number
 pub lines-turn : (lim : Limits) (u : Tables) (ls : List Line) → length ls ≤ lim .lines → Distinct line-key ls
-    → in-turn (apply lim) (map line-add ls) (put-own K.Lines u []) ≡ some (put-own K.Lines u ls)
+    → in-turn (change lim) (map line-add ls) (put-own K.Lines u []) ≡ some (put-own K.Lines u ls)
 lines-turn lim u ls h d = keyed-turn line-key has-key key-is-both lim (lim .lines) line-add (put-own K.Lines u) (λ l ls. refl) [] ls d (omega arith)
 
 -- group and individual contacts, whose key is the address
 contacts-turn : (w : Members) (lim : Limits) (with-it : List (MemberIn w) → Tables)
-    → ((x : MemberIn w) (xs : List (MemberIn w)) → apply lim (contact-add w x) (with-it xs) ≡ with-room with-it (and-then (put-contact w contact-places x xs) some))
-    → (xs : List (MemberIn w)) → length xs ≤ contact-places → Distinct (contact-key w) xs → in-turn (apply lim) (map (contact-add w) xs) (with-it []) ≡ some (with-it xs)
+    → ((x : MemberIn w) (xs : List (MemberIn w)) → change lim (contact-add w x) (with-it xs) ≡ with-room with-it (and-then (put-contact w contact-places x xs) some))
+    → (xs : List (MemberIn w)) → length xs ≤ contact-places → Distinct (contact-key w) xs → in-turn (change lim) (map (contact-add w) xs) (with-it []) ≡ some (with-it xs)
 contacts-turn w lim with-it puts xs h d =
     keyed-turn (contact-key w) (has-number w) (key-is-number w) lim contact-places (contact-add w) with-it puts [] xs d (omega arith)
 
@@ -124,12 +124,12 @@ quick-puts e before after h =
 
 -- settings of one add each do as one setting of them all
 quick-adds : (lim : Limits) (u : Tables) (es : List Entry) (q : List (Option Text))
-    → in-turn (apply lim) (map quick-add es) (put-own K.QuickTexts u q) ≡ with-room (put-own K.QuickTexts u) (in-turn (quick-step Add) es q)
+    → in-turn (change lim) (map quick-add es) (put-own K.QuickTexts u q) ≡ with-room (put-own K.QuickTexts u) (in-turn (quick-step Add) es q)
 quick-adds lim u [] q = refl
 quick-adds lim u (e ∷ es) q = quick-adds lim u es _
 
 quick-cut : (lim : Limits) (u : Tables) (es : List Entry) (o : Option (List (Option Text)))
-    → and-then (with-room (put-own K.QuickTexts u) o) (in-turn (apply lim) (map quick-add es)) ≡ with-room (put-own K.QuickTexts u) (and-then o (in-turn (quick-step Add) es))
+    → and-then (with-room (put-own K.QuickTexts u) o) (in-turn (change lim) (map quick-add es)) ≡ with-room (put-own K.QuickTexts u) (and-then o (in-turn (quick-step Add) es))
 quick-cut lim u es none = refl
 quick-cut lim u es (some q) = quick-adds lim u es q
 
@@ -152,30 +152,30 @@ channels-turn room before (n ∷ after) h =
 
 -- settings of slots, which put what they say into the place of their index, fill a table of as many places
 module _ {A : Type 0} (lim : Limits) (setting : ℕ → Option A → Setting) (with-it : List (Option A) → Tables)
-    (empties : (i : ℕ) (q : List (Option A)) → apply lim (setting i none) (with-it q) ≡ some (with-it (set q i none)))
-    (fills : (i : ℕ) (x : A) (q : List (Option A)) → apply lim (setting i (some x)) (with-it q) ≡ some (with-it (set q i (some x))))
+    (empties : (i : ℕ) (q : List (Option A)) → change lim (setting i none) (with-it q) ≡ some (with-it (set q i none)))
+    (fills : (i : ℕ) (x : A) (q : List (Option A)) → change lim (setting i (some x)) (with-it q) ≡ some (with-it (set q i (some x))))
   where
-    puts : (i : ℕ) (o : Option A) (q : List (Option A)) → apply lim (setting i o) (with-it q) ≡ some (with-it (set q i o))
+    puts : (i : ℕ) (o : Option A) (q : List (Option A)) → change lim (setting i o) (with-it q) ≡ some (with-it (set q i o))
     puts i none q = empties i q
     puts i (some x) q = fills i x q
 
     slots-turn : (before rest l : List (Option A)) (i : ℕ) → length before ≡ i → length rest ≡ length l
-        → in-turn (apply lim) (slots setting i l) (with-it (before ++ rest)) ≡ some (with-it (before ++ l))
+        → in-turn (change lim) (slots setting i l) (with-it (before ++ rest)) ≡ some (with-it (before ++ l))
     slots-turn before [] [] i e h = refl
     slots-turn before [] (x ∷ l) i e h = absurd (omega arith)
     slots-turn before (y ∷ rest) [] i e h = absurd (omega arith)
     slots-turn before (y ∷ rest) (x ∷ l) i e h =
-        then-turn (apply lim) (setting i x) (slots setting (suc i) l) (with-it (before ++ y ∷ rest)) (with-it (before ++ x ∷ rest))
+        then-turn (change lim) (setting i x) (slots setting (suc i) l) (with-it (before ++ y ∷ rest)) (with-it (before ++ x ∷ rest))
         (puts i x (before ++ y ∷ rest) ∙ ap (λ q. some (with-it q)) (set-at before y rest x i e))
-        ∙ ap (λ q. in-turn (apply lim) (slots setting (suc i) l) (with-it q)) (sym (append-snoc before x rest))
+        ∙ ap (λ q. in-turn (change lim) (slots setting (suc i) l) (with-it q)) (sym (append-snoc before x rest))
         ∙ slots-turn (before ++ (x ∷ [])) rest l (suc i) (omega (arith, length-append before (x ∷ []))) (omega arith)
         ∙ ap (λ q. some (with-it q)) (append-snoc before x l)
 
 -- ---- the parts
 
 module _ (from to : Limits) (t u : Tables) (ok : Allowed from t) (old : Allowed to u) where
-  -- the settings of a part that has places, in turn, have room and leave the part's tables as t has them
-  pub part-turn : (p : Part) → PlacesFor to t p → in-turn (apply to) (exported p t) u ≡ some (with-part p t u)
+  -- PART TURN: the settings of a part that has places, in turn, change the part's tables to those that t has
+  pub part-turn : (p : Part) → PlacesFor to t p → in-turn (change to) (exported p t) u ≡ some (with-part p t u)
   part-turn Lines h = lines-turn to u (t .lines) h (ok .distinct)
   part-turn Fixed h = refl
   part-turn QuickTexts h =
@@ -200,9 +200,9 @@ module _ (from to : Limits) (t u : Tables) (ok : Allowed from t) (old : Allowed 
       slots-turn to line-slot-setting (put-own K.LineSlot u) (λ i q. refl) (λ i x q. refl) [] (u .line-slots) (t .line-slots) 0 refl
       (old .line-slots .0 ∙ sym (ok .line-slots .0))
 
-  -- PART RUNS: so they run to their end over their canonical writing
-  pub part-runs : Exportable from → (p : Part) → PlacesFor to t p
+  -- PART RUNS: where they have room in turn, they run to their end over their canonical writing
+  pub part-runs : Exportable from → (p : Part) → in-turn (apply to) (exported p t) u ≡ some (with-part p t u)
       → Runs unicode16 to (length (exported p t)) u (canonical-all unicode16 (exported p t)) (exported p t) (with-part p t u) []
-  part-runs x p h =
+  part-runs x p turn =
       let r : AllReadable _ (exported p t) = exported-readable from x t ok p in
-      turn-runs to (exported p t) u (with-part p t u) (r .fits) (r .ranged) (part-turn p h)
+      turn-runs to (exported p t) u (with-part p t u) (r .fits) (r .ranged) turn

@@ -9,12 +9,15 @@ use Rattle.read_carrier.proofs.TrueLength.{plain-carries}
 use Rattle.tables.specs.declared.limits.Limits.{Limits}
 use Rattle.tables.specs.Allowed.{Allowed}
 use Rattle.tables.specs.Tables.{Tables}
+use Rattle.tables.specs.Texts.{text-sum}
 use Rattle.export.specs.declared.parts.Part.{Part}
 use Rattle.export.specs.declared.parts.Part.the-variants.{Lines, Fixed, QuickTexts, Channels, StatusTexts, Groups, Individuals, GroupContacts, IndividualContacts, LineSlots}
 use Rattle.export.specs.Exported.{exported, data-bytes, request-bytes}
 use Rattle.export.specs.Exportable.{Exportable}
-use Rattle.restore.specs.Restored.{longest, PlacesFor, PartFits}
+use Rattle.restore.specs.Restored.{longest, PlacesFor, texts-upto, PartFits}
 use Rattle.restore.proofs.Fitting.{exported-readable, exported-count}
+use Rattle.restore.proofs.FreshParts.{sum-most}
+use Rattle.restore.proofs.TextRooms.{less-room}
 
 -- ---- a request of any settings
 
@@ -89,4 +92,8 @@ module _ (lim : Limits) (x : Exportable lim) (t : Tables) (ok : Allowed lim t) (
 
   -- OWN FITS: so every part of a set's tables fits a set of its own kind
   pub own-fits : PartFits lim t p
-  own-fits = record { request = exported-in-size .1; places = places-for lim t (ok .lines .0) (ok .channels .0) p }
+  own-fits = record {
+    request = exported-in-size .1;
+    places = places-for lim t (ok .lines .0) (ok .channels .0) p;
+    texts = less-room (lim .texts) (texts-upto t p) (text-sum t) (sum-most t p) (ok .texts);
+  }

@@ -5,7 +5,7 @@ use mathlib.Core.List.{List, [], _∷_}
 use lib.ListN.{length}
 use Rattle.lists.specs.Ladder.{Ladder, rung, foot}
 use Rattle.tables.specs.declared.limits.Limits.{Limits}
-use Rattle.tables.specs.Layout.{layout, Roomy}
+use Rattle.tables.specs.Forms.{layout, Roomy}
 use Rattle.tables.specs.Store.{StoreOf, Holds}
 use Rattle.tables.specs.Tables.{Tables, no-hash}
 use Rattle.slots.specs.Slots.{written-over}
@@ -16,7 +16,7 @@ use Rattle.export.specs.Exportable.{Exportable}
 use Rattle.export.specs.Exported.{ten, part-number, exported, request-bytes}
 use Rattle.restore.specs.declared.restore.Restored.{Restored}
 use Rattle.restore.specs.declared.restore.Restored.the-variants.{Same, ReplyBuffer, NotAStore, Buffer}
-use Rattle.restore.specs.Restored.{with-part, requests}
+use Rattle.restore.specs.Restored.{with-part, Ready, requests, HasRoom}
 
 -- each case's number
 abbrev pub number : Restored → ℕ
@@ -68,7 +68,7 @@ pub record Lent (lim : Limits) (buffer reply work : List ℕ) : Type 0 where
   pub answer : 20 ≤ length reply
   pub copy : length work ≡ lim .size
 
--- a part was exported and taken
+-- a part that has room was exported and taken
 pub record PartMoved (lim : Limits) (p : Part) (t u : Tables) (to-after buffer buffer-after reply reply-after : List ℕ) : Type 0 where
   pub to-is : to-after ≡ layout lim (with-part p t (forget u))
   pub buffer-is : buffer-after ≡ written-over (request-bytes (exported p t)) buffer
@@ -76,11 +76,11 @@ pub record PartMoved (lim : Limits) (p : Part) (t u : Tables) (to-after buffer b
 
 abbrev pub Moved : Limits → ℕ → (from to to-after buffer buffer-after reply reply-after work : List ℕ) → Type 0
 Moved lim n from to to-after buffer buffer-after reply reply-after work =
-    (p : Part) (t u : Tables) → part-number p ≡ n → Exportable lim → Roomy lim → Holds lim t from → Holds lim u to → Lent lim buffer reply work
+    (p : Part) (t u : Tables) → part-number p ≡ n → Exportable lim → Roomy lim → Holds lim t from → Holds lim u to → HasRoom lim t p u → Lent lim buffer reply work
     → PartMoved lim p t u to-after buffer buffer-after reply reply-after
 
--- all of them were
+-- all of them were, by a set that is ready
 abbrev pub AllMoved : Limits → (from to to-after buffer buffer-after reply reply-after work : List ℕ) → Type 0
 AllMoved lim from to to-after buffer buffer-after reply reply-after work =
-    (t u : Tables) → Exportable lim → Roomy lim → Holds lim t from → Holds lim u to → Lent lim buffer reply work
+    (t u : Tables) → Exportable lim → Roomy lim → Holds lim t from → Holds lim u to → Ready (lim .texts) u → Lent lim buffer reply work
     → record { answer = 0; to = to-after; buffer = buffer-after; reply = reply-after } ≡ restores lim from to buffer reply t

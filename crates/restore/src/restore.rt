@@ -5,6 +5,7 @@ use export::parts::PARTS;
 use station::commit::commit_for;
 use store_check::checks::is_store;
 use tables::limits::Limits;
+use tables::start::start;
 ghost use mathlib.Core.Path.{_≡_};
 ghost use lib.ListN.{length};
 ghost use Rattle.lists.specs.Ladder.{Answers};
@@ -30,7 +31,7 @@ fn move_part(
 )
     ensures { λ _. ⌜ Moved limits part (now (from .entry)) (now (to .entry)) (now (to .exit)) (now (buffer .entry)) (now (buffer .exit)) (now (reply .entry)) (now (reply .exit)) (now (work .entry)) ⌝ }
 {
-    let written = export_in(part, from, buffer, limits);
+    let written = export_in(part, from, buffer, limits, work);
     let Export::Written(length) = written else {
         return;
     };
@@ -56,6 +57,7 @@ fn move_parts(
 }
 
 // The other store's tables become those of the first, the kept hash aside, for sets with these limits; as many bytes as a store has are lent to work in.
+// It is started first, so that no text that it held takes room; nothing is lost, for every table is replaced.
 pub fn restore_in(
     from: &[u8],
     to: &mut [u8],
@@ -78,6 +80,7 @@ pub fn restore_in(
     if !is_store(from, limits) {
         return Restored::NotAStore;
     }
+    start(to, limits);
     move_parts(from, to, buffer, reply, limits, work);
     Restored::Same
 }

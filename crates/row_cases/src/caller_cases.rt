@@ -6,7 +6,7 @@ use case_lines::printing::text;
 use case_lines::taking::requests;
 
 // Where the order of a hand-held's lines stands.
-const ORDER: usize = 14526;
+const ORDER: usize = 2222;
 
 const SHOWN: usize = ORDER + 5;
 

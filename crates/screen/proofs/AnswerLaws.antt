@@ -11,7 +11,7 @@ use Rattle.tables.specs.declared.limits.Limits.{Limits}
 use Rattle.tables.specs.Layout.{digit-bytes}
 use Rattle.tables.specs.Store.{Holds}
 use Rattle.tables.specs.Tables.{Tables}
-use Rattle.tables.proofs.LayoutLaws.{layout-one}
+use Rattle.shared_texts.proofs.Forms.{layout-one}
 use Rattle.screen.specs.declared.rows.Refusal.{Refusal}
 use Rattle.screen.specs.declared.rows.Refusal.the-variants.{ScratchSize, NotAStore, Absent}
 use Rattle.screen.specs.declared.names.Name.{Name}
@@ -25,9 +25,9 @@ use Rattle.screen.specs.Screen.{AfterRow, refusal, refused, leaves, show
 use Rattle.screen.proofs.NumberLaws.{unit-length}
 
 -- what is shown has the number 0
-pub shown-number : (lim : Limits) (scratch : List ℕ) (row : Row) (d : Display) → shows lim scratch row d .number ≡ 0
-shown-number lim scratch row (stored us) = refl
-shown-number lim scratch row (written us) = refl
+pub shown-number : (lim : Limits) (t : Tables) (scratch : List ℕ) (row : Row) (d : Display) → shows lim t scratch row d .number ≡ 0
+shown-number lim t scratch row (stored us) = refl
+shown-number lim t scratch row (written us) = refl
 
 -- ---- the number of an address
 
@@ -76,7 +76,7 @@ module _ (lim : Limits) (s scratch : List ℕ) (row : Row) where
     pub big : 36 ≤ length scratch
     pub tables : Tables
     pub holds : Holds lim tables s
-    pub is : Named lim s row (caption tables row) x
+    pub is : Named lim tables s row x
     pub answers : (a : AfterRow) → RowShown lim s scratch row a → Answers (showing lim s scratch row) a
 
   pub in-row : (x : Name) → Kept x → Answers (naming lim s (length scratch) row) x → InRow x
@@ -90,7 +90,7 @@ module _ (lim : Limits) (s scratch : List ℕ) (row : Row) where
 
   -- an answer is a refusal, or what is shown
   pub shown-by : (X : AfterRow → Type 0) → ((why : Refusal) → X (refused (refusal why) scratch))
-      → ((a : AfterRow) (p : RowShown lim s scratch row a) → 36 ≤ length scratch → X (shows lim scratch row (p .display)))
+      → ((a : AfterRow) (p : RowShown lim s scratch row a) → 36 ≤ length scratch → X (shows lim (p .tables) scratch row (p .display)))
       → (a : AfterRow) → Answers (showing lim s scratch row) a → X a
   shown-by X refuse there a (inl (l, e)) = subst X (sym e) (refuse ScratchSize)
   shown-by X refuse there a (inr (l, inl (n, e))) = subst X (sym e) (refuse NotAStore)
@@ -102,7 +102,7 @@ module _ (lim : Limits) (s scratch : List ℕ) (row : Row) where
   number-same a (inl (l, e)) = inl (l, ap (λ (x : AfterRow). x .number) e)
   number-same a (inr (l, inl (n, e))) = inr (l, inl (n, ap (λ (x : AfterRow). x .number) e))
   number-same a (inr (l, inr (n, inl (k, e)))) = inr (l, inr (n, inl (k, ap (λ (x : AfterRow). x .number) e)))
-  number-same a (inr (l, inr (n, inr (k, p)))) = inr (l, inr (n, inr (k, ap (λ (x : AfterRow). x .number) (p .after) ∙ shown-number lim scratch row (p .display))))
+  number-same a (inr (l, inr (n, inr (k, p)))) = inr (l, inr (n, inr (k, ap (λ (x : AfterRow). x .number) (p .after) ∙ shown-number lim (p .tables) scratch row (p .display))))
 
 -- ---- where what was found is placed
 

@@ -4,10 +4,10 @@ use denote.Ref.{RefT}
 use Rattle.lists.specs.Ladder.{Answers}
 use Rattle.tables.specs.declared.limits.Limits.{Limits}
 use Rattle.tables.specs.Apply.{and-then}
-use Rattle.tables.specs.Layout.{Roomy}
+use Rattle.tables.specs.Forms.{Roomy}
 use Rattle.tables.specs.Store.{Holds}
 use Rattle.tables.specs.Tables.{GroupMember, Tables}
-use Rattle.tables.proofs.LayoutLaws.{holds-store}
+use Rattle.shared_texts.proofs.Forms.{holds-store}
 use Rattle.screen.specs.declared.rows.Refusal.{Refusal}
 use Rattle.screen.specs.declared.rows.Refusal.the-variants.{Absent}
 use Rattle.screen.specs.declared.rows.Row.{Row}

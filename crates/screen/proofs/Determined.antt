@@ -1,5 +1,5 @@
 -- Two outcomes that the screen's calls allow for one store, scratch and row are equal. Assumes nothing.
-use Rattle.lists.proofs.Kit.{ℕ, _-_, _≡_, refl, sym, ap, _∙_, subst, List, [], _∷_, map, Option·some-injective, getD}
+use Rattle.lists.proofs.Kit.{ℕ, _-_, _≡_, refl, sym, ap, ap₂, _∙_, subst, List, [], _∷_, map, Option·some-injective, getD}
 use denote.Ref.{RefT}
 use Rattle.lists.specs.Ladder.{Answers}
 use Rattle.lists.proofs.Ladder.{one-answer}
@@ -88,7 +88,8 @@ module _ (lim : Limits) (store scratch : List ℕ) (row : Row) where
       shows-one (q .row-is) (p .display) (q .display) (subst (λ (x : Caption). Displays x (p .display)) c (p .shown)) (q .shown)
 
   one-shown : (a b : AfterRow) → RowShown lim store scratch row a → RowShown lim store scratch row b → a ≡ b
-  one-shown a b p q = p .after ∙ ap (shows lim scratch row) (one-display scratch a b p q) ∙ sym (q .after)
+  one-shown a b p q =
+      p .after ∙ ap₂ (λ t d. shows lim t scratch row d) (one-tables lim store (p .tables) (q .tables) (p .holds) (q .holds)) (one-display scratch a b p q) ∙ sym (q .after)
 
   -- one number, one part and one scratch afterwards
   pub shown-determined : (a b : AfterRow) → Answers (showing lim store scratch row) a → Answers (showing lim store scratch row) b → a ≡ b

@@ -1,4 +1,5 @@
 pub mod AnswerLaws
+pub mod AreaLaws
 pub mod Background
 pub mod Determined
 pub mod EntryLaws
@@ -11,4 +12,5 @@ pub mod Scratch
 pub mod SeenLaws
 pub mod ShowLaws
 pub mod SlotLaws
+pub mod TextPlaces
 pub mod Theorems

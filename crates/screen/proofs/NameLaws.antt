@@ -1,16 +1,19 @@
 -- What is found in a row of a store is what stands there. Assumes nothing.
-use Rattle.lists.proofs.Kit.{ℕ, _+_, _*_, _-_, _/_, _≤_, _<_, _≡_, refl, sym, ap, ap₂, _∙_, subst, _≢_, inl, inr, Bool, true, false, cond, List, [], _∷_, map, none, some, Option·none-ne-some, arith, ltb-false, midOf, mid-len, eqb, ltb, length, getD, length-map}
+use Rattle.lists.proofs.Kit.{ℕ, _+_, _*_, _-_, _/_, _<_, _≡_, refl, sym, ap, ap₂, _∙_, subst, _≢_, inl, inr, Bool, true, false, cond, List, [], _∷_, map, none, some, Option·none-ne-some, arith, ltb-false, midOf, eqb, ltb, length, getD, length-map}
 use denote.Enum.Declared.{tagOf}
 use types.Run.{OneOf}
 use Rattle.lists.specs.Every.{All}
-use Rattle.slots.specs.Slots.{u24, zeros?, Found}
+use Rattle.slots.specs.Slots.{u24, zeros?}
 use Rattle.writing.specs.Settings.{Text}
 use Rattle.tables.specs.declared.limits.Limits.{Limits}
+use Rattle.tables.specs.declared.limits.Texts.{Texts}
+use Rattle.tables.specs.declared.limits.Texts.the-variants.{Placed, Shared}
 use Rattle.tables.specs.Allowed.{Allowed}
 use Rattle.tables.specs.Apply.{and-then}
 use Rattle.tables.specs.Layout.{digits-at}
 use Rattle.tables.specs.Store.{StoreOf, Holds}
 use Rattle.tables.specs.Tables.{Tables}
+use Rattle.screen.specs.declared.areas.Span.{Span}
 use Rattle.screen.specs.declared.names.Name.{Name}
 use Rattle.screen.specs.declared.names.Name.the-variants.{Refused, Text as TextAt, Digits, Group as GroupNumber, Individual as IndividualNumber}
 use Rattle.screen.specs.declared.rows.Refusal.the-variants.{Absent}
@@ -20,8 +23,8 @@ use Rattle.screen.specs.declared.names.SlotPlace.the-variants.{At, Beyon
 use Rattle.screen.specs.declared.rows.Row.{Row}
 use Rattle.screen.specs.declared.rows.Row.the-variants.{Line, QuickText, StatusText, Group, Individual, GroupContact, IndividualContact, LineSlot, NoTable}
 use Rattle.screen.proofs.rows.Row.{the-type}
-use Rattle.screen.specs.Naming.{SlotIs, hidden, NameIs, Named}
-use Rattle.screen.specs.Rows.{Caption, text, line, group, individual, line-row, individual-row, group-row, caption, text-of, of, Displays, stored, text-start}
+use Rattle.screen.specs.Naming.{SlotIs, hidden, TextIs, NameIs, Named}
+use Rattle.screen.specs.Rows.{Caption, text, line, group, individual, line-row, individual-row, group-row, caption, text-of, of, Displays, stored, start-by, text-start}
 use Rattle.screen.proofs.EntryLaws.{kind-at, kind-of, HeadIn, Captioned, row-seen, none-past}
 use Rattle.screen.proofs.SlotLaws.{SlotFits, slot-fits, head-at, text-behind}
 
@@ -50,29 +53,21 @@ named-beyond lim s row r x e t h = row-beyond lim t (h .0) row (subst (SlotIs li
 
 -- ---- rows with a slot
 
--- where a slot was found, the row's text starts there
-pub text-starts : (lim : Limits) (row : Row) (slot : Slot) → SlotIs lim row (At slot) → slot .text ≡ text-start lim row
-text-starts lim (Line n) slot x = x .2
-text-starts lim (QuickText n) slot x = omega (arith, x .2)
-text-starts lim (StatusText n) slot (h, x) = x .2
-text-starts lim (Group n) slot x = x .2
-text-starts lim (Individual n) slot x = x .2
-text-starts lim (GroupContact n) slot x = x .2
-text-starts lim (IndividualContact n) slot x = x .2
-text-starts lim (LineSlot n) slot x = x .2
-text-starts lim NoTable slot x = absurd x
-
 -- no row's text stands at the store's first byte
-pub text-starts-late : (lim : Limits) (t : Tables) (row : Row) (c : Caption) → caption t row ≡ some c → 0 < text-start lim row
-text-starts-late lim t (Line n) c e = omega arith
-text-starts-late lim t (QuickText n) c e = omega arith
-text-starts-late lim t (StatusText n) c e = omega arith
-text-starts-late lim t (Group n) c e = omega arith
-text-starts-late lim t (Individual n) c e = omega arith
-text-starts-late lim t (GroupContact n) c e = omega arith
-text-starts-late lim t (IndividualContact n) c e = omega arith
-text-starts-late lim t (LineSlot n) c e = omega arith
-text-starts-late lim t NoTable c e = absurd (Option·none-ne-some c e)
+pub text-starts-late : (lim : Limits) (t : Tables) (row : Row) (c : Caption) → caption t row ≡ some c → 0 < text-start lim t row
+text-starts-late lim t row c e = go (lim .texts) row e
+  where
+    go : (x : Texts) (row : Row) → caption t row ≡ some c → 0 < start-by x lim t row
+    go Placed (Line n) e = omega arith
+    go Placed (QuickText n) e = omega arith
+    go Placed (StatusText n) e = omega arith
+    go Placed (Group n) e = omega arith
+    go Placed (Individual n) e = omega arith
+    go Placed (GroupContact n) e = omega arith
+    go Placed (IndividualContact n) e = omega arith
+    go Placed (LineSlot n) e = omega arith
+    go Placed NoTable e = absurd (Option·none-ne-some c e)
+    go (Shared a) row e = omega arith
 
 -- a text that is not empty is shown
 shows-text : (c : Caption) → length (text-of c) ≢ 0 → Displays c (stored (text-of c))
@@ -148,11 +143,11 @@ here {lim} {s} {row} store x e = record { store = store; is = subst (SlotIs lim 
 
 module _ {lim : Limits} {s : List ℕ} {row : Row} {slot : Slot} (h : Here lim s row slot) where
   pub found-fits : SlotFits slot (length s)
-  found-fits = subst (SlotFits slot) (sym (h .store .size)) (slot-fits lim row slot (h .store .roomy) (h .is))
+  found-fits = subst (SlotFits slot) (sym (h .store .size)) (slot-fits (lim .texts) lim (h .store .roomy) (h .store .roomy .area) row slot (h .is))
 
   -- the text of each of some cases stands so many bytes behind its slot's start
   text-at : (a : ℕ) (ks : List ℕ) → All (λ k. head-at k ≡ a) ks → OneOf ks (tagOf the-type row) → slot .text ≡ slot .start + a
-  text-at a ks e k = text-behind lim row slot (h .is) ∙ ap (λ i. slot .start + i) (at-case head-at a ks (tagOf the-type row) e k)
+  text-at a ks e k = text-behind (lim .texts) lim row slot (h .is) ∙ ap (λ i. slot .start + i) (at-case head-at a ks (tagOf the-type row) e k)
 
   -- a group's four
   pub group-text : OneOf group-rows (tagOf the-type row) → slot .text ≡ slot .start + 4
@@ -176,57 +171,53 @@ pub record Shown (lim : Limits) (s : List ℕ) (row : Row) (slot : Slot) : Type 
   pub filled : zeros? (midOf (slot .start) (slot .end - slot .start) s) ≡ false
   pub not-hidden : hidden row (getD s (slot .start) 0) ≡ false
 
-module _ {lim : Limits} {s : List ℕ} {row : Row} {slot : Slot} (h : Shown lim s row slot) {bytes : ℕ} (f : Found (0 < 2) zeros? 2 (midOf (slot .text) (slot .end - slot .text) s) bytes) where
+module _ {lim : Limits} {s : List ℕ} {row : Row} {slot : Slot} (h : Shown lim s row slot) (x : Span) (f : TextIs lim s row x) where
   fits : SlotFits slot (length s)
   fits = found-fits (h .found)
 
   -- what the row's slot holds
-  seen : (t : Tables) → Holds lim t s → Captioned s slot row (caption t row)
+  seen : (t : Tables) → Holds lim t s → Captioned (lim .texts) s slot row (caption t row)
   seen t o = row-seen lim t s row slot o (h .found .is) .held (h .filled) (h .not-hidden)
 
-  -- the text lies in the store
-  inside : slot .text + bytes ≤ length s
-  inside = omega (arith, fits .ends, fits .inside, f .within, mid-len (slot .text) (slot .end) s (fits .inside))
-
   -- a text
-  pub named-text : bytes ≢ 0 → NameIs lim s row (TextAt (slot .text) bytes)
+  pub named-text : x .bytes ≢ 0 → NameIs lim s row (TextAt (x .start) (x .bytes))
   named-text n t o =
       let c = seen t o in
-      let l : bytes ≡ 2 * length (text-of (c .row-is)) = c .ends bytes f in
-      (c .row-is, c .there, shows-text (c .row-is) (λ q. n (l ∙ ap (λ i. 2 * i) q)), text-starts lim row slot (h .found .is), l, inside)
+      let (b, l, i) = f t o (c .row-is) (c .there) in
+      (c .row-is, c .there, shows-text (c .row-is) (λ q. n (l ∙ ap (λ i. 2 * i) q)), b, l, i)
 
-  module _ (zero-bytes : bytes ≡ 0) where
+  module _ (zero-bytes : x .bytes ≡ 0) where
     -- the text is empty
     empty : (t : Tables) (o : Holds lim t s) → text-of (seen t o .row-is) ≡ []
-    empty t o = let c = seen t o in no-units (text-of (c .row-is)) (sym zero-bytes ∙ c .ends bytes f)
+    empty t o = let c = seen t o in no-units (text-of (c .row-is)) (sym zero-bytes ∙ f t o (c .row-is) (c .there) .1)
 
     -- what the row names, by its kind
     named-kind : (r : Name) (k : ℕ) (ks : List ℕ) → All (λ i. kind-at i ≡ k) ks → OneOf ks (tagOf the-type row)
-        → ((t : Tables) (d : Caption) → k ≡ kind-of d → caption t row ≡ some d → HeadIn s (slot .start) d → text-of d ≡ [] → Named lim s row (caption t row) r) → NameIs lim s row r
+        → ((t : Tables) → Holds lim t s → (d : Caption) → k ≡ kind-of d → caption t row ≡ some d → HeadIn s (slot .start) d → text-of d ≡ [] → Named lim t s row r) → NameIs lim s row r
     named-kind r k ks same one by t o =
         let c = seen t o in
-        by t (c .row-is) (sym (at-case kind-at k ks (tagOf the-type row) same one) ∙ c .kind) (c .there) (c .head) (empty t o)
+        by t o (c .row-is) (sym (at-case kind-at k ks (tagOf the-type row) same one) ∙ c .kind) (c .there) (c .head) (empty t o)
 
     -- nothing: an empty text
-    pub named-empty : OneOf text-rows (tagOf the-type row) → NameIs lim s row (TextAt (slot .text) bytes)
-    named-empty k = named-kind (TextAt (slot .text) bytes) 0 text-rows (refl, (refl, (refl, tt))) k by
+    pub named-empty : OneOf text-rows (tagOf the-type row) → NameIs lim s row (TextAt (x .start) (x .bytes))
+    named-empty k = named-kind (TextAt (x .start) (x .bytes)) 0 text-rows (refl, (refl, (refl, tt))) k by
       where
-        by : (t : Tables) (d : Caption) → 0 ≡ kind-of d → caption t row ≡ some d → HeadIn s (slot .start) d → text-of d ≡ [] → Named lim s row (caption t row) (TextAt (slot .text) bytes)
-        by t (text us) e q w l = (text us, q, refl, text-starts lim row slot (h .found .is), zero-bytes ∙ ap (λ v. 2 * length v) (sym l), inside)
-        by t (line us ds) e q w l = absurd (omega arith)
-        by t (group us a) e q w l = absurd (omega arith)
-        by t (individual us a) e q w l = absurd (omega arith)
+        by : (t : Tables) → Holds lim t s → (d : Caption) → 0 ≡ kind-of d → caption t row ≡ some d → HeadIn s (slot .start) d → text-of d ≡ [] → Named lim t s row (TextAt (x .start) (x .bytes))
+        by t o (text us) e q w l = let (b, n, i) = f t o (text us) q in (text us, q, refl, b, n, i)
+        by t o (line us ds) e q w l = absurd (omega arith)
+        by t o (group us a) e q w l = absurd (omega arith)
+        by t o (individual us a) e q w l = absurd (omega arith)
 
     -- a line's digits
     pub named-digits : OneOf line-rows (tagOf the-type row) → NameIs lim s row (Digits (slot .start + digits-at))
     named-digits k = named-kind (Digits (slot .start + digits-at)) 1 line-rows (refl, (refl, tt)) k by
       where
-        by : (t : Tables) (d : Caption) → 1 ≡ kind-of d → caption t row ≡ some d → HeadIn s (slot .start) d → text-of d ≡ [] → Named lim s row (caption t row) (Digits (slot .start + digits-at))
-        by t (line us ds) e q w l =
+        by : (t : Tables) → Holds lim t s → (d : Caption) → 1 ≡ kind-of d → caption t row ≡ some d → HeadIn s (slot .start) d → text-of d ≡ [] → Named lim t s row (Digits (slot .start + digits-at))
+        by t o (line us ds) e q w l =
             (ds, q ∙ ap (λ v. some (line v ds)) l, w .0, w .1, omega (arith, text-at (h .found) 20 line-rows (refl, (refl, tt)) k, fits .ends, fits .inside))
-        by t (text us) e q w l = absurd (omega arith)
-        by t (group us a) e q w l = absurd (omega arith)
-        by t (individual us a) e q w l = absurd (omega arith)
+        by t o (text us) e q w l = absurd (omega arith)
+        by t o (group us a) e q w l = absurd (omega arith)
+        by t o (individual us a) e q w l = absurd (omega arith)
 
     module _ (a : ℕ) (read : (b : ℕ) → midOf (slot .start + 1) (slot .text - (slot .start + 1)) s ≡ u24 b → a ≡ b) where
       -- the address that was read is the one that the slot keeps
@@ -239,18 +230,18 @@ module _ {lim : Limits} {s : List ℕ} {row : Row} {slot : Slot} (h : Shown lim 
       pub named-group : OneOf group-rows (tagOf the-type row) → NameIs lim s row (GroupNumber (record { 0 = a }))
       named-group k = named-kind (GroupNumber (record { 0 = a })) 2 group-rows (refl, (refl, tt)) k by
         where
-          by : (t : Tables) (d : Caption) → 2 ≡ kind-of d → caption t row ≡ some d → HeadIn s (slot .start) d → text-of d ≡ [] → caption t row ≡ some (group [] (record { 0 = a }))
-          by t (group us b) e q w l = q ∙ ap₂ (λ v i. some (group v (record { 0 = i }))) l (same-address (b .0) (group-text (h .found) k) w)
-          by t (text us) e q w l = absurd (omega arith)
-          by t (line us ds) e q w l = absurd (omega arith)
-          by t (individual us b) e q w l = absurd (omega arith)
+          by : (t : Tables) → Holds lim t s → (d : Caption) → 2 ≡ kind-of d → caption t row ≡ some d → HeadIn s (slot .start) d → text-of d ≡ [] → caption t row ≡ some (group [] (record { 0 = a }))
+          by t o (group us b) e q w l = q ∙ ap₂ (λ v i. some (group v (record { 0 = i }))) l (same-address (b .0) (group-text (h .found) k) w)
+          by t o (text us) e q w l = absurd (omega arith)
+          by t o (line us ds) e q w l = absurd (omega arith)
+          by t o (individual us b) e q w l = absurd (omega arith)
 
       -- an individual's
       pub named-individual : OneOf individual-rows (tagOf the-type row) → NameIs lim s row (IndividualNumber (record { 0 = a }))
       named-individual k = named-kind (IndividualNumber (record { 0 = a })) 3 individual-rows (refl, (refl, tt)) k by
         where
-          by : (t : Tables) (d : Caption) → 3 ≡ kind-of d → caption t row ≡ some d → HeadIn s (slot .start) d → text-of d ≡ [] → caption t row ≡ some (individual [] (record { 0 = a }))
-          by t (individual us b) e q w l = q ∙ ap₂ (λ v i. some (individual v (record { 0 = i }))) l (same-address (b .0) (individual-text (h .found) k) w)
-          by t (text us) e q w l = absurd (omega arith)
-          by t (line us ds) e q w l = absurd (omega arith)
-          by t (group us b) e q w l = absurd (omega arith)
+          by : (t : Tables) → Holds lim t s → (d : Caption) → 3 ≡ kind-of d → caption t row ≡ some d → HeadIn s (slot .start) d → text-of d ≡ [] → caption t row ≡ some (individual [] (record { 0 = a }))
+          by t o (individual us b) e q w l = q ∙ ap₂ (λ v i. some (individual v (record { 0 = i }))) l (same-address (b .0) (individual-text (h .found) k) w)
+          by t o (text us) e q w l = absurd (omega arith)
+          by t o (line us ds) e q w l = absurd (omega arith)
+          by t o (group us b) e q w l = absurd (omega arith)

@@ -31,12 +31,12 @@ module _ (lim : Limits) (s : List ℕ) (row : Row) where
       holds = tables-of lim s store .1
 
       -- not absent
-      shown : (x : Name) (c : Caption) → caption t row ≡ some c → Named lim s row (caption t row) x
-          → (NoRow lim s row × (x ≡ Refused Absent)) ⊎ ((NoRow lim s row → ⊥) × ((u : Tables) × Holds lim u s × Named lim s row (caption u row) x))
+      shown : (x : Name) (c : Caption) → caption t row ≡ some c → Named lim t s row x
+          → (NoRow lim s row × (x ≡ Refused Absent)) ⊎ ((NoRow lim s row → ⊥) × ((u : Tables) × Holds lim u s × Named lim u s row x))
       shown x c e y = inr (there t holds c e, (t, holds, y))
 
       by : (x : Name) → NameIs lim s row x
-          → (NoRow lim s row × (x ≡ Refused Absent)) ⊎ ((NoRow lim s row → ⊥) × ((u : Tables) × Holds lim u s × Named lim s row (caption u row) x))
+          → (NoRow lim s row × (x ≡ Refused Absent)) ⊎ ((NoRow lim s row → ⊥) × ((u : Tables) × Holds lim u s × Named lim u s row x))
       by (Refused ScratchSize) y = absurd (y t holds)
       by (Refused NotAStore) y = absurd (y t holds)
       by (Refused Absent) y = inl (y, refl)

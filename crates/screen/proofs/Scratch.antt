@@ -4,13 +4,14 @@ use Rattle.lists.specs.Ladder.{Answers}
 use Rattle.plan.specs.Numbers.{Individual as IndividualPlan, Group as GroupPlan}
 use Rattle.writing.specs.Settings.{Text}
 use Rattle.tables.specs.declared.limits.Limits.{Limits}
+use Rattle.tables.specs.Tables.{Tables}
 use Rattle.screen.specs.declared.rows.Row.{Row}
 use Rattle.screen.specs.Rows.{Caption, text, line, group, individual, ascii, digits, AddressText, dialled, outside, Display, stored, written, Displays, unit-bytes}
 use Rattle.screen.proofs.AnswerLaws.{shown-by}
-use Rattle.screen.proofs.EntryLaws.{HeadIn}
+use Rattle.screen.proofs.EntryLaws.{HeadIn, row-captioned, row-there}
 use Rattle.screen.specs.Screen.{AfterRow, RowPart, of-store, of-scratch, shows, RowShown, showing}
 use Rattle.screen.proofs.NumberLaws.{unit-length}
-use Rattle.screen.proofs.Theorems.{not-written, number-of-empty, row-held}
+use Rattle.screen.proofs.Theorems.{not-written, number-of-empty}
 
 -- ---- how long numbers are
 
@@ -46,13 +47,14 @@ module _ (lim : Limits) (store scratch : List ℕ) (row : Row) where
   -- a number that is shown has at most 18 units
   pub written-short : (a : AfterRow) (p : RowShown lim store scratch row a) (us : Text) → p .display ≡ written us → length us ≤ 18
   written-short a p us e =
-      let (slot, c, d, at) = row-held lim store row (p .tables) (p .row-is) (p .holds) (p .there) in
+      let (slot, is) = row-there lim (p .tables) (p .holds .0) row (p .row-is) (p .there) in
+      let (c, d) = row-captioned lim (p .tables) store row slot (p .holds) is (p .row-is) (p .there) in
       number-short store (slot .start) (p .row-is) us (subst (HeadIn store (slot .start)) d (c .head)) (subst (Displays (p .row-is)) e (p .shown))
 
   -- what is shown leaves them
-  display-stays : (d : Display) → 36 ≤ length scratch → ((us : Text) → d ≡ written us → length us ≤ 18) → Stays scratch (shows lim scratch row d)
-  display-stays (stored us) big short = (refl, λ i h. refl)
-  display-stays (written us) big short =
+  display-stays : (t : Tables) (d : Display) → 36 ≤ length scratch → ((us : Text) → d ≡ written us → length us ≤ 18) → Stays scratch (shows lim t scratch row d)
+  display-stays t (stored us) big short = (refl, λ i h. refl)
+  display-stays t (written us) big short =
       let l : length (unit-bytes us) ≡ 2 * length us = unit-length us in
       let k : length us ≤ 18 = short us refl in (
         omega (arith, length-append (unit-bytes us) (drop (2 * length us) scratch), length-drop (2 * length us) scratch),
@@ -65,4 +67,4 @@ module _ (lim : Limits) (store scratch : List ℕ) (row : Row) where
 
   -- SCRATCH STAYS: as many bytes, and those past a written number as they were
   pub scratch-stays : (a : AfterRow) → Answers (showing lim store scratch row) a → Stays scratch a
-  scratch-stays = shown-by lim store scratch row (Stays scratch) (λ why. (refl, λ i h. refl)) (λ a p big. display-stays (p .display) big (written-short a p))
+  scratch-stays = shown-by lim store scratch row (Stays scratch) (λ why. (refl, λ i h. refl)) (λ a p big. display-stays (p .tables) (p .display) big (written-short a p))

@@ -1,21 +1,16 @@
 -- What the screen's calls promise: the whole text of the row or its number, nothing else, and nothing touched on a refusal. Assumes nothing.
-use Rattle.lists.proofs.Kit.{ℕ, _*_, _-_, _≤_, _≡_, refl, sym, ap, _∙_, subst, _≢_, inl, inr, Bool, true, false, cond, List, [], _∷_, map, Option, none, some, Option·some-injective, Option·none-ne-some, arith, eqb, eqb-false, midOf, length, take, drop, getD, take-at}
+use Rattle.lists.proofs.Kit.{ℕ, _*_, _≤_, _≡_, refl, sym, ap, ap₂, _∙_, subst, _≢_, inl, inr, Bool, true, false, cond, List, [], _∷_, map, Option, none, some, Option·some-injective, Option·none-ne-some, arith, eqb, eqb-false, length, take, drop, getD, take-at}
 use denote.Ref.{RefT}
 use Rattle.lists.specs.Ladder.{Answers}
-use Rattle.slots.specs.Slots.{zeros?}
 use Rattle.writing.specs.Settings.{Text}
 use Rattle.tables.specs.declared.limits.Limits.{Limits}
 use Rattle.tables.specs.Apply.{and-then}
 use Rattle.tables.specs.Store.{StoreOf, Holds}
 use Rattle.tables.specs.Tables.{Tables, GroupMember, IndividualMember}
-use Rattle.screen.specs.declared.names.Slot.{Slot}
-use Rattle.screen.specs.declared.names.SlotPlace.the-variants.{At}
 use Rattle.screen.specs.declared.rows.Row.{Row}
 use Rattle.screen.specs.declared.rows.Row.the-variants.{Group, Individual, GroupContact, IndividualContact}
-use Rattle.screen.specs.Naming.{SlotIs, hidden}
 use Rattle.screen.specs.Rows.{Caption, text, line, group, individual, individual-row, group-row, caption, of, text-of, ascii, digits, GroupText, IndividualText, Display, stored, written, units, text-or, Displays, text-start, unit-bytes}
-use Rattle.screen.proofs.EntryLaws.{Captioned, row-seen, row-there}
-use Rattle.screen.proofs.NameLaws.{text-starts}
+use Rattle.screen.proofs.TextPlaces.{text-stands as stands}
 use Rattle.screen.specs.Screen.{AfterRow, of-store, refused, shows, RowShown, showing, numbering, bytes-of, RowBytes, PartGiven}
 use Rattle.screen.proofs.AnswerLaws.{shown-number, one-tables, shown-by, number-same}
 use Rattle.screen.proofs.Determined.{one-display, number-one}
@@ -38,36 +33,17 @@ stored-text (individual [] a) us (ns, p, e) = absurd (not-written e)
 stored-text (individual (v ∷ vs) a) us e = ap units e
 
 module _ (lim : Limits) (store : List ℕ) (row : Row) where
-  -- a row that stands in the tables is held by its slot
-  pub row-held : (t : Tables) (c : Caption) → Holds lim t store → caption t row ≡ some c
-      → (slot : Slot) × (k : Captioned store slot row (caption t row)) × (k .row-is ≡ c) × (slot .text ≡ text-start lim row)
-  row-held t c h e = by (row-there lim t (h .0) row c e)
-    where
-      by : (slot : Slot) × SlotIs lim row (At slot) → (slot : Slot) × (k : Captioned store slot row (caption t row)) × (k .row-is ≡ c) × (slot .text ≡ text-start lim row)
-      by (slot, x) = go (zeros? (midOf (slot .start) (slot .end - slot .start) store)) (hidden row (getD store (slot .start) 0)) refl refl
-        where
-          go : (b d : Bool) → zeros? (midOf (slot .start) (slot .end - slot .start) store) ≡ b → hidden row (getD store (slot .start) 0) ≡ d
-              → (slot : Slot) × (k : Captioned store slot row (caption t row)) × (k .row-is ≡ c) × (slot .text ≡ text-start lim row)
-          go true d z y = absurd (Option·none-ne-some c (sym (row-seen lim t store row slot h x .gone z) ∙ e))
-          go false true z y = absurd (Option·none-ne-some c (sym (row-seen lim t store row slot h x .hides z y) ∙ e))
-          go false false z y =
-              let k = row-seen lim t store row slot h x .held z y in
-              (slot, k, Option·some-injective (k .row-is) c (sym (k .there) ∙ e), text-starts lim row slot x)
-
   -- TEXT STANDS: the row's text stands at its start, unit for unit
-  pub text-stands : (t : Tables) (c : Caption) → Holds lim t store → caption t row ≡ some c → take (2 * length (text-of c)) (drop (text-start lim row) store) ≡ unit-bytes (text-of c)
-  text-stands t c h e =
-      let (slot, k, d, at) = row-held t c h e in
-      ap (λ i. take (2 * length (text-of c)) (drop i store)) (sym at)
-      ∙ ap (λ i. take (2 * length (text-of i)) (drop (slot .text) store)) (sym d) ∙ k .shown ∙ ap (λ i. unit-bytes (text-of i)) d
+  pub text-stands : (t : Tables) (c : Caption) → Holds lim t store → caption t row ≡ some c → take (2 * length (text-of c)) (drop (text-start lim t row) store) ≡ unit-bytes (text-of c)
+  text-stands t c h e = stands lim t store h row c e
 
   module _ (scratch : List ℕ) where
     -- the part of what is shown has its units and nothing else
     display-bytes : (t : Tables) (c : Caption) (d : Display) → Holds lim t store → caption t row ≡ some c → Displays c d
-        → bytes-of (shows lim scratch row d .part) store (shows lim scratch row d .scratch) ≡ unit-bytes (units d)
+        → bytes-of (shows lim t scratch row d .part) store (shows lim t scratch row d .scratch) ≡ unit-bytes (units d)
     display-bytes t c (stored us) h e s =
         let u : us ≡ text-of c = stored-text c us s in
-        ap (λ v. take (2 * length v) (drop (text-start lim row) store)) u ∙ text-stands t c h e ∙ ap unit-bytes (sym u)
+        ap (λ v. take (2 * length v) (drop (text-start lim t row) store)) u ∙ text-stands t c h e ∙ ap unit-bytes (sym u)
     display-bytes t c (written us) h e s = take-at (unit-bytes us) (drop (2 * length us) scratch) (2 * length us) (unit-length us)
 
     shown-bytes : (a : AfterRow) (p : RowShown lim store scratch row a) → bytes-of (a .part) store (a .scratch) ≡ unit-bytes (units (p .display))
@@ -92,7 +68,7 @@ module _ (lim : Limits) (store : List ℕ) (row : Row) where
       pub refused-untouched : a .number ≢ 0 → (a .part ≡ of-store 0 0) × (a .scratch ≡ scratch)
       refused-untouched =
           shown-by lim store scratch row (λ y. y .number ≢ 0 → (y .part ≡ of-store 0 0) × (y .scratch ≡ scratch)) (λ why n. (refl, refl))
-          (λ y p big n. absurd (n (shown-number lim scratch row (p .display)))) a x
+          (λ y p big n. absurd (n (shown-number lim (p .tables) scratch row (p .display)))) a x
 
       -- JUDGED ALIKE: both calls give one number
       pub alike : (n : ℕ) → Answers (numbering lim store scratch row) n → a .number ≡ n
@@ -117,9 +93,9 @@ equal-stores lim store x y row a b big large = by
     )
 
     -- a part does not depend on the scratch
-    part-of : (d : Display) → shows lim x row d .part ≡ shows lim y row d .part
-    part-of (stored us) = refl
-    part-of (written us) = refl
+    part-of : (t : Tables) (d : Display) → shows lim t x row d .part ≡ shows lim t y row d .part
+    part-of t (stored us) = refl
+    part-of t (written us) = refl
 
     by : Answers (showing lim store x row) a → Answers (showing lim store y row) b → Goal
     by (inl (l, e)) q = absurd (omega arith)
@@ -131,9 +107,10 @@ equal-stores lim store x y row a b big large = by
     by (inr (l, inr (n, inl (i, e)))) (inr (k, inr (j, inr (h, d)))) = absurd (h i)
     by (inr (l, inr (n, inr (i, e)))) (inr (k, inr (j, inl (h, d)))) = absurd (i h)
     by (inr (l, inr (n, inr (i, p)))) (inr (k, inr (j, inr (h, q)))) =
-        let d : p .display ≡ q .display = one-display lim store x row y a b p q in (
-          ap (λ (z : AfterRow). z .number) (p .after) ∙ shown-number lim x row (p .display) ∙ sym (ap (λ (z : AfterRow). z .number) (q .after) ∙ shown-number lim y row (q .display)),
-          ap (λ (z : AfterRow). z .part) (p .after) ∙ ap (λ z. shows lim x row z .part) d ∙ part-of (q .display) ∙ sym (ap (λ (z : AfterRow). z .part) (q .after)),
+        let d : p .display ≡ q .display = one-display lim store x row y a b p q in
+        let t : p .tables ≡ q .tables = one-tables lim store (p .tables) (q .tables) (p .holds) (q .holds) in (
+          ap (λ (z : AfterRow). z .number) (p .after) ∙ shown-number lim (p .tables) x row (p .display) ∙ sym (ap (λ (z : AfterRow). z .number) (q .after) ∙ shown-number lim (q .tables) y row (q .display)),
+          ap (λ (z : AfterRow). z .part) (p .after) ∙ ap₂ (λ u z. shows lim u x row z .part) t d ∙ part-of (q .tables) (q .display) ∙ sym (ap (λ (z : AfterRow). z .part) (q .after)),
           shown-bytes lim store row x a p ∙ ap (λ z. unit-bytes (units z)) d ∙ sym (shown-bytes lim store row y b q),
         )
 

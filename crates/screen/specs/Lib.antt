@@ -1,3 +1,4 @@
+pub mod Areas
 pub mod Naming
 pub mod Rows
 pub mod Screen

@@ -5,7 +5,7 @@ use mathlib.Core.Bool.{cond}
 use mathlib.Core.List.{List, [], _∷_, _++_, map}
 use mathlib.Core.Option.{Option, none, some}
 use lib.Dec.{eqb, ltb}
-use lib.ListN.{take, getD}
+use lib.ListN.{getD}
 use Rattle.lists.specs.Ladder.{Ladder, rung, foot}
 use Rattle.plan.specs.declared.numbers.GroupAddress.{GroupAddress}
 use Rattle.plan.specs.declared.numbers.IndividualAddress.{IndividualAddress}
@@ -13,7 +13,11 @@ use Rattle.plan.specs.Numbers.{Individual as IndividualPlan, Group as GroupPlan
 use Rattle.slots.specs.Slots.{flat, u16}
 use Rattle.writing.specs.Settings.{Text, Number}
 use Rattle.tables.specs.declared.limits.Limits.{Limits}
-use Rattle.tables.specs.Layout.{count-size, region-start, quick-width, status-width, member-width, line-width}
+use Rattle.tables.specs.declared.limits.Texts.{Texts}
+use Rattle.tables.specs.declared.limits.Texts.the-variants.{Placed, Shared}
+use Rattle.tables.specs.Forms.{start-in}
+use Rattle.tables.specs.Layout.{count-size, quick-width, status-width, member-width, line-width}
+use Rattle.tables.specs.SharedLayout.{text-start as shared-start}
 use Rattle.tables.specs.Store.{StoreOf, Holds}
 use Rattle.tables.specs.Apply.{and-then}
 use Rattle.tables.specs.Tables.{Line as LineEntry, GroupMember, IndividualMember, Tables}
@@ -136,17 +140,49 @@ units (written us) = us
 
 -- ---- where a row's text stands
 
--- the first byte of a row's text: the part's, the slots before it, and what its slot has before the text
-abbrev pub text-start : Limits → Row → ℕ
-text-start lim (Line n) = region-start lim 12 + count-size + n * line-width + 20
-text-start lim (QuickText n) = region-start lim 4 + n * quick-width
-text-start lim (StatusText n) = region-start lim 5 + (n - 32) * status-width + 1
-text-start lim (Group n) = region-start lim 6 + n * member-width + 4
-text-start lim (Individual n) = region-start lim 7 + n * member-width + 4
-text-start lim (GroupContact n) = region-start lim 9 + count-size + n * member-width + 4
-text-start lim (IndividualContact n) = region-start lim 10 + count-size + n * member-width + 4
-text-start lim (LineSlot n) = region-start lim 8 + n * line-width + 20
-text-start lim NoTable = 0
+-- where it has a place of its own: the region's first byte, the slots before it, and what its slot has before the text
+abbrev pub placed-start : Limits → Row → ℕ
+placed-start lim (Line n) = start-in Placed lim 12 + count-size + n * line-width + 20
+placed-start lim (QuickText n) = start-in Placed lim 4 + n * quick-width
+placed-start lim (StatusText n) = start-in Placed lim 5 + (n - 32) * status-width + 1
+placed-start lim (Group n) = start-in Placed lim 6 + n * member-width + 4
+placed-start lim (Individual n) = start-in Placed lim 7 + n * member-width + 4
+placed-start lim (GroupContact n) = start-in Placed lim 9 + count-size + n * member-width + 4
+placed-start lim (IndividualContact n) = start-in Placed lim 10 + count-size + n * member-width + 4
+placed-start lim (LineSlot n) = start-in Placed lim 8 + n * line-width + 20
+placed-start lim NoTable = 0
+
+-- the row's table among those that have texts, in their order in the store, and its row there
+abbrev pub table-of : Row → ℕ
+table-of (QuickText n) = 0
+table-of (StatusText n) = 1
+table-of (Group n) = 2
+table-of (Individual n) = 3
+table-of (LineSlot n) = 4
+table-of (GroupContact n) = 5
+table-of (IndividualContact n) = 6
+table-of (Line n) = 7
+table-of NoTable = 8
+
+abbrev pub place-of : Row → ℕ
+place-of (QuickText n) = n
+place-of (StatusText n) = n - 32
+place-of (Group n) = n
+place-of (Individual n) = n
+place-of (LineSlot n) = n
+place-of (GroupContact n) = n
+place-of (IndividualContact n) = n
+place-of (Line n) = n
+place-of NoTable = 0
+
+-- where texts share an area: its first byte, and all texts before the row's
+abbrev pub start-by : Texts → Limits → Tables → Row → ℕ
+start-by Placed lim t row = placed-start lim row
+start-by (Shared a) lim t row = shared-start lim t (table-of row) (place-of row)
+
+-- the first byte of a row's text
+abbrev pub text-start : Limits → Tables → Row → ℕ
+text-start lim t row = start-by (lim .texts) lim t row
 
 -- "Text units and digits (as ASCII codes) are 16 bits, high byte first, without the end unit"
 abbrev pub unit-bytes : Text → List ℕ

@@ -53,9 +53,9 @@ leaves (Scratch bytes) scratch = record { number = 0; part = of-scratch bytes; s
 leaves (NoPlace r) scratch = refused (refusal r) scratch
 
 -- the stored text's own part, or the number at the start of the scratch; "Scratch bytes not in a written number stay"
-abbrev pub shows : Limits → List ℕ → Row → Display → AfterRow
-shows lim scratch row (stored us) = record { number = 0; part = of-store (text-start lim row) (2 * length us); scratch = scratch }
-shows lim scratch row (written us) = record { number = 0; part = of-scratch (2 * length us); scratch = unit-bytes us ++ drop (2 * length us) scratch }
+abbrev pub shows : Limits → Tables → List ℕ → Row → Display → AfterRow
+shows lim t scratch row (stored us) = record { number = 0; part = of-store (text-start lim t row) (2 * length us); scratch = scratch }
+shows lim t scratch row (written us) = record { number = 0; part = of-scratch (2 * length us); scratch = unit-bytes us ++ drop (2 * length us) scratch }
 
 -- the store is that of tables that have the row, and it is shown
 pub record RowShown (lim : Limits) (store scratch : List ℕ) (row : Row) (a : AfterRow) : Type 0 where
@@ -65,7 +65,7 @@ pub record RowShown (lim : Limits) (store scratch : List ℕ) (row : Row) (a : A
   pub there : caption tables row ≡ some row-is
   pub display : Display
   pub shown : Displays row-is display
-  pub after : a ≡ shows lim scratch row display
+  pub after : a ≡ shows lim tables scratch row display
 
 -- what a row comes to
 abbrev pub showing : Limits → List ℕ → List ℕ → Row → Ladder AfterRow

@@ -1,46 +1,32 @@
 // What a row shows: the place of its text, or the number of what it names.
+use super::areas::Span;
+use super::areas::shared_text;
 use super::rows::Refusal;
 use super::rows::Row;
+use super::spots::spot_of;
 use plan::numbers::GroupAddress;
 use plan::numbers::IndividualAddress;
 use slots::bytes::is_zeros;
 use slots::slots::used;
 use store_check::checks::is_store;
+use tables::forms::by_form;
 use tables::limits::Limits;
+use tables::limits::Texts;
 use tables::limits::roomy;
-use tables::places::CHANNEL_SLOT;
-use tables::places::CHANNELS;
-use tables::places::CONTACT_PLACES;
-use tables::places::COUNT;
-use tables::places::GROUP_CONTACTS;
-use tables::places::GROUPS;
-use tables::places::INDIVIDUAL_CONTACTS;
-use tables::places::INDIVIDUALS;
 use tables::places::LINE_DIGITS;
-use tables::places::LINE_SLOT;
-use tables::places::LINE_SLOTS;
-use tables::places::LINE_TEXT;
 use tables::places::MEMBER_ADDRESS;
-use tables::places::MEMBER_SLOT;
-use tables::places::MEMBER_TEXT;
-use tables::places::QUICK;
-use tables::places::QUICK_PLACES;
-use tables::places::QUICK_SLOT;
-use tables::places::SLOT_PLACES;
-use tables::places::STATUS;
-use tables::places::STATUS_PLACES;
-use tables::places::STATUS_SLOT;
-use tables::places::STATUS_TEXT;
+use working::areas::table_run;
+use working::runs::TEXT_TABLES;
 ghost use Prim.Native.Nat.{ℕ, _+_, _*_, _^_, _≤_, _<_};
 ghost use mathlib.Core.Path.{_≡_};
-ghost use lib.ListN.{length};
 ghost use Rattle.lists.specs.Ladder.{Answers};
 ghost use Rattle.slots.specs.Slots.{u24};
-ghost use Rattle.tables.specs.Layout.{Roomy, member-width};
+ghost use Rattle.tables.specs.Forms.{Roomy};
 ghost use Rattle.tables.specs.Store.{StoreOf};
-ghost use Rattle.screen.specs.Naming.{Slotted, SlotIs, hidden, NameIs, naming};
+ghost use Rattle.screen.specs.declared.names.SlotPlace.the-variants.{At};
+ghost use Rattle.screen.specs.Naming.{Slotted, SlotIs, hidden, TextIs, NameIs, naming};
 
-// A row's slot in the store, and where its text starts.
+// A row's slot in the store, and where its own bytes end: there stands its text, or how many units that has.
 pub struct Slot {
     pub start: usize,
     pub text: usize,
@@ -78,42 +64,21 @@ fn slot_in(n: usize, places: usize, base: usize, width: usize, head: usize) -> S
     }
 }
 
-// Place n of a table of groups or individuals.
-fn member_slot(n: usize, places: usize, base: usize) -> SlotPlace
-    requires { ⌜ base + places * member-width < 2 ^ 64 ⌝ }
-    ensures { λ r. ⌜ Slotted base places n member-width 4 r ⌝ }
-{
-    slot_in(n, places, base, MEMBER_SLOT, MEMBER_TEXT)
-}
-
 // Where the row's slot stands: docs/STORE.md.
 fn slot_of(row: Row, limits: Limits) -> SlotPlace
     requires { ⌜ Roomy limits ⌝ }
     ensures { λ r. ⌜ SlotIs limits row r ⌝ }
 {
-    match row {
-        Row::Line(n) => slot_in(
-            n,
-            limits.lines,
-            CHANNELS + (COUNT + limits.channels * CHANNEL_SLOT) + COUNT,
-            LINE_SLOT,
-            LINE_TEXT,
-        ),
-        Row::QuickText(n) => slot_in(n, QUICK_PLACES, QUICK, QUICK_SLOT, 0),
-        Row::StatusText(n) => {
-            if n < 32 {
-                SlotPlace::Beyond
-            } else {
-                slot_in(n - 32, STATUS_PLACES, STATUS, STATUS_SLOT, STATUS_TEXT)
-            }
-        }
-        Row::Group(n) => member_slot(n, SLOT_PLACES, GROUPS),
-        Row::Individual(n) => member_slot(n, SLOT_PLACES, INDIVIDUALS),
-        Row::GroupContact(n) => member_slot(n, CONTACT_PLACES, GROUP_CONTACTS + COUNT),
-        Row::IndividualContact(n) => member_slot(n, CONTACT_PLACES, INDIVIDUAL_CONTACTS + COUNT),
-        Row::LineSlot(n) => slot_in(n, SLOT_PLACES, LINE_SLOTS, LINE_SLOT, LINE_TEXT),
-        Row::NoTable => SlotPlace::Beyond,
+    let spot = spot_of(row);
+    let k = spot.table;
+    if TEXT_TABLES <= k {
+        return SlotPlace::Beyond;
     }
+    let run = table_run(limits, k);
+    let texts = limits.texts;
+    let base = by_form(texts, run.from, run.start);
+    let width = by_form(texts, run.own + run.room, run.own + 1);
+    slot_in(spot.place, run.many, base, width, run.own)
 }
 
 // The same, of any limits: where the tables have no room in their store, no row has a slot.
@@ -153,6 +118,26 @@ fn is_hidden(row: Row, flags: u8) -> bool
     }
 }
 
+// Where the text of a row with this slot stands: in its place in the slot, or in the area.
+fn text_in(store: &[u8], row: Row, slot: Slot, limits: Limits) -> Span
+    requires { ⌜ StoreOf limits (now store) × SlotIs limits row (At slot) ⌝ }
+    ensures { λ r. ⌜ TextIs limits (now (store .entry)) row r ⌝ }
+{
+    let text = slot.text;
+    let end = slot.end;
+    let texts = limits.texts;
+    match texts {
+        Texts::Placed => {
+            let bytes = used(&store[text..end], 2);
+            Span {
+                start: text,
+                bytes: bytes,
+            }
+        }
+        Texts::Shared(_) => shared_text(store, limits, spot_of(row), text),
+    }
+}
+
 // What stands in a row of a store.
 fn name_in(store: &[u8], row: Row, limits: Limits) -> Name
     requires { ⌜ StoreOf limits (now store) ⌝ }
@@ -170,9 +155,10 @@ fn name_in(store: &[u8], row: Row, limits: Limits) -> Name
     if is_hidden(row, store[start]) {
         return Name::Refused(Refusal::Absent);
     }
-    let bytes = used(&store[text..end], 2);
+    let shown = text_in(store, row, slot, limits);
+    let bytes = shown.bytes;
     if bytes != 0 {
-        return Name::Text(text, bytes);
+        return Name::Text(shown.start, bytes);
     }
     let head = start + MEMBER_ADDRESS;
     let digits = start + LINE_DIGITS;
@@ -184,7 +170,7 @@ fn name_in(store: &[u8], row: Row, limits: Limits) -> Name
         Row::Individual(_) | Row::IndividualContact(_) => {
             Name::Individual(IndividualAddress(address_of(&store[head..text])))
         }
-        _ => Name::Text(text, bytes),
+        _ => Name::Text(shown.start, bytes),
     }
 }
 

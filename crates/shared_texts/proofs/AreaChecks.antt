@@ -4,7 +4,7 @@ use Rattle.lists.proofs.Bools.{and-parts}
 use Rattle.lists.specs.Every.{All}
 use Rattle.slots.specs.Slots.{flat, zeros?, bytesBefore, Found, Slots}
 use Rattle.shared_texts.specs.Moves.{used-units}
-use Rattle.shared_texts.specs.Texts.{front-units, AreaFilled}
+use Rattle.tables.specs.Texts.{front-units, AreaFilled}
 
 -- two bytes of which the first unit is made
 two-zeros : (p q : ℕ) → (zeros? (p ∷ q ∷ []) ≡ true) ↔ (p * 256 + q ≡ 0)

@@ -10,7 +10,7 @@ use Rattle.slots.proofs.Pads.{pad-after, pad-is, pad-length, pad-nil}
 use Rattle.slots.proofs.Runs.{zeros-all, zeros-are}
 use Rattle.writing.specs.Settings.{Text}
 use Rattle.tables.proofs.TextLaws.{Unit16}
-use Rattle.shared_texts.specs.Texts.{unit-bytes, units-of, area, front-units, cut, AreaFilled}
+use Rattle.tables.specs.Texts.{unit-bytes, units-of, area, front-units, cut, AreaFilled}
 
 -- ---- how long
 

@@ -3,12 +3,11 @@ use Rattle.lists.proofs.Kit.{ℕ, _≡_, refl, List, [], _∷_, _++_, Option, n
 use Rattle.writing.specs.declared.Kind.the-variants.{QuickTexts, StatusTexts}
 use Rattle.writing.specs.declared.Operation.the-variants.{Add, Delete}
 use Rattle.writing.specs.Settings.{Text, Setting, quick-texts, status-texts}
-use Rattle.tables.specs.Apply.{in-turn}
+use Rattle.tables.specs.Apply.{in-turn, apply}
 use Rattle.tables.specs.Limits.{handheld}
 use Rattle.tables.specs.Owns.{put-own}
 use Rattle.tables.specs.Tables.{Tables, fresh}
-use Rattle.shared_texts.specs.Rooms.{apply}
-use Rattle.shared_texts.specs.Texts.{text-sum}
+use Rattle.tables.specs.Texts.{text-sum}
 
 -- a text of n units
 units : ℕ → Text
@@ -21,7 +20,7 @@ full = put-own StatusTexts (put-own QuickTexts fresh (replicate 64 (some (units 
 
 -- the sum after settings, each judged by itself
 sum-after-settings : List Setting → Option ℕ
-sum-after-settings l = go (in-turn (apply handheld 4096) l full)
+sum-after-settings l = go (in-turn (apply handheld) l full)
   where
     go : Option Tables → Option ℕ
     go none = none

@@ -15,7 +15,7 @@ use Rattle.tables.specs.Tables.{Member}
 use Rattle.tables.proofs.EntryBytes.{line-are-bytes, group-are-bytes, individual-are-bytes}
 use Rattle.tables.proofs.EntryCodes.{line-code, line-shown, group-code, group-shown, individual-code, individual-shown}
 use Rattle.tables.proofs.TextCodes.{digits-length}
-use Rattle.shared_texts.specs.Heads.{Halves, text-halves, line-halves, member-halves, HeadOk, QuickHeadOk, StatusHeadOk, LineHeadOk, GroupHeadOk, IndividualHeadOk, quick-head, status-head, line-head, group-head, individual-head, quick-own, status-own, member-own, line-own}
+use Rattle.tables.specs.Heads.{Halves, text-halves, line-halves, member-halves, HeadOk, QuickHeadOk, StatusHeadOk, LineHeadOk, GroupHeadOk, IndividualHeadOk, quick-head, status-head, line-head, group-head, individual-head, quick-own, status-own, member-own, line-own}
 use Rattle.shared_texts.proofs.Rows.{Halved}
 
 -- ---- an entry is its head and its text

@@ -1,7 +1,9 @@
 pub mod AreaChecks
 pub mod Cuts
 pub mod Examples
-pub mod FreshShared
+pub mod FormFrames
+pub mod FormLists
+pub mod Forms
 pub mod HeadCodes
 pub mod MoveLaws
 pub mod RegionLaws

@@ -8,7 +8,7 @@ use Rattle.slots.proofs.Pads.{pad-is, pad-length, pad-nil}
 use Rattle.writing.specs.Settings.{Text}
 use Rattle.tables.proofs.TextLaws.{Unit16}
 use Rattle.shared_texts.specs.Moves.{spread, used-units, slot-units, gathered-heads, gathered-texts, placed-units}
-use Rattle.shared_texts.specs.Texts.{rows, present, units-of, unit-bytes}
+use Rattle.tables.specs.Texts.{rows, present, units-of, unit-bytes}
 use Rattle.shared_texts.proofs.Cuts.{unit-bytes-length}
 
 -- zeros and one more

@@ -15,7 +15,7 @@ use Rattle.tables.specs.Allowed.{KeyedOk}
 use Rattle.tables.proofs.LayoutLaws.{table-wide, list-wide, list-bytes, table-one, list-table-one}
 use Rattle.tables.proofs.OrderLaws.{distinct-made}
 use Rattle.tables.proofs.TextLaws.{Unit16}
-use Rattle.shared_texts.specs.Heads.{Halves}
+use Rattle.tables.specs.Heads.{Halves}
 use Rattle.shared_texts.specs.Regions.{Region, plain, table, listed, followed, nothing, _then_, whole, row-units, filled-list, last-bytes}
 use Rattle.shared_texts.proofs.HeadCodes.{Headed, Kept}
 use Rattle.shared_texts.proofs.Rows.{Halved, rows-counted, rows-heads, rows-texts, rows-again, filled-length, filled-ok, filled-heads, filled-texts, list-counted, list-texts, list-again, list-length, list-ok, list-heads, list-back, no-texts, last-sum, front-counted}

@@ -8,15 +8,15 @@ use Rattle.writing.specs.Canonical.{Fits}
 use Rattle.writing.specs.Ranges.{text-limits, InRange}
 use Rattle.writing.specs.Settings.{Setting, kind}
 use Rattle.tables.specs.declared.limits.Limits.{Limits}
-use Rattle.tables.specs.Apply.{and-then, in-turn, own-after}
+use Rattle.tables.specs.Apply.{and-then, in-turn, own-after, change, within, apply}
 use Rattle.tables.specs.Owns.{Own, own, put-own}
 use Rattle.tables.specs.Tables.{Tables}
-use Rattle.tables.proofs.AllowedLaws.{apply-allowed}
 use Rattle.tables.proofs.Owns.{own-put}
-use Rattle.tables.proofs.RoomSentences.{came, no-room-kinds}
-use Rattle.shared_texts.specs.Rooms.{change, within, apply, Under}
-use Rattle.shared_texts.specs.Shared.{SharedOk}
-use Rattle.shared_texts.specs.Texts.{text-sum, text-size}
+use Rattle.tables.proofs.RoomSentences.{apply-change, came, no-room-kinds}
+use Rattle.shared_texts.specs.Rooms.{Under}
+use Rattle.tables.specs.declared.limits.Texts.{Texts}
+use Rattle.tables.specs.declared.limits.Texts.the-variants.{Placed, Shared}
+use Rattle.tables.specs.Texts.{text-sum, text-size, TextRoom, Passes}
 use Rattle.shared_texts.proofs.Sums.{sum-put, sum-kinds}
 
 -- ---- within the area
@@ -31,57 +31,55 @@ kept-none true P h t = (λ e. absurd (Option·some-ne-none t e), λ p. absurd (t
 kept-none false P h t = (λ e. h .0 refl, λ p. refl)
 
 -- tables within it stay
-within-some : (a : ℕ) (t u : Tables) → (within a t ≡ some u) ↔ ((t ≡ u) × (text-sum t ≤ a))
-within-some a t u = kept-some _ (text-sum t ≤ a) (leb-true _ _, le-leb _ _) t u
+within-some : (x : Texts) (t u : Tables) → (within x t ≡ some u) ↔ ((t ≡ u) × TextRoom x (text-sum t))
+within-some Placed t u = (λ e. (Option·some-injective t u e, tt), λ p. ap some (p .0))
+within-some (Shared a) t u = kept-some _ (text-sum t ≤ a) (leb-true _ _, le-leb _ _) t u
 
 -- others have no room
-within-none : (a : ℕ) (t : Tables) → (within a t ≡ none) ↔ (a < text-sum t)
-within-none a t = kept-none _ (a < text-sum t) (leb-false _ _, lt-leb _ _) t
+within-none : (x : Texts) (t : Tables) → (within x t ≡ none) ↔ Passes x (text-sum t)
+within-none Placed t = (λ e. absurd (Option·some-ne-none t e), λ p. absurd p)
+within-none (Shared a) t = kept-none _ (a < text-sum t) (leb-false _ _, lt-leb _ _) t
 
 -- what comes of two steps came of both
-then-some : (o : Option Tables) (f : Tables → Option Tables) (u : Tables) → and-then o f ≡ some u → (v : Tables) × (o ≡ some v) × (f v ≡ some u)
-then-some none f u e = absurd (Option·none-ne-some u e)
-then-some (some v) f u e = (v, refl, e)
+pub then-some : {A B : Type 0} (o : Option A) (f : A → Option B) (b : B) → and-then o f ≡ some b → (a : A) × (o ≡ some a) × (f a ≡ some b)
+then-some none f b e = absurd (Option·none-ne-some b e)
+then-some (some a) f b e = (a, refl, e)
 
 -- ---- a setting
 
-module _ (lim : Limits) (a : ℕ) (s : Setting) (t : Tables) where
+module _ (lim : Limits) (s : Setting) (t : Tables) where
   -- NO-ROOM-EXACTLY: a setting has no room exactly if a table is full at some entry, or the texts held after it, summed, pass the area
-  pub no-room-exactly : (apply lim a s t ≡ none) ↔ ((change lim s t ≡ none) ⊎ ((u : Tables) × (change lim s t ≡ some u) × (a < text-sum u)))
+  pub no-room-exactly : (apply lim s t ≡ none) ↔ ((change lim s t ≡ none) ⊎ ((u : Tables) × (change lim s t ≡ some u) × Passes (lim .texts) (text-sum u)))
   no-room-exactly = go (change lim s t) refl
     where
-      go : (o : Option Tables) → change lim s t ≡ o → (and-then o (within a) ≡ none) ↔ ((o ≡ none) ⊎ ((u : Tables) × (o ≡ some u) × (a < text-sum u)))
+      go : (o : Option Tables) → change lim s t ≡ o → (and-then o (within (lim .texts)) ≡ none) ↔ ((o ≡ none) ⊎ ((u : Tables) × (o ≡ some u) × Passes (lim .texts) (text-sum u)))
       go none e = (λ h. inl refl, λ h. refl)
-      go (some u) e = (λ h. inr (u, refl, within-none a u .0 h), back)
+      go (some u) e = (λ h. inr (u, refl, within-none (lim .texts) u .0 h), back)
         where
-          back : (some u ≡ none) ⊎ ((v : Tables) × (some u ≡ some v) × (a < text-sum v)) → within a u ≡ none
+          back : (some u ≡ none) ⊎ ((v : Tables) × (some u ≡ some v) × Passes (lim .texts) (text-sum v)) → within (lim .texts) u ≡ none
           back (inl h) = absurd (Option·some-ne-none u h)
-          back (inr (v, h, l)) = within-none a u .1 (subst (λ (w : Tables). a < text-sum w) (sym (Option·some-injective u v h)) l)
+          back (inr (v, h, l)) = within-none (lim .texts) u .1 (subst (λ (w : Tables). Passes (lim .texts) (text-sum w)) (sym (Option·some-injective u v h)) l)
 
   -- APPLY-EXACTLY: it has room, and leaves u, exactly if it changes the tables to u and the texts of u are within the area
-  pub apply-exactly : (u : Tables) → (apply lim a s t ≡ some u) ↔ ((change lim s t ≡ some u) × (text-sum u ≤ a))
+  pub apply-exactly : (u : Tables) → (apply lim s t ≡ some u) ↔ ((change lim s t ≡ some u) × TextRoom (lim .texts) (text-sum u))
   apply-exactly u = (
     λ e.
-        let (v, p, q) = then-some (change lim s t) (within a) u e in
-        let (r, l) = within-some a v u .0 q in
-        (p ∙ ap some r, subst (λ (w : Tables). text-sum w ≤ a) r l),
-    λ h. ap (λ (o : Option Tables). and-then o (within a)) (h .0) ∙ within-some a u u .1 (refl, h .1),
+        let (v, p, q) = then-some (change lim s t) (within (lim .texts)) u e in
+        let (r, l) = within-some (lim .texts) v u .0 q in
+        (p ∙ ap some r, subst (λ (w : Tables). TextRoom (lim .texts) (text-sum w)) r l),
+    λ h. ap (λ (o : Option Tables). and-then o (within (lim .texts))) (h .0) ∙ within-some (lim .texts) u u .1 (refl, h .1),
   )
 
-  -- APPLY-CHANGE: where a setting has room, it leaves what it changes the tables to
-  pub apply-change : (u : Tables) → apply lim a s t ≡ some u → change lim s t ≡ some u
-  apply-change u e = apply-exactly u .0 e .0
-
   -- FREED: it has room whenever the sum after it is within the area, whatever was held before: what was freed is used again
-  pub freed : (u : Tables) → change lim s t ≡ some u → text-sum u ≤ a → apply lim a s t ≡ some u
+  pub freed : (u : Tables) → change lim s t ≡ some u → TextRoom (lim .texts) (text-sum u) → apply lim s t ≡ some u
   freed u e h = apply-exactly u .1 (e, h)
 
   -- a setting that has no room is one of lines, of channels or of contacts, or the sum passes the area
-  pub no-room-kinds-or-sum : apply lim a s t ≡ none → ((kind s ≡ Lines) ⊎ (kind s ≡ Channels) ⊎ (kind s ≡ GroupContacts) ⊎ (kind s ≡ IndividualContacts)) ⊎ ((u : Tables) × (change lim s t ≡ some u) × (a < text-sum u))
+  pub no-room-kinds-or-sum : apply lim s t ≡ none → ((kind s ≡ Lines) ⊎ (kind s ≡ Channels) ⊎ (kind s ≡ GroupContacts) ⊎ (kind s ≡ IndividualContacts)) ⊎ ((u : Tables) × (change lim s t ≡ some u) × Passes (lim .texts) (text-sum u))
   no-room-kinds-or-sum e = go (no-room-exactly .0 e)
     where
-      go : (change lim s t ≡ none) ⊎ ((u : Tables) × (change lim s t ≡ some u) × (a < text-sum u))
-          → ((kind s ≡ Lines) ⊎ (kind s ≡ Channels) ⊎ (kind s ≡ GroupContacts) ⊎ (kind s ≡ IndividualContacts)) ⊎ ((u : Tables) × (change lim s t ≡ some u) × (a < text-sum u))
+      go : (change lim s t ≡ none) ⊎ ((u : Tables) × (change lim s t ≡ some u) × Passes (lim .texts) (text-sum u))
+          → ((kind s ≡ Lines) ⊎ (kind s ≡ Channels) ⊎ (kind s ≡ GroupContacts) ⊎ (kind s ≡ IndividualContacts)) ⊎ ((u : Tables) × (change lim s t ≡ some u) × Passes (lim .texts) (text-sum u))
       go (inl h) = inl (no-room-kinds lim s t h)
       go (inr h) = inr h
 
@@ -92,20 +90,14 @@ module _ (lim : Limits) (a : ℕ) (s : Setting) (t : Tables) where
       let (x, p, q) = came (put-own k t) (own-after lim s (own k t)) u e in
       sym (ap text-sum q) ∙ sum-put k t x ∙ ap (λ (y : Own k). text-sum t - text-size k (own k t) + text-size k y) (sym (own-put k t x) ∙ ap (own k) q)
 
-  -- APPLY-SHARED: what it leaves is allowed, and its texts have room
-  pub apply-shared : (u : Tables) (c : Coding) (left : ℕ) → SharedOk lim a t → InRange text-limits left s → Fits c s → apply lim a s t ≡ some u → SharedOk lim a u
-  apply-shared u c left ok r p e =
-      let (h, l) = apply-exactly u .0 e in
-      record { allowed = apply-allowed lim t u c left s (ok .allowed) r p h; room = l }
-
 -- ---- settings in turn
 
 -- TURN-CHANGE: where settings have room in turn, they leave what they change the tables to
-pub turn-change : (lim : Limits) (a : ℕ) (l : List Setting) (t u : Tables) → in-turn (apply lim a) l t ≡ some u → in-turn (change lim) l t ≡ some u
-turn-change lim a [] t u e = e
-turn-change lim a (s ∷ l) t u e =
-    let (v, p, q) = then-some (apply lim a s t) (in-turn (apply lim a) l) u e in
-    ap (λ (o : Option Tables). and-then o (in-turn (change lim) l)) (apply-change lim a s t v p) ∙ turn-change lim a l v u q
+pub turn-change : (lim : Limits) (l : List Setting) (t u : Tables) → in-turn (apply lim) l t ≡ some u → in-turn (change lim) l t ≡ some u
+turn-change lim [] t u e = e
+turn-change lim (s ∷ l) t u e =
+    let (v, p, q) = then-some (apply lim s t) (in-turn (apply lim) l) u e in
+    ap (λ (o : Option Tables). and-then o (in-turn (change lim) l)) (apply-change lim s t v p) ∙ turn-change lim l v u q
 
 -- ---- tables with less text
 

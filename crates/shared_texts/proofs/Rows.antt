@@ -7,9 +7,9 @@ use Rattle.slots.specs.Slots.{slot, places, front, Present, sum}
 use Rattle.slots.proofs.Tables.{slot-long}
 use Rattle.writing.specs.Settings.{Text}
 use Rattle.tables.proofs.TextLaws.{Unit16}
-use Rattle.shared_texts.specs.Heads.{Halves}
+use Rattle.tables.specs.Heads.{Halves}
 use Rattle.shared_texts.specs.Regions.{row-units, filled, filled-list, last-bytes}
-use Rattle.shared_texts.specs.Texts.{rows, present}
+use Rattle.tables.specs.Texts.{rows, present}
 
 -- what the two halves of an entry have to do with it
 pub record Halved {A H : Type 0} (k : Halves A H) (P : A → Type 0) (Q : H → Type 0) : Type 0 where

@@ -10,7 +10,7 @@ use Rattle.shared_texts.specs.declared.Run.{Run}
 use Rattle.shared_texts.specs.Moves.{spread, gathered-heads, gathered-texts, placed-units, slots-units}
 use Rattle.shared_texts.specs.Regions.{row-units, last-bytes}
 use Rattle.shared_texts.specs.Shared.{heads-in, slots-in, run-units, no-run, counted-before}
-use Rattle.shared_texts.specs.Texts.{rows, present, texts-in, units-of, units-before, unit-bytes}
+use Rattle.tables.specs.Texts.{rows, present, texts-in, units-of, units-before, unit-bytes}
 use Rattle.shared_texts.proofs.Cuts.{texts-length}
 use Rattle.shared_texts.proofs.MoveLaws.{Formed, spread-places, heads-gathered, texts-gathered, units-placed}
 use Rattle.shared_texts.proofs.RegionLaws.{map-take}

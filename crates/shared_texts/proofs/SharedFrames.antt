@@ -8,15 +8,15 @@ use Rattle.orders.specs.OrderParts.{order-bytes}
 use Rattle.tables.specs.declared.limits.Limits.{Limits}
 use Rattle.tables.specs.Allowed.{Allowed}
 use Rattle.tables.specs.Layout.{counted, count-size}
-use Rattle.tables.specs.Limits.{quick-places, status-places, slot-places, contact-places}
+use Rattle.tables.specs.Limits.{placed, quick-places, status-places, slot-places, contact-places}
 use Rattle.tables.specs.Order.{line-order}
 use Rattle.tables.specs.Tables.{Tables, Line}
 use Rattle.tables.proofs.EntryCodes.{channel-code}
 use Rattle.tables.proofs.FixedCodes.{hash-code}
 use Rattle.tables.proofs.LayoutLaws.{list-wide}
-use Rattle.shared_texts.specs.Heads.{text-halves, line-halves, member-halves, quick-head, status-head, line-head, group-head, individual-head, quick-own, status-own, member-own, line-own}
-use Rattle.shared_texts.specs.Shared.{head-widths, shared-size, shared-regions, shared-layout}
-use Rattle.shared_texts.specs.Texts.{texts-of}
+use Rattle.tables.specs.Heads.{text-halves, line-halves, member-halves, quick-head, status-head, line-head, group-head, individual-head, quick-own, status-own, member-own, line-own}
+use Rattle.tables.specs.SharedLayout.{head-widths, shared-size, shared-regions, shared-layout}
+use Rattle.tables.specs.Texts.{texts-of}
 use Rattle.shared_texts.proofs.Cuts.{area-length}
 use Rattle.shared_texts.proofs.HeadCodes.{line-kept}
 
@@ -40,7 +40,7 @@ module _ {A : Type 0} (w : ℕ) (f : A → List ℕ) (long : (a : A) → length 
   counted-wide xs = omega (arith, table-wide (front n xs) (front-length n xs))
 
 -- SHARED-WIDE: every region has its width
-pub shared-wide : (lim : Limits) (a : ℕ) (t : Tables) → Allowed lim t → map length (shared-regions lim a t) ≡ shared-widths lim a
+pub shared-wide : (lim : Limits) (a : ℕ) (t : Tables) → Allowed (placed lim) t → map length (shared-regions lim a t) ≡ shared-widths lim a
 shared-wide lim a t ok =
     let h = hash-code .long (t .hash) in
     let q = table-wide (suc quick-own) (λ us. quick-head (text-halves .head us)) (λ us. refl) quick-places (t .quick) (ok .quick .0) in
@@ -61,7 +61,7 @@ shared-wide lim a t ok =
 -- ---- frames
 
 -- region k of the store has n bytes from `at` on
-module _ (lim : Limits) (a : ℕ) (t : Tables) (ok : Allowed lim t) (k : ℕ) (h : k < 15) (at n : ℕ) (p : at ≡ sum (take k (shared-widths lim a))) (q : n ≡ getD (shared-widths lim a) k 0) where
+module _ (lim : Limits) (a : ℕ) (t : Tables) (ok : Allowed (placed lim) t) (k : ℕ) (h : k < 15) (at n : ℕ) (p : at ≡ sum (take k (shared-widths lim a))) (q : n ≡ getD (shared-widths lim a) k 0) where
   -- SHARED-GET: it is read
   pub shared-get : midOf at n (shared-layout lim a t) ≡ getD (shared-regions lim a t) k []
   unfolding shared-layout

@@ -15,7 +15,7 @@ use Rattle.tables.specs.declared.limits.Limits.{Limits}
 use Rattle.tables.specs.declared.members.Members.the-variants.{OfGroups, OfIndividuals}
 use Rattle.tables.specs.Allowed.{Allowed, HashOk, TargetOk, HomeOk, SystemOk, LineOk, PlacesOk, ListOk, KeyedOk}
 use Rattle.tables.specs.Layout.{counted, hash-bytes, key-bytes, home-bytes, system-bytes, hash-size, key-size, home-size, system-size, key-at, home-at, system-at, quick-at, channel-width, channels-size, count-size}
-use Rattle.tables.specs.Limits.{quick-places, status-places, slot-places, contact-places}
+use Rattle.tables.specs.Limits.{placed, quick-places, status-places, slot-places, contact-places}
 use Rattle.tables.specs.MemberKinds.{contact-key}
 use Rattle.tables.specs.Order.{sorting, line-order}
 use Rattle.tables.specs.Tables.{Tables, Line, Key, line-key}
@@ -24,10 +24,11 @@ use Rattle.tables.proofs.EntryCodes.{channel-code, channel-shown}
 use Rattle.tables.proofs.FixedCodes.{hash-code, key-code, home-code, system-code}
 use Rattle.tables.proofs.LayoutLaws.{list-wide, list-bytes, list-table-one}
 use Rattle.tables.proofs.OrderLaws.{distinct-made, order-are-bytes}
-use Rattle.shared_texts.specs.Heads.{HeadOfLine, text-halves, line-halves, member-halves, head-key, group-head-key, individual-head-key, head-order, QuickHeadOk, StatusHeadOk, GroupHeadOk, IndividualHeadOk, LineHeadOk, quick-head, status-head, line-head, group-head, individual-head, ordered-heads, quick-own, status-own, member-own, line-own}
+use Rattle.tables.specs.Heads.{HeadOfLine, text-halves, line-halves, member-halves, head-key, group-head-key, individual-head-key, head-order, QuickHeadOk, StatusHeadOk, GroupHeadOk, IndividualHeadOk, LineHeadOk, quick-head, status-head, line-head, group-head, individual-head, ordered-heads, quick-own, status-own, member-own, line-own}
 use Rattle.shared_texts.specs.Regions.{Region, last-bytes, whole, Stand, units-from}
-use Rattle.shared_texts.specs.Shared.{quick-heads-size, status-heads-size, member-heads-size, line-slot-heads-size, contact-heads-size, line-heads-size, status-heads-at, group-heads-at, individual-heads-at, line-slot-heads-at, group-contact-heads-at, individual-contact-heads-at, shared-channels-at, line-heads-at, heads-size, shared-size, head-regions, shared-layout, SharedRoomy, SharedOk, IsShared, text-start, stored-units, channels-region, line-list, lines-region, store-regions, SharedChecks}
-use Rattle.shared_texts.specs.Texts.{text-tables, present, texts-in, texts-of, units-of, unit-bytes, area, AreaFilled}
+use Rattle.tables.specs.SharedLayout.{quick-heads-size, status-heads-size, member-heads-size, line-slot-heads-size, contact-heads-size, line-heads-size, status-heads-at, group-heads-at, individual-heads-at, line-slot-heads-at, group-contact-heads-at, individual-contact-heads-at, shared-channels-at, line-heads-at, heads-size, shared-size, head-regions, shared-layout, text-start}
+use Rattle.shared_texts.specs.Shared.{SharedRoomy, SharedOk, IsShared, stored-units, channels-region, line-list, lines-region, store-regions, SharedChecks}
+use Rattle.tables.specs.Texts.{text-tables, present, texts-in, texts-of, units-of, unit-bytes, area, AreaFilled}
 use Rattle.shared_texts.proofs.HeadCodes.{quick-kept, status-kept, line-kept, group-kept, individual-kept}
 use Rattle.shared_texts.proofs.RegionLaws.{Lawful, AllLawful, AreBytes, AllBytes, plain-lawful, table-lawful, table-bytes, list-lawful, list-are-bytes, followed-lawful, whole-lawful, whole-bytes}
 use Rattle.shared_texts.proofs.Rows.{places-map, front-map}
@@ -148,14 +149,14 @@ module _ (lim : Limits) where
       }
 
   -- allowed tables are regions as they have to be
-  regions-ok : (t : Tables) → Allowed lim t → all .Ok (regions-of t)
+  regions-ok : (t : Tables) → Allowed (placed lim) t → all .Ok (regions-of t)
   regions-ok t p =
       let g = p .distinct-groups in
       let i = p .distinct-individuals in
       (p .hash, (p .key, (p .home, (p .system, (p .quick, (p .status, (p .groups, (p .individuals, (p .line-slots, ((p .group-contacts, g), ((p .individual-contacts, i), (p .channels, ((p .lines, p .distinct), tt)))))))))))))
 
   -- and such regions are allowed tables
-  tables-ok : (x : all .Own) → all .Ok x → Allowed lim (tables-of x)
+  tables-ok : (x : all .Own) → all .Ok x → Allowed (placed lim) (tables-of x)
   tables-ok x p =
       record {
         hash = p .0;
@@ -174,6 +175,7 @@ module _ (lim : Limits) where
         channels = p .1 .1 .1 .1 .1 .1 .1 .1 .1 .1 .1 .0;
         lines = p .1 .1 .1 .1 .1 .1 .1 .1 .1 .1 .1 .1 .0 .0;
         distinct = p .1 .1 .1 .1 .1 .1 .1 .1 .1 .1 .1 .1 .0 .1;
+        texts = tt;
       }
 
   -- the texts are those of the regions
@@ -247,7 +249,7 @@ module _ (lim : Limits) where
         ∙ ap₂ (λ (x y : List ℕ). x ++ (area a (texts-of t) ++ y)) (heads-are t) (append-nil (replicate spare 0))
 
     -- SHARED-LENGTH: where heads and texts fit, their bytes fill the store
-    pub shared-length : (t : Tables) → SharedRoomy lim a → Allowed lim t → length (shared-layout lim a t) ≡ lim .size
+    pub shared-length : (t : Tables) → SharedRoomy lim a → Allowed (placed lim) t → length (shared-layout lim a t) ≡ lim .size
     shared-length t r p =
         let e = stored-length all all-lawful a spare (regions-of t) (regions-ok t p) in
         ap length (layout-stored t) ∙ e ∙ size-is
@@ -256,7 +258,7 @@ module _ (lim : Limits) where
         size-is = omega (arith, heads-wide, r .fits)
 
     -- SHARED-BYTES: they are bytes
-    pub shared-bytes : (t : Tables) → SharedRoomy lim a → Allowed lim t → Bytes (shared-layout lim a t)
+    pub shared-bytes : (t : Tables) → SharedRoomy lim a → Allowed (placed lim) t → Bytes (shared-layout lim a t)
     shared-bytes t r p =
         subst Bytes (sym (layout-stored t)) (stored-bytes all all-lawful a spare (whole-bytes (store-regions lim) (store-bytes lim (r .few-channels) (r .few-lines))) (regions-of t) (regions-ok t p))
 

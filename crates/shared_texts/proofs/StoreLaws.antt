@@ -13,7 +13,7 @@ use Rattle.slots.proofs.Runs.{zeros-all, zeros-are}
 use Rattle.writing.specs.Settings.{Text}
 use Rattle.tables.proofs.TextLaws.{Unit16}
 use Rattle.shared_texts.specs.Regions.{Region, whole, Stand, units-from}
-use Rattle.shared_texts.specs.Texts.{unit-bytes, units-of, area, cut, AreaFilled}
+use Rattle.tables.specs.Texts.{unit-bytes, units-of, area, cut, AreaFilled}
 use Rattle.shared_texts.proofs.Cuts.{area-filled, area-is, area-length, cut-area, cut-lengths, cut-texts, filled-units, texts-length, unit-bytes-length}
 use Rattle.shared_texts.proofs.RegionLaws.{Lawful, AllLawful, AreBytes, whole-lawful}
 use Rattle.shared_texts.proofs.StandLaws.{stand-all, units-all}

@@ -6,7 +6,7 @@ use Rattle.writing.specs.declared.Kind.the-variants.{GroupContacts, IndividualC
 use Rattle.writing.specs.Settings.{Text}
 use Rattle.tables.specs.Owns.{Own, own, put-own}
 use Rattle.tables.specs.Tables.{Tables}
-use Rattle.shared_texts.specs.Texts.{text-kinds, text-tables, present, texts-in, units-of, text-sum, table-sum, text-size, units-before}
+use Rattle.tables.specs.Texts.{text-kinds, text-tables, present, texts-in, units-of, text-sum, table-sum, text-size, units-before}
 use Rattle.shared_texts.proofs.RegionLaws.{sum-append}
 
 -- the units of texts, and then of others

@@ -5,9 +5,9 @@ use Rattle.orders.specs.OrderParts.{order-bytes}
 use Rattle.writing.specs.Settings.{Text}
 use Rattle.tables.specs.declared.limits.Limits.{Limits}
 use Rattle.tables.specs.Allowed.{Allowed, QuickOk, StatusOk, GroupOk, IndividualOk, LineOk}
-use Rattle.tables.specs.Layout.{layout, hash-bytes, key-bytes, home-bytes, system-bytes, quick-bytes, status-bytes, group-bytes, individual-bytes, line-bytes, group-flags, individual-flags, count-size, member-width, line-width, contacts-size, channels-size, lines-size, quick-size, status-size, member-size, line-slots-size, used-size, quick-at, status-at, groups-at, individuals-at, line-slots-at, group-contacts-at, individual-contacts-at, channels-at, lines-at}
+use Rattle.tables.specs.Layout.{placed-layout, hash-bytes, key-bytes, home-bytes, system-bytes, quick-bytes, status-bytes, group-bytes, individual-bytes, line-bytes, group-flags, individual-flags, count-size, member-width, line-width, contacts-size, channels-size, lines-size, quick-size, status-size, member-size, line-slots-size, used-size, quick-at, status-at, groups-at, individuals-at, line-slots-at, group-contacts-at, individual-contacts-at, channels-at, lines-at}
 use Rattle.tables.specs.LineHeads.{head-bytes}
-use Rattle.tables.specs.Limits.{quick-places, status-places, slot-places, contact-places}
+use Rattle.tables.specs.Limits.{placed, quick-places, status-places, slot-places, contact-places}
 use Rattle.tables.specs.Order.{line-order}
 use Rattle.tables.specs.Tables.{Tables, GroupMember, IndividualMember, Line}
 use Rattle.tables.proofs.EntryCodes.{line-code}
@@ -15,11 +15,12 @@ use Rattle.tables.proofs.FixedCodes.{hash-code}
 use Rattle.tables.proofs.Frames.{region-get}
 use Rattle.tables.proofs.TextCodes.{digits-length}
 use Rattle.tables.proofs.TextLaws.{text-padded}
-use Rattle.shared_texts.specs.Heads.{text-halves, line-halves, member-halves, quick-head, status-head, line-head, group-head, individual-head, quick-own, status-own, member-own, line-own}
+use Rattle.tables.specs.Heads.{text-halves, line-halves, member-halves, quick-head, status-head, line-head, group-head, individual-head, quick-own, status-own, member-own, line-own}
 use Rattle.shared_texts.specs.declared.Run.{Run}
 use Rattle.shared_texts.specs.Moves.{spread, loaded-run, loaded, saved-run, saved-area, saved, run-sum, work-sum}
-use Rattle.shared_texts.specs.Shared.{quick-heads-size, status-heads-size, member-heads-size, line-slot-heads-size, contact-heads-size, line-heads-size, status-heads-at, group-heads-at, individual-heads-at, line-slot-heads-at, group-contact-heads-at, individual-contact-heads-at, shared-channels-at, line-heads-at, heads-size, shared-size, shared-layout, text-runs, heads-in, slots-in, no-run, counted-before}
-use Rattle.shared_texts.specs.Texts.{text-tables, texts-in, texts-of, text-sum, units-of, units-before, table-sum, unit-bytes, area}
+use Rattle.tables.specs.SharedLayout.{quick-heads-size, status-heads-size, member-heads-size, line-slot-heads-size, contact-heads-size, line-heads-size, status-heads-at, group-heads-at, individual-heads-at, line-slot-heads-at, group-contact-heads-at, individual-contact-heads-at, shared-channels-at, line-heads-at, heads-size, shared-size, shared-layout}
+use Rattle.shared_texts.specs.Shared.{text-runs, heads-in, slots-in, no-run, counted-before}
+use Rattle.tables.specs.Texts.{text-tables, texts-in, texts-of, text-sum, units-of, units-before, table-sum, unit-bytes, area}
 use Rattle.shared_texts.proofs.Cuts.{area-is}
 use Rattle.shared_texts.proofs.MoveLaws.{Formed}
 use Rattle.shared_texts.proofs.RunLaws.{AllMoved, table-moved, list-moved, before-counted, run-heads, run-length, run-loads, run-texts, run-placed, runs-placed}
@@ -90,13 +91,13 @@ rebuilt : {f f′ q q′ s s′ g g′ v v′ d d′ j j′ e e′ k k′ i i′
     → flat (f ∷ q ∷ s ∷ g ∷ v ∷ d ∷ j ∷ e ∷ k ∷ i ∷ c ∷ l ∷ m ∷ o ∷ z) ≡ flat (f′ ∷ q′ ∷ s′ ∷ g′ ∷ v′ ∷ d′ ∷ (j′ ++ e′) ∷ (k′ ++ i′) ∷ c′ ∷ ((l′ ++ m′) ++ o′) ∷ z′)
 rebuilt f q s g v d j e k i c l m o z = (λ n. flat (f n ∷ q n ∷ s n ∷ g n ∷ v n ∷ d n ∷ j n ∷ e n ∷ k n ∷ i n ∷ c n ∷ l n ∷ m n ∷ o n ∷ z n)) ∙ simp append-assoc
 
-module _ (lim : Limits) (a : ℕ) (t : Tables) (ok : Allowed lim t) where
+module _ (lim : Limits) (a : ℕ) (t : Tables) (ok : Allowed (placed lim) t) where
   -- the store, and the working copy
   abbrev s : List ℕ
   s = shared-layout lim a t
 
   abbrev w : List ℕ
-  w = layout lim t
+  w = placed-layout lim t
 
   -- ---- list tables, in both
 
@@ -195,7 +196,7 @@ module _ (lim : Limits) (a : ℕ) (t : Tables) (ok : Allowed lim t) where
 
   -- and of the working copy
   fixed-worked : midOf 0 quick-at w ≡ fixed
-  unfolding layout
+  unfolding placed-layout
   fixed-worked = ap (take quick-at) (fixed-front _) ∙ fixed-taken _
 
   -- ---- the whole
@@ -222,7 +223,7 @@ module _ (lim : Limits) (a : ℕ) (t : Tables) (ok : Allowed lim t) where
 
   -- LOADED-WORK: what the store of tables whose texts fit is loaded as is a working copy of them
   pub loaded-work : text-sum t ≤ a → loaded lim a s ≡ w
-  unfolding layout
+  unfolding placed-layout
   loaded-work room =
       let f = fixed-stored in
       let q = loaded-table room 0 (omega arith) ∙ region-get lim t ok 4 (omega arith) quick-at quick-size refl refl in

@@ -1,6 +1,4 @@
-pub mod Heads
 pub mod Moves
 pub mod Regions
 pub mod Rooms
 pub mod Shared
-pub mod Texts

@@ -8,8 +8,9 @@ use Rattle.slots.specs.Slots.{flat, sum, pad, zeros?}
 use Rattle.tables.specs.declared.limits.Limits.{Limits}
 use Rattle.tables.specs.Layout.{count-size, channels-size, line-width, used-size, quick-at, group-contacts-at, individual-contacts-at, channels-at, lines-at}
 use Rattle.shared_texts.specs.declared.Run.{Run}
-use Rattle.shared_texts.specs.Heads.{line-own}
-use Rattle.shared_texts.specs.Shared.{heads-size, shared-size, group-contact-heads-at, individual-contact-heads-at, shared-channels-at, line-heads-at, text-runs, no-run, heads-in, slots-in, counted-before}
+use Rattle.tables.specs.Heads.{line-own}
+use Rattle.tables.specs.SharedLayout.{heads-size, shared-size, group-contact-heads-at, individual-contact-heads-at, shared-channels-at, line-heads-at}
+use Rattle.shared_texts.specs.Shared.{text-runs, no-run, heads-in, slots-in, counted-before}
 
 -- ---- loading
 

@@ -8,8 +8,8 @@ use Rattle.slots.specs.Slots.{places, EntryOf}
 use Rattle.writing.specs.Settings.{Text}
 use Rattle.tables.specs.Allowed.{PlacesOk}
 use Rattle.tables.specs.Layout.{count-size, counted}
-use Rattle.shared_texts.specs.Heads.{Halves}
-use Rattle.shared_texts.specs.Texts.{rows, present}
+use Rattle.tables.specs.Heads.{Halves}
+use Rattle.tables.specs.Texts.{rows, present}
 
 -- a region: what it holds, what its heads say, and their bytes
 pub record Region : Type 1 where

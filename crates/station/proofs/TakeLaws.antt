@@ -16,12 +16,15 @@ use Rattle.read_carrier.proofs.MessageOne.{query-opens}
 use Rattle.read_fields.specs.declared.hashes.HashPlace.{HashPlace}
 use Rattle.tables.specs.declared.limits.Limits.{Limits}
 use Rattle.tables.specs.Allowed.{HashOk}
-use Rattle.tables.specs.Layout.{Roomy, layout, hash-bytes, used-size, hash-size}
+use Rattle.tables.specs.Forms.{Roomy, layout}
+use Rattle.tables.specs.Layout.{hash-bytes, used-size, hash-size}
+use Rattle.tables.specs.Limits.{placed}
 use Rattle.tables.specs.Store.{StoreOf, Holds, Works}
 use Rattle.tables.specs.Tables.{Tables, no-hash}
 use Rattle.tables.proofs.AllowedLaws.{forget-allowed}
 use Rattle.tables.proofs.Frames.{hash-get, hash-put}
-use Rattle.tables.proofs.LayoutLaws.{layout-length}
+use Rattle.tables.proofs.LayoutLaws.{placed-length}
+use Rattle.shared_texts.proofs.FormFrames.{hash-stands}
 use Rattle.station.specs.declared.answers.Answer.{Answer}
 use Rattle.station.specs.declared.answers.Answer.the-variants.{Untouched, Replied}
 use Rattle.station.specs.declared.judge.Verdict.{Verdict}
@@ -66,7 +69,7 @@ module _ (message : List ℕ) (place : HashPlace) (store reply after : List ℕ)
   queried k same which numbered w lim t (ok, is) (size, h, q, code, stands) = (h, q, by which)
     where
       kept-bytes : midOf 0 hash-size store ≡ hash-bytes (t .hash)
-      kept-bytes = ap (midOf 0 hash-size) is ∙ hash-get lim t ok
+      kept-bytes = ap (midOf 0 hash-size) is ∙ hash-stands lim t ok
 
       compared : SameAs h (t .hash) k
       compared = same h (t .hash) (ok .hash) kept-bytes code (q .in-range) stands
@@ -89,14 +92,14 @@ module _ (message : List ℕ) (place : HashPlace) (store reply after : List ℕ)
 pub forgotten : (lim : Limits) (t : Tables) (w y : List ℕ) → Roomy lim → Works lim t w → (length (midOf 0 hash-size w) ≡ 11 → y ≡ hash-bytes no-hash) → Works lim (forget t) (putMid 0 hash-size w y)
 forgotten lim t w y room (ok, is) e =
     let r : used-size lim ≤ lim .size = room .fits in
-    let l : length w ≡ lim .size = ap length is ∙ layout-length lim t room ok in
-    (forget-allowed lim t ok, ap₂ (putMid 0 hash-size) is (e (mid-len 0 11 w (omega arith))) ∙ hash-put lim t ok no-hash)
+    let l : length w ≡ lim .size = ap length is ∙ placed-length lim t room ok in
+    (forget-allowed (placed lim) t ok, ap₂ (putMid 0 hash-size) is (e (mid-len 0 11 w (omega arith))) ∙ hash-put lim t ok no-hash)
 
 -- the settings were run on a copy of the store with no hash kept
 pub request-judged : (c : Coding) (lim : Limits) (message : List ℕ) (count at : ℕ) (store w v : List ℕ) (run : Run)
     → Roomy lim → ((t : Tables) → Holds lim t store → Works lim (forget t) w) → RunIs c lim count message at w v run → RequestJudged c lim message count at store v run
-request-judged c lim message count at store w v (Good f) room h r = λ t k. r (forget t) room (h t k)
-request-judged c lim message count at store w v (RunFault result failed) room h r = λ t k. r (forget t) room (h t k)
+request-judged c lim message count at store w v (Good f) room h r = λ t k. r (forget t) room (forget-allowed lim t (k .0)) (h t k)
+request-judged c lim message count at store w v (RunFault result failed) room h r = λ t k. r (forget t) room (forget-allowed lim t (k .0)) (h t k)
 
 -- the reply to a good one
 pub accepted : (f : LastFlags) (n : ℕ) (hash reply after : List ℕ) → ReplyWritten 0 0 hash reply after n
@@ -187,7 +190,7 @@ module _ (lim : Limits) (message store reply after work : List ℕ) where
       let e : leaves (Replied r) (layout lim (z .tables)) after ≡ settled lim message store reply (kept (z .settings) (z .tables))
       = w lim message store (layout lim (z .tables)) (z .tables .hash) (ok .hash) b
       ∙ ap (λ (g : LastFlags). replies lim message store reply 0 0 (g .reply) (g .reboot) (z .tables .hash) (layout lim (z .tables))) (z .flags) in
-      (s .size, s .roomy, z .tables, z .holds, by-kind lim message store reply _ big s (a .tables) h (Request count at c) is (kept (z .settings) (z .tables), z .judged, e))
+      (s .size, s .roomy, z .tables, z .allowed, z .holds, by-kind lim message store reply _ big s (a .tables) h (Request count at c) is (kept (z .settings) (z .tables), z .judged, e))
   request-verdict c count at big s is (RunFault result failed) (Answered r) j w =
       handled lim message store reply _ big s (Request count at c) is (λ t h. (refused (result-number result) failed, j t h, w lim message store))
   request-verdict c count at big s is (Good f) (Answered r) j w = absurd w
@@ -199,7 +202,7 @@ module _ (lim : Limits) (message store reply after work : List ℕ) where
   pub judged : (v : Verdict) (a : Answer) → VerdictIs lim message store reply after work v → a ≡ answer-of v → Judges lim message store reply (said a) after
   judged (NothingTouched r) a d e = record { after = leaves (Untouched r) store after; allowed = d; says = ap said e; writes = refl }
   judged (Answered r) a d e = record { after = leaves (Replied r) store after; allowed = d; says = ap said e; writes = refl }
-  judged (IsTaken r) a d e = record { after = leaves (Replied r) (layout lim (d .2)) after; allowed = d .4; says = ap said e; writes = refl }
+  judged (IsTaken r) a d e = record { after = leaves (Replied r) (layout lim (d .2)) after; allowed = d .5; says = ap said e; writes = refl }
 
   -- an outcome with this answer and store
   abbrev Left : Answer → List ℕ → Type 0
@@ -210,4 +213,4 @@ module _ (lim : Limits) (message store reply after work : List ℕ) where
       → Answers (taken lim message store reply) (leaves a store-after after)
   committed (NothingTouched r) a store-after d k e = subst₂ Left (sym e) (sym k) d
   committed (Answered r) a store-after d k e = subst₂ Left (sym e) (sym k) d
-  committed (IsTaken r) a store-after (size, room, u, w, d) k e = subst₂ Left (sym e) (sym (k size u room w .1)) d
+  committed (IsTaken r) a store-after (size, room, u, ok, w, d) k e = subst₂ Left (sym e) (sym (k size u room ok w .1)) d

@@ -13,8 +13,9 @@ use Rattle.writing.specs.declared.Result.{Result}
 use Rattle.writing.specs.Carrier.{result-number}
 use Rattle.writing.specs.Settings.{Hash}
 use Rattle.tables.specs.declared.limits.Limits.{Limits}
-use Rattle.tables.specs.Allowed.{HashOk}
-use Rattle.tables.specs.Layout.{Roomy, layout, hash-bytes}
+use Rattle.tables.specs.Allowed.{Allowed, HashOk}
+use Rattle.tables.specs.Forms.{Roomy, layout}
+use Rattle.tables.specs.Layout.{hash-bytes}
 use Rattle.tables.specs.Store.{Holds, Works, Saved}
 use Rattle.tables.specs.Tables.{Tables}
 use Rattle.station.specs.declared.answers.Answer.{Answer}
@@ -67,12 +68,12 @@ answer-of (NothingTouched r) = Untouched r
 answer-of (Answered r) = Replied r
 answer-of (IsTaken r) = Replied r
 
--- what a message comes to, in the words of taking it: the store stays, or the working copy has the tables that it becomes
+-- what a message comes to, in the words of taking it: the store stays, or the working copy has the tables that it becomes, which it may hold
 abbrev pub VerdictIs : Limits → List ℕ → List ℕ → List ℕ → List ℕ → List ℕ → Verdict → Type 0
 VerdictIs lim message store reply after work (NothingTouched r) = Answers (taken lim message store reply) (leaves (Untouched r) store after)
 VerdictIs lim message store reply after work (Answered r) = Answers (taken lim message store reply) (leaves (Replied r) store after)
 VerdictIs lim message store reply after work (IsTaken r) =
-    (length store ≡ lim .size) × Roomy lim × (u : Tables) × Works lim u work × Answers (taken lim message store reply) (leaves (Replied r) (layout lim u) after)
+    (length store ≡ lim .size) × Roomy lim × (u : Tables) × Allowed lim u × Works lim u work × Answers (taken lim message store reply) (leaves (Replied r) (layout lim u) after)
 
 -- what committing a verdict makes of the store: the tables of the working copy where a request was taken
 abbrev pub Keeps : Verdict → Limits → List ℕ → List ℕ → List ℕ → Type 0

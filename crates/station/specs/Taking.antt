@@ -10,7 +10,7 @@ use Rattle.writing.specs.Carrier.{RequestOf, Query, InSize, NothingCarried, Oth
 use Rattle.writing.specs.declared.Coding.{Coding}
 use Rattle.writing.specs.Settings.{Setting, Hash}
 use Rattle.tables.specs.declared.limits.Limits.{Limits}
-use Rattle.tables.specs.Layout.{layout}
+use Rattle.tables.specs.Forms.{layout}
 use Rattle.tables.specs.Store.{StoreOf, Holds}
 use Rattle.tables.specs.Tables.{Tables, no-hash}
 use Rattle.station.specs.declared.answers.Answer.{Answer}

@@ -5,7 +5,7 @@ use super::judge::Verdict;
 use super::judge::answer_of;
 use super::judge::judge_in;
 use tables::limits::Limits;
-use tables::working::save;
+use working::working::save;
 ghost use mathlib.Core.Path.{_≡_};
 ghost use lib.ListN.{length};
 ghost use Rattle.lists.specs.Ladder.{Answers};

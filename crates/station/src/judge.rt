@@ -15,7 +15,7 @@ use store_places::fixed::clear_hash;
 use tables::limits::Limits;
 use tables::places::HASH;
 use tables::places::KEY;
-use tables::working::load;
+use working::working::load;
 use writing::Coding;
 use writing::LastFlags;
 use writing::Result;

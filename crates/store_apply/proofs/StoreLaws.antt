@@ -36,9 +36,10 @@ use Rattle.settings.proofs.settings.Setting.{the-type}
 use Rattle.store_places.specs.declared.texts.TextTable.the-variants.{Quick, Status}
 use Rattle.tables.specs.declared.limits.Limits.{Limits}
 use Rattle.tables.specs.Allowed.{TargetOk}
-use Rattle.tables.specs.Apply.{apply, own-after, with-room}
+use Rattle.tables.specs.Apply.{change, own-after, with-room}
 use Rattle.store_places.specs.Changes.{TextsAre, TextsApplied, GroupsAre, GroupApplied, IndividualsAre, IndividualApplied, LineSlotsAre, LineSlotApplied, KeyPut, SystemPut, HashPut}
-use Rattle.tables.specs.Layout.{Roomy, channels-at, channels-size, contacts-size, group-contacts-at, group-flags, groups-at, hash-bytes, hash-size, home-at, home-bytes, home-size, individual-contacts-at, individual-flags, individuals-at, key-address, key-at, key-bytes, key-size, layout, line-slots-at, line-slots-size, lines-at, lines-size, member-size, quick-at, quick-size, status-at, status-size, system-at, system-bytes, system-size}
+use Rattle.tables.specs.Forms.{Roomy}
+use Rattle.tables.specs.Layout.{channels-at, channels-size, contacts-size, group-contacts-at, group-flags, groups-at, hash-bytes, hash-size, home-at, home-bytes, home-size, individual-contacts-at, individual-flags, individuals-at, key-address, key-at, key-bytes, key-size, placed-layout, line-slots-at, line-slots-size, lines-at, lines-size, member-size, quick-at, quick-size, status-at, status-size, system-at, system-bytes, system-size}
 use Rattle.store_lists.specs.Lists.{ChannelTable, ChannelsApplied, ContactTable, ContactsApplied, FlagsOk, LineTable, LinesApplied}
 use Rattle.tables.specs.Store.{Works, Applied}
 use Rattle.tables.specs.declared.members.Members.the-variants.{OfGroups, OfIndividuals}
@@ -46,48 +47,48 @@ use Rattle.tables.specs.Limits.{contact-places}
 use Rattle.tables.specs.Tables.{Tables}
 use Rattle.tables.specs.Owns.{Own, own, put-own}
 use Rattle.store_apply.specs.Places.{Unlisted}
-use Rattle.tables.proofs.AllowedLaws.{apply-allowed}
+use Rattle.tables.proofs.AllowedLaws.{change-allowed}
 use Rattle.tables.proofs.FitsLaws.{fits-key, fits-system, fits-group, fits-individual, fits-line-slot}
+use Rattle.tables.proofs.LayoutLaws.{placed-length}
 use Rattle.tables.proofs.Frames.{hash-put as hash-back, key-put as key-back, home-put as home-back, system-put as system-back, quick-placed, quick-back, status-placed, status-back, groups-placed, groups-back, individuals-placed, individuals-back, line-slots-placed, line-slots-back, contacts-counted, contacts-back, channels-counted, channels-back, lines-ordered, lines-back}
-use Rattle.tables.proofs.LayoutLaws.{layout-length}
 
 -- ---- a region put back
 
 -- x is the setting v that was meant
 module _ (l : Limits) (was : Tables) (s : List ℕ) (is : Works l was s) (c : Coding) (left : ℕ) (x v : Setting) (q : x ≡ v) (r : InRange text-limits left x) (p : Fits c x) where
   -- what was tried on its table was tried on the tables
-  joined : (Is : Own (kind v) → List ℕ → Type 0) (y t : List ℕ) (k : Bool) → ((u : Own (kind v)) → Is u y → t ≡ layout l (put-own (kind v) was u))
-      → Tried Is (own-after l v (own (kind v) was)) y k → Tried (Works l) (apply l x was) t k
-  joined Is y t k back h = subst⁻¹ (λ z. Tried (Works l) (apply l z was) t k) q (record {
+  joined : (Is : Own (kind v) → List ℕ → Type 0) (y t : List ℕ) (k : Bool) → ((u : Own (kind v)) → Is u y → t ≡ placed-layout l (put-own (kind v) was u))
+      → Tried Is (own-after l v (own (kind v) was)) y k → Tried (Works l) (change l x was) t k
+  joined Is y t k back h = subst⁻¹ (λ z. Tried (Works l) (change l z was) t k) q (record {
     room = λ e.
         let (u, d, i) = h .room e in
-        let f : apply l v was ≡ some (put-own (kind v) was u) = ap (with-room (put-own (kind v) was)) d in
-        (put-own (kind v) was u, f, (apply-allowed l was (put-own (kind v) was u) c left v (is .0) (subst (InRange text-limits left) q r) (subst (Fits c) q p) f, back u i));
+        let f : change l v was ≡ some (put-own (kind v) was u) = ap (with-room (put-own (kind v) was)) d in
+        (put-own (kind v) was u, f, (change-allowed l was (put-own (kind v) was u) c left v (is .0) (subst (InRange text-limits left) q r) (subst (Fits c) q p) f, back u i));
     full = λ e. ap (with-room (put-own (kind v) was)) (h .full e);
   })
 
   -- a table in n bytes from a on
-  region-tried : (Is : Own (kind v) → List ℕ → Type 0) (a n : ℕ) (y : List ℕ) (k : Bool) → ((u : Own (kind v)) → Is u y → putMid a n (layout l was) y ≡ layout l (put-own (kind v) was u))
-      → Is (own (kind v) was) (midOf a n (layout l was)) → (Is (own (kind v) was) (midOf a n s) → Tried Is (own-after l v (own (kind v) was)) y k) → Tried (Works l) (apply l x was) (putMid a n s y) k
+  region-tried : (Is : Own (kind v) → List ℕ → Type 0) (a n : ℕ) (y : List ℕ) (k : Bool) → ((u : Own (kind v)) → Is u y → putMid a n (placed-layout l was) y ≡ placed-layout l (put-own (kind v) was u))
+      → Is (own (kind v) was) (midOf a n (placed-layout l was)) → (Is (own (kind v) was) (midOf a n s) → Tried Is (own-after l v (own (kind v) was)) y k) → Tried (Works l) (change l x was) (putMid a n s y) k
   region-tried Is a n y k back here tried =
       joined Is y (putMid a n s y) k (λ u e. ap (λ z. putMid a n z y) (is .1) ∙ back u e) (tried (subst⁻¹ (λ z. Is (own (kind v) was) (midOf a n z)) (is .1) here))
 
   -- one that has room for all
-  changed : (Is : Own (kind v) → List ℕ → Type 0) (a n : ℕ) (y : List ℕ) → ((u : Own (kind v)) → Is u y → putMid a n (layout l was) y ≡ layout l (put-own (kind v) was u))
-      → Is (own (kind v) was) (midOf a n (layout l was)) → (Is (own (kind v) was) (midOf a n s) → (u : Own (kind v)) × (own-after l v (own (kind v) was) ≡ some u) × Is u y)
-      → Tried (Works l) (apply l x was) (putMid a n s y) true
+  changed : (Is : Own (kind v) → List ℕ → Type 0) (a n : ℕ) (y : List ℕ) → ((u : Own (kind v)) → Is u y → putMid a n (placed-layout l was) y ≡ placed-layout l (put-own (kind v) was u))
+      → Is (own (kind v) was) (midOf a n (placed-layout l was)) → (Is (own (kind v) was) (midOf a n s) → (u : Own (kind v)) × (own-after l v (own (kind v) was) ≡ some u) × Is u y)
+      → Tried (Works l) (change l x was) (putMid a n s y) true
   changed Is a n y back here change = region-tried Is a n y true back here (λ t. let (u, d, i) = change t in tried-room Is u d i)
 
   -- one of a fixed size, by its bytes
-  fixed : (bytes : Own (kind v) → List ℕ) (a n : ℕ) (y : List ℕ) → ((u : Own (kind v)) → putMid a n (layout l was) (bytes u) ≡ layout l (put-own (kind v) was u))
-      → (u : Own (kind v)) → own-after l v (own (kind v) was) ≡ some u → y ≡ bytes u → Tried (Works l) (apply l x was) (putMid a n s y) true
+  fixed : (bytes : Own (kind v) → List ℕ) (a n : ℕ) (y : List ℕ) → ((u : Own (kind v)) → putMid a n (placed-layout l was) (bytes u) ≡ placed-layout l (put-own (kind v) was u))
+      → (u : Own (kind v)) → own-after l v (own (kind v) was) ≡ some u → y ≡ bytes u → Tried (Works l) (change l x was) (putMid a n s y) true
   fixed bytes a n y back u d i =
       joined (λ u z. z ≡ bytes u) y (putMid a n s y) true (λ w e. ap₂ (putMid a n) (is .1) e ∙ back w) (tried-room (λ u z. z ≡ bytes u) u d i)
 
 -- a fixed region has its length
 wide : (l : Limits) (was : Tables) (s : List ℕ) → Roomy l → Works l was s → (a n : ℕ) → a + n ≤ channels-at → length (midOf a n s) ≡ n
 wide l was s room is a n h =
-    let e : length s ≡ l .size = ap length (is .1) ∙ layout-length l was room (is .0) in
+    let e : length s ≡ l .size = ap length (is .1) ∙ placed-length l was room (is .0) in
     let k : a + n - a ≡ n = omega arith in
     ap (λ j. length (midOf a j s)) (sym k) ∙ mid-len a (a + n) s (omega (arith, e, room .fits)) ∙ k
 
@@ -182,23 +183,23 @@ module _ (l : Limits) (m s y : List ℕ) where
   pub store-channels : (o : Operation) (a : Entries) (n : ℕ) (k : Bool) → n ≡ channels-size l → ChannelsApplied o m a (midOf channels-at n s) y k → Applied l m (Channels o a) s (putMid channels-at n s y) k
   store-channels o a n k w h was x c left room is (es, q, at) r p =
       region-tried l was s is c left x (channels o es) q r p (ChannelTable (l .channels)) channels-at n y k
-      (λ v e. ap (λ j. putMid channels-at j (layout l was) y) w ∙ channels-back l was (is .0) v y e)
-      (subst⁻¹ (λ j. ChannelTable (l .channels) (was .channels) (midOf channels-at j (layout l was))) w (channels-counted l was (is .0) room))
+      (λ v e. ap (λ j. putMid channels-at j (placed-layout l was) y) w ∙ channels-back l was (is .0) v y e)
+      (subst⁻¹ (λ j. ChannelTable (l .channels) (was .channels) (midOf channels-at j (placed-layout l was))) w (channels-counted l was (is .0) room))
       (λ t. h (l .channels) (was .channels) es t at (subst (InRange text-limits left) q r))
 
   pub store-lines : (o : Operation) (f : LineFlags) (a : Entries) (b n : ℕ) (k : Bool) → b ≡ lines-at l → n ≡ lines-size l → LinesApplied o m f a (midOf b n s) y k → Applied l m (Lines o f a) s (putMid b n s y) k
   store-lines o f a b n k v w h was x c left room is (es, q, at) r p =
       let low : f .priority < 4 = (subst (Fits c) q p) .1 .1 .1 .1 .1 .0 in
       region-tried l was s is c left x (lines o f es) q r p (LineTable (l .lines)) b n y k
-      (λ z e. ap₂ (λ a j. putMid a j (layout l was) y) v w ∙ lines-back l was (is .0) z y e)
-      (subst⁻¹ (LineTable (l .lines) (was .lines)) (ap₂ (λ a j. midOf a j (layout l was)) v w) (lines-ordered l was (is .0) room))
+      (λ z e. ap₂ (λ a j. putMid a j (placed-layout l was) y) v w ∙ lines-back l was (is .0) z y e)
+      (subst⁻¹ (LineTable (l .lines) (was .lines)) (ap₂ (λ a j. midOf a j (placed-layout l was)) v w) (lines-ordered l was (is .0) room))
       (λ t. h low (l .lines) (was .lines) es t at (subst (InRange text-limits left) q r))
 
   -- ---- no store of these limits
 
   -- a store has the limits' size, and room for its tables
   pub no-store : (r : Read) (t : List ℕ) (k : Bool) → (Roomy l → length s ≡ l .size → ⊥) → Applied l m r s t k
-  no-store r t k h was x c left room is q i p = absurd (h room (ap length (is .1) ∙ layout-length l was room (is .0)))
+  no-store r t k h was x c left room is q i p = absurd (h room (ap length (is .1) ∙ placed-length l was room (is .0)))
 
 -- ---- the setting by its case
 

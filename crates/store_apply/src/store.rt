@@ -34,7 +34,8 @@ use tables::places::SYSTEM;
 ghost use mathlib.Core.Path.{_≡_};
 ghost use Prim.Native.Nat.{_≤_};
 ghost use lib.ListN.{length};
-ghost use Rattle.tables.specs.Layout.{channels-at, Roomy};
+ghost use Rattle.tables.specs.Forms.{Roomy};
+ghost use Rattle.tables.specs.Layout.{channels-at};
 ghost use Rattle.tables.specs.Store.{Applied};
 ghost use Rattle.store_apply.specs.Places.{Unlisted, PlaceApplied};
 

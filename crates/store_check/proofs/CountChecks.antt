@@ -1,10 +1,11 @@
 -- A list table with its count: where the first empty slot stands says what the count has to be. Assumes nothing.
 use Rattle.lists.proofs.Kit.{_≡_, refl, sym, ap, ap₂, _∙_, Bool, true, _↔_, List, [], _∷_, _++_, ℕ, _+_, _*_, _/_, _≤_, _<_, arith, getD, length, take, drop, take-append-drop, eqb, eqb-true, eq-eqb}
 use Rattle.lists.specs.Bytes.{Bytes}
-use Rattle.slots.specs.Slots.{u16, zeros?, Found, Listed, ListOf}
+use Rattle.slots.specs.Slots.{u16, zeros?, Found, Listed}
 use Rattle.slots.proofs.Keys.{used-at}
 use Rattle.store_check.specs.declared.checks_tables.Table.{Table}
-use Rattle.store_check.specs.Checks.{EntryIn, OkIn, width-in, bytes-in, CountedIn}
+use Rattle.store_check.specs.declared.forms.Form.{Form}
+use Rattle.store_check.specs.Checks.{EntryIn, OkIn, width-in, bytes-in, ListIn, CountedIn}
 use Rattle.tables.specs.Layout.{count-size}
 use Rattle.store_check.proofs.TableChecks.{wide-in, long-in, shown-in}
 use native.Mathlib.Nat.{mul-div-cancel}
@@ -27,14 +28,14 @@ count-says s h b n p e = (
 
 -- ---- the count and the entries
 
-module _ (t : Table) (n : ℕ) (s : List ℕ) (r : ℕ) (found : Found (0 < width-in t) zeros? (width-in t) (drop count-size s) r) where
+module _ (f : Form) (t : Table) (n : ℕ) (s : List ℕ) (r : ℕ) (found : Found (0 < width-in f t) zeros? (width-in f t) (drop count-size s) r) where
   -- the entries stand before the first empty slot
-  entries-before : (xs : List (EntryIn t)) → Listed (OkIn t) (width-in t) (bytes-in t) n xs (drop count-size s) → r / width-in t ≡ length xs
+  entries-before : (xs : List (EntryIn f t)) → Listed (OkIn f t) (width-in f t) (bytes-in f t) n xs (drop count-size s) → r / width-in f t ≡ length xs
   entries-before xs x =
-      ap (λ (i : ℕ). i / width-in t) (used-at (OkIn t) (width-in t) (bytes-in t) (long-in t) (shown-in t) (wide-in t) n xs (drop count-size s) x r found) ∙ mul-div-cancel (length xs) (wide-in t)
+      ap (λ (i : ℕ). i / width-in f t) (used-at (OkIn f t) (width-in f t) (bytes-in f t) (long-in f t) (shown-in f t) (wide-in f t) n xs (drop count-size s) x r found) ∙ mul-div-cancel (length xs) (wide-in f t)
 
   -- so a list table is one with its count where the first bytes say so many
-  pub counted-is : ListOf (OkIn t) (width-in t) (bytes-in t) n (drop count-size s) → (b : Bool) → (b ≡ true) ↔ (take count-size s ≡ u16 (r / width-in t)) → (b ≡ true) ↔ CountedIn t n s
+  pub counted-is : ListIn f t n (drop count-size s) → (b : Bool) → (b ≡ true) ↔ (take count-size s ≡ u16 (r / width-in f t)) → (b ≡ true) ↔ CountedIn f t n s
   counted-is x b says = (
     λ e.
         record {
@@ -46,5 +47,5 @@ module _ (t : Table) (n : ℕ) (s : List ℕ) (r : ℕ) (found : Found (0 < widt
   )
 
 -- a list table with its count has the list behind it
-pub counted-list : (t : Table) (n : ℕ) (s : List ℕ) → CountedIn t n s → ListOf (OkIn t) (width-in t) (bytes-in t) n (drop count-size s)
-counted-list t n s y = record { entries = y .entry; listed = record { few = y .holds .0; each = y .holds .1; bytes = ap (drop count-size) (y .bytes) } }
+pub counted-list : (f : Form) (t : Table) (n : ℕ) (s : List ℕ) → CountedIn f t n s → ListIn f t n (drop count-size s)
+counted-list f t n s y = record { entries = y .entry; listed = record { few = y .holds .0; each = y .holds .1; bytes = ap (drop count-size) (y .bytes) } }

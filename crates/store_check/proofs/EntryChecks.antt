@@ -1,18 +1,26 @@
--- The entries of the tables: which bytes are theirs, field by field. Assumes nothing.
-use Rattle.lists.proofs.Kit.{_≡_, refl, sym, ap, _∙_, subst, true, false, not, true≢false, _↔_, Iff·rfl, Iff·trans, Iff·and, List, [], _∷_, _++_, map, ℕ, suc, _+_, _*_, _%_, _≤_, _<_, arith, midOf, eqb, leb, length, take, drop, getD, length-drop, drop-drop, getD-drop}
+-- The entries of the tables, in both forms: which bytes are theirs, field by field. Assumes nothing.
+use Rattle.lists.proofs.Kit.{_≡_, refl, sym, ap, _∙_, subst, Bool, true, false, not, true≢false, _↔_, Iff·rfl, Iff·trans, Iff·and, List, [], _∷_, _++_, map, ℕ, zero, suc, _+_, _*_, _-_, _%_, _≤_, _<_, arith, midOf, eqb, leb, length, take, drop, getD, length-drop, drop-drop, getD-drop}
 use Rattle.lists.specs.Bytes.{Bytes}
 use Rattle.slots.specs.Slots.{zeros?, u16, u24, EntryOf}
 use Rattle.slots.proofs.Numbers.{u16-shown}
 use Rattle.slots.proofs.Pads.{pad-length}
+use Rattle.writing.specs.declared.IndividualFlags.{IndividualFlags}
 use Rattle.writing.specs.Ranges.{InNumber, InAddress, InChannel}
-use Rattle.writing.specs.Settings.{Text}
+use Rattle.writing.specs.Settings.{Text, Number}
 use Rattle.writing.specs.Writing.{bit}
-use Rattle.tables.specs.Allowed.{TextOk, QuickOk, StatusOk, AddressOk, LineOk, GroupOk, IndividualOk}
-use Rattle.store_check.specs.Checks.{Both, joined}
-use Rattle.tables.specs.Layout.{text-bytes, quick-bytes, status-bytes, digit-bytes, line-bytes, digits-at, group-flags, group-bytes, individual-flags, individual-bytes, line-width}
-use Rattle.tables.specs.Tables.{Member}
+use Rattle.tables.specs.declared.members.Members.{Members}
+use Rattle.tables.specs.declared.members.Members.the-variants.{OfGroups, OfIndividuals}
+use Rattle.tables.specs.Allowed.{TextOk, AddressOk}
+use Rattle.tables.specs.Layout.{text-bytes, quick-bytes, digit-bytes, digits-at, individual-flags}
+use Rattle.tables.specs.MemberKinds.{FlagsIn, AddressIn, MemberIn, number-of}
+use Rattle.tables.specs.Members.{member-ok, flags-of, member-bytes}
 use Rattle.tables.proofs.AnswerLaws.{turned, leb-is, ne-is}
-use Rattle.store_check.proofs.CheckLaws.{entry-same, parts-are, last-is, byte-is}
+use Rattle.store_check.specs.declared.checks_tables.Table.the-variants.{QuickTexts, StatusTexts, Members as Of, Lines}
+use Rattle.store_check.specs.declared.forms.Form.{Form}
+use Rattle.store_check.specs.declared.forms.Form.the-variants.{Placed, Shared}
+use Rattle.store_check.specs.Checks.{Both, joined, TextIn, TextIs, text-in, text-width, quick, short, NamedIs, named-in, LineIs, line-in, EntryIs}
+use Rattle.store_check.proofs.CheckLaws.{Same, entry-same, parts-are, last-is, byte-is}
+use Rattle.store_check.proofs.TextChecks.{digit-shown}
 use Rattle.store_check.proofs.NumberChecks.{two-is, three-is, Flags, flags-are, id-type, group-flag, individual-flag}
 
 -- ---- a byte of flags before an entry
@@ -72,9 +80,14 @@ quick-first : (us : Text) → TextOk 23 us → (zeros? (take 2 (quick-bytes us))
 quick-first [] p = (λ z. absurd (true≢false z), λ h. absurd (omega arith))
 quick-first (u ∷ us) p = (λ z. omega arith, λ h. u16-shown u (p .units .0 .0))
 
+-- and the number of its units is not 0
+quick-many : (u : ℕ) → (zeros? (u ∷ []) ≡ false) ↔ (1 ≤ u)
+quick-many zero = (λ z. absurd (true≢false z), λ h. absurd (omega arith))
+quick-many (suc u) = (λ z. omega arith, λ h. digit-shown u)
+
 -- a quick text is a text whose first unit is there
-pub quick-is : (s : List ℕ) → ((zeros? (midOf 0 2 s) ≡ false) × EntryOf (TextOk 23) (text-bytes 23) s) ↔ EntryOf QuickOk quick-bytes s
-quick-is s = (
+quick-is : (f : Form) (s : List ℕ) → ((zeros? (midOf 0 (text-width f 1) s) ≡ false) × EntryOf (TextIs f quick) (text-in f quick) s) ↔ EntryIs f QuickTexts s
+quick-is Placed s = (
   λ x.
       let t = x .1 in
       record { entry = t .entry; holds = record { some-unit = quick-first (t .entry) (t .holds) .0 (ap (λ (l : List ℕ). zeros? (take 2 l)) (sym (t .bytes)) ∙ x .0); text = t .holds }; bytes = t .bytes },
@@ -83,6 +96,41 @@ quick-is s = (
     record { entry = q .entry; holds = q .holds .text; bytes = q .bytes },
   ),
 )
+quick-is Shared s = (
+  λ x.
+      let t = x .1 in
+      record { entry = t .entry; holds = (quick-many (t .entry) .0 (ap (λ (l : List ℕ). zeros? (take 1 l)) (sym (t .bytes)) ∙ x .0), t .holds); bytes = t .bytes },
+  λ q. (ap (λ (l : List ℕ). zeros? (take 1 l)) (q .bytes) ∙ quick-many (q .entry) .1 (q .holds .0), record { entry = q .entry; holds = q .holds .1; bytes = q .bytes }),
+)
+
+-- as the code reads it
+pub quick-told : (f : Form) (s : List ℕ) (r : ℕ) → r ≡ text-width f 1 → ((zeros? (midOf 0 (r - 0) s) ≡ false) × EntryOf (TextIs f quick) (text-in f quick) s) ↔ EntryIs f QuickTexts s
+quick-told f s r e =
+    let k : text-width f 1 ≡ r - 0 = omega arith in
+    subst (λ (i : ℕ). ((zeros? (midOf 0 i s) ≡ false) × EntryOf (TextIs f quick) (text-in f quick) s) ↔ EntryIs f QuickTexts s) k (quick-is f s)
+
+-- one unit has room where a quick text has
+pub quick-room : (f : Form) → text-width f 1 ≤ text-width f quick
+quick-room Placed = omega arith
+quick-room Shared = omega arith
+
+-- ---- entries that end with what stands for a text
+
+-- a text that has no unit
+no-text : TextOk short []
+no-text = record { short = omega arith; units = tt }
+
+module _ (f : Form) where
+  -- what stands there
+  abbrev Ends : TextIn f → Type 0
+  Ends = TextIs f short
+
+  abbrev end : TextIn f → List ℕ
+  end = text-in f short
+
+  -- it is all that stands behind a bytes
+  end-is : (a : ℕ) (s : List ℕ) → EntryOf Ends end (midOf a (length s - a) s) ↔ EntryOf Ends end (drop a s)
+  end-is a s = last-is Ends end a (length s - a) s (omega arith)
 
 -- ---- status texts
 
@@ -91,76 +139,132 @@ there : Flags (λ (f : Unit {0}). Unit {0}) (λ f. 1) (λ b. b ≡ 1)
 there = record { of = λ b. tt; good = λ b r. tt; is = λ b r. sym r; back = λ f p. refl }
 
 -- a status text is 1 and a text
-pub status-is : (s : List ℕ) → length s ≡ 33 → ((getD s 0 0 ≡ 1) × EntryOf (TextOk 16) (text-bytes 16) (midOf 1 32 s)) ↔ EntryOf StatusOk status-bytes s
-status-is s l =
-    Iff·trans (Iff·and Iff·rfl (last-is (TextOk 16) (text-bytes 16) 1 32 s (omega arith)))
-    (Iff·trans (byte-then (λ f. Unit {0}) (λ f. 1) (λ b. b ≡ 1) there (TextOk 16) (text-bytes 16) s (omega arith))
-    (entry-same (Both (λ f. Unit {0}) (TextOk 16)) (joined (λ f. 1 ∷ []) (text-bytes 16)) StatusOk status-bytes
-    (record { to = λ x. x .1; back = λ us. (tt, us); good = λ x p. p .1; back-good = λ us p. (tt, p); bytes = λ x p. refl; back-bytes = λ us p. refl }) s))
+pub status-is : (f : Form) (s : List ℕ) → 0 < length s → ((getD s 0 0 ≡ 1) × EntryOf (TextIs f short) (text-in f short) (midOf 1 (length s - 1) s)) ↔ EntryIs f StatusTexts s
+status-is f s l =
+    Iff·trans (Iff·and Iff·rfl (end-is f 1 s))
+    (Iff·trans (byte-then (λ x. Unit {0}) (λ x. 1) (λ b. b ≡ 1) there (Ends f) (end f) s l)
+    (entry-same (Both (λ x. Unit {0}) (Ends f)) (joined (λ x. 1 ∷ []) (end f)) (Ends f) (λ u. 1 ∷ end f u)
+    (record { to = λ x. x .1; back = λ u. (tt, u); good = λ x p. p .1; back-good = λ u p. (tt, p); bytes = λ x p. refl; back-bytes = λ u p. refl }) s))
 
 -- ---- groups and individuals
 
 -- an address and a text
-pub member-is : (s : List ℕ) → length s ≡ 35 → (EntryOf AddressOk u24 (midOf 0 3 s) × EntryOf (TextOk 16) (text-bytes 16) (midOf 3 32 s)) ↔ EntryOf (Both AddressOk (TextOk 16)) (joined u24 (text-bytes 16)) s
-member-is s l =
-    Iff·trans (Iff·and Iff·rfl (last-is (TextOk 16) (text-bytes 16) 3 32 s (omega arith)))
-    (parts-are AddressOk (TextOk 16) u24 (text-bytes 16) 0 3 s (λ a p. refl))
+pub member-is : (f : Form) (s : List ℕ) → (EntryOf AddressOk u24 (midOf 0 3 s) × EntryOf (TextIs f short) (text-in f short) (midOf 3 (length s - 3) s)) ↔ EntryOf (Both AddressOk (TextIs f short)) (joined u24 (text-in f short)) s
+member-is f s = Iff·trans (Iff·and Iff·rfl (end-is f 3 s)) (parts-are AddressOk (Ends f) u24 (end f) 0 3 s (λ a p. refl))
 
-module _ {F A : Type 0} (P : F → Type 0) (byte : F → ℕ) (R : ℕ → Type 0) (k : Flags P byte R) (address : ℕ → A) (number : A → ℕ) (same : (n : ℕ) → number (address n) ≡ n) where
-  -- a slot is a byte of flags, an address and a text, whatever the kind of the flags and the address
-  slot-is : (Q : Member F A → Type 0) → ((f : F) (n : ℕ) (us : Text) → P f → AddressOk n → TextOk 16 us → Q (record { flags = f; address = address n; text = us })) → ((g : Member F A) → Q g → P (g .flags) × (AddressOk (number (g .address)) × TextOk 16 (g .text))) → (s : List ℕ) → length s ≡ 36 → (R (getD s 0 0) × EntryOf (Both AddressOk (TextOk 16)) (joined u24 (text-bytes 16)) (midOf 1 35 s)) ↔ EntryOf Q (λ g. byte (g .flags) ∷ u24 (number (g .address)) ++ text-bytes 16 (g .text)) s
-  slot-is Q good back s l =
-      Iff·trans (Iff·and Iff·rfl (last-is (Both AddressOk (TextOk 16)) (joined u24 (text-bytes 16)) 1 35 s (omega arith)))
-      (Iff·trans (byte-then P byte R k (Both AddressOk (TextOk 16)) (joined u24 (text-bytes 16)) s (omega arith))
-      (entry-same (Both P (Both AddressOk (TextOk 16))) (joined (λ f. byte f ∷ []) (joined u24 (text-bytes 16))) Q (λ g. byte (g .flags) ∷ u24 (number (g .address)) ++ text-bytes 16 (g .text))
-      (record {
-        to = λ x. record { flags = x .0; address = address (x .1 .0); text = x .1 .1 };
-        back = λ g. (g .flags, (number (g .address), g .text));
-        good = λ x p. good (x .0) (x .1 .0) (x .1 .1) (p .0) (p .1 .0) (p .1 .1);
-        back-good = back;
-        bytes = λ x p. ap (λ (n : ℕ). byte (x .0) ∷ u24 n ++ text-bytes 16 (x .1 .1)) (sym (same (x .1 .0)));
-        back-bytes = λ g p. refl;
-      }) s))
+-- flags that may stand before them, and the rules of the entry that has all three
+record Named (w : Members) (P : FlagsIn w → Type 0) (R : ℕ → Type 0) : Type 0 where
+  flags : Flags P (flags-of w) R
+  address : ℕ → AddressIn w
+  same : (n : ℕ) → number-of w (address n) ≡ n
+  good : (g : MemberIn w) → P (g .flags) → AddressOk (number-of w (g .address)) → TextOk short (g .text) → member-ok w g
+  back : (g : MemberIn w) → member-ok w g → P (g .flags) × (AddressOk (number-of w (g .address)) × TextOk short (g .text))
+  bytes : (g : MemberIn w) → member-bytes w g ≡ flags-of w (g .flags) ∷ u24 (number-of w (g .address)) ++ text-bytes short (g .text)
+
+module _ (w : Members) (P : FlagsIn w → Type 0) (R : ℕ → Type 0) (k : Named w P R) where
+  -- the three as one entry
+  named-same : (f : Form) → Same (Both P (Both AddressOk (TextIs f short))) (joined (λ x. flags-of w x ∷ []) (joined u24 (text-in f short))) (NamedIs f w) (named-in f w)
+  named-same Placed = record {
+    to = λ x. record { flags = x .0; address = k .address (x .1 .0); text = x .1 .1 };
+    back = λ g. (g .flags, (number-of w (g .address), g .text));
+    good = λ x p. k .good _ (p .0) (subst AddressOk (sym (k .same (x .1 .0))) (p .1 .0)) (p .1 .1);
+    back-good = k .back;
+    bytes = λ x p. ap (λ (n : ℕ). flags-of w (x .0) ∷ u24 n ++ text-bytes short (x .1 .1)) (sym (k .same (x .1 .0))) ∙ sym (k .bytes _);
+    back-bytes = λ g p. k .bytes g;
+  }
+  named-same Shared = record {
+    to = λ x. record { flags = x .0; name = k .address (x .1 .0); units = x .1 .1 };
+    back = λ h. (h .flags, (number-of w (h .name), h .units));
+    good = λ x p. record { entry = k .good _ (p .0) (subst AddressOk (sym (k .same (x .1 .0))) (p .1 .0)) no-text; text = p .1 .1 };
+    back-good = λ h p. let b = k .back _ (p .entry) in (b .0, (b .1 .0, p .text));
+    bytes = λ x p. ap (λ (n : ℕ). flags-of w (x .0) ∷ u24 n ++ (x .1 .1 ∷ [])) (sym (k .same (x .1 .0)));
+    back-bytes = λ h p. refl;
+  }
+
+  -- a slot is a byte of flags, an address and a text
+  slot-is : (f : Form) (s : List ℕ) → 0 < length s → (R (getD s 0 0) × EntryOf (Both AddressOk (TextIs f short)) (joined u24 (text-in f short)) (midOf 1 (length s - 1) s)) ↔ EntryIs f (Of w) s
+  slot-is f s l =
+      let Q = Both AddressOk (TextIs f short) in
+      let g = joined u24 (text-in f short) in
+      Iff·trans (Iff·and Iff·rfl (last-is Q g 1 (length s - 1) s (omega arith)))
+      (Iff·trans (byte-then P (flags-of w) R (k .flags) Q g s l)
+      (entry-same (Both P Q) (joined (λ x. flags-of w x ∷ []) g) (NamedIs f w) (named-in f w) (named-same f) s))
 
 -- a group is flags and a member
-pub group-is : (s : List ℕ) → length s ≡ 36 → (((64 ≤ getD s 0 0) × (getD s 0 0 < 256)) × EntryOf (Both AddressOk (TextOk 16)) (joined u24 (text-bytes 16)) (midOf 1 35 s)) ↔ EntryOf GroupOk group-bytes s
+pub group-is : (f : Form) (s : List ℕ) → 0 < length s → (((64 ≤ getD s 0 0) × (getD s 0 0 < 256)) × EntryOf (Both AddressOk (TextIs f short)) (joined u24 (text-in f short)) (midOf 1 (length s - 1) s)) ↔ EntryIs f (Of OfGroups) s
 group-is =
-    slot-is _ group-flags _ group-flag (λ n. record { 0 = n }) (λ a. a .0) (λ n. refl) GroupOk
-    (λ f n us p a t. record { attribute = p .0; priority = p .1; address = a; text = t })
-    (λ g p. ((p .attribute, p .priority), (p .address, p .text)))
+    slot-is OfGroups _ _ (record {
+      flags = group-flag;
+      address = λ n. record { 0 = n };
+      same = λ n. refl;
+      good = λ g p a t. record { attribute = p .0; priority = p .1; address = a; text = t };
+      back = λ g p. ((p .attribute, p .priority), (p .address, p .text));
+      bytes = λ g. refl;
+    })
 
 -- and so is an individual
-pub individual-is : (s : List ℕ) → length s ≡ 36 → ((getD s 0 0 < 16) × EntryOf (Both AddressOk (TextOk 16)) (joined u24 (text-bytes 16)) (midOf 1 35 s)) ↔ EntryOf IndividualOk individual-bytes s
+pub individual-is : (f : Form) (s : List ℕ) → 0 < length s → ((getD s 0 0 < 16) × EntryOf (Both AddressOk (TextIs f short)) (joined u24 (text-in f short)) (midOf 1 (length s - 1) s)) ↔ EntryIs f (Of OfIndividuals) s
 individual-is =
-    slot-is _ individual-flags _ individual-flag (λ n. record { 0 = n }) (λ a. a .0) (λ n. refl) IndividualOk
-    (λ f n us p a t. record { priority = p; address = a; text = t })
-    (λ g p. (p .priority, (p .address, p .text)))
+    slot-is OfIndividuals _ _ (record {
+      flags = individual-flag;
+      address = λ n. record { 0 = n };
+      same = λ n. refl;
+      good = λ g p a t. record { priority = p; address = a; text = t };
+      back = λ g p. (p .priority, (p .address, p .text));
+      bytes = λ g. refl;
+    })
 
 -- ---- line contacts
 
+module _ (f : Form) where
+  -- digits and a text
+  abbrev Dialled : Number × TextIn f → Type 0
+  Dialled = Both InNumber (TextIs f short)
+
+  abbrev dialled : Number × TextIn f → List ℕ
+  dialled = joined digit-bytes (text-in f short)
+
+  -- flags, IDtype and these
+  abbrev Called : IndividualFlags × (Bool × (Number × TextIn f)) → Type 0
+  Called = Both (λ x. x .priority < 4) (Both (λ b. Unit {0}) Dialled)
+
+  abbrev called : IndividualFlags × (Bool × (Number × TextIn f)) → List ℕ
+  called = joined (λ x. individual-flags x ∷ []) (joined (λ b. bit b ∷ []) dialled)
+
+-- are a line
+line-same : (f : Form) → Same (Called f) (called f) (LineIs f) (line-in f)
+line-same Placed = record {
+  to = λ x. record { flags = record { encryption = x .0 .encryption; emergency = x .0 .emergency; priority = x .0 .priority; pabx = x .1 .0 }; number = x .1 .1 .0; text = x .1 .1 .1 };
+  back = λ m. (record { encryption = m .flags .encryption; emergency = m .flags .emergency; priority = m .flags .priority }, (m .flags .pabx, (m .number, m .text)));
+  good = λ x p. record { priority = p .0; number = p .1 .1 .0; text = p .1 .1 .1 };
+  back-good = λ m p. (p .priority, (tt, (p .number, p .text)));
+  bytes = λ x p. refl;
+  back-bytes = λ m p. refl;
+}
+line-same Shared = record {
+  to = λ x. record { flags = record { encryption = x .0 .encryption; emergency = x .0 .emergency; priority = x .0 .priority; pabx = x .1 .0 }; name = x .1 .1 .0; units = x .1 .1 .1 };
+  back = λ h. (record { encryption = h .flags .encryption; emergency = h .flags .emergency; priority = h .flags .priority }, (h .flags .pabx, (h .name, h .units)));
+  good = λ x p. record { entry = record { priority = p .0; number = p .1 .1 .0; text = no-text }; text = p .1 .1 .1 };
+  back-good = λ h p. (p .entry .priority, (tt, (p .entry .number, p .text)));
+  bytes = λ x p. refl;
+  back-bytes = λ h p. refl;
+}
+
 -- a line is flags, IDtype, digits and a text
-pub line-is : (s : List ℕ) → length s ≡ line-width
-    → ((getD s 0 0 < 16) × ((getD s 1 0 < 2) × (EntryOf InNumber digit-bytes (midOf digits-at 18 s) × EntryOf (TextOk 16) (text-bytes 16) (midOf 20 32 s)))) ↔ EntryOf LineOk line-bytes s
-line-is s l =
+pub line-is : (f : Form) (s : List ℕ) → 1 < length s
+    → ((getD s 0 0 < 16) × ((getD s 1 0 < 2) × (EntryOf InNumber digit-bytes (midOf digits-at 18 s) × EntryOf (TextIs f short) (text-in f short) (midOf 20 (length s - 20) s)))) ↔ EntryIs f Lines s
+line-is f s l =
     Iff·trans (Iff·and Iff·rfl
     (Iff·trans (Iff·and (turn (getD-drop 1 s 0 0))
-    (Iff·trans (Iff·and Iff·rfl (last-is (TextOk 16) (text-bytes 16) 20 32 s (omega arith)))
-    (Iff·trans (parts-are InNumber (TextOk 16) digit-bytes (text-bytes 16) digits-at 18 s (λ ds p. pad-length 0 18 (map suc ds)))
+    (Iff·trans (Iff·and Iff·rfl (end-is f 20 s))
+    (Iff·trans (parts-are InNumber (TextIs f short) digit-bytes (text-in f short) digits-at 18 s (λ ds p. pad-length 0 18 (map suc ds)))
     (moved (sym (drop-drop 1 1 s))))))
-    (byte-then (λ b. Unit {0}) bit _ id-type (Both InNumber (TextOk 16)) (joined digit-bytes (text-bytes 16)) (drop 1 s) (omega (arith, length-drop 1 s)))))
-    (Iff·trans (byte-then _ individual-flags _ individual-flag (Both (λ b. Unit {0}) (Both InNumber (TextOk 16))) (joined (λ b. bit b ∷ []) (joined digit-bytes (text-bytes 16))) s (omega arith))
-    (entry-same (Both _ (Both (λ b. Unit {0}) (Both InNumber (TextOk 16)))) (joined (λ f. individual-flags f ∷ []) (joined (λ b. bit b ∷ []) (joined digit-bytes (text-bytes 16)))) LineOk line-bytes
-    (record {
-      to = λ x. record { flags = record { encryption = x .0 .encryption; emergency = x .0 .emergency; priority = x .0 .priority; pabx = x .1 .0 }; number = x .1 .1 .0; text = x .1 .1 .1 };
-      back = λ m. (record { encryption = m .flags .encryption; emergency = m .flags .emergency; priority = m .flags .priority }, (m .flags .pabx, (m .number, m .text)));
-      good = λ x p. record { priority = p .0; number = p .1 .1 .0; text = p .1 .1 .1 };
-      back-good = λ m p. (p .priority, (tt, (p .number, p .text)));
-      bytes = λ x p. refl;
-      back-bytes = λ m p. refl;
-    }) s))
+    (byte-then (λ b. Unit {0}) bit _ id-type (Dialled f) (dialled f) (drop 1 s) (omega (arith, length-drop 1 s)))))
+    (Iff·trans (byte-then _ individual-flags _ individual-flag (Both (λ b. Unit {0}) (Dialled f)) (joined (λ b. bit b ∷ []) (dialled f)) s (omega arith))
+    (entry-same (Called f) (called f) (LineIs f) (line-in f) (line-same f) s))
   where
     turn : {a b : ℕ} → a ≡ b → (b < 2) ↔ (a < 2)
     turn e = (λ h. subst (λ (n : ℕ). n < 2) (sym e) h, λ h. subst (λ (n : ℕ). n < 2) e h)
 
-    moved : {a b : List ℕ} → a ≡ b → EntryOf (Both InNumber (TextOk 16)) (joined digit-bytes (text-bytes 16)) a ↔ EntryOf (Both InNumber (TextOk 16)) (joined digit-bytes (text-bytes 16)) b
-    moved e = (subst (EntryOf (Both InNumber (TextOk 16)) (joined digit-bytes (text-bytes 16))) e, subst (EntryOf (Both InNumber (TextOk 16)) (joined digit-bytes (text-bytes 16))) (sym e))
+    moved : {a b : List ℕ} → a ≡ b → EntryOf (Dialled f) (dialled f) a ↔ EntryOf (Dialled f) (dialled f) b
+    moved e = (subst (EntryOf (Dialled f) (dialled f)) e, subst (EntryOf (Dialled f) (dialled f)) (sym e))

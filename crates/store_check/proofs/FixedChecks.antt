@@ -1,5 +1,5 @@
 -- The regions that are no tables: which bytes are a kept hash, an emergency key, home numbers and a system code. Assumes nothing.
-use Rattle.lists.proofs.Kit.{_≡_, refl, sym, ap, ap₂, _∙_, subst, Bool, true, false, not, _↔_, _≢_, _⊎_, inl, inr, ⊎-elim, Iff·rfl, Iff·trans, Iff·and, List, [], _∷_, _++_, head-eq-of-cons-eq, tail-eq-of-cons-eq, ℕ, suc, _+_, _*_, _-_, _/_, _%_, _≤_, _<_, arith, midOf, eqb, leb, length, take, drop, getD, replicate, length-drop, take-append-drop, take-all, drop-at, length-take-le}
+use Rattle.lists.proofs.Kit.{_≡_, refl, sym, ap, ap₂, _∙_, subst, Bool, true, false, not, _↔_, _≢_, _⊎_, inl, inr, ⊎-elim, Iff·trans, Iff·and, List, [], _∷_, _++_, head-eq-of-cons-eq, tail-eq-of-cons-eq, ℕ, suc, _+_, _*_, _-_, _/_, _%_, _≤_, _<_, arith, midOf, eqb, leb, length, take, drop, getD, replicate, length-drop, take-append-drop, take-all, drop-at, length-take-le}
 use Rattle.lists.specs.Bytes.{Bytes}
 use Rattle.lists.proofs.Bytes.{bytes-all, bytes-take}
 use Rattle.slots.specs.Slots.{pad, zeros?, u16, u24, EntryOf}
@@ -12,13 +12,12 @@ use Rattle.writing.specs.Ranges.{HashSize, no-hash, hash-4, hash-10}
 use Rattle.writing.specs.Writing.{bit, current, to-group}
 use Rattle.read_fields.proofs.HashLaws.{one-size, small-code, small-size}
 use Rattle.tables.specs.Allowed.{AddressOk, TargetOk, HashOk, HomeOk, SystemOk}
-use Rattle.store_check.specs.Checks.{Both, joined, KeyOk, FixedOf}
-use Rattle.tables.specs.Layout.{hash-bytes, key-bytes, key-flags, key-address, home-bytes, system-bytes, hash-size, home-at, home-size, key-at, key-size, system-at, system-size}
+use Rattle.store_check.specs.Checks.{Both, joined, KeyOk}
+use Rattle.tables.specs.Layout.{hash-bytes, key-bytes, key-flags, key-address, home-bytes, system-bytes}
 use Rattle.tables.specs.Tables.{Key}
 use Rattle.tables.proofs.AnswerLaws.{turned, leb-is, ne-is}
 use Rattle.store_check.proofs.CheckLaws.{entry-same, parts-are, last-is, rest-is, byte-is}
 use Rattle.tables.proofs.EntryCodes.{bit-small}
-use Rattle.tables.proofs.FixedCodes.{hash-code, key-code, home-code}
 use Rattle.store_check.proofs.NumberChecks.{Flags, flags-are, odd, odd-is, bit-off, cut-off, pair-is}
 
 -- ---- the hash
@@ -244,13 +243,3 @@ module _ (s : List ℕ) (l : length s ≡ 3) (b : Bytes s) where
     -- where they are, roaming decides
     pub system-roaming : p ≤ 4095 → getD s 2 0 / 8 ≤ 8 → (not (eqb (getD s 2 0 / 2 % 4) 3) ≡ true) ↔ EntryOf SystemOk system-bytes s
     system-roaming h k = turned (not (eqb (getD s 2 0 / 2 % 4) 3)) (ne-is _ _) (λ n. system-is .0 (omega arith, (k, n))) (λ x. system-is .1 x .1 .1)
-
--- ---- all four
-
--- 22 bytes are a hash, a key, home numbers and a system code where each is
-pub fixed-is : (s : List ℕ) → length s ≡ 22 → (EntryOf HashOk hash-bytes (midOf 0 hash-size s) × (EntryOf KeyOk key-bytes (midOf key-at key-size s) × (EntryOf HomeOk home-bytes (midOf home-at home-size s) × EntryOf SystemOk system-bytes (midOf system-at system-size s)))) ↔ FixedOf s
-fixed-is s l =
-    Iff·trans (Iff·and Iff·rfl (Iff·trans (Iff·and Iff·rfl (Iff·trans (Iff·and Iff·rfl (last-is SystemOk system-bytes 19 3 s (omega arith)))
-    (parts-are HomeOk SystemOk home-bytes system-bytes 15 4 s (λ h p. home-code .long h))))
-    (parts-are KeyOk (Both HomeOk SystemOk) key-bytes (joined home-bytes system-bytes) 11 4 s (λ k p. key-code .long k))))
-    (parts-are HashOk (Both KeyOk (Both HomeOk SystemOk)) hash-bytes (joined key-bytes (joined home-bytes system-bytes)) 0 11 s (λ h p. hash-code .long h))

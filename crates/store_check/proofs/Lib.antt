@@ -1,11 +1,15 @@
+pub mod AreaLaws
 pub mod CheckLaws
 pub mod CountChecks
 pub mod DistinctLaws
 pub mod EntryChecks
 pub mod FixedChecks
+pub mod FormChecks
 pub mod FrontLaws
 pub mod KeyedChecks
+pub mod LineKeys
 pub mod NumberChecks
+pub mod SharedStores
 pub mod StoreChecks
 pub mod TableChecks
 pub mod TextChecks

@@ -1,285 +1,291 @@
 -- A store, region by region: which bytes are one. Assumes nothing.
-use Rattle.lists.proofs.Kit.{_≡_, sym, ap, ap₂, _∙_, subst, true, _↔_, Iff·rfl, Iff·trans, Iff·and, Option, List, [], _++_, map, append-assoc, append-nil, ℕ, _+_, _*_, _-_, arith, midOf, length, drop, replicate, length-append, length-drop}
-use Rattle.slots.specs.Slots.{places, zeros?, u16, EntryOf, PlacesOf}
+use Rattle.lists.proofs.Kit.{_≡_, refl, sym, ap, _∙_, subst, subst₂, Bool, true, _↔_, Iff·rfl, Iff·trans, Iff·and, Option, List, [], _∷_, _++_, map, ℕ, _+_, _*_, _-_, _≤_, suc, arith, midOf, mid-len, length, drop, replicate, length-append, length-drop, length-replicate, drop-of-length-le}
+use Rattle.slots.specs.Slots.{places, u16, zeros?, EntryOf, PlacesOf}
+use Rattle.slots.proofs.Pads.{pad-length}
 use Rattle.slots.proofs.Runs.{zeros-all, zeros-are}
 use Rattle.slots.proofs.Tables.{places-length}
-use Rattle.orders.proofs.ListLaws.{ordered-length}
-use Rattle.writing.specs.declared.HomeNumbers.{HomeNumbers}
-use Rattle.writing.specs.declared.SystemCode.{SystemCode}
+use Rattle.orders.specs.OrderParts.{order-bytes}
 use Rattle.writing.specs.Ranges.{InChannel}
-use Rattle.writing.specs.Settings.{Hash, Text}
+use Rattle.shared_texts.specs.Regions.{Region, plain, whole, Stand}
 use Rattle.tables.specs.declared.limits.Limits.{Limits}
-use Rattle.tables.specs.Allowed.{QuickOk, StatusOk, GroupOk, IndividualOk, LineOk, HashOk, HomeOk, SystemOk, Allowed, PlacesOk, ListOk, LinesOk}
-use Rattle.store_check.specs.Checks.{Both, joined, KeyOk, FixedOf, IndexedOf, ContactsOk, ContactsOf, ContactListsOf, ChannelsOf, LinesOf}
-use Rattle.tables.specs.Layout.{quick-bytes, status-bytes, group-bytes, individual-bytes, line-bytes, hash-bytes, key-bytes, home-bytes, system-bytes, used-size, layout, Roomy, IsStore, counted, ordered, member-width, channel-width, line-width, line-key-at, line-key-size, contacts-size, channels-size, lines-size, group-contacts-at, channels-at, lines-at, member-size, line-slots-size, quick-at, quick-size, status-size}
-use Rattle.tables.specs.Limits.{contact-places}
 use Rattle.tables.specs.declared.members.Members.{Members}
 use Rattle.tables.specs.declared.members.Members.the-variants.{OfGroups, OfIndividuals}
-use Rattle.tables.specs.MemberKinds.{MemberIn}
-use Rattle.tables.specs.Members.{member-bytes}
-use Rattle.tables.specs.Tables.{Line, GroupMember, IndividualMember, Key, Tables}
-use Rattle.store_check.proofs.CheckLaws.{Same, entry-same, parts-are, last-is, rest-is}
-use Rattle.tables.proofs.EntryCodes.{quick-code, status-code, group-code, individual-code, member-code, channel-code, line-code}
-use Rattle.tables.proofs.LayoutLaws.{list-wide}
-use Rattle.tables.proofs.OrderLaws.{lines-made}
+use Rattle.tables.specs.Allowed.{Allowed, PlacesOk, ListOk}
+use Rattle.tables.specs.Forms.{Roomy}
+use Rattle.tables.specs.Layout.{used-size, placed-layout, counted, count-size, channel-width, line-bytes, line-width, channels-size, quick-at}
+use Rattle.tables.specs.Limits.{placed as in-places, quick-places, status-places, slot-places, contact-places}
+use Rattle.tables.specs.Order.{line-order}
+use Rattle.tables.specs.Tables.{Line, Tables}
+use Rattle.tables.proofs.EntryCodes.{group-code, individual-code, channel-code, line-code}
 use Rattle.tables.proofs.FixedCodes.{hash-code, key-code, home-code, system-code}
+use Rattle.tables.proofs.LayoutLaws.{list-wide}
+use Rattle.store_check.specs.declared.checks_tables.Table.{Table}
+use Rattle.store_check.specs.declared.checks_tables.Table.the-variants.{QuickTexts, StatusTexts, Members as Of, Lines}
+use Rattle.store_check.specs.declared.forms.Form.{Form}
+use Rattle.store_check.specs.declared.forms.Form.the-variants.{Placed}
+use Rattle.store_check.specs.declared.forms.Starts.{Starts}
+use Rattle.store_check.specs.Checks.{EntryIn, OkIn, bytes-in, width-in, named-in, PlacesIn, ContactsOk, ContactsOf, ChannelsOf, LinesIs, lines-in, LinesOf, IsPlaced}
+use Rattle.store_check.specs.Stores.{places-size, contacts-size-in, lines-size-in, fixed-regions, indexed-regions, contact-regions, regions-in, status-start, groups-start, individuals-start, line-slots-start, group-contacts-start, channels-start, lines-start, regions-end, StartsIn}
+use Rattle.store_check.proofs.CheckLaws.{Same, entry-same, parts-are, rest-is}
+use Rattle.store_check.proofs.TableChecks.{long-in}
 
--- ---- how long the regions are
+-- ---- a region, as the code reads it
 
--- one after the other
-both-long : {A B : Type 0} {P : A → Type 0} {Q : B → Type 0} (f : A → List ℕ) (g : B → List ℕ) {j k : ℕ} → ((x : A) → P x → length (f x) ≡ j) → ((y : B) → Q y → length (g y) ≡ k)
-    → (x : A × B) → Both P Q x → length (joined f g x) ≡ j + k
-both-long f g p q x h = length-append (f (x .0)) (g (x .1)) ∙ ap₂ (λ (a b : ℕ). a + b) (p (x .0) (h .0)) (q (x .1) (h .1))
+module _ {A : Type 0} (P : A → Type 0) (g : A → List ℕ) (s : List ℕ) (a b c k : ℕ) (e : a ≡ c) (h : b ≡ c + k) where
+  -- the bytes from a to b are k from c on
+  region-read : EntryOf P g (midOf a (b - a) s) ↔ EntryOf P g (midOf c k s)
+  region-read =
+      let j : b - a ≡ k = omega arith in
+      (subst₂ (λ (x y : ℕ). EntryOf P g (midOf x y s)) e j, subst₂ (λ (x y : ℕ). EntryOf P g (midOf x y s)) (sym e) (sym j))
 
--- an indexed table
-table-long : {A : Type 0} (P : A → Type 0) (w : ℕ) (f : A → List ℕ) → ((a : A) → length (f a) ≡ w) → (n : ℕ) (os : List (Option A)) → PlacesOk P n os → length (places w f os) ≡ n * w
-table-long P w f long n os p = places-length w f long os ∙ ap (λ (i : ℕ). i * w) (p .0)
+  -- what is told of them, where they are k
+  pub region-told : (r : Bool) → b ≤ length s → (length (midOf a (b - a) s) ≡ k → (r ≡ true) ↔ EntryOf P g (midOf a (b - a) s)) → (r ≡ true) ↔ EntryOf P g (midOf c k s)
+  region-told r l told =
+      let j : b - a ≡ k = omega arith in
+      Iff·trans (told (mid-len a b s l ∙ j)) region-read
 
--- ---- tables as entries
-
--- an indexed table
-pub places-entry : {A : Type 0} (P : A → Type 0) (w : ℕ) (f : A → List ℕ) (n : ℕ) (s : List ℕ) → PlacesOf P w f n s ↔ EntryOf (PlacesOk P n) (places w f) s
+-- a table of places as an entry
+places-entry : {A : Type 0} (P : A → Type 0) (w : ℕ) (f : A → List ℕ) (n : ℕ) (s : List ℕ) → PlacesOf P w f n s ↔ EntryOf (PlacesOk P n) (places w f) s
 places-entry P w f n s = (
   λ t. record { entry = t .entries; holds = (t .placed .many, t .placed .each); bytes = t .placed .bytes },
   λ x. record { entries = x .entry; placed = record { many = x .holds .0; each = x .holds .1; bytes = x .bytes } },
 )
 
--- ---- the indexed tables
+-- what a walk tells of the bytes from a to b
+abbrev Walked : Form → Table → List ℕ → ℕ → ℕ → Bool → Type 0
+Walked f t s a b r = (m : ℕ) → length (midOf a (b - a) s) ≡ m * width-in f t → (r ≡ true) ↔ PlacesIn f t m (midOf a (b - a) s)
 
--- 8096 bytes are the five where each is
-pub indexed-is : (s : List ℕ) → length s ≡ 8096
-    → (PlacesOf QuickOk 46 quick-bytes 64 (midOf 0 quick-size s) × (PlacesOf StatusOk 33 status-bytes 96 (midOf quick-size status-size s) × (PlacesOf GroupOk 36 group-bytes 16 (midOf 6112 member-size s) × (PlacesOf IndividualOk 36 individual-bytes 16 (midOf 6688 member-size s) × PlacesOf LineOk 52 line-bytes 16 (midOf 7264 line-slots-size s)))))
-    ↔ IndexedOf s
-indexed-is s l =
-    Iff·trans (Iff·and (places-entry QuickOk 46 quick-bytes 64 (midOf 0 quick-size s))
-    (Iff·trans (Iff·and (places-entry StatusOk 33 status-bytes 96 (midOf quick-size status-size s))
-    (Iff·trans (Iff·and (places-entry GroupOk 36 group-bytes 16 (midOf 6112 member-size s))
-    (Iff·trans (Iff·and (places-entry IndividualOk 36 individual-bytes 16 (midOf 6688 member-size s))
-    (Iff·trans (places-entry LineOk 52 line-bytes 16 (midOf 7264 line-slots-size s)) (last-is (PlacesOk LineOk 16) (places 52 line-bytes) 7264 line-slots-size s (omega arith))))
-    (parts-are (PlacesOk IndividualOk 16) (PlacesOk LineOk 16) (places 36 individual-bytes) (places 52 line-bytes) 6688 member-size s (table-long IndividualOk 36 individual-bytes (individual-code .long) 16))))
-    (parts-are (PlacesOk GroupOk 16) _ (places 36 group-bytes) _ 6112 member-size s (table-long GroupOk 36 group-bytes (group-code .long) 16))))
-    (parts-are (PlacesOk StatusOk 96) _ (places 33 status-bytes) _ quick-size status-size s (table-long StatusOk 33 status-bytes (status-code .long) 96))))
-    (parts-are (PlacesOk QuickOk 64) _ (places 46 quick-bytes) _ 0 quick-size s (table-long QuickOk 46 quick-bytes (quick-code .long) 64))
+-- an indexed table from c on
+abbrev TableAt : Form → Table → ℕ → List ℕ → ℕ → Type 0
+TableAt f t n s c = EntryOf (PlacesOk (OkIn f t) n) (places (width-in f t) (bytes-in f t)) (midOf c (places-size f t n) s)
 
--- ---- the lists of contacts
+table-told : (f : Form) (t : Table) (n : ℕ) (s : List ℕ) (a b c : ℕ) → a ≡ c → b ≡ c + places-size f t n → b ≤ length s → (r : Bool) → Walked f t s a b r → (r ≡ true) ↔ TableAt f t n s c
+table-told f t n s a b c e h l r told =
+    region-told (PlacesOk (OkIn f t) n) (places (width-in f t) (bytes-in f t)) s a b c (places-size f t n) e h r l
+    (λ j. Iff·trans (told n j) (places-entry (OkIn f t) (width-in f t) (bytes-in f t) n (midOf a (b - a) s)))
 
--- a list's bytes
-abbrev contacts-bytes : (w : Members) → List (MemberIn w) → List ℕ
-contacts-bytes w = counted member-width (member-bytes w) contact-places
+-- the five
+module _ (f : Form) (s : List ℕ) (at : Starts) (is : StartsIn f at) (l : group-contacts-start f ≤ length s) where
+  pub quick-told : (r : Bool) → Walked f QuickTexts s quick-at (at .status) r → (r ≡ true) ↔ TableAt f QuickTexts quick-places s quick-at
+  quick-told = table-told f QuickTexts quick-places s quick-at (at .status) quick-at refl (is .status) (omega arith)
 
-contacts-long : (w : Members) (xs : List (MemberIn w)) → ContactsOk w contact-places xs → length (contacts-bytes w xs) ≡ contacts-size
-contacts-long w xs p = list-wide (member-code w) contact-places xs
+  pub status-told : (r : Bool) → Walked f StatusTexts s (at .status) (at .groups) r → (r ≡ true) ↔ TableAt f StatusTexts status-places s (status-start f)
+  status-told = table-told f StatusTexts status-places s (at .status) (at .groups) (status-start f) (is .status) (is .groups) (omega arith)
 
--- 4612 bytes are the two where each is
-pub contact-lists-are : (s : List ℕ) → length s ≡ 4612
-    → (ContactsOf OfGroups contact-places (midOf 0 contacts-size s) × ContactsOf OfIndividuals contact-places (midOf contacts-size (length s - contacts-size) s)) ↔ ContactListsOf s
-contact-lists-are s l =
-    Iff·trans (Iff·and Iff·rfl (last-is (ContactsOk OfIndividuals contact-places) (contacts-bytes OfIndividuals) contacts-size (length s - contacts-size) s (omega arith)))
-    (parts-are (ContactsOk OfGroups contact-places) (ContactsOk OfIndividuals contact-places) (contacts-bytes OfGroups) (contacts-bytes OfIndividuals) 0 contacts-size s (contacts-long OfGroups))
+  pub groups-told : (r : Bool) → Walked f (Of OfGroups) s (at .groups) (at .individuals) r → (r ≡ true) ↔ TableAt f (Of OfGroups) slot-places s (groups-start f)
+  groups-told = table-told f (Of OfGroups) slot-places s (at .groups) (at .individuals) (groups-start f) (is .groups) (is .individuals) (omega arith)
 
--- ---- the whole
+  pub individuals-told : (r : Bool) → Walked f (Of OfIndividuals) s (at .individuals) (at .«line_slots») r → (r ≡ true) ↔ TableAt f (Of OfIndividuals) slot-places s (individuals-start f)
+  individuals-told = table-told f (Of OfIndividuals) slot-places s (at .individuals) (at .«line_slots») (individuals-start f) (is .individuals) (is .line-slots) (omega arith)
 
--- the bytes that no table uses
-spare-is : (k : ℕ) (s : List ℕ) → length s ≡ k → (zeros? s ≡ true) ↔ EntryOf (λ (u : Unit {0}). Unit {0}) (λ u. replicate k 0) s
-spare-is k s l = (
-  λ z. record { entry = tt; holds = tt; bytes = zeros-are s z ∙ ap (λ (i : ℕ). replicate i 0) l },
-  λ x. ap zeros? (x .bytes) ∙ zeros-all k,
+  pub line-slots-told : (r : Bool) → Walked f Lines s (at .«line_slots») (at .«group_contacts») r → (r ≡ true) ↔ TableAt f Lines slot-places s (line-slots-start f)
+  line-slots-told = table-told f Lines slot-places s (at .«line_slots») (at .«group_contacts») (line-slots-start f) (is .line-slots) (is .group-contacts) (omega arith)
+
+-- what is told of a list of contacts
+pub contacts-told : (f : Form) (w : Members) (s : List ℕ) (a b c : ℕ) → a ≡ c → b ≡ c + contacts-size-in f w → b ≤ length s → (r : Bool)
+    → ((m : ℕ) → length (midOf a (b - a) s) ≡ count-size + m * width-in f (Of w) → (r ≡ true) ↔ ContactsOf f w m (midOf a (b - a) s))
+    → (r ≡ true) ↔ ContactsOf f w contact-places (midOf c (contacts-size-in f w) s)
+contacts-told f w s a b c e h l r told =
+    region-told (ContactsOk f w contact-places) (counted (width-in f (Of w)) (named-in f w) contact-places) s a b c (contacts-size-in f w) e h r l (told contact-places)
+
+-- of the channels
+pub channels-told : (f : Form) (lim : Limits) (s : List ℕ) (a b : ℕ) → a ≡ channels-start f → b ≡ lines-start f lim → b ≤ length s → (r : Bool)
+    → ((m : ℕ) → length (midOf a (b - a) s) ≡ count-size + m * channel-width → (r ≡ true) ↔ ChannelsOf m (midOf a (b - a) s))
+    → (r ≡ true) ↔ ChannelsOf (lim .channels) (midOf (channels-start f) (channels-size lim) s)
+channels-told f lim s a b e h l r told =
+    region-told (ListOk InChannel (lim .channels)) (counted channel-width u16 (lim .channels)) s a b (channels-start f) (channels-size lim) e h r l (told (lim .channels))
+
+-- and of the lines
+pub lines-told : (f : Form) (lim : Limits) (s : List ℕ) (a b : ℕ) → a ≡ lines-start f lim → b ≡ regions-end f lim → (r : Bool) → (r ≡ true) ↔ LinesOf f (lim .lines) (midOf a (b - a) s)
+    → (r ≡ true) ↔ LinesOf f (lim .lines) (midOf (lines-start f lim) (lines-size-in f (lim .lines)) s)
+lines-told f lim s a b e h r told = Iff·trans told (region-read (LinesIs f (lim .lines)) (lines-in f (lim .lines)) s a b (lines-start f lim) (lines-size-in f (lim .lines)) e h)
+
+-- ---- all regions
+
+-- they stand where those of a run after the other do
+pub regions-are : (f : Form) (lim : Limits) (s : List ℕ)
+    → (Stand fixed-regions 0 s × (Stand (indexed-regions f) quick-at s × (Stand (contact-regions f) (group-contacts-start f) s × (ChannelsOf (lim .channels) (midOf (channels-start f) (channels-size lim) s) × LinesOf f (lim .lines) (midOf (lines-start f lim) (lines-size-in f (lim .lines)) s)))))
+    ↔ Stand (regions-in f lim) 0 s
+regions-are f lim s = (
+  λ (a, (b, (c, (d, e)))). (a .0, (a .1 .0, (a .1 .1 .0, (a .1 .1 .1 .0, (b .0, (b .1 .0, (b .1 .1 .0, (b .1 .1 .1 .0, (b .1 .1 .1 .1 .0, (c .0, (c .1 .0, (d, (e, tt))))))))))))),
+  λ x.
+      let y = x .1 .1 .1 .1 in
+      let z = y .1 .1 .1 .1 .1 in (
+        (x .0, (x .1 .0, (x .1 .1 .0, (x .1 .1 .1 .0, tt)))),
+        ((y .0, (y .1 .0, (y .1 .1 .0, (y .1 .1 .1 .0, (y .1 .1 .1 .1 .0, tt))))), ((z .0, (z .1 .0, tt)), (z .1 .1 .0, z .1 .1 .1 .0))),
+      ),
 )
 
--- fourteen regions in four runs
-regroup : (a b c d e f g h i j k l m n : List ℕ) → (a ++ (b ++ (c ++ d))) ++ ((e ++ (f ++ (g ++ (h ++ i)))) ++ ((j ++ k) ++ (l ++ (m ++ n))))
-    ≡ a ++ (b ++ (c ++ (d ++ (e ++ (f ++ (g ++ (h ++ (i ++ (j ++ (k ++ (l ++ (m ++ (n ++ [])))))))))))))
-regroup a b c d e f g h i j k l m n = simp (append-assoc, append-nil)
+-- every region has its width
+abbrev AllWide : List Region → Type 0
+AllWide [] = Unit {0}
+AllWide (p ∷ ps) = ((h : p .Head) → p .HeadOk h → length (p .bytes h) ≡ p .wide) × AllWide ps
 
--- the regions that every store begins with
-abbrev Fixed : Type 0
-Fixed = Hash × (Key × (HomeNumbers × SystemCode))
+-- each region stands in its bytes where all together do
+stand-whole : (ps : List Region) → AllWide ps → (at : ℕ) (s : List ℕ) → length s ≡ at + whole ps .wide → Stand ps at s ↔ EntryOf (whole ps .HeadOk) (whole ps .bytes) (drop at s)
+stand-whole [] w at s l = (λ x. record { entry = tt; holds = tt; bytes = drop-of-length-le s {i = at} (omega arith) }, λ x. tt)
+stand-whole (p ∷ ps) w at s l =
+    Iff·trans (Iff·and Iff·rfl (stand-whole ps (w .1) (at + p .wide) s (omega arith)))
+    (parts-are (p .HeadOk) (whole ps .HeadOk) (p .bytes) (whole ps .bytes) at (p .wide) s (w .0))
 
--- as the rules allow them
-abbrev FixedOk : Fixed → Type 0
-FixedOk = Both HashOk (Both KeyOk (Both HomeOk SystemOk))
+-- regions stand, and then others
+stand-more : (ps qs : List Region) (at : ℕ) (s : List ℕ) → (Stand ps at s × Stand qs (at + whole ps .wide) s) ↔ Stand (ps ++ qs) at s
+stand-more [] qs at s =
+    let e : at + 0 ≡ at = omega arith in
+    (λ x. subst (λ (i : ℕ). Stand qs i s) e (x .1), λ y. (tt, subst (λ (i : ℕ). Stand qs i s) (sym e) y))
+stand-more (p ∷ ps) qs at s =
+    let r = stand-more ps qs (at + p .wide) s in
+    let e : at + p .wide + whole ps .wide ≡ at + (p .wide + whole ps .wide) = omega arith in (
+      λ x. (x .0 .0, r .0 (x .0 .1, subst (λ (i : ℕ). Stand qs i s) (sym e) (x .1))),
+      λ y. let z = r .1 (y .1) in ((y .0, z .0), subst (λ (i : ℕ). Stand qs i s) e (z .1)),
+    )
 
--- their bytes
-abbrev fixed-bytes : Fixed → List ℕ
-fixed-bytes = joined hash-bytes (joined key-bytes (joined home-bytes system-bytes))
-
--- they are 22 bytes
-fixed-long : (x : Fixed) → FixedOk x → length (fixed-bytes x) ≡ 22
-fixed-long =
-    both-long hash-bytes (joined key-bytes (joined home-bytes system-bytes)) (λ h p. hash-code .long h)
-    (both-long key-bytes (joined home-bytes system-bytes) (λ k p. key-code .long k) (both-long home-bytes system-bytes (λ h p. home-code .long h) (λ s p. system-code .long s)))
-
--- the indexed tables
-abbrev Indexed : Type 0
-Indexed = List (Option Text) × (List (Option Text) × (List (Option GroupMember) × (List (Option IndividualMember) × List (Option Line))))
-
--- as the rules allow them
-abbrev IndexedOk : Indexed → Type 0
-IndexedOk = Both (PlacesOk QuickOk 64) (Both (PlacesOk StatusOk 96) (Both (PlacesOk GroupOk 16) (Both (PlacesOk IndividualOk 16) (PlacesOk LineOk 16))))
-
--- their bytes
-abbrev indexed-bytes : Indexed → List ℕ
-indexed-bytes = joined (places 46 quick-bytes) (joined (places 33 status-bytes) (joined (places 36 group-bytes) (joined (places 36 individual-bytes) (places 52 line-bytes))))
-
--- they are 8096 bytes
-indexed-long : (x : Indexed) → IndexedOk x → length (indexed-bytes x) ≡ 8096
-indexed-long =
-    both-long (places 46 quick-bytes) _ (table-long QuickOk 46 quick-bytes (quick-code .long) 64)
-    (both-long (places 33 status-bytes) _ (table-long StatusOk 33 status-bytes (status-code .long) 96)
-    (both-long (places 36 group-bytes) _ (table-long GroupOk 36 group-bytes (group-code .long) 16)
-    (both-long (places 36 individual-bytes) (places 52 line-bytes) (table-long IndividualOk 36 individual-bytes (individual-code .long) 16) (table-long LineOk 52 line-bytes (line-code .long) 16))))
-
--- the lists of contacts
-abbrev Contacts : Type 0
-Contacts = List GroupMember × List IndividualMember
-
--- as the rules allow them
-abbrev BothOk : Contacts → Type 0
-BothOk = Both (ContactsOk OfGroups contact-places) (ContactsOk OfIndividuals contact-places)
-
--- their bytes
-abbrev both-bytes : Contacts → List ℕ
-both-bytes = joined (contacts-bytes OfGroups) (contacts-bytes OfIndividuals)
-
--- they are 4612 bytes
-lists-long : (x : Contacts) → BothOk x → length (both-bytes x) ≡ 4612
-lists-long = both-long (contacts-bytes OfGroups) (contacts-bytes OfIndividuals) (contacts-long OfGroups) (contacts-long OfIndividuals)
+-- ---- the store whose texts have places of their own
 
 module _ (lim : Limits) where
-  -- the other list tables, and what is spare
-  abbrev Rest : Type 0
-  Rest = List ℕ × (List Line × Unit {0})
-
-  -- as the rules allow them
-  abbrev RestOk : Rest → Type 0
-  RestOk = Both (ListOk InChannel (lim .channels)) (Both (LinesOk (lim .lines)) (λ u. Unit {0}))
-
-  -- the channels' bytes
-  abbrev channels-bytes : List ℕ → List ℕ
-  channels-bytes = counted channel-width u16 (lim .channels)
-
-  -- the lines' bytes
-  abbrev lines-bytes : List Line → List ℕ
-  lines-bytes = ordered (lim .lines)
-
   -- the bytes that no table uses
-  abbrev spare-bytes : Unit {0} → List ℕ
-  spare-bytes u = replicate (lim .size - used-size lim) 0
+  abbrev spare : ℕ
+  spare = lim .size - used-size lim
 
-  -- all of them
-  abbrev rest-bytes : Rest → List ℕ
-  rest-bytes = joined channels-bytes (joined lines-bytes spare-bytes)
+  abbrev spare-region : Region
+  spare-region = plain (λ (u : Unit {0}). Unit {0}) spare (λ u. replicate spare 0)
 
-  -- the tables, run by run
-  runs-of : Tables → Fixed × (Indexed × (Contacts × Rest))
-  runs-of t = ((t .hash, (t .key, (t .home, t .system))), ((t .quick, (t .status, (t .groups, (t .individuals, t .line-slots)))), ((t .group-contacts, t .individual-contacts), (t .channels, (t .lines, tt)))))
+  -- the regions, and these
+  abbrev placed : List Region
+  placed = regions-in Placed lim ++ (spare-region ∷ [])
 
-  -- which regions are allowed, and their bytes
-  abbrev AllOk : Fixed × (Indexed × (Contacts × Rest)) → Type 0
-  AllOk = Both FixedOk (Both IndexedOk (Both BothOk RestOk))
+  -- an indexed table
+  table-wide : (t : Table) (n : ℕ) (os : List (Option (EntryIn Placed t))) → PlacesOk (OkIn Placed t) n os → length (places (width-in Placed t) (bytes-in Placed t) os) ≡ places-size Placed t n
+  table-wide t n os p = places-length (width-in Placed t) (bytes-in Placed t) (long-in Placed t) os ∙ ap (λ (i : ℕ). i * width-in Placed t) (p .0)
 
-  abbrev all-bytes : Fixed × (Indexed × (Contacts × Rest)) → List ℕ
-  all-bytes = joined fixed-bytes (joined indexed-bytes (joined both-bytes rest-bytes))
+  -- the lines with their order
+  lines-wide : (ls : List Line) → length (counted line-width line-bytes (lim .lines) ls ++ order-bytes (lim .lines) (line-order ls)) ≡ lines-size-in Placed (lim .lines)
+  lines-wide ls =
+      omega (arith, length-append (counted line-width line-bytes (lim .lines) ls) (order-bytes (lim .lines) (line-order ls)), list-wide line-code (lim .lines) ls, pad-length 0 (lim .lines) (map suc (line-order ls)))
 
-  -- runs as tables
-  tables : Fixed × (Indexed × (Contacts × Rest)) → Tables
+  placed-wide : AllWide placed
+  placed-wide = (
+    λ h p. hash-code .long h,
+    (
+      λ k p. key-code .long k,
+      (
+        λ h p. home-code .long h,
+        (
+          λ s p. system-code .long s,
+          (
+            table-wide QuickTexts _,
+            (
+              table-wide StatusTexts _,
+              (
+                table-wide (Of OfGroups) _,
+                (
+                  table-wide (Of OfIndividuals) _,
+                  (
+                    table-wide Lines _,
+                    (
+                      λ xs p. list-wide group-code contact-places xs,
+                      (
+                        λ xs p. list-wide individual-code contact-places xs,
+                        (
+                          λ cs p. list-wide channel-code (lim .channels) cs,
+                          (λ ls p. lines-wide ls, (λ u p. length-replicate spare 0, tt)),
+                        ),
+                      ),
+                    ),
+                  ),
+                ),
+              ),
+            ),
+          ),
+        ),
+      ),
+    ),
+  )
+
+  -- regions as tables
+  abbrev tables : whole placed .Head → Tables
   tables x =
+      let y = x .1 .1 .1 .1 in
+      let z = y .1 .1 .1 .1 .1 in
       record {
-        hash = x .0 .0;
-        key = x .0 .1 .0;
-        home = x .0 .1 .1 .0;
-        system = x .0 .1 .1 .1;
-        quick = x .1 .0 .0;
-        status = x .1 .0 .1 .0;
-        groups = x .1 .0 .1 .1 .0;
-        individuals = x .1 .0 .1 .1 .1 .0;
-        line-slots = x .1 .0 .1 .1 .1 .1;
-        group-contacts = x .1 .1 .0 .0;
-        individual-contacts = x .1 .1 .0 .1;
-        channels = x .1 .1 .1 .0;
-        lines = x .1 .1 .1 .1 .0;
+        hash = x .0;
+        key = x .1 .0;
+        home = x .1 .1 .0;
+        system = x .1 .1 .1 .0;
+        quick = y .0;
+        status = y .1 .0;
+        groups = y .1 .1 .0;
+        individuals = y .1 .1 .1 .0;
+        line-slots = y .1 .1 .1 .1 .0;
+        group-contacts = z .0;
+        individual-contacts = z .1 .0;
+        channels = z .1 .1 .0;
+        lines = z .1 .1 .1 .0;
       }
 
-  -- their bytes
-  runs-bytes : (t : Tables) → all-bytes (runs-of t) ≡ layout lim t
-  unfolding layout runs-of
-  runs-bytes t =
-      regroup (hash-bytes (t .hash)) (key-bytes (t .key)) (home-bytes (t .home)) (system-bytes (t .system)) (places 46 quick-bytes (t .quick)) (places 33 status-bytes (t .status))
-      (places 36 group-bytes (t .groups)) (places 36 individual-bytes (t .individuals)) (places 52 line-bytes (t .line-slots)) (contacts-bytes OfGroups (t .group-contacts))
-      (contacts-bytes OfIndividuals (t .individual-contacts)) (channels-bytes (t .channels)) (lines-bytes (t .lines)) (spare-bytes tt)
-
   -- the regions of a store are tables
-  tables-of : Same AllOk all-bytes (Allowed lim) (layout lim)
-  unfolding runs-of tables
+  tables-of : Same (whole placed .HeadOk) (whole placed .bytes) (Allowed (in-places lim)) (placed-layout lim)
+  unfolding placed-layout
   tables-of =
       record {
         to = tables;
-        back = runs-of;
+        back = λ t.
+            (t .hash, (t .key, (t .home, (t .system, (t .quick, (t .status, (t .groups, (t .individuals, (t .line-slots, (t .group-contacts, (t .individual-contacts, (t .channels, (t .lines, (tt, tt))))))))))))));
         good = λ x p.
+            let q = p .1 .1 .1 .1 in
+            let r = q .1 .1 .1 .1 .1 in
             record {
-              hash = p .0 .0;
-              key = p .0 .1 .0;
-              home = p .0 .1 .1 .0;
-              system = p .0 .1 .1 .1;
-              quick = p .1 .0 .0;
-              status = p .1 .0 .1 .0;
-              groups = p .1 .0 .1 .1 .0;
-              individuals = p .1 .0 .1 .1 .1 .0;
-              line-slots = p .1 .0 .1 .1 .1 .1;
-              group-contacts = p .1 .1 .0 .0 .0;
-              distinct-groups = p .1 .1 .0 .0 .1;
-              individual-contacts = p .1 .1 .0 .1 .0;
-              distinct-individuals = p .1 .1 .0 .1 .1;
-              channels = p .1 .1 .1 .0;
-              lines = p .1 .1 .1 .1 .0 .0;
-              distinct = p .1 .1 .1 .1 .0 .1;
+              hash = p .0;
+              key = p .1 .0;
+              home = p .1 .1 .0;
+              system = p .1 .1 .1 .0;
+              quick = q .0;
+              status = q .1 .0;
+              groups = q .1 .1 .0;
+              individuals = q .1 .1 .1 .0;
+              line-slots = q .1 .1 .1 .1 .0;
+              group-contacts = r .0 .0;
+              distinct-groups = r .0 .1;
+              individual-contacts = r .1 .0 .0;
+              distinct-individuals = r .1 .0 .1;
+              channels = r .1 .1 .0;
+              lines = r .1 .1 .1 .0 .0;
+              distinct = r .1 .1 .1 .0 .1;
+              texts = tt;
             };
-        back-good = λ t p. (
-          (p .hash, (p .key, (p .home, p .system))),
-          (
-            (p .quick, (p .status, (p .groups, (p .individuals, p .line-slots)))),
-            (((p .group-contacts, p .distinct-groups), (p .individual-contacts, p .distinct-individuals)), (p .channels, ((p .lines, p .distinct), tt))),
-          ),
-        );
-        bytes = λ x p. runs-bytes (tables x);
-        back-bytes = λ t p. sym (runs-bytes t);
+        back-good = λ t p.
+            let g = p .distinct-groups in
+            let i = p .distinct-individuals in
+            (p .hash, (p .key, (p .home, (p .system, (p .quick, (p .status, (p .groups, (p .individuals, (p .line-slots, ((p .group-contacts, g), ((p .individual-contacts, i), (p .channels, ((p .lines, p .distinct), (tt, tt))))))))))))));
+        bytes = λ x p. refl;
+        back-bytes = λ t p. refl;
       }
 
   module _ (s : List ℕ) (room : Roomy lim) (l : length s ≡ lim .size) where
-    -- a region, as the code reads it
-    part-is : {A : Type 0} (P : A → Type 0) (f : A → List ℕ) (a k : ℕ) → EntryOf P f (midOf a (a + k - a) s) ↔ EntryOf P f (midOf a k s)
-    part-is P f a k =
-        let e : a + k - a ≡ k = omega arith in
-        (subst (λ (i : ℕ). EntryOf P f (midOf a i s)) e, subst (λ (i : ℕ). EntryOf P f (midOf a i s)) (sym e))
+    -- the bytes behind the regions
+    spare-stands : (zeros? (midOf (regions-end Placed lim) (length s - regions-end Placed lim) s) ≡ true) ↔ Stand (spare-region ∷ []) (0 + whole (regions-in Placed lim) .wide) s
+    spare-stands =
+        let a = regions-end Placed lim in
+        let b : a ≡ 0 + whole (regions-in Placed lim) .wide = omega arith in
+        let e : length s - a ≡ spare = omega (arith, room .fits) in
+        let k : length (midOf a (length s - a) s) ≡ spare = ap length (rest-is s a (length s - a) (omega arith)) ∙ length-drop a s ∙ e in
+        subst₂ (λ (i j : ℕ). (zeros? (midOf a (length s - a) s) ≡ true) ↔ (EntryOf (λ (u : Unit {0}). Unit {0}) (λ u. replicate spare 0) (midOf i j s) × Unit {0})) b e (
+          λ z. (record { entry = tt; holds = tt; bytes = zeros-are (midOf a (length s - a) s) z ∙ ap (λ (i : ℕ). replicate i 0) k }, tt),
+          λ x. ap zeros? (x .0 .bytes) ∙ zeros-all spare,
+        )
 
-    -- the lines with their order
-    lines-long : (ls : List Line) → LinesOk (lim .lines) ls → length (lines-bytes ls) ≡ lines-size lim
-    lines-long ls p =
-        omega (arith, ordered-length line-width line-key-at line-key-size (lim .lines) (map line-bytes ls) (lines-bytes ls) (lines-made (lim .lines) ls (p .0 .0) (room .few-lines) (p .0 .1) (p .1) .counted))
-
-    -- the bytes that no table uses
-    spare-part : (zeros? (midOf (lines-at lim + lines-size lim) (length s - (lines-at lim + lines-size lim)) s) ≡ true) ↔ EntryOf (λ u. Unit {0}) spare-bytes (drop (lines-at lim + lines-size lim) s)
-    spare-part =
-        let a = lines-at lim + lines-size lim in
-        let e : midOf a (length s - a) s ≡ drop a s = rest-is s a (length s - a) (omega arith) in
-        let k : length (drop a s) ≡ lim .size - used-size lim = omega (arith, room .fits, length-drop a s) in
-        Iff·trans (λ z. ap zeros? (sym e) ∙ z, λ z. ap zeros? e ∙ z) (spare-is (lim .size - used-size lim) (drop a s) k)
-
-    -- the bytes of a store's size are a store where each region is what it has to be
-    pub store-is : (FixedOf (midOf 0 22 s) × (IndexedOf (midOf quick-at 8096 s) × (ContactListsOf (midOf group-contacts-at 4612 s) × (ChannelsOf (lim .channels) (midOf channels-at (channels-at + channels-size lim - channels-at) s) × (LinesOf (lim .lines) (midOf (lines-at lim) (lines-at lim + lines-size lim - lines-at lim) s) × (zeros? (midOf (lines-at lim + lines-size lim) (length s - (lines-at lim + lines-size lim)) s) ≡ true))))))
-        ↔ IsStore lim s
+    -- STORE-IS: bytes of a store's size are a store where each region stands in its bytes, and zeros behind
+    pub store-is : (Stand (regions-in Placed lim) 0 s × (zeros? (midOf (regions-end Placed lim) (length s - regions-end Placed lim) s) ≡ true)) ↔ IsPlaced lim s
     store-is =
-        let w = Iff·trans (Iff·and Iff·rfl
-        (Iff·trans (Iff·and Iff·rfl
-        (Iff·trans (Iff·and Iff·rfl
-        (Iff·trans (Iff·and (part-is (ListOk InChannel (lim .channels)) channels-bytes channels-at (channels-size lim))
-        (Iff·trans (Iff·and (part-is (LinesOk (lim .lines)) lines-bytes (lines-at lim) (lines-size lim)) spare-part)
-        (parts-are (LinesOk (lim .lines)) (λ u. Unit {0}) lines-bytes spare-bytes (lines-at lim) (lines-size lim) s lines-long)))
-        (parts-are (ListOk InChannel (lim .channels)) (Both (LinesOk (lim .lines)) (λ u. Unit {0})) channels-bytes (joined lines-bytes spare-bytes) channels-at (channels-size lim) s (λ cs p. list-wide channel-code (lim .channels) cs))))
-        (parts-are BothOk RestOk both-bytes rest-bytes group-contacts-at 4612 s lists-long)))
-        (parts-are IndexedOk (Both BothOk RestOk) indexed-bytes (joined both-bytes rest-bytes) 22 8096 s indexed-long)))
-        (Iff·trans (parts-are FixedOk (Both IndexedOk (Both BothOk RestOk)) fixed-bytes (joined indexed-bytes (joined both-bytes rest-bytes)) 0 22 s fixed-long)
-        (entry-same AllOk all-bytes (Allowed lim) (layout lim) tables-of s)) in (
+        let w = Iff·trans (Iff·and Iff·rfl spare-stands)
+        (Iff·trans (stand-more (regions-in Placed lim) (spare-region ∷ []) 0 s)
+        (Iff·trans (stand-whole placed placed-wide 0 s (omega (arith, room .fits))) (entry-same (whole placed .HeadOk) (whole placed .bytes) (Allowed (in-places lim)) (placed-layout lim) tables-of s))) in (
           λ x. let t = w .0 x in record { tables = t .entry; allowed = t .holds; bytes-are = t .bytes },
           λ y. w .1 (record { entry = y .tables; holds = y .allowed; bytes = y .bytes-are }),
         )
+
+    -- so the bytes behind them decide
+    pub store-told : (a : ℕ) → a ≡ regions-end Placed lim → Stand (regions-in Placed lim) 0 s → (r : Bool) → r ≡ zeros? (midOf a (length s - a) s) → (r ≡ true) ↔ IsPlaced lim s
+    store-told a e x r z =
+        let k : r ≡ zeros? (midOf (regions-end Placed lim) (length s - regions-end Placed lim) s) = z ∙ ap (λ (i : ℕ). zeros? (midOf i (length s - i) s)) e in
+        (λ y. store-is .0 (x, sym k ∙ y), λ y. k ∙ store-is .1 y .1)

@@ -1,5 +1,5 @@
--- Texts and digits: which bytes are theirs. Assumes nothing.
-use Rattle.lists.proofs.Kit.{_≡_, refl, sym, ap, _∙_, subst, Bool, true, false, _&&_, true≢false, _↔_, _≢_, Option, none, some, List, [], _∷_, map, head-eq-of-cons-eq, ℕ, zero, suc, _+_, _*_, _-_, _≤_, _<_, suc-mul, arith, ne-eqb, midOf, length, take, drop, getD, length-drop, length-take-le}
+-- Texts, how many units they have, and digits: which bytes are theirs. Assumes nothing.
+use Rattle.lists.proofs.Kit.{_≡_, refl, sym, ap, _∙_, subst, Bool, true, false, _&&_, true≢false, _↔_, _≢_, Option, none, some, List, [], _∷_, map, head-eq-of-cons-eq, ℕ, zero, suc, _+_, _*_, _-_, _≤_, _<_, suc-mul, arith, ne-eqb, midOf, leb, length, take, drop, getD, length-drop, length-take-le}
 use Rattle.lists.specs.Bytes.{Bytes}
 use Rattle.lists.proofs.Bytes.{bytes-take, bytes-drop}
 use Rattle.lists.specs.Every.{All}
@@ -12,6 +12,9 @@ use Rattle.writing.specs.Ranges.{InNumber}
 use Rattle.writing.specs.Settings.{Text, Number}
 use Rattle.tables.specs.Allowed.{TextOk}
 use Rattle.tables.specs.Layout.{text-bytes, digit-bytes}
+use Rattle.tables.proofs.AnswerLaws.{turned, leb-is}
+use Rattle.store_check.specs.declared.forms.Form.{Form}
+use Rattle.store_check.specs.Checks.{TextIs, text-in}
 use Rattle.store_check.proofs.CheckLaws.{rest-is}
 use Rattle.store_check.proofs.FrontLaws.{front-is, list-places}
 
@@ -69,6 +72,18 @@ text-is n s r l c found b e =
       λ x. z ∙ f .1 (t .1 x) .1,
     )
 
+-- ---- how many units a text has
+
+-- a byte is a number of at most n
+pub units-is : (n : ℕ) (s : List ℕ) → length s ≡ 1 → (leb (getD s 0 0) n ≡ true) ↔ EntryOf (_≤ n) (λ u. u ∷ []) s
+units-is n [] l = absurd (omega arith)
+units-is n (u ∷ x ∷ s) l = absurd (omega arith)
+units-is n (u ∷ []) l = turned (leb u n) (leb-is u n) (λ h. record { entry = u; holds = h; bytes = refl }) (λ x. subst (_≤ n) (sym (head-eq-of-cons-eq (x .bytes))) (x .holds))
+
+-- what stands for a text in one form does so in the form that it is
+pub text-told : (b : Bool) (n : ℕ) (s : List ℕ) (f g : Form) → f ≡ g → (b ≡ true) ↔ EntryOf (TextIs g n) (text-in g n) s → (b ≡ true) ↔ EntryOf (TextIs f n) (text-in f n) s
+text-told b n s f g e h = subst (λ (v : Form). (b ≡ true) ↔ EntryOf (TextIs v n) (text-in v n) s) (sym e) h
+
 -- ---- digits
 
 -- a digit's byte
@@ -76,7 +91,7 @@ abbrev digit-byte : ℕ → List ℕ
 digit-byte d = suc d ∷ []
 
 -- it is not 0
-digit-shown : (d : ℕ) → zeros? (digit-byte d) ≡ false
+pub digit-shown : (d : ℕ) → zeros? (digit-byte d) ≡ false
 digit-shown d = ap (λ (t : Bool). t && true) (ne-eqb (suc d) 0 (λ e. omega arith))
 
 -- bytes up to 10 are digits and places of none

@@ -1,14 +1,15 @@
 // Whether a slot's bytes are an entry's: texts, digits, addresses, and what holds them.
+use super::forms::Form;
+use super::forms::QUICK_UNITS;
+use super::forms::SHORT_UNITS;
+use super::forms::text_width;
 use slots::bytes::is_clear;
 use slots::bytes::is_zeros;
 use slots::slots::used;
 use tables::members::Members;
 use tables::places::LINE_DIGITS;
 use tables::places::LINE_IDTYPE;
-use tables::places::LINE_SLOT;
 use tables::places::LINE_TEXT;
-use tables::places::MEMBER_SLOT;
-use tables::places::STATUS_SLOT;
 use tables::places::STATUS_TEXT;
 ghost use mathlib.Core.Path.{_≡_};
 ghost use mathlib.Core.Bool.{true};
@@ -18,10 +19,11 @@ ghost use lib.ListN.{length};
 ghost use Rattle.lists.specs.Every.{All};
 ghost use Rattle.slots.specs.Slots.{EntryOf, u16, u24};
 ghost use Rattle.writing.specs.Ranges.{InNumber, InChannel};
-ghost use Rattle.tables.specs.Allowed.{TextOk, QuickOk, StatusOk, AddressOk, LineOk, GroupOk, IndividualOk};
-ghost use Rattle.tables.specs.Layout.{text-bytes, quick-bytes, status-bytes, digit-bytes, line-bytes, group-bytes, individual-bytes, member-width, line-width};
-ghost use Rattle.tables.specs.Members.{member-ok, member-bytes};
-ghost use Rattle.store_check.specs.Checks.{Both, joined};
+ghost use Rattle.tables.specs.declared.members.Members.the-variants.{OfGroups, OfIndividuals};
+ghost use Rattle.tables.specs.Allowed.{TextOk, AddressOk};
+ghost use Rattle.tables.specs.Layout.{text-bytes, digit-bytes};
+ghost use Rattle.store_check.specs.declared.checks_tables.Table.the-variants.{QuickTexts, StatusTexts, Members as Of, Lines};
+ghost use Rattle.store_check.specs.Checks.{Both, joined, TextIs, text-in, text-width, short, EntryIs, width-in};
 
 // The number of two bytes, high byte first.
 pub(crate) fn pair(high: u8, low: u8) -> u32
@@ -31,11 +33,22 @@ pub(crate) fn pair(high: u8, low: u8) -> u32
 }
 
 // Whether units that are not 0 are followed by zeros only.
-pub(crate) fn text_ok(s: &[u8]) -> bool
+fn units_ok(s: &[u8]) -> bool
     ensures { λ r. ⌜ ((n : ℕ) → length (now (s .entry)) ≡ n * 2 → (r ≡ true) ↔ EntryOf (TextOk n) (text-bytes n) (now (s .entry))) ⌝ }
 {
     let units = used(s, 2);
     is_clear(&s[units..])
+}
+
+// Whether bytes stand for a text of at most so many units: they are its units, or one byte that says how many.
+fn text_ok(form: Form, s: &[u8], most: u8) -> bool
+    requires { ⌜ length (now s) ≡ text-width form most ⌝ }
+    ensures { λ r. ⌜ (r ≡ true) ↔ EntryOf (TextIs form most) (text-in form most) (now (s .entry)) ⌝ }
+{
+    match form {
+        Form::Placed => units_ok(s),
+        Form::Shared => s[0] <= most,
+    }
 }
 
 // Whether no byte is above the most.
@@ -79,64 +92,66 @@ pub(crate) fn address_ok(s: &[u8]) -> bool
     address % 32768 != 0
 }
 
-pub(crate) fn quick_ok(s: &[u8]) -> bool
-    requires { ⌜ length (now s) ≡ 46 ⌝ }
-    ensures { λ r. ⌜ (r ≡ true) ↔ EntryOf QuickOk quick-bytes (now (s .entry)) ⌝ }
+// A quick text is not empty: its first unit, or the number of them, is not 0.
+pub(crate) fn quick_ok(form: Form, s: &[u8]) -> bool
+    requires { ⌜ length (now s) ≡ width-in form QuickTexts ⌝ }
+    ensures { λ r. ⌜ (r ≡ true) ↔ EntryIs form QuickTexts (now (s .entry)) ⌝ }
 {
-    if is_zeros(&s[0..2]) {
+    let first = text_width(form, 1);
+    if is_zeros(&s[0..first]) {
         return false;
     }
-    text_ok(s)
+    text_ok(form, s, QUICK_UNITS)
 }
 
-pub(crate) fn status_ok(s: &[u8]) -> bool
-    requires { ⌜ length (now s) ≡ 33 ⌝ }
-    ensures { λ r. ⌜ (r ≡ true) ↔ EntryOf StatusOk status-bytes (now (s .entry)) ⌝ }
+pub(crate) fn status_ok(form: Form, s: &[u8]) -> bool
+    requires { ⌜ length (now s) ≡ width-in form StatusTexts ⌝ }
+    ensures { λ r. ⌜ (r ≡ true) ↔ EntryIs form StatusTexts (now (s .entry)) ⌝ }
 {
     if s[0] != 1 {
         return false;
     }
-    text_ok(&s[STATUS_TEXT..STATUS_SLOT])
+    text_ok(form, &s[STATUS_TEXT..], SHORT_UNITS)
 }
 
 // Whether an address and a text stand there, as in group and individual slots.
-fn named_ok(s: &[u8]) -> bool
-    requires { ⌜ length (now s) ≡ 35 ⌝ }
-    ensures { λ r. ⌜ (r ≡ true) ↔ EntryOf (Both AddressOk (TextOk 16)) (joined u24 (text-bytes 16)) (now (s .entry)) ⌝ }
+fn named_ok(form: Form, s: &[u8]) -> bool
+    requires { ⌜ length (now s) ≡ 3 + text-width form short ⌝ }
+    ensures { λ r. ⌜ (r ≡ true) ↔ EntryOf (Both AddressOk (TextIs form short)) (joined u24 (text-in form short)) (now (s .entry)) ⌝ }
 {
     if !address_ok(&s[0..3]) {
         return false;
     }
-    text_ok(&s[3..35])
+    text_ok(form, &s[3..], SHORT_UNITS)
 }
 
-fn group_ok(s: &[u8]) -> bool
-    requires { ⌜ length (now s) ≡ 36 ⌝ }
-    ensures { λ r. ⌜ (r ≡ true) ↔ EntryOf GroupOk group-bytes (now (s .entry)) ⌝ }
+fn group_ok(form: Form, s: &[u8]) -> bool
+    requires { ⌜ length (now s) ≡ width-in form (Of OfGroups) ⌝ }
+    ensures { λ r. ⌜ (r ≡ true) ↔ EntryIs form (Of OfGroups) (now (s .entry)) ⌝ }
 {
     if s[0] < 64 {
         return false;
     }
-    named_ok(&s[1..MEMBER_SLOT])
+    named_ok(form, &s[1..])
 }
 
-fn individual_ok(s: &[u8]) -> bool
-    requires { ⌜ length (now s) ≡ 36 ⌝ }
-    ensures { λ r. ⌜ (r ≡ true) ↔ EntryOf IndividualOk individual-bytes (now (s .entry)) ⌝ }
+fn individual_ok(form: Form, s: &[u8]) -> bool
+    requires { ⌜ length (now s) ≡ width-in form (Of OfIndividuals) ⌝ }
+    ensures { λ r. ⌜ (r ≡ true) ↔ EntryIs form (Of OfIndividuals) (now (s .entry)) ⌝ }
 {
     if 15 < s[0] {
         return false;
     }
-    named_ok(&s[1..MEMBER_SLOT])
+    named_ok(form, &s[1..])
 }
 
-pub(crate) fn member_ok(who: Members, s: &[u8]) -> bool
-    requires { ⌜ length (now s) ≡ member-width ⌝ }
-    ensures { λ r. ⌜ (r ≡ true) ↔ EntryOf (member-ok who) (member-bytes who) (now (s .entry)) ⌝ }
+pub(crate) fn member_ok(form: Form, who: Members, s: &[u8]) -> bool
+    requires { ⌜ length (now s) ≡ width-in form (Of who) ⌝ }
+    ensures { λ r. ⌜ (r ≡ true) ↔ EntryIs form (Of who) (now (s .entry)) ⌝ }
 {
     match who {
-        Members::OfGroups => group_ok(s),
-        Members::OfIndividuals => individual_ok(s),
+        Members::OfGroups => group_ok(form, s),
+        Members::OfIndividuals => individual_ok(form, s),
     }
 }
 
@@ -151,9 +166,9 @@ pub(crate) fn channel_ok(s: &[u8]) -> bool
     channel <= 640
 }
 
-pub(crate) fn line_ok(s: &[u8]) -> bool
-    requires { ⌜ length (now s) ≡ line-width ⌝ }
-    ensures { λ r. ⌜ (r ≡ true) ↔ EntryOf LineOk line-bytes (now (s .entry)) ⌝ }
+pub(crate) fn line_ok(form: Form, s: &[u8]) -> bool
+    requires { ⌜ length (now s) ≡ width-in form Lines ⌝ }
+    ensures { λ r. ⌜ (r ≡ true) ↔ EntryIs form Lines (now (s .entry)) ⌝ }
 {
     if 15 < s[0] {
         return false;
@@ -164,5 +179,5 @@ pub(crate) fn line_ok(s: &[u8]) -> bool
     if !digits_ok(&s[LINE_DIGITS..LINE_TEXT]) {
         return false;
     }
-    text_ok(&s[LINE_TEXT..LINE_SLOT])
+    text_ok(form, &s[LINE_TEXT..], SHORT_UNITS)
 }

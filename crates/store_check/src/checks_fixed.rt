@@ -10,11 +10,14 @@ use tables::places::SYSTEM;
 ghost use mathlib.Core.Path.{_≡_};
 ghost use mathlib.Core.Bool.{true};
 ghost use mathlib.Core.Logic.{_↔_};
+ghost use Prim.Native.Nat.{_≤_};
 ghost use lib.ListN.{length};
 ghost use Rattle.slots.specs.Slots.{EntryOf};
 ghost use Rattle.tables.specs.Allowed.{HashOk, HomeOk, SystemOk};
-ghost use Rattle.tables.specs.Layout.{hash-bytes, key-bytes, home-bytes, system-bytes};
-ghost use Rattle.store_check.specs.Checks.{KeyOk, FixedOf};
+ghost use Rattle.tables.specs.Layout.{hash-bytes, key-bytes, home-bytes, system-bytes, quick-at};
+ghost use Rattle.shared_texts.specs.Regions.{Stand};
+ghost use Rattle.store_check.specs.Checks.{KeyOk};
+ghost use Rattle.store_check.specs.Stores.{fixed-regions};
 
 fn hash_ok(s: &[u8]) -> bool
     requires { ⌜ length (now s) ≡ 11 ⌝ }
@@ -64,18 +67,18 @@ fn system_ok(s: &[u8]) -> bool
 }
 
 // The four regions that every store begins with.
-pub(crate) fn fixed_ok(s: &[u8]) -> bool
-    requires { ⌜ length (now s) ≡ 22 ⌝ }
-    ensures { λ r. ⌜ (r ≡ true) ↔ FixedOf (now (s .entry)) ⌝ }
+pub(crate) fn fixed_ok(store: &[u8]) -> bool
+    requires { ⌜ quick-at ≤ length (now store) ⌝ }
+    ensures { λ r. ⌜ (r ≡ true) ↔ Stand fixed-regions 0 (now (store .entry)) ⌝ }
 {
-    if !hash_ok(&s[HASH..KEY]) {
+    if !hash_ok(&store[HASH..KEY]) {
         return false;
     }
-    if !key_ok(&s[KEY..HOME]) {
+    if !key_ok(&store[KEY..HOME]) {
         return false;
     }
-    if !home_ok(&s[HOME..SYSTEM]) {
+    if !home_ok(&store[HOME..SYSTEM]) {
         return false;
     }
-    system_ok(&s[SYSTEM..QUICK])
+    system_ok(&store[SYSTEM..QUICK])
 }

@@ -3,13 +3,15 @@ use super::checks_entries::pair;
 use super::checks_tables::Table;
 use super::checks_tables::list_ok;
 use super::checks_tables::width;
+use super::forms::Form;
 use counted_lists::counts::count;
 use orders::orders::order_ok;
 use slots::slots::place_of;
 use slots::slots::used;
+use tables::head_places::LINE_HEAD;
+use tables::head_places::MEMBER_HEAD;
 use tables::members::Members;
 use tables::places::ADDRESS_BYTES;
-use tables::places::CONTACTS_SIZE;
 use tables::places::COUNT;
 use tables::places::KEY_BYTES;
 use tables::places::LINE_KEY;
@@ -25,8 +27,9 @@ ghost use lib.ListN.{length, take};
 ghost use Rattle.slots.specs.Slots.{u16};
 ghost use Rattle.counted_lists.specs.Counted.{Distinct};
 ghost use Rattle.orders.specs.OrderedLists.{slot-key};
-ghost use Rattle.tables.specs.Layout.{count-size, member-width, channel-width, line-width};
-ghost use Rattle.store_check.specs.Checks.{width-in, CountedIn, Filled, ContactsOf, ContactListsOf, ChannelsOf, LinesOf};
+ghost use Rattle.tables.specs.Layout.{count-size, channel-width};
+ghost use Rattle.store_check.specs.declared.checks_tables.Table.the-variants.{Members as Of, Lines};
+ghost use Rattle.store_check.specs.Checks.{width-in, CountedIn, Filled, ContactsOf, ChannelsOf, LinesOf};
 
 // Whether the first two bytes are the count n.
 fn count_is(s: &[u8], n: usize) -> bool
@@ -38,14 +41,14 @@ fn count_is(s: &[u8], n: usize) -> bool
 }
 
 // Whether the count is that of the entries behind it, also where there are none.
-fn counted_ok(t: Table, s: &[u8]) -> bool
+fn counted_ok(form: Form, t: Table, s: &[u8]) -> bool
     requires { ⌜ count-size ≤ length (now s) ⌝ }
-    ensures { λ r. ⌜ ((n : ℕ) → length (now (s .entry)) ≡ count-size + n * width-in t → (r ≡ true) ↔ CountedIn t n (now (s .entry))) ⌝ }
+    ensures { λ r. ⌜ ((n : ℕ) → length (now (s .entry)) ≡ count-size + n * width-in form t → (r ≡ true) ↔ CountedIn form t n (now (s .entry))) ⌝ }
 {
-    if !list_ok(t, &s[COUNT..]) {
+    if !list_ok(form, t, &s[COUNT..]) {
         return false;
     }
-    let w = width(t);
+    let w = width(form, t);
     count_is(s, used(&s[COUNT..], w) / w)
 }
 
@@ -68,43 +71,38 @@ fn keys_distinct(s: &[u8], w: usize, o: usize, k: usize) -> bool
     true
 }
 
-fn contacts_ok(who: Members, s: &[u8]) -> bool
+pub(crate) fn contacts_ok(form: Form, who: Members, s: &[u8]) -> bool
     requires { ⌜ count-size ≤ length (now s) ⌝ }
-    ensures { λ r. ⌜ ((n : ℕ) → length (now (s .entry)) ≡ count-size + n * member-width → (r ≡ true) ↔ ContactsOf who n (now (s .entry))) ⌝ }
+    ensures { λ r. ⌜ ((n : ℕ) → length (now (s .entry)) ≡ count-size + n * width-in form (Of who) → (r ≡ true) ↔ ContactsOf form who n (now (s .entry))) ⌝ }
 {
-    if !counted_ok(Table::Members(who), s) {
+    if !counted_ok(form, Table::Members(who), s) {
         return false;
     }
-    keys_distinct(&s[COUNT..], MEMBER_SLOT, MEMBER_ADDRESS, ADDRESS_BYTES)
-}
-
-// The two lists of contacts.
-pub(crate) fn contact_lists_ok(s: &[u8]) -> bool
-    requires { ⌜ length (now s) ≡ 4612 ⌝ }
-    ensures { λ r. ⌜ (r ≡ true) ↔ ContactListsOf (now (s .entry)) ⌝ }
-{
-    if !contacts_ok(Members::OfGroups, &s[0..CONTACTS_SIZE]) {
-        return false;
+    match form {
+        Form::Placed => keys_distinct(&s[COUNT..], MEMBER_SLOT, MEMBER_ADDRESS, ADDRESS_BYTES),
+        Form::Shared => keys_distinct(&s[COUNT..], MEMBER_HEAD, MEMBER_ADDRESS, ADDRESS_BYTES),
     }
-    contacts_ok(Members::OfIndividuals, &s[CONTACTS_SIZE..])
 }
 
 pub(crate) fn channels_ok(s: &[u8]) -> bool
     requires { ⌜ count-size ≤ length (now s) ⌝ }
     ensures { λ r. ⌜ ((n : ℕ) → length (now (s .entry)) ≡ count-size + n * channel-width → (r ≡ true) ↔ ChannelsOf n (now (s .entry))) ⌝ }
 {
-    counted_ok(Table::Channels, s)
+    counted_ok(Form::Placed, Table::Channels, s)
 }
 
 // Lines with their order, which has each of them once and by ascending keys, so that no two have one key.
-pub(crate) fn lines_ok(s: &[u8], n: usize) -> bool
-    requires { ⌜ (n ≤ 255) × (length (now s) ≡ count-size + n * line-width + n) ⌝ }
-    ensures { λ r. ⌜ (r ≡ true) ↔ LinesOf n (now (s .entry)) ⌝ }
+pub(crate) fn lines_ok(form: Form, s: &[u8], n: usize) -> bool
+    requires { ⌜ (n ≤ 255) × (length (now s) ≡ count-size + n * width-in form Lines + n) ⌝ }
+    ensures { λ r. ⌜ (r ≡ true) ↔ LinesOf form n (now (s .entry)) ⌝ }
 {
     let base = s.len() - n;
-    if !counted_ok(Table::Lines, &s[0..base]) {
+    if !counted_ok(form, Table::Lines, &s[0..base]) {
         return false;
     }
     let held = count(&s[0..base]);
-    order_ok(&s[COUNT..], LINE_SLOT, LINE_KEY, KEY_BYTES, n, held)
+    match form {
+        Form::Placed => order_ok(&s[COUNT..], LINE_SLOT, LINE_KEY, KEY_BYTES, n, held),
+        Form::Shared => order_ok(&s[COUNT..], LINE_HEAD, LINE_KEY, KEY_BYTES, n, held),
+    }
 }

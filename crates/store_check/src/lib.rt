@@ -3,4 +3,7 @@ pub mod checks;
 pub mod checks_entries;
 mod checks_fixed;
 mod checks_lists;
+mod checks_regions;
+mod checks_shared;
 mod checks_tables;
+mod forms;

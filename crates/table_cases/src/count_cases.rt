@@ -62,18 +62,18 @@ fn emptied(store: &mut [u8]) {
 
 // Counts of the two kinds of contacts.
 fn wrong_contacts(store: &mut [u8]) {
-    wrong(8118, store);
-    wrong(8119, store);
-    wrong(10424, store);
-    wrong(10425, store);
+    wrong(774, store);
+    wrong(775, store);
+    wrong(1096, store);
+    wrong(1097, store);
 }
 
 // Counts of channels and lines.
 fn wrong_lists(store: &mut [u8]) {
-    wrong(12730, store);
-    wrong(12731, store);
-    wrong(12860, store);
-    wrong(12861, store);
+    wrong(1418, store);
+    wrong(1419, store);
+    wrong(1548, store);
+    wrong(1549, store);
 }
 
 pub(crate) fn run(store: &mut [u8]) {

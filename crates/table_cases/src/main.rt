@@ -9,6 +9,7 @@ mod line_cases;
 mod line_slot_cases;
 mod slot_cases;
 mod text_cases;
+mod text_room_cases;
 mod type_cases;
 
 fn main() {
@@ -22,4 +23,5 @@ fn main() {
     contact_cases::run(&mut store);
     line_slot_cases::run(&mut store);
     eight_bit_cases::run(&mut store);
+    text_room_cases::run(&mut store);
 }

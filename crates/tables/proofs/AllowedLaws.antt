@@ -1,5 +1,5 @@
 -- Every setting leaves allowed tables. Assumes nothing.
-use Rattle.lists.proofs.Kit.{ℕ, _≡_, refl, subst, subst⁻¹, Bool, true, false, List, Option, none, some}
+use Rattle.lists.proofs.Kit.{_↔_, ℕ, _≡_, refl, subst, subst⁻¹, Bool, true, false, List, Option, none, some, _≤_, ap, cond, leb, leb-true, Option·some-injective, Option·none-ne-some}
 use Rattle.slots.specs.Slots.{Present}
 use Rattle.writing.specs.declared.Coding.{Coding}
 use Rattle.writing.specs.declared.HomeNumbers.{HomeNumbers}
@@ -9,14 +9,18 @@ use Rattle.writing.specs.Ranges.{text-limits, InRange, InChannel, no-hash as ha
 use Rattle.writing.specs.Settings.{Text, Hash, Setting, kind, group-contacts, individual-contacts, lines, key, quick-texts, home, channels, system, status-texts, group, individual, line-slot, last}
 use Rattle.tables.specs.declared.limits.Limits.{Limits}
 use Rattle.tables.specs.Allowed.{Allowed, HashOk, TargetOk, HomeOk, SystemOk, QuickOk, StatusOk, GroupOk, IndividualOk, LineOk, PlacesOk, ListOk, KeyedOk, LinesOk}
-use Rattle.tables.specs.Apply.{apply, own-after, with-room, slot-after}
-use Rattle.tables.specs.Limits.{quick-places, status-places, slot-places, contact-places}
+use Rattle.tables.specs.Apply.{and-then, own-after, with-room, slot-after, change, within, apply}
+use Rattle.tables.specs.Limits.{placed, quick-places, status-places, slot-places, contact-places}
 use Rattle.tables.specs.declared.members.Members.the-variants.{OfGroups, OfIndividuals}
 use Rattle.tables.specs.MemberKinds.{contact-key}
 use Rattle.tables.specs.Tables.{Line, GroupMember, IndividualMember, Tables, no-hash}
 use Rattle.writing.specs.declared.Kind.{Kind}
 use Rattle.writing.specs.declared.Kind.the-variants.{GroupContacts, IndividualContacts, Lines, Key, QuickTexts, Home, Channels, System, StatusTexts, Group, Individual, LineSlot, Last}
 use Rattle.tables.specs.Owns.{Own, own, only, put-own}
+use Rattle.tables.specs.Texts.{text-sum, TextRoom}
+use Rattle.tables.specs.declared.limits.Texts.{Texts}
+use Rattle.tables.specs.declared.limits.Texts.the-variants.{Placed, Shared}
+use Rattle.tables.proofs.RoomSentences.{apply-change}
 use Rattle.tables.proofs.FitsLaws.{fits-group-contacts, fits-individual-contacts, fits-lines, fits-key, fits-quick, fits-home, fits-system, fits-status, fits-group, fits-individual, fits-line-slot, fits-hash}
 use Rattle.tables.proofs.Owns.{own-put, own-other, same-kind}
 use Rattle.tables.proofs.StepLaws.{place-keeps, contacts-after-keeps, lines-after-keeps, quick-after-keeps, status-after-keeps, channels-after-keeps}
@@ -56,8 +60,8 @@ own-ok lim t ok LineSlot = ok .line-slots
 own-ok lim t ok Last = ok .hash
 
 -- and tables of which each is are allowed
-pub all-ok : (lim : Limits) (t : Tables) → ((k : Kind) → OwnOk lim k (own k t)) → Allowed lim t
-all-ok lim t o = record {
+pub all-ok : (lim : Limits) (t : Tables) → ((k : Kind) → OwnOk lim k (own k t)) → TextRoom (lim .texts) (text-sum t) → Allowed lim t
+all-ok lim t o room = record {
   hash = o Last;
   key = o Key;
   home = o Home;
@@ -74,14 +78,40 @@ all-ok lim t o = record {
   channels = o Channels;
   lines = o Lines .0;
   distinct = o Lines .1;
+  texts = room;
 }
+
+-- how the store keeps texts does not matter to any one table
+own-placed : (lim : Limits) (k : Kind) (x : Own k) → OwnOk lim k x ↔ OwnOk (placed lim) k x
+own-placed lim GroupContacts x = (λ p. p, λ p. p)
+own-placed lim IndividualContacts x = (λ p. p, λ p. p)
+own-placed lim Lines x = (λ p. p, λ p. p)
+own-placed lim Key x = (λ p. p, λ p. p)
+own-placed lim QuickTexts x = (λ p. p, λ p. p)
+own-placed lim Home x = (λ p. p, λ p. p)
+own-placed lim Channels x = (λ p. p, λ p. p)
+own-placed lim System x = (λ p. p, λ p. p)
+own-placed lim StatusTexts x = (λ p. p, λ p. p)
+own-placed lim Group x = (λ p. p, λ p. p)
+own-placed lim Individual x = (λ p. p, λ p. p)
+own-placed lim LineSlot x = (λ p. p, λ p. p)
+own-placed lim Last x = (λ p. p, λ p. p)
+
+-- ALLOWED-PLACED: allowed tables are allowed where each text has a place of its own
+pub allowed-placed : (lim : Limits) (t : Tables) → Allowed lim t → Allowed (placed lim) t
+allowed-placed lim t ok = all-ok (placed lim) t (λ k. own-placed lim k (own k t) .0 (own-ok lim t ok k)) tt
+
+-- ALLOWED-WITHIN: and the other way round, where their texts have room together
+pub allowed-within : (lim : Limits) (t : Tables) → Allowed (placed lim) t → TextRoom (lim .texts) (text-sum t) → Allowed lim t
+allowed-within lim t ok room = all-ok lim t (λ k. own-placed lim k (own k t) .1 (own-ok (placed lim) t ok k)) room
 
 -- ---- allowed tables with one of them changed
 
+-- tables of which one is changed are allowed where its texts have room among the others
 module _ (lim : Limits) (t : Tables) (ok : Allowed lim t) where
   -- PUT-ALLOWED: a table that is allowed is put among them
-  pub put-allowed : (k : Kind) (x : Own k) → OwnOk lim k x → Allowed lim (put-own k t x)
-  put-allowed k x p = all-ok lim (put-own k t x) (λ j. go j (only k j) refl)
+  pub put-allowed : (k : Kind) (x : Own k) → OwnOk lim k x → TextRoom (lim .texts) (text-sum (put-own k t x)) → Allowed lim (put-own k t x)
+  put-allowed k x p room = all-ok lim (put-own k t x) (λ j. go j (only k j) refl) room
     where
       go : (j : Kind) (b : Bool) → only k j ≡ b → OwnOk lim j (own j (put-own k t x))
       go j true e = subst (λ (i : Kind). OwnOk lim i (own i (put-own k t x))) (same-kind k j e) (subst⁻¹ (OwnOk lim k) (own-put k t x) p)
@@ -89,43 +119,11 @@ module _ (lim : Limits) (t : Tables) (ok : Allowed lim t) where
 
   -- the kept hash
   pub hash-allowed : (x : Hash) → HashOk x → Allowed lim (put-own Last t x)
-  hash-allowed = put-allowed Last
-
-  -- the emergency key
-  pub key-allowed : (x : Own Key) → TargetOk (x .target) → Allowed lim (put-own Key t x)
-  key-allowed = put-allowed Key
-
-  -- the home numbers
-  pub home-allowed : (x : HomeNumbers) → HomeOk x → Allowed lim (put-own Home t x)
-  home-allowed = put-allowed Home
-
-  -- the system code
-  pub system-allowed : (x : SystemCode) → SystemOk x → Allowed lim (put-own System t x)
-  system-allowed = put-allowed System
-
-  -- the quick texts
-  pub quick-allowed : (x : List (Option Text)) → PlacesOk QuickOk quick-places x → Allowed lim (put-own QuickTexts t x)
-  quick-allowed = put-allowed QuickTexts
-
-  -- the status texts
-  pub status-allowed : (x : List (Option Text)) → PlacesOk StatusOk status-places x → Allowed lim (put-own StatusTexts t x)
-  status-allowed = put-allowed StatusTexts
-
-  -- the group slots
-  pub groups-allowed : (x : List (Option GroupMember)) → PlacesOk GroupOk slot-places x → Allowed lim (put-own Group t x)
-  groups-allowed = put-allowed Group
-
-  -- the individual slots
-  pub individuals-allowed : (x : List (Option IndividualMember)) → PlacesOk IndividualOk slot-places x → Allowed lim (put-own Individual t x)
-  individuals-allowed = put-allowed Individual
+  hash-allowed x p = put-allowed Last x p (ok .texts)
 
   -- the channels
   pub channels-allowed : (x : List ℕ) → ListOk InChannel (lim .channels) x → Allowed lim (put-own Channels t x)
-  channels-allowed = put-allowed Channels
-
-  -- the line contacts
-  pub lines-allowed : (x : List Line) → LinesOk (lim .lines) x → Allowed lim (put-own Lines t x)
-  lines-allowed = put-allowed Lines
+  channels-allowed x p = put-allowed Channels x p (ok .texts)
 
   -- FORGET-ALLOWED: no hash is kept
   pub forget-allowed : Allowed lim (put-own Last t no-hash)
@@ -139,7 +137,7 @@ room-keeps I J f h none p = tt
 room-keeps I J f h (some a) p = h a p
 
 -- what it makes of its own table is allowed
-own-keeps : (lim : Limits) (t : Tables) (c : Coding) (left : ℕ) (s : Setting) → Allowed lim t → InRange text-limits left s → Fits c s → Present (OwnOk lim (kind s)) (own-after lim s (own (kind s) t))
+own-keeps : (lim : Limits) (t : Tables) (c : Coding) (left : ℕ) (s : Setting) → Allowed (placed lim) t → InRange text-limits left s → Fits c s → Present (OwnOk lim (kind s)) (own-after lim s (own (kind s) t))
 own-keeps lim t c left (group-contacts o f es) ok r p =
     contacts-after-keeps OfGroups contact-places o f es (t .group-contacts) (fits-group-contacts c o f es left r p) (ok .group-contacts, ok .distinct-groups)
 own-keeps lim t c left (individual-contacts o f es) ok r p =
@@ -156,11 +154,34 @@ own-keeps lim t c left (individual o f s) ok r p = place-keeps IndividualOk slot
 own-keeps lim t c left (line-slot o f s) ok r p = place-keeps LineOk slot-places (s .index) (slot-after o _) (t .line-slots) (fits-line-slot c o f s left r p) (ok .line-slots)
 own-keeps lim t c left (last f h) ok r p = fits-hash c f h left r p
 
--- APPLY-KEEPS: where there is room, a setting in range whose values fit leaves allowed tables
-pub apply-keeps : (lim : Limits) (t : Tables) (c : Coding) (left : ℕ) (s : Setting) → Allowed lim t → InRange text-limits left s → Fits c s → Present (Allowed lim) (apply lim s t)
-apply-keeps lim t c left s ok r p =
-    room-keeps (OwnOk lim (kind s)) (Allowed lim) (put-own (kind s) t) (put-allowed lim t ok (kind s)) (own-after lim s (own (kind s) t)) (own-keeps lim t c left s ok r p)
+-- CHANGE-KEEPS: where there is a place, a setting in range whose values fit leaves tables that are allowed but for their texts' room
+pub change-keeps : (lim : Limits) (t : Tables) (c : Coding) (left : ℕ) (s : Setting) → Allowed (placed lim) t → InRange text-limits left s → Fits c s → Present (Allowed (placed lim)) (change lim s t)
+change-keeps lim t c left s ok r p =
+    room-keeps (OwnOk lim (kind s)) (Allowed (placed lim)) (put-own (kind s) t) (λ x h. put-allowed (placed lim) t ok (kind s) x (own-placed lim (kind s) x .0 h) tt) (own-after lim s (own (kind s) t))
+    (own-keeps lim t c left s ok r p)
 
--- APPLY-ALLOWED: the tables that it leaves are allowed
+-- CHANGE-ALLOWED: the tables that it leaves
+pub change-allowed : (lim : Limits) (t u : Tables) (c : Coding) (left : ℕ) (s : Setting) → Allowed (placed lim) t → InRange text-limits left s → Fits c s → change lim s t ≡ some u → Allowed (placed lim) u
+change-allowed lim t u c left s ok r p e = subst (Present (Allowed (placed lim))) e (change-keeps lim t c left s ok r p)
+
+-- WITHIN-ROOM: tables that are within have room for their texts
+within-room : (x : Texts) (t u : Tables) → within x t ≡ some u → TextRoom x (text-sum u)
+within-room Placed t u e = tt
+within-room (Shared a) t u e = go (leb (text-sum t) a) refl e
+  where
+    go : (b : Bool) → leb (text-sum t) a ≡ b → cond b (some t) none ≡ some u → text-sum u ≤ a
+    go true h e = subst (λ (v : Tables). text-sum v ≤ a) (Option·some-injective t u e) (leb-true (text-sum t) a h)
+    go false h e = absurd (Option·none-ne-some u e)
+
+-- and so have those that a setting leaves
+pub apply-room : (lim : Limits) (s : Setting) (t u : Tables) → apply lim s t ≡ some u → TextRoom (lim .texts) (text-sum u)
+apply-room lim s t u e = go (change lim s t) e
+  where
+    go : (o : Option Tables) → and-then o (within (lim .texts)) ≡ some u → TextRoom (lim .texts) (text-sum u)
+    go none e = absurd (Option·none-ne-some u e)
+    go (some v) e = within-room (lim .texts) v u e
+
+-- APPLY-ALLOWED: the tables that a setting leaves are allowed
 pub apply-allowed : (lim : Limits) (t u : Tables) (c : Coding) (left : ℕ) (s : Setting) → Allowed lim t → InRange text-limits left s → Fits c s → apply lim s t ≡ some u → Allowed lim u
-apply-allowed lim t u c left s ok r p e = subst (Present (Allowed lim)) e (apply-keeps lim t c left s ok r p)
+apply-allowed lim t u c left s ok r p e =
+    allowed-within lim u (change-allowed lim t u c left s (allowed-placed lim t ok) r p (apply-change lim s t u e)) (apply-room lim s t u e)

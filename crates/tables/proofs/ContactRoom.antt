@@ -14,7 +14,7 @@ use Rattle.plan.specs.declared.numbers.GroupAddress.{GroupAddress}
 use Rattle.writing.specs.Settings.{Number, Contact, Addressed, Slot, group-contacts, line-slot}
 use Rattle.tables.specs.declared.limits.Limits.{Limits}
 use Rattle.tables.specs.declared.members.Members.{Members}
-use Rattle.tables.specs.Apply.{in-turn, has-key, line-of, lines-after, put-contact, drop-contact, contact-of, contact-step, contacts-after, apply}
+use Rattle.tables.specs.Apply.{in-turn, has-key, line-of, lines-after, put-contact, drop-contact, contact-of, contact-step, contacts-after, change, apply}
 use Rattle.tables.specs.MemberKinds.{FlagsIn, AddressIn, MemberIn, number-of, contact-key}
 use Rattle.tables.specs.Tables.{Line, line-key, Tables}
 use Rattle.tables.proofs.ContactSentences.{has-number, key-is-number, WithoutAddress}
@@ -107,5 +107,5 @@ contacts-apart lim o f es t u e = (others-stay lim (group-contacts o f es) t u G
 -- ---- line slots
 
 -- LINE-SLOT-HAS-ROOM: a line slot is never full
-pub line-slot-has-room : (lim : Limits) (o : Operation) (f : LineFlags) (s : Slot Number) (t : Tables) → apply lim (line-slot o f s) t ≢ none
+pub line-slot-has-room : (lim : Limits) (o : Operation) (f : LineFlags) (s : Slot Number) (t : Tables) → change lim (line-slot o f s) t ≢ none
 line-slot-has-room lim o f s t h = Option·some-ne-none _ h

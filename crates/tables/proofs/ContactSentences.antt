@@ -12,7 +12,7 @@ use Rattle.writing.specs.Settings.{Number, Addressed, Slot, group-contacts, ind
 use Rattle.tables.specs.declared.limits.Limits.{Limits}
 use Rattle.tables.specs.declared.members.Members.{Members}
 use Rattle.tables.specs.declared.members.Members.the-variants.{OfGroups, OfIndividuals}
-use Rattle.tables.specs.Apply.{start-from, has-address, contact-of, contact-step, contacts-after, apply}
+use Rattle.tables.specs.Apply.{start-from, has-address, contact-of, contact-step, contacts-after, change}
 use Rattle.tables.specs.MemberKinds.{FlagsIn, AddressIn, MemberIn, number-of, contact-key}
 use Rattle.tables.specs.Owns.{put-own}
 use Rattle.tables.specs.Tables.{Tables}
@@ -73,12 +73,12 @@ contacts-replace w room f es xs = refl
 
 -- "Count 0 is allowed": an add or a delete with no entries changes nothing, and a replace empties the list
 module _ (lim : Limits) (t : Tables) where
-  pub group-contacts-count-0 : (o : Operation) (f : GroupFlags) → apply lim (group-contacts o f []) t ≡ some (start-from o (put-own GroupContacts t []) t)
+  pub group-contacts-count-0 : (o : Operation) (f : GroupFlags) → change lim (group-contacts o f []) t ≡ some (start-from o (put-own GroupContacts t []) t)
   group-contacts-count-0 Add f = refl
   group-contacts-count-0 Delete f = refl
   group-contacts-count-0 Replace f = refl
 
-  pub individual-contacts-count-0 : (o : Operation) (f : IndividualFlags) → apply lim (individual-contacts o f []) t ≡ some (start-from o (put-own IndividualContacts t []) t)
+  pub individual-contacts-count-0 : (o : Operation) (f : IndividualFlags) → change lim (individual-contacts o f []) t ≡ some (start-from o (put-own IndividualContacts t []) t)
   individual-contacts-count-0 Add f = refl
   individual-contacts-count-0 Delete f = refl
   individual-contacts-count-0 Replace f = refl
@@ -87,13 +87,13 @@ module _ (lim : Limits) (t : Tables) where
 
 module _ (lim : Limits) (f : LineFlags) (s : Slot Number) (t : Tables) where
   -- whatever was there
-  pub line-slot-add : apply lim (line-slot Add f s) t ≡ some (put-own LineSlot t (set (t .line-slots) (s .index) (some (record { flags = f; number = s .address; text = s .text }))))
+  pub line-slot-add : change lim (line-slot Add f s) t ≡ some (put-own LineSlot t (set (t .line-slots) (s .index) (some (record { flags = f; number = s .address; text = s .text }))))
   line-slot-add = refl
 
   -- a delete empties the slot
-  pub line-slot-delete : apply lim (line-slot Delete f s) t ≡ some (put-own LineSlot t (set (t .line-slots) (s .index) none))
+  pub line-slot-delete : change lim (line-slot Delete f s) t ≡ some (put-own LineSlot t (set (t .line-slots) (s .index) none))
   line-slot-delete = refl
 
   -- "Deleting what isn't there does nothing"
-  pub line-slot-delete-absent : getD (t .line-slots) (s .index) none ≡ none → apply lim (line-slot Delete f s) t ≡ some t
+  pub line-slot-delete-absent : getD (t .line-slots) (s .index) none ≡ none → change lim (line-slot Delete f s) t ≡ some t
   line-slot-delete-absent h = ap (λ x. some (put-own LineSlot t x)) (place-empty (t .line-slots) (s .index) h)

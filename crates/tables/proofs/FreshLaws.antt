@@ -9,14 +9,23 @@ use Rattle.slots.proofs.Tables.{front-nil, places-nil}
 use Rattle.writing.specs.Ranges.{no-hash as hash-0}
 use Rattle.tables.specs.declared.limits.Limits.{Limits}
 use Rattle.tables.specs.Allowed.{Allowed, QuickOk, StatusOk, GroupOk, IndividualOk, LineOk}
-use Rattle.tables.specs.Layout.{count-size, counted, ordered, regions, layout, used-size, Roomy, quick-bytes, status-bytes, group-bytes, individual-bytes, line-bytes, quick-width, status-width, member-width, channel-width, line-width, key-at, key-size}
+use Rattle.tables.specs.Forms.{Roomy}
+use Rattle.tables.specs.Layout.{count-size, counted, ordered, regions, placed-layout, used-size, quick-bytes, status-bytes, group-bytes, individual-bytes, line-bytes, quick-width, status-width, member-width, channel-width, line-width, key-at, key-size}
 use Rattle.tables.specs.Limits.{quick-places, status-places, slot-places, contact-places}
+use Rattle.tables.specs.declared.limits.Texts.{Texts}
+use Rattle.tables.specs.declared.limits.Texts.the-variants.{Placed, Shared}
 use Rattle.tables.specs.Tables.{fresh}
+use Rattle.tables.specs.Texts.{TextRoom}
 use Rattle.tables.proofs.Frames.{all-widths}
 
 -- a table with n empty places
 pub empty-table : {A : Type 0} (P : A → Type 0) (n : ℕ) → (length (replicate {A = Option A} n none) ≡ n) × All (Present P) (replicate n none)
 empty-table {A = A} P n = (length-replicate {A = Option A} n none, all-replicate (Present P) n none tt)
+
+-- no text has room anywhere
+no-texts : (x : Texts) → TextRoom x 0
+no-texts Placed = tt
+no-texts (Shared a) = omega arith
 
 -- FRESH-ALLOWED: a fresh store is one of any set
 pub fresh-allowed : (lim : Limits) → Allowed lim fresh
@@ -38,6 +47,7 @@ fresh-allowed lim =
       channels = (omega arith, tt);
       lines = (omega arith, tt);
       distinct = tt;
+      texts = no-texts (lim .texts);
     }
 
 -- a list table with no entry is zeros
@@ -77,10 +87,10 @@ zeros-fill lim r =
     let e : sum (all-widths lim) ≡ lim .size = omega (arith, r .fits) in
     flat-zeros (all-widths lim) ∙ ap (λ (k : ℕ). replicate k 0) e
 
--- FRESH-LAYOUT: it is all zeros, but for the key's flags, which say current
-pub fresh-layout : (lim : Limits) → Roomy lim → layout lim fresh ≡ set (replicate (lim .size) 0) 11 16
-unfolding layout
-fresh-layout lim r =
+-- FRESH-PLACED-LAYOUT: it is all zeros, but for the key's flags, which say current
+pub fresh-placed-layout : (lim : Limits) → Roomy lim → placed-layout lim fresh ≡ set (replicate (lim .size) 0) 11 16
+unfolding placed-layout
+fresh-placed-layout lim r =
     let zs : List (List ℕ) = map (λ w. replicate w 0) (all-widths lim) in
     ap flat (fresh-regions lim)
     ∙ sym (parts-put zs (map length zs) refl 1 (omega arith) (16 ∷ 0 ∷ 0 ∷ 0 ∷ []))

@@ -1,4 +1,4 @@
--- The bytes of tables: every region has its width, the regions are bytes, and equal bytes are equal tables. Assumes nothing.
+-- The bytes of tables whose texts have places of their own: every region has its width, the regions are bytes, and equal bytes are equal tables. Assumes nothing.
 use Rattle.lists.proofs.Kit.{ℕ, suc, _+_, _*_, _-_, _≤_, _<_, _≡_, refl, sym, ap, _∙_, false, List, [], _∷_, _++_, map, Option, arith, length, getD, take, drop, length-append, length-replicate}
 use Rattle.lists.specs.Bytes.{Bytes}
 use Rattle.lists.proofs.Bytes.{bytes-zeros, bytes-append}
@@ -8,17 +8,16 @@ use Rattle.slots.specs.Slots.{places, front, u16, zeros?, Present, sum}
 use Rattle.slots.proofs.Codes.{Code, places-one, list-one}
 use Rattle.slots.proofs.Numbers.{u16-bytes}
 use Rattle.slots.proofs.Pads.{pad-length}
-use Rattle.slots.proofs.Runs.{copy-whole}
 use Rattle.slots.proofs.Parts.{flat-bytes, flat-length, parts-one}
 use Rattle.slots.proofs.Tables.{all-front, front-length, places-bytes, places-length}
 use Rattle.orders.specs.OrderParts.{order-bytes}
 use Rattle.writing.specs.Ranges.{InChannel}
 use Rattle.tables.specs.declared.limits.Limits.{Limits}
 use Rattle.tables.specs.Allowed.{Allowed, QuickOk, StatusOk, GroupOk, IndividualOk, LineOk}
-use Rattle.tables.specs.Layout.{count-size, counted, ordered, regions, region-widths, used-size, layout, Roomy, quick-bytes, status-bytes, group-bytes, individual-bytes, line-bytes, quick-width, status-width, member-width, channel-width, line-width}
-use Rattle.tables.specs.Limits.{contact-places}
+use Rattle.tables.specs.Forms.{Roomy}
+use Rattle.tables.specs.Layout.{count-size, counted, ordered, regions, region-widths, used-size, placed-layout, quick-bytes, status-bytes, group-bytes, individual-bytes, line-bytes, quick-width, status-width, member-width, channel-width, line-width}
+use Rattle.tables.specs.Limits.{placed, contact-places}
 use Rattle.tables.specs.Order.{line-order}
-use Rattle.tables.specs.Store.{StoreOf, Holds}
 use Rattle.tables.specs.Tables.{Line, Tables}
 use Rattle.tables.proofs.EntryBytes.{quick-are-bytes, status-are-bytes, group-are-bytes, individual-are-bytes, channel-are-bytes, line-are-bytes, hash-are-bytes, key-are-bytes, home-are-bytes, system-are-bytes}
 use Rattle.tables.proofs.EntryCodes.{quick-code, quick-shown, status-code, status-shown, group-code, group-shown, individual-code, individual-shown, channel-code, channel-shown, line-code, line-shown}
@@ -40,7 +39,7 @@ lines-wide : (n : ℕ) (ls : List Line) → length (ordered n ls) ≡ count-size
 lines-wide n ls = omega (arith, length-append (counted line-width line-bytes n ls) (order-bytes n (line-order ls)), list-wide line-code n ls, pad-length 0 n (map suc (line-order ls)))
 
 -- REGIONS-WIDE: every region has its width
-pub regions-wide : (lim : Limits) (t : Tables) → Allowed lim t → map length (regions lim t) ≡ region-widths lim ++ ((lim .size - used-size lim) ∷ [])
+pub regions-wide : (lim : Limits) (t : Tables) → Allowed (placed lim) t → map length (regions lim t) ≡ region-widths lim ++ ((lim .size - used-size lim) ∷ [])
 regions-wide lim t ok =
     let a = hash-code .long (t .hash) in
     let b = table-wide quick-code (t .quick) 64 (ok .quick .0) in
@@ -55,24 +54,10 @@ regions-wide lim t ok =
     let z = length-replicate {A = ℕ} (lim .size - used-size lim) 0 in
     (λ i. a i ∷ 4 ∷ 4 ∷ 3 ∷ b i ∷ c i ∷ d i ∷ e i ∷ f i ∷ g i ∷ h i ∷ j i ∷ k i ∷ z i ∷ [])
 
--- LAYOUT-LENGTH: where the tables fit, their bytes fill the store
-pub layout-length : (lim : Limits) (t : Tables) → Roomy lim → Allowed lim t → length (layout lim t) ≡ lim .size
-unfolding layout
-layout-length lim t r ok = omega (arith, r .fits, flat-length (regions lim t), ap sum (regions-wide lim t ok))
-
--- HOLDS-STORE: so the bytes that hold allowed tables, where these have room, are a store
-pub holds-store : (lim : Limits) (t : Tables) (store : List ℕ) → Roomy lim → Holds lim t store → StoreOf lim store
-holds-store lim t store room holds = record {
-  size = ap length (holds .1) ∙ layout-length lim t room (holds .0);
-  roomy = room;
-  store = record { tables = t; allowed = holds .0; bytes-are = holds .1 };
-}
-
--- HOLDS-COPIED: and so are those that they were copied to
-pub holds-copied : (lim : Limits) (from to after : List ℕ) → after ≡ take (length to) from ++ drop (length from) to → length to ≡ lim .size
-    → (t : Tables) → Roomy lim → Holds lim t from → Holds lim t after
-holds-copied lim from to after c l t room holds =
-    (holds .0, c ∙ copy-whole from to (l ∙ sym (holds-store lim t from room holds .size)) ∙ holds .1)
+-- PLACED-LENGTH: where the tables fit, their bytes fill the store
+pub placed-length : (lim : Limits) (t : Tables) → Roomy lim → Allowed (placed lim) t → length (placed-layout lim t) ≡ lim .size
+unfolding placed-layout
+placed-length lim t r ok = omega (arith, r .fits, flat-length (regions lim t), ap sum (regions-wide lim t ok))
 
 -- ---- bytes
 
@@ -81,10 +66,10 @@ pub list-bytes : {A : Type 0} (P : A → Type 0) (w : ℕ) (f : A → List ℕ) 
 list-bytes P w f each n xs few ok =
     bytes-append (u16 (length xs)) (places w f (front n xs)) (u16-bytes (length xs) (omega (arith, ok .0))) (places-bytes P w f each (front n xs) (all-front P n xs (ok .1)))
 
--- LAYOUT-BYTES: they are bytes
-pub layout-bytes : (lim : Limits) (t : Tables) → Roomy lim → Allowed lim t → Bytes (layout lim t)
-unfolding layout
-layout-bytes lim t r ok =
+-- PLACED-BYTES: they are bytes
+pub placed-bytes : (lim : Limits) (t : Tables) → Roomy lim → Allowed (placed lim) t → Bytes (placed-layout lim t)
+unfolding placed-layout
+placed-bytes lim t r ok =
     let a = hash-are-bytes (t .hash) (ok .hash) in
     let b = key-are-bytes (t .key) (ok .key) in
     let c = home-are-bytes (t .home) (ok .home) in
@@ -117,10 +102,10 @@ pub list-table-one : {A : Type 0} {P : A → Type 0} {w : ℕ} {f : A → List �
 list-table-one {P = P} {w = w} {f = f} k z {n} {xs} {ys} p q e =
     list-one P w f k z n (places w f (front n xs)) xs ys (record { few = p .0; each = p .1; bytes = refl }) (record { few = q .0; each = q .1; bytes = ap (drop count-size) e })
 
--- LAYOUT-ONE: allowed tables that have the same bytes are the same
-pub layout-one : (lim : Limits) (t u : Tables) → Allowed lim t → Allowed lim u → layout lim t ≡ layout lim u → t ≡ u
-unfolding layout
-layout-one lim t u p q e =
+-- PLACED-ONE: allowed tables that have the same bytes are the same
+pub placed-one : (lim : Limits) (t u : Tables) → Allowed (placed lim) t → Allowed (placed lim) u → placed-layout lim t ≡ placed-layout lim u → t ≡ u
+unfolding placed-layout
+placed-one lim t u p q e =
     let r : regions lim t ≡ regions lim u = parts-one (regions lim t) (regions lim u) (regions-wide lim t p ∙ sym (regions-wide lim u q)) e in
     let at : (k : ℕ) → getD (regions lim t) k [] ≡ getD (regions lim u) k [] = λ k. ap (λ (l : List (List ℕ)). getD l k []) r in
     let a = hash-code .one (t .hash) (u .hash) (p .hash) (q .hash) (at 0) in

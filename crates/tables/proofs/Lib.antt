@@ -9,8 +9,10 @@ pub mod EntryWalk
 pub mod FillLaws
 pub mod FitsLaws
 pub mod FixedCodes
+pub mod FormLaws
 pub mod Frames
 pub mod FreshLaws
+pub mod FreshShared
 pub mod HeadLaws
 pub mod LayoutLaws
 pub mod LineTypes

@@ -14,7 +14,8 @@ use Rattle.tables.specs.Allowed.{Allowed, LineOk}
 use Rattle.tables.specs.Apply.{start-from, has-key, line-of, entry-key, line-step, lines-after}
 use Rattle.tables.specs.Owns.{put-own}
 use Rattle.tables.specs.Tables.{Line, LineKey, line-key, Tables}
-use Rattle.tables.proofs.AllowedLaws.{lines-allowed}
+use Rattle.tables.specs.Texts.{text-sum, TextRoom}
+use Rattle.tables.proofs.AllowedLaws.{put-allowed}
 use Rattle.tables.proofs.Sentences.{key-is-both}
 use Rattle.tables.proofs.StepLaws.{turn-keeps}
 
@@ -61,5 +62,5 @@ module _ (room : ℕ) (f : LineFlags) (ls : List Line) where
       (λ e us _ g. put-stays line-key has-key key-is-both (line-of f e) l (λ k. n (ap (λ (j : LineKey). j .pabx) k)) room us i g) es ls (all-any (λ e. Unit {0}) (λ e. tt) es) h)
 
 -- BOTH-TYPES: a PSTN and a PABX line are allowed beside each other, also with the same digits
-pub both-types : (lim : Limits) (t : Tables) → Allowed lim t → 2 ≤ lim .lines → (l m : Line) → LineOk l → LineOk m → l .flags .pabx ≢ m .flags .pabx → Allowed lim (put-own Lines t (l ∷ m ∷ []))
-both-types lim t ok room l m p q n = lines-allowed lim t ok (l ∷ m ∷ []) ((omega arith, (p, (q, tt))), (((λ e. n (sym (ap (λ (k : LineKey). k .pabx) e))), tt), (tt, tt)))
+pub both-types : (lim : Limits) (t : Tables) → Allowed lim t → 2 ≤ lim .lines → (l m : Line) → LineOk l → LineOk m → l .flags .pabx ≢ m .flags .pabx → TextRoom (lim .texts) (text-sum (put-own Lines t (l ∷ m ∷ []))) → Allowed lim (put-own Lines t (l ∷ m ∷ []))
+both-types lim t ok room l m p q n texts = put-allowed lim t ok Lines (l ∷ m ∷ []) ((omega arith, (p, (q, tt))), (((λ e. n (sym (ap (λ (k : LineKey). k .pabx) e))), tt), (tt, tt))) texts

@@ -10,7 +10,7 @@ use Rattle.tables.specs.declared.limits.Limits.{Limits}
 use Rattle.tables.specs.Apply.{apply, own-after, and-then, in-turn}
 use Rattle.tables.specs.Tables.{Tables}
 use Rattle.tables.specs.Owns.{Own, own, mix, only, touches, Agree, put-own}
-use Rattle.tables.proofs.RoomSentences.{came, put-mixes, own-table}
+use Rattle.tables.proofs.RoomSentences.{came, put-mixes, apply-change, own-table}
 
 -- OWN-MIX: each table is that of one or of the other
 pub own-mix : (p : Kind → Bool) (t u : Tables) (k : Kind) → own k (mix p t u) ≡ cond (p k) (own k u) (own k t)
@@ -75,8 +75,8 @@ own-put Last t x = refl
 -- OWN ALONE: what a setting makes of its table depends on that table alone
 pub own-alone : (lim : Limits) (s : Setting) (t t′ u u′ : Tables) → apply lim s t ≡ some u → apply lim s t′ ≡ some u′ → own (kind s) t ≡ own (kind s) t′ → own (kind s) u ≡ own (kind s) u′
 own-alone lim s t t′ u u′ e e′ h =
-    let (a, p, q) = came (put-own (kind s) t) (own-after lim s (own (kind s) t)) u e in
-    let (b, p′, q′) = came (put-own (kind s) t′) (own-after lim s (own (kind s) t′)) u′ e′ in
+    let (a, p, q) = came (put-own (kind s) t) (own-after lim s (own (kind s) t)) u (apply-change lim s t u e) in
+    let (b, p′, q′) = came (put-own (kind s) t′) (own-after lim s (own (kind s) t′)) u′ (apply-change lim s t′ u′ e′) in
     let r : a ≡ b = Option·some-injective a b (sym p ∙ ap (own-after lim s) h ∙ p′) in
     sym (ap (own (kind s)) q) ∙ own-put (kind s) t a ∙ r ∙ sym (own-put (kind s) t′ b) ∙ ap (own (kind s)) q′
 

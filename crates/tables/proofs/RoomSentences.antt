@@ -1,5 +1,5 @@
 -- The sentences of document 01 on room, on entries in order, and on what a setting leaves alone. Assumes nothing.
-use Rattle.lists.proofs.Kit.{ℕ, _≤_, _<_, _≡_, refl, ap, _∙_, subst, _≢_, _↔_, _⊎_, inl, inr, List, [], _∷_, _++_, Option, none, some, Option·some-ne-none, Option·none-ne-some, Option·some-injective, arith, eq-eqb, eqb, length, replicate}
+use Rattle.lists.proofs.Kit.{ℕ, _≤_, _<_, _≡_, refl, ap, _∙_, subst, _≢_, _↔_, _⊎_, inl, inr, Bool, true, false, cond, List, [], _∷_, _++_, Option, none, some, Option·some-ne-none, Option·none-ne-some, Option·some-injective, arith, eq-eqb, eqb, leb, length, replicate}
 use Rattle.slots.proofs.Changes.{unless-fewer}
 use Rattle.counted_lists.proofs.KeyedLists.{keyed-no-room, keyed-freed, last-no-room}
 use Rattle.writing.specs.declared.Kind.{Kind}
@@ -8,7 +8,10 @@ use Rattle.writing.specs.declared.Operation.{Operation}
 use Rattle.writing.specs.declared.Operation.the-variants.{Add, Delete, Replace}
 use Rattle.writing.specs.Settings.{Text, Entry, Setting, group-contacts, individual-contacts, lines, key, quick-texts, home, channels, system, status-texts, group, individual, line-slot, last, kind}
 use Rattle.tables.specs.declared.limits.Limits.{Limits}
-use Rattle.tables.specs.Apply.{and-then, in-turn, start-from, has-key, put-line, drop-line, quick-step, quick-after, status-step, status-after, put-channel, drop-channel, with-room, own-after, apply}
+use Rattle.tables.specs.Apply.{and-then, in-turn, start-from, has-key, put-line, drop-line, quick-step, quick-after, status-step, status-after, put-channel, drop-channel, with-room, own-after, change, within, apply}
+use Rattle.tables.specs.declared.limits.Texts.{Texts}
+use Rattle.tables.specs.declared.limits.Texts.the-variants.{Placed, Shared}
+use Rattle.tables.specs.Texts.{text-sum}
 use Rattle.tables.specs.Limits.{handheld, quick-places, status-places}
 use Rattle.tables.specs.Tables.{Line, LineKey, line-key, Tables}
 use Rattle.tables.proofs.Sentences.{Without, key-is-both}
@@ -114,8 +117,8 @@ room-none : {A B : Type 0} (f : A → B) (o : Option A) → with-room f o ≡ no
 room-none f none e = refl
 room-none f (some a) e = absurd (Option·some-ne-none (f a) e)
 
--- a setting that has no room is one of lines, of channels or of contacts; so one of slots always has room
-pub no-room-kinds : (lim : Limits) (s : Setting) (t : Tables) → apply lim s t ≡ none
+-- a setting whose table is full is one of lines, of channels or of contacts; so one of slots always has room
+pub no-room-kinds : (lim : Limits) (s : Setting) (t : Tables) → change lim s t ≡ none
     → (kind s ≡ Lines) ⊎ (kind s ≡ Channels) ⊎ (kind s ≡ GroupContacts) ⊎ (kind s ≡ IndividualContacts)
 no-room-kinds lim (group-contacts o f es) t e = inr (inr (inl refl))
 no-room-kinds lim (individual-contacts o f es) t e = inr (inr (inr refl))
@@ -160,8 +163,29 @@ put-mixes Last t x = refl
 abbrev pub with-own : Kind → Tables → Tables → Tables
 with-own k t u = mix (only k) t u
 
--- OWN-TABLE: what a setting leaves is the tables before, with its own table changed
-pub own-table : (lim : Limits) (s : Setting) (t u : Tables) → apply lim s t ≡ some u → u ≡ with-own (kind s) t u
-own-table lim s t u e =
+-- what is within an area is as it was
+within-same : (x : Texts) (t u : Tables) → within x t ≡ some u → t ≡ u
+within-same Placed t u e = Option·some-injective t u e
+within-same (Shared a) t u e = go (leb (text-sum t) a) e
+  where
+    go : (b : Bool) → cond b (some t) none ≡ some u → t ≡ u
+    go true e = Option·some-injective t u e
+    go false e = absurd (Option·none-ne-some u e)
+
+-- APPLY-CHANGE: where there is room, a setting leaves what it changes the tables to
+pub apply-change : (lim : Limits) (s : Setting) (t u : Tables) → apply lim s t ≡ some u → change lim s t ≡ some u
+apply-change lim s t u e = go (change lim s t) e
+  where
+    go : (o : Option Tables) → and-then o (within (lim .texts)) ≡ some u → o ≡ some u
+    go none e = absurd (Option·none-ne-some u e)
+    go (some v) e = ap some (within-same (lim .texts) v u e)
+
+-- CHANGE-OWN: what a setting changes is its own table
+pub change-own : (lim : Limits) (s : Setting) (t u : Tables) → change lim s t ≡ some u → u ≡ with-own (kind s) t u
+change-own lim s t u e =
     let (x, _, p) = came (put-own (kind s) t) (own-after lim s (own (kind s) t)) u e in
     subst (λ v. v ≡ with-own (kind s) t v) p (put-mixes (kind s) t x)
+
+-- OWN-TABLE: what a setting leaves is the tables before, with its own table changed
+pub own-table : (lim : Limits) (s : Setting) (t u : Tables) → apply lim s t ≡ some u → u ≡ with-own (kind s) t u
+own-table lim s t u e = change-own lim s t u (apply-change lim s t u e)

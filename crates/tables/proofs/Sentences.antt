@@ -21,7 +21,7 @@ use Rattle.plan.specs.declared.numbers.IndividualAddress.{IndividualAddress}
 use Rattle.writing.specs.Settings.{Text, Contact, Entry, Slot, Hash, lines, key, quick-texts, home, channels, system, status-texts, group, individual, last}
 use Rattle.writing.specs.Writing.{bit}
 use Rattle.tables.specs.declared.limits.Limits.{Limits}
-use Rattle.tables.specs.Apply.{start-from, same-key, has-key, line-of, entry-key, line-step, lines-after, quick-step, quick-after, status-step, status-after, drop-channel, channel-step, channels-after, apply}
+use Rattle.tables.specs.Apply.{start-from, same-key, has-key, line-of, entry-key, line-step, lines-after, quick-step, quick-after, status-step, status-after, drop-channel, channel-step, channels-after, change}
 use Rattle.tables.specs.Limits.{quick-places, status-places}
 use Rattle.tables.specs.Tables.{Line, LineKey, line-key, Tables}
 use Rattle.writing.specs.declared.Kind.the-variants.{Lines, Key, QuickTexts, Home, Channels, System, StatusTexts, Group, Individual, Last}
@@ -142,29 +142,29 @@ module _ (e : Entry) (ss : List (Option Text)) where
 -- a group slot
 module _ (lim : Limits) (f : GroupFlags) (s : Slot GroupAddress) (t : Tables) where
   -- whatever was there
-  pub group-add : apply lim (group Add f s) t ≡ some (put-own Group t (set (t .groups) (s .index) (some (record { flags = f; address = s .address; text = s .text }))))
+  pub group-add : change lim (group Add f s) t ≡ some (put-own Group t (set (t .groups) (s .index) (some (record { flags = f; address = s .address; text = s .text }))))
   group-add = refl
 
   -- "In a D1 or D2 delete only the index counts"
-  pub group-delete : apply lim (group Delete f s) t ≡ some (put-own Group t (set (t .groups) (s .index) none))
+  pub group-delete : change lim (group Delete f s) t ≡ some (put-own Group t (set (t .groups) (s .index) none))
   group-delete = refl
 
   -- "Deleting what isn't there does nothing"
-  pub group-delete-absent : getD (t .groups) (s .index) none ≡ none → apply lim (group Delete f s) t ≡ some t
+  pub group-delete-absent : getD (t .groups) (s .index) none ≡ none → change lim (group Delete f s) t ≡ some t
   group-delete-absent h = ap (λ x. some (put-own Group t x)) (place-empty (t .groups) (s .index) h)
 
 -- an individual slot
 module _ (lim : Limits) (f : IndividualFlags) (s : Slot IndividualAddress) (t : Tables) where
   -- whatever was there
-  pub individual-add : apply lim (individual Add f s) t ≡ some (put-own Individual t (set (t .individuals) (s .index) (some (record { flags = f; address = s .address; text = s .text }))))
+  pub individual-add : change lim (individual Add f s) t ≡ some (put-own Individual t (set (t .individuals) (s .index) (some (record { flags = f; address = s .address; text = s .text }))))
   individual-add = refl
 
   -- "In a D1 or D2 delete only the index counts"
-  pub individual-delete : apply lim (individual Delete f s) t ≡ some (put-own Individual t (set (t .individuals) (s .index) none))
+  pub individual-delete : change lim (individual Delete f s) t ≡ some (put-own Individual t (set (t .individuals) (s .index) none))
   individual-delete = refl
 
   -- "Deleting what isn't there does nothing"
-  pub individual-delete-absent : getD (t .individuals) (s .index) none ≡ none → apply lim (individual Delete f s) t ≡ some t
+  pub individual-delete-absent : getD (t .individuals) (s .index) none ≡ none → change lim (individual Delete f s) t ≡ some t
   individual-delete-absent h = ap (λ x. some (put-own Individual t x)) (place-empty (t .individuals) (s .index) h)
 
 -- ---- "Channels: add always appends, so repeats are kept; delete removes every match."
@@ -217,25 +217,25 @@ channels-replace room ns cs = refl
 -- an add or a delete with no entries changes nothing, and a replace empties the table
 module _ (lim : Limits) (t : Tables) where
   -- line contacts
-  pub lines-count-0 : (o : Operation) (f : LineFlags) → apply lim (lines o f []) t ≡ some (start-from o (put-own Lines t []) t)
+  pub lines-count-0 : (o : Operation) (f : LineFlags) → change lim (lines o f []) t ≡ some (start-from o (put-own Lines t []) t)
   lines-count-0 Add f = refl
   lines-count-0 Delete f = refl
   lines-count-0 Replace f = refl
 
   -- quick texts
-  pub quick-count-0 : (o : Operation) → apply lim (quick-texts o []) t ≡ some (start-from o (put-own QuickTexts t (replicate quick-places none)) t)
+  pub quick-count-0 : (o : Operation) → change lim (quick-texts o []) t ≡ some (start-from o (put-own QuickTexts t (replicate quick-places none)) t)
   quick-count-0 Add = refl
   quick-count-0 Delete = refl
   quick-count-0 Replace = refl
 
   -- status texts
-  pub status-count-0 : (o : Operation) → apply lim (status-texts o []) t ≡ some (start-from o (put-own StatusTexts t (replicate status-places none)) t)
+  pub status-count-0 : (o : Operation) → change lim (status-texts o []) t ≡ some (start-from o (put-own StatusTexts t (replicate status-places none)) t)
   status-count-0 Add = refl
   status-count-0 Delete = refl
   status-count-0 Replace = refl
 
   -- channels
-  pub channels-count-0 : (o : Operation) → apply lim (channels o []) t ≡ some (start-from o (put-own Channels t []) t)
+  pub channels-count-0 : (o : Operation) → change lim (channels o []) t ≡ some (start-from o (put-own Channels t []) t)
   channels-count-0 Add = refl
   channels-count-0 Delete = refl
   channels-count-0 Replace = refl
@@ -243,17 +243,17 @@ module _ (lim : Limits) (t : Tables) where
   -- ---- "CB, CD and CF overwrite."
 
   -- the emergency key
-  pub key-overwrites : (target : KeyTarget) (f : KeyFlags) → apply lim (key target f) t ≡ some (put-own Key t (record { target = target; flags = f }))
+  pub key-overwrites : (target : KeyTarget) (f : KeyFlags) → change lim (key target f) t ≡ some (put-own Key t (record { target = target; flags = f }))
   key-overwrites target f = refl
 
   -- the home numbers
-  pub home-overwrites : (h : HomeNumbers) → apply lim (home h) t ≡ some (put-own Home t h)
+  pub home-overwrites : (h : HomeNumbers) → change lim (home h) t ≡ some (put-own Home t h)
   home-overwrites h = refl
 
   -- the system code
-  pub system-overwrites : (s : SystemCode) → apply lim (system s) t ≡ some (put-own System t s)
+  pub system-overwrites : (s : SystemCode) → change lim (system s) t ≡ some (put-own System t s)
   system-overwrites s = refl
 
   -- "After each taken request the hash kept is that request's own": FF's hash is kept
-  pub hash-kept : (f : LastFlags) (h : Hash) → apply lim (last f h) t ≡ some (put-own Last t h)
+  pub hash-kept : (f : LastFlags) (h : Hash) → change lim (last f h) t ≡ some (put-own Last t h)
   hash-kept f h = refl

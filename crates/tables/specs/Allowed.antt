@@ -19,6 +19,7 @@ use Rattle.tables.specs.Limits.{quick-places, status-places, slot-places
 use Rattle.tables.specs.declared.members.Members.the-variants.{OfGroups, OfIndividuals}
 use Rattle.tables.specs.MemberKinds.{contact-key}
 use Rattle.tables.specs.Tables.{Line, line-key, GroupMember, IndividualMember, Tables}
+use Rattle.tables.specs.Texts.{text-sum, TextRoom}
 
 -- "At most 16 units before the end, 23 in quick texts", none of them 0
 pub record TextOk (limit : ℕ) (us : Text) : Type 0 where
@@ -71,7 +72,7 @@ pub record HashOk (h : Hash) : Type 0 where
   pub size : HashSize (h .code) (length (h .value))
   pub bytes : All (_< 256) (h .value)
 
--- the tables that a set with these limits can hold; no two lines have one key, and no two contacts of a list one address
+-- the tables that a set with these limits can hold; no two lines have one key, and no two contacts of a list one address; their texts have room together
 pub record Allowed (lim : Limits) (t : Tables) : Type 0 where
   pub hash : HashOk (t .hash)
   pub key : TargetOk (t .key .target)
@@ -89,6 +90,7 @@ pub record Allowed (lim : Limits) (t : Tables) : Type 0 where
   pub channels : (length (t .channels) ≤ lim .channels) × All InChannel (t .channels)
   pub lines : (length (t .lines) ≤ lim .lines) × All LineOk (t .lines)
   pub distinct : Distinct line-key (t .lines)
+  pub texts : TextRoom (lim .texts) (text-sum t)
 
 -- ---- inner steps: no promise cites these
 

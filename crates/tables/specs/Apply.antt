@@ -1,10 +1,10 @@
 -- What each setting does to its table: document 01, "What each operation does". None is "no room".
 use Prim.Native.Nat.{ℕ, _-_}
-use mathlib.Core.Bool.{Bool, _&&_}
+use mathlib.Core.Bool.{Bool, _&&_, cond}
 use mathlib.Core.List.{List, [], _∷_}
 use mathlib.Core.Option.{Option, none, some}
 use lib.ListN.{getD, set, replicate}
-use lib.Dec.{eqb}
+use lib.Dec.{eqb, leb}
 use Rattle.slots.specs.Slots.{unless, same?}
 use Rattle.counted_lists.specs.Counted.{put-last, put-keyed}
 use Rattle.writing.specs.declared.LineFlags.{LineFlags}
@@ -13,12 +13,15 @@ use Rattle.writing.specs.declared.Operation.the-variants.{Add, Delete, Replace}
 use Rattle.writing.specs.Settings.{Text, Contact, Addressed, Entry, Setting, group-contacts, individual-contacts, lines, key, quick-texts, home, channels, system, status-texts, group, individual, line-slot, last, kind}
 use Rattle.writing.specs.Writing.{bit}
 use Rattle.tables.specs.declared.limits.Limits.{Limits}
+use Rattle.tables.specs.declared.limits.Texts.{Texts}
+use Rattle.tables.specs.declared.limits.Texts.the-variants.{Placed, Shared}
 use Rattle.tables.specs.Limits.{quick-places, status-places, contact-places}
 use Rattle.tables.specs.declared.members.Members.{Members}
 use Rattle.tables.specs.declared.members.Members.the-variants.{OfGroups, OfIndividuals}
 use Rattle.tables.specs.MemberKinds.{FlagsIn, AddressIn, MemberIn, number-of}
 use Rattle.tables.specs.Tables.{Line, LineKey, line-key, Member, Tables}
 use Rattle.tables.specs.Owns.{Own, own, put-own}
+use Rattle.tables.specs.Texts.{text-sum}
 
 -- ---- entries in turn
 
@@ -173,6 +176,15 @@ own-after lim (individual o f s) x = some (set x (s .index) (slot-after o (recor
 own-after lim (line-slot o f s) x = some (set x (s .index) (slot-after o (record { flags = f; number = s .address; text = s .text })))
 own-after lim (last f h) x = some h
 
--- and of the tables: the others stay
+-- and of the tables, their texts' room aside: the others stay
+abbrev pub change : Limits → Setting → Tables → Option Tables
+change lim s t = with-room (put-own (kind s) t) (own-after lim s (own (kind s) t))
+
+-- "no room exactly when the texts held after it, summed, pass 4,096 bytes": judged after each whole setting, not after an entry and not after the message
+abbrev pub within : Texts → Tables → Option Tables
+within Placed t = some t
+within (Shared a) t = cond (leb (text-sum t) a) (some t) none
+
+-- what a setting makes of the tables
 abbrev pub apply : Limits → Setting → Tables → Option Tables
-apply lim s t = with-room (put-own (kind s) t) (own-after lim s (own (kind s) t))
+apply lim s t = and-then (change lim s t) (within (lim .texts))

@@ -1,9 +1,9 @@
--- The bytes of tables: docs/STORE.md. "Unused bytes are 0, so equal contents are equal bytes."
+-- The bytes of tables whose texts have places of their own: docs/STORE.md. "Unused bytes are 0, so equal contents are equal bytes."
 use Prim.Native.Nat.{ℕ, suc, _+_, _*_, _-_, _≤_, _<_}
 use mathlib.Core.Path.{_≡_}
 use mathlib.Core.List.{List, [], _∷_, _++_, map}
-use lib.ListN.{length, replicate, take}
-use Rattle.slots.specs.Slots.{flat, sum, pad, places, front, u16, u24}
+use lib.ListN.{length, replicate}
+use Rattle.slots.specs.Slots.{flat, pad, places, front, u16, u24}
 use Rattle.orders.specs.OrderParts.{order-bytes}
 use Rattle.writing.specs.declared.LineFlags.{LineFlags}
 use Rattle.writing.specs.declared.KeyTarget.{KeyTarget}
@@ -16,7 +16,6 @@ use Rattle.writing.specs.Ranges.{text-limits}
 use Rattle.writing.specs.Settings.{Text, Hash}
 use Rattle.writing.specs.Writing.{bit, current, to-group}
 use Rattle.tables.specs.declared.limits.Limits.{Limits}
-use Rattle.tables.specs.Allowed.{Allowed}
 use Rattle.tables.specs.Limits.{quick-places, status-places, slot-places, contact-places}
 use Rattle.tables.specs.Order.{line-order}
 use Rattle.tables.specs.Tables.{Line, LineKey, line-key, GroupMember, IndividualMember, Key, Tables}
@@ -203,10 +202,6 @@ channels-at = individual-contacts-at + contacts-size
 abbrev pub lines-at : Limits → ℕ
 lines-at lim = channels-at + channels-size lim
 
--- where region k of the store starts
-abbrev pub region-start : Limits → ℕ → ℕ
-region-start lim k = sum (take k (region-widths lim))
-
 -- the bytes that the tables take
 abbrev pub used-size : Limits → ℕ
 used-size lim = channels-at + (channels-size lim + lines-size lim)
@@ -239,17 +234,5 @@ regions lim t =
     ∷ []
 
 -- the bytes of the tables
-unfoldable pub layout : Limits → Tables → List ℕ
-layout lim t = flat (regions lim t)
-
--- limits whose tables fit the store, whose counts fit two bytes, and whose lines' positions, plus one, fit one
-pub record Roomy (lim : Limits) : Type 0 where
-  pub fits : used-size lim ≤ lim .size
-  pub few-channels : lim .channels < 65536
-  pub few-lines : lim .lines ≤ 255
-
--- the bytes are those of tables that the rules allow; that they fill the store is said by StoreOf
-pub record IsStore (lim : Limits) (bytes : List ℕ) : Type 0 where
-  pub tables : Tables
-  pub allowed : Allowed lim tables
-  pub bytes-are : bytes ≡ layout lim tables
+unfoldable pub placed-layout : Limits → Tables → List ℕ
+placed-layout lim t = flat (regions lim t)

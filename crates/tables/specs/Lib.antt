@@ -1,6 +1,8 @@
 pub mod Allowed
 pub mod Apply
 pub mod Changing
+pub mod Forms
+pub mod Heads
 pub mod Layout
 pub mod Limits
 pub mod LineHeads
@@ -9,5 +11,7 @@ pub mod Members
 pub mod Order
 pub mod OrderedLines
 pub mod Owns
+pub mod SharedLayout
 pub mod Store
 pub mod Tables
+pub mod Texts

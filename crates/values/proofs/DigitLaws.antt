@@ -10,7 +10,7 @@ use Rattle.tables.specs.Apply.{and-then}
 use Rattle.tables.specs.Layout.{digit-bytes, digits-at}
 use Rattle.tables.specs.Store.{StoreOf, Holds}
 use Rattle.tables.specs.Tables.{Line as LineEntry, Tables}
-use Rattle.tables.proofs.EntryCodes.{digits-stand}
+use Rattle.tables.proofs.TextCodes.{digits-length}
 use Rattle.screen.specs.declared.names.Slot.{Slot}
 use Rattle.screen.specs.declared.names.SlotPlace.{SlotPlace}
 use Rattle.screen.specs.declared.names.SlotPlace.the-variants.{At, Beyond}
@@ -22,7 +22,7 @@ use Rattle.values.specs.declared.answers.Digits.{Digits}
 use Rattle.values.specs.declared.answers.Digits.the-variants.{Written, Absent}
 use Rattle.values.specs.Digits.{number-at, digits-told, writing-digits}
 use Rattle.values.specs.Entries.{line, group, individual, standing, number-of, kind-of, text, entry, Filled, DigitsWritten, digits-said, DigitsAre}
-use Rattle.values.proofs.EntryLaws.{answered, seen-of}
+use Rattle.values.proofs.EntryLaws.{own-part, answered, seen-of}
 
 -- ---- digits one by one
 
@@ -58,7 +58,7 @@ module _ (kept before : List ℕ) (ds : Number) (ok : InNumber ds) (e : kept ≡
 pub line-digits : (row : Row) (slot before after : List ℕ) (n : ℕ) → kind-of row ≡ 1 → DigitsWritten (midOf digits-at 18 slot) before after n → DigitsAre row slot before after (Written n)
 line-digits row slot before after n k w o (text z) = absurd (omega arith)
 line-digits row slot before after n k w o (entry (line l) e ok b) =
-    let (p, q) = w (l .number) (ok .number) (ap (midOf digits-at 18) b ∙ digits-stand l) in
+    let (p, q) = w (l .number) (ok .number) (ap (midOf digits-at 18) b ∙ take-all 18 (digit-bytes (l .number)) (omega (arith, digits-length (l .number)))) in
     (λ i. record { number = 0; count = p i; buffer = q i })
 line-digits row slot before after n k w o (entry (group g) e ok b) = absurd (omega arith)
 line-digits row slot before after n k w o (entry (individual x) e ok b) = absurd (omega arith)
@@ -93,5 +93,5 @@ module _ {lim : Limits} {s : List ℕ} (row : Row) (before : List ℕ) (big : 18
   digits-none e = let g = subst (Filled lim s row) e f in told-digits Absent before (λ t h. ap (λ o. digits-said before (and-then o number-of)) (sym (g t h)))
 
   -- DIGITS-THERE: what was written of the slot
-  pub digits-there : (slot : Slot) → place ≡ At slot → (r : Digits) (after : List ℕ) → DigitsAre row (midOf (slot .start) (slot .end - slot .start) s) before after r → Answers (writing-digits lim row s before) (digits-told r after)
+  pub digits-there : (slot : Slot) → place ≡ At slot → (r : Digits) (after : List ℕ) → DigitsAre row (own-part slot s) before after r → Answers (writing-digits lim row s before) (digits-told r after)
   digits-there slot e r after is = let g = subst (Filled lim s row) e f in told-digits r after (λ t h. is (standing t row) (g .2 t h))

@@ -1,23 +1,28 @@
 -- What a row's slot keeps, and what is answered of it. Assumes nothing.
-use Rattle.lists.proofs.Kit.{ℕ, _+_, _-_, _*_, _≤_, _≡_, refl, sym, ap, ap₂, _∙_, subst, _⊎_, inl, inr, true, false, true≢false, List, [], _∷_, map, Option, none, some, Option·none-ne-some, arith, midOf, mid-len, eqb, length, getD, length-map}
+use Rattle.lists.proofs.Kit.{ℕ, suc, _+_, _-_, _*_, _≤_, _≡_, refl, sym, ap, ap₂, _∙_, subst, _⊎_, inl, inr, true, false, true≢false, List, [], _∷_, map, Option, none, some, Option·none-ne-some, arith, midOf, mid-len, eqb, length, take, drop, getD, length-map, take-at, take-take}
 use denote.Enum.Declared.{tagOf}
 use types.Run.{OneOf}
 use Rattle.lists.specs.Every.{All}
 use Rattle.lists.specs.Ladder.{Answers, rung, foot}
 use Rattle.slots.specs.Slots.{zeros?, front, u24, Placed, Listed}
+use Rattle.slots.proofs.Keys.{Keyed, keyed-shown}
 use Rattle.writing.specs.declared.LineFlags.{LineFlags}
 use Rattle.writing.specs.declared.GroupFlags.{GroupFlags}
 use Rattle.writing.specs.declared.IndividualFlags.{IndividualFlags}
 use Rattle.tables.specs.declared.limits.Limits.{Limits}
-use Rattle.tables.specs.declared.members.Members.the-variants.{OfGroups, OfIndividuals}
+use Rattle.tables.specs.declared.limits.Texts.{Texts}
+use Rattle.tables.specs.declared.limits.Texts.the-variants.{Placed as InPlaces, Shared}
 use Rattle.tables.specs.Allowed.{Allowed, GroupOk, IndividualOk, LineOk}
-use Rattle.tables.specs.Layout.{group-bytes, individual-bytes, line-bytes, member-width, line-width, status-width, region-start, count-size, groups-at, individuals-at, line-slots-at, group-contacts-at, individual-contacts-at}
+use Rattle.tables.specs.Forms.{region-start, slot-width, group-as, individual-as, line-as}
+use Rattle.tables.specs.Heads.{member-own, line-own}
+use Rattle.tables.specs.Layout.{count-size, text-bytes}
 use Rattle.tables.specs.Limits.{slot-places, contact-places}
 use Rattle.tables.specs.Store.{StoreOf, Holds}
-use Rattle.tables.specs.Tables.{Tables}
-use Rattle.tables.proofs.EntryCodes.{group-code, group-shown, individual-code, individual-shown, line-code, line-shown}
-use Rattle.tables.proofs.Frames.{groups-placed, individuals-placed, line-slots-placed, contacts-listed}
-use Rattle.tables.proofs.LayoutLaws.{layout-one}
+use Rattle.tables.specs.Tables.{Line as LineEntry, GroupMember, IndividualMember, Tables}
+use Rattle.tables.proofs.TextCodes.{digits-length}
+use Rattle.shared_texts.proofs.Forms.{layout-one}
+use Rattle.shared_texts.proofs.FormFrames.{short-units, group-slots, individual-slots, line-slots, group-contact-slots, individual-contact-slots, line-contact-slots}
+use Rattle.shared_texts.proofs.FormLists.{line-as-keyed, group-as-keyed, individual-as-keyed}
 use Rattle.screen.specs.declared.names.Slot.{Slot}
 use Rattle.screen.specs.declared.names.SlotPlace.{SlotPlace}
 use Rattle.screen.specs.declared.names.SlotPlace.the-variants.{At, Beyond}
@@ -25,7 +30,7 @@ use Rattle.screen.specs.declared.rows.Row.{Row}
 use Rattle.screen.specs.declared.rows.Row.the-variants.{Line, QuickText, StatusText, Group, Individual, GroupContact, IndividualContact, LineSlot, NoTable}
 use Rattle.screen.specs.Naming.{Slotted, SlotIs}
 use Rattle.screen.specs.Rows.{of}
-use Rattle.screen.proofs.EntryLaws.{slot-width, slot-entry, slot-none, listed-placed, lines-here, none-past}
+use Rattle.screen.proofs.EntryLaws.{slot-entry, slot-none, listed-placed, none-past}
 use Rattle.screen.proofs.NameLaws.{Here, at-case, found-fits}
 use Rattle.screen.proofs.SeenLaws.{front-get}
 use Rattle.screen.proofs.rows.Row.{the-type}
@@ -33,53 +38,88 @@ use Rattle.values.specs.declared.answers.Entry.{Entry}
 use Rattle.values.specs.declared.answers.Entry.the-variants.{There, Absent}
 use Rattle.values.specs.declared.answers.Target.{Target}
 use Rattle.values.specs.declared.answers.Target.the-variants.{Line as ToLine, Group as ToGroup, Individual as ToIndividual}
-use Rattle.values.specs.Entries.{LineFlagsAre, GroupFlagsAre, IndividualFlagsAre, Standing, line, group, individual, standing, target-of, entry-bytes, EntryOk, kind-is, kind-of, Kept, text, entry, Filled, Reads, either, said, TargetIs}
+use Rattle.values.specs.Entries.{LineFlagsAre, GroupFlagsAre, IndividualFlagsAre, Standing, line, group, individual, standing, target-of, line-own-bytes, group-own-bytes, individual-own-bytes, own-bytes, EntryOk, kind-is, kind-of, own-of, Kept, text, entry, Filled, Reads, either, said, TargetIs}
 use Rattle.values.specs.Values.{line-target, group-target, individual-target, entry-at, entering, entry-told}
 
 -- ---- a row's slot
 
+-- the bytes of its own that a slot has
+abbrev pub own-part : Slot → List ℕ → List ℕ
+own-part slot s = midOf (slot .start) (slot .text - slot .start) s
+
 -- what a slot says of what stands behind its row
 record InSlot (row : Row) (s : List ℕ) (slot : Slot) (o : Option Standing) : Type 0 where
   gone : zeros? (midOf (slot .start) (slot .end - slot .start) s) ≡ true → o ≡ none
-  kept : zeros? (midOf (slot .start) (slot .end - slot .start) s) ≡ false → Kept row (midOf (slot .start) (slot .end - slot .start) s) o
+  kept : zeros? (midOf (slot .start) (slot .end - slot .start) s) ≡ false → Kept row (own-part slot s) o
 
--- how the entries of a table stand behind rows
-record Stands {A : Type 0} (P : A → Type 0) (w : ℕ) (f : A → List ℕ) (k : ℕ) (as-one : A → Standing) : Type 0 where
+-- how the entries of a table stand behind rows: slots of w bytes, of which the first h are their own
+record Stands {A : Type 0} (P : A → Type 0) (w h : ℕ) (f : A → List ℕ) (k : ℕ) (as-one : A → Standing) : Type 0 where
+  inside : h ≤ w
   long : (a : A) → length (f a) ≡ w
   shown : (a : A) → P a → zeros? (f a) ≡ false
   ok : (a : A) → P a → EntryOk (as-one a)
-  bytes : (a : A) → f a ≡ entry-bytes (as-one a)
+  own : (a : A) → take h (f a) ≡ own-bytes (as-one a)
   kind : (a : A) → k ≡ kind-is (as-one a)
 
 -- IN-TABLE: a slot of a table
-in-table : {A : Type 0} {P : A → Type 0} {w : ℕ} {f : A → List ℕ} {k : ℕ} {as-one : A → Standing} (x : Stands P w f k as-one) (row : Row) → kind-of row ≡ k
-    → (h n base : ℕ) (os : List (Option A)) {s l : List ℕ} (same : s ≡ l) (p : Placed P w f n os (midOf base (n * w) l)) (i : ℕ) (slot : Slot) (at : Slotted base n i w h (At slot))
+in-table : {A : Type 0} {P : A → Type 0} {w h : ℕ} {f : A → List ℕ} {k : ℕ} {as-one : A → Standing} (x : Stands P w h f k as-one) (row : Row) → kind-of row ≡ k
+    → (n base : ℕ) (os : List (Option A)) {s l : List ℕ} (same : s ≡ l) (p : Placed P w f n os (midOf base (n * w) l)) (i : ℕ) (slot : Slot) (at : Slotted base n i w h (At slot))
     → InSlot row s slot (of as-one (getD os i none))
-in-table {as-one = as-one} x row r h n base os {s} same p i slot at =
+in-table {w = w} {h = h} {as-one = as-one} x row r n base os {s} same p i slot at =
     record {
       gone = λ z. ap (of as-one) (slot-none (x .long) h n base os same p i slot at (x .shown) z);
       kept = λ z.
           let (a, e, q, b) = slot-entry (x .long) h n base os same p i slot at z in
-          let v : slot .end - slot .start ≡ _ = slot-width (x .long) h n base os same p i slot at in
-          subst (Kept row (midOf (slot .start) (slot .end - slot .start) s)) (sym (ap (of as-one) e))
-          (entry (as-one a) (r ∙ x .kind a) (x .ok a q) (ap (λ j. midOf (slot .start) j s) v ∙ b ∙ x .bytes a));
+          let v : slot .text - slot .start ≡ h = omega (arith, at .1, at .2) in
+          let o : own-part slot s ≡ own-bytes (as-one a)
+          = ap (λ (j : ℕ). midOf (slot .start) j s) v ∙ sym (take-take h w (drop (slot .start) s) (x .inside)) ∙ ap (take h) b ∙ x .own a in
+          subst (Kept row (own-part slot s)) (sym (ap (of as-one) e)) (entry (as-one a) (r ∙ x .kind a) (x .ok a q) o);
     }
 
 -- and one of a list
-in-list : {A : Type 0} {P : A → Type 0} {w : ℕ} {f : A → List ℕ} {k : ℕ} {as-one : A → Standing} (x : Stands P w f k as-one) (row : Row) → kind-of row ≡ k
-    → (h n base : ℕ) (xs : List A) {s l : List ℕ} (same : s ≡ l) (p : Listed P w f n xs (midOf base (n * w) l)) (i : ℕ) (slot : Slot) (at : Slotted base n i w h (At slot))
+in-list : {A : Type 0} {P : A → Type 0} {w h : ℕ} {f : A → List ℕ} {k : ℕ} {as-one : A → Standing} (x : Stands P w h f k as-one) (row : Row) → kind-of row ≡ k
+    → (n base : ℕ) (xs : List A) {s l : List ℕ} (same : s ≡ l) (p : Listed P w f n xs (midOf base (n * w) l)) (i : ℕ) (slot : Slot) (at : Slotted base n i w h (At slot))
     → InSlot row s slot (of as-one (getD (map some xs) i none))
-in-list {A = A} {as-one = as-one} x row r h n base xs {s} same p i slot at =
-    subst (λ (o : Option A). InSlot row s slot (of as-one o)) (front-get n xs i (at .0)) (in-table x row r h n base (front n xs) same (listed-placed p) i slot at)
+in-list {A = A} {as-one = as-one} x row r n base xs {s} same p i slot at =
+    subst (λ (o : Option A). InSlot row s slot (of as-one o)) (front-get n xs i (at .0)) (in-table x row r n base (front n xs) same (listed-placed p) i slot at)
 
-lines : Stands LineOk line-width line-bytes 1 line
-lines = record { long = line-code .long; shown = line-shown; ok = λ l p. p; bytes = λ l. refl; kind = λ l. refl }
+-- ---- entries in either form
 
-groups : Stands GroupOk member-width group-bytes 2 group
-groups = record { long = group-code .long; shown = group-shown; ok = λ g p. p; bytes = λ g. refl; kind = λ g. refl }
+-- entries that have a key behind their flags stand so
+keyed-stands : {A : Type 0} {P : A → Type 0} {w o m : ℕ} {f key : A → List ℕ} (d : Keyed P w f o m key) (h k : ℕ) (as-one : A → Standing)
+    → h ≤ w → ((a : A) → P a → EntryOk (as-one a)) → ((a : A) → take h (f a) ≡ own-bytes (as-one a)) → ((a : A) → k ≡ kind-is (as-one a)) → Stands P w h f k as-one
+keyed-stands {P = P} {w = w} {o = o} {m = m} {f = f} {key = key} d h k as-one inside ok own kind =
+    record { inside = inside; long = d .long; shown = keyed-shown P w f o m key d; ok = ok; own = own; kind = kind }
 
-individuals : Stands IndividualOk member-width individual-bytes 3 individual
-individuals = record { long = individual-code .long; shown = individual-shown; ok = λ i p. p; bytes = λ i. refl; kind = λ i. refl }
+-- a slot holds the bytes of its own
+own-inside : (x : Texts) (h n : ℕ) → h ≤ slot-width x h n
+own-inside InPlaces h n = omega arith
+own-inside (Shared a) h n = omega arith
+
+module _ (x : Texts) where
+  lines : Stands LineOk (slot-width x line-own short-units) line-own (line-as x) 1 line
+  lines = keyed-stands (line-as-keyed x) line-own 1 line (own-inside x line-own short-units) (λ l p. p) (own x) (λ l. refl)
+    where
+      long : (l : LineEntry) → length (line-own-bytes l) ≡ line-own
+      long l = ap (λ (i : ℕ). suc (suc i)) (digits-length (l .number))
+
+      own : (x : Texts) (l : LineEntry) → take line-own (line-as x l) ≡ line-own-bytes l
+      own InPlaces l = take-at (line-own-bytes l) (text-bytes short-units (l .text)) line-own (long l)
+      own (Shared a) l = take-at (line-own-bytes l) (length (l .text) ∷ []) line-own (long l)
+
+  groups : Stands GroupOk (slot-width x member-own short-units) member-own (group-as x) 2 group
+  groups = keyed-stands (group-as-keyed x) member-own 2 group (own-inside x member-own short-units) (λ g p. p) (own x) (λ g. refl)
+    where
+      own : (x : Texts) (g : GroupMember) → take member-own (group-as x g) ≡ group-own-bytes g
+      own InPlaces g = refl
+      own (Shared a) g = refl
+
+  individuals : Stands IndividualOk (slot-width x member-own short-units) member-own (individual-as x) 3 individual
+  individuals = keyed-stands (individual-as-keyed x) member-own 3 individual (own-inside x member-own short-units) (λ i p. p) (own x) (λ i. refl)
+    where
+      own : (x : Texts) (i : IndividualMember) → take member-own (individual-as x i) ≡ individual-own-bytes i
+      own InPlaces i = refl
+      own (Shared a) i = refl
 
 -- a text names nothing
 in-text : (row : Row) (s : List ℕ) (slot : Slot) → kind-of row ≡ 0 → InSlot row s slot none
@@ -87,15 +127,29 @@ in-text row s slot k = record { gone = λ z. refl; kept = λ z. text k }
 
 -- ROW-KEPT: a row's slot keeps what stands behind the row
 row-kept : (lim : Limits) (t : Tables) (s : List ℕ) (row : Row) (slot : Slot) → Holds lim t s → SlotIs lim row (At slot) → InSlot row s slot (standing t row)
-row-kept lim t s (Line n) slot (ok, e) x = in-list lines (Line n) refl 20 (lim .lines) (region-start lim 12 + count-size) (t .lines) e (lines-here lim t ok) n slot x
-row-kept lim t s (QuickText n) slot h x = in-text (QuickText n) s slot refl
-row-kept lim t s (StatusText n) slot h x = in-text (StatusText n) s slot refl
-row-kept lim t s (Group n) slot (ok, e) x = in-table groups (Group n) refl 4 slot-places groups-at (t .groups) e (groups-placed lim t ok) n slot x
-row-kept lim t s (Individual n) slot (ok, e) x = in-table individuals (Individual n) refl 4 slot-places individuals-at (t .individuals) e (individuals-placed lim t ok) n slot x
-row-kept lim t s (GroupContact n) slot (ok, e) x = in-list groups (GroupContact n) refl 4 contact-places (group-contacts-at + count-size) (t .group-contacts) e (contacts-listed lim t ok OfGroups) n slot x
-row-kept lim t s (IndividualContact n) slot (ok, e) x = in-list individuals (IndividualContact n) refl 4 contact-places (individual-contacts-at + count-size) (t .individual-contacts) e (contacts-listed lim t ok OfIndividuals) n slot x
-row-kept lim t s (LineSlot n) slot (ok, e) x = in-table lines (LineSlot n) refl 20 slot-places line-slots-at (t .line-slots) e (line-slots-placed lim t ok) n slot x
-row-kept lim t s NoTable slot h x = absurd x
+row-kept lim t s (Line n) slot (ok, e) z = in-list (lines (lim .texts)) (Line n) refl (lim .lines) (region-start lim 12 + count-size) (t .lines) e (line-contact-slots lim t ok) n slot z
+row-kept lim t s (QuickText n) slot h z = in-text (QuickText n) s slot refl
+row-kept lim t s (StatusText n) slot h z = in-text (StatusText n) s slot refl
+row-kept lim t s (Group n) slot (ok, e) z = in-table (groups (lim .texts)) (Group n) refl slot-places (region-start lim 6) (t .groups) e (group-slots lim t ok) n slot z
+row-kept lim t s (Individual n) slot (ok, e) z = in-table (individuals (lim .texts)) (Individual n) refl slot-places (region-start lim 7) (t .individuals) e (individual-slots lim t ok) n slot z
+row-kept lim t s (GroupContact n) slot (ok, e) z =
+    in-list (groups (lim .texts)) (GroupContact n) refl contact-places (region-start lim 9 + count-size) (t .group-contacts) e (group-contact-slots lim t ok) n slot z
+row-kept lim t s (IndividualContact n) slot (ok, e) z =
+    in-list (individuals (lim .texts)) (IndividualContact n) refl contact-places (region-start lim 10 + count-size) (t .individual-contacts) e (individual-contact-slots lim t ok) n slot z
+row-kept lim t s (LineSlot n) slot (ok, e) z = in-table (lines (lim .texts)) (LineSlot n) refl slot-places (region-start lim 8) (t .line-slots) e (line-slots lim t ok) n slot z
+row-kept lim t s NoTable slot h z = absurd z
+
+-- OWN-BEHIND: and it has as many bytes of its own as the row says
+own-behind : (lim : Limits) (row : Row) (slot : Slot) → SlotIs lim row (At slot) → slot .text ≡ slot .start + own-of row
+own-behind lim (Line n) slot z = omega (arith, z .1, z .2)
+own-behind lim (QuickText n) slot z = omega (arith, z .1, z .2)
+own-behind lim (StatusText n) slot (h, z) = omega (arith, z .1, z .2)
+own-behind lim (Group n) slot z = omega (arith, z .1, z .2)
+own-behind lim (Individual n) slot z = omega (arith, z .1, z .2)
+own-behind lim (GroupContact n) slot z = omega (arith, z .1, z .2)
+own-behind lim (IndividualContact n) slot z = omega (arith, z .1, z .2)
+own-behind lim (LineSlot n) slot z = omega (arith, z .1, z .2)
+own-behind lim NoTable slot z = absurd z
 
 -- ROW-BEYOND: behind a row that has no slot nothing stands
 row-beyond : (lim : Limits) (t : Tables) → Allowed lim t → (row : Row) → SlotIs lim row Beyond → standing t row ≡ none
@@ -119,18 +173,20 @@ module _ {lim : Limits} {s : List ℕ} {row : Row} {slot : Slot} (h : Here lim s
   filled-gone z t o = row-kept lim t s row slot o (h .is) .gone z
 
   pub filled-here : zeros? (midOf (slot .start) (slot .end - slot .start) s) ≡ false → Filled lim s row (At slot)
-  filled-here z = (found-fits h .many-bytes, found-fits h .inside, λ t o. row-kept lim t s row slot o (h .is) .kept z)
+  filled-here z =
+      let f = found-fits h in
+      (own-behind lim row slot (h .is), omega (arith, f .ends, f .inside), λ t o. row-kept lim t s row slot o (h .is) .kept z)
 
--- it lies in the store, and no slot has fewer bytes than a status text's
-pub record SlotIn (s : List ℕ) (slot : Slot) : Type 0 where
-  pub wide : slot .start + status-width ≤ slot .end
-  pub inside : slot .end ≤ length s
-  pub many : status-width ≤ length (midOf (slot .start) (slot .end - slot .start) s)
+-- its own bytes lie in the store
+pub record SlotIn (s : List ℕ) (row : Row) (slot : Slot) : Type 0 where
+  pub own : slot .text ≡ slot .start + own-of row
+  pub inside : slot .text ≤ length s
+  pub many : own-of row ≤ length (own-part slot s)
 
-pub slot-in : (lim : Limits) (s : List ℕ) (row : Row) {place : SlotPlace} (slot : Slot) → Filled lim s row place → place ≡ At slot → SlotIn s slot
+pub slot-in : (lim : Limits) (s : List ℕ) (row : Row) {place : SlotPlace} (slot : Slot) → Filled lim s row place → place ≡ At slot → SlotIn s row slot
 slot-in lim s row slot f e =
     let g = subst (Filled lim s row) e f in
-    record { wide = g .0; inside = g .1; many = omega (arith, g .0, mid-len (slot .start) (slot .end) s (g .1)) }
+    record { own = g .0; inside = g .1; many = omega (arith, g .0, mid-len (slot .start) (slot .text) s (g .1)) }
 
 -- ---- what is read of a slot
 
@@ -166,6 +222,25 @@ individual-kind row = row-kind row 3 (4 ∷ 6 ∷ []) (refl, (refl, tt))
 pub text-kind : (row : Row) → OneOf (1 ∷ 2 ∷ 8 ∷ []) (tagOf the-type row) → kind-of row ≡ 0
 text-kind row = row-kind row 0 (1 ∷ 2 ∷ 8 ∷ []) (refl, (refl, (refl, tt)))
 
+-- how many bytes of its own the slot of a row has by its kind, a text's aside
+abbrev pub own-at : ℕ → ℕ
+own-at k = getD (0 ∷ line-own ∷ member-own ∷ member-own ∷ []) k 0
+
+own-by : (row : Row) → own-at (kind-of row) ≤ own-of row
+own-by (Line n) = omega arith
+own-by (QuickText n) = omega arith
+own-by (StatusText n) = omega arith
+own-by (Group n) = omega arith
+own-by (Individual n) = omega arith
+own-by (GroupContact n) = omega arith
+own-by (IndividualContact n) = omega arith
+own-by (LineSlot n) = omega arith
+own-by NoTable = omega arith
+
+-- KIND-WIDE: so bytes that are enough for the row are enough for what its kind reads
+pub kind-wide : (row : Row) (k n : ℕ) → kind-of row ≡ k → own-of row ≤ n → own-at k ≤ n
+kind-wide row k n e h = let b = own-by row in subst (λ (i : ℕ). own-at i ≤ n) e (omega (arith, b))
+
 -- and those that are no lines
 pub no-line : (row : Row) → OneOf (1 ∷ 2 ∷ 3 ∷ 4 ∷ 5 ∷ 6 ∷ 8 ∷ []) (tagOf the-type row) → kind-of row ≡ 1 → ⊥
 no-line row one e =
@@ -174,42 +249,42 @@ no-line row one e =
     ∙ at-case (λ n. eqb (kind-at n) 1) false (1 ∷ 2 ∷ 3 ∷ 4 ∷ 5 ∷ 6 ∷ 8 ∷ []) (tagOf the-type row) (refl, (refl, (refl, (refl, (refl, (refl, (refl, tt))))))) one)
 
 -- the target of a slot's bytes, by kind: its flags, and the address behind them
-pub line-reads : (slot : List ℕ) (f : LineFlags) → LineFlagsAre (getD slot 0 0) (getD slot 1 0) f → Reads LineOk line-bytes line-target slot (ToLine f)
+pub line-reads : (slot : List ℕ) (f : LineFlags) → LineFlagsAre (getD slot 0 0) (getD slot 1 0) f → Reads LineOk line-own-bytes line-target slot (ToLine f)
 line-reads slot f is l ok e = ap ToLine (is (l .flags) (ok .priority) (ap (λ x. getD x 0 0) e) (ap (λ x. getD x 1 0) e))
 
-pub group-reads : (slot : List ℕ) (f : GroupFlags) (a : ℕ) → GroupFlagsAre (getD slot 0 0) f → ((b : ℕ) → midOf 1 3 slot ≡ u24 b → a ≡ b) → Reads GroupOk group-bytes group-target slot (ToGroup f (record { 0 = a }))
+pub group-reads : (slot : List ℕ) (f : GroupFlags) (a : ℕ) → GroupFlagsAre (getD slot 0 0) f → ((b : ℕ) → midOf 1 3 slot ≡ u24 b → a ≡ b) → Reads GroupOk group-own-bytes group-target slot (ToGroup f (record { 0 = a }))
 group-reads slot f a is read g ok e =
     ap₂ (λ x y. ToGroup x (record { 0 = y })) (is (g .flags) (ok .priority) (ap (λ x. getD x 0 0) e)) (read (g .address .0) (ap (midOf 1 3) e))
 
-pub individual-reads : (slot : List ℕ) (f : IndividualFlags) (a : ℕ) → IndividualFlagsAre (getD slot 0 0) f → ((b : ℕ) → midOf 1 3 slot ≡ u24 b → a ≡ b) → Reads IndividualOk individual-bytes individual-target slot (ToIndividual f (record { 0 = a }))
+pub individual-reads : (slot : List ℕ) (f : IndividualFlags) (a : ℕ) → IndividualFlagsAre (getD slot 0 0) f → ((b : ℕ) → midOf 1 3 slot ≡ u24 b → a ≡ b) → Reads IndividualOk individual-own-bytes individual-target slot (ToIndividual f (record { 0 = a }))
 individual-reads slot f a is read g ok e =
     ap₂ (λ x y. ToIndividual x (record { 0 = y })) (is (g .flags) (ok .priority) (ap (λ x. getD x 0 0) e)) (read (g .address .0) (ap (midOf 1 3) e))
 
 -- KIND-READ: what reads the entries of a row's kind reads what its slot keeps
-kind-read : (row : Row) (slot : List ℕ) (r : Target) → ((x : Standing) → kind-of row ≡ kind-is x → EntryOk x → slot ≡ entry-bytes x → r ≡ target-of x) → (kind-of row ≡ 0 → ⊥) → TargetIs row slot (There r)
+kind-read : (row : Row) (slot : List ℕ) (r : Target) → ((x : Standing) → kind-of row ≡ kind-is x → EntryOk x → slot ≡ own-bytes x → r ≡ target-of x) → (kind-of row ≡ 0 → ⊥) → TargetIs row slot (There r)
 kind-read row slot r read some-kind o (text k) = absurd (some-kind k)
 kind-read row slot r read some-kind o (entry x k ok b) = ap (λ v. entry-told (There v)) (read x k ok b)
 
-pub line-read : (row : Row) (slot : List ℕ) (r : Target) → kind-of row ≡ 1 → Reads LineOk line-bytes line-target slot r → TargetIs row slot (There r)
+pub line-read : (row : Row) (slot : List ℕ) (r : Target) → kind-of row ≡ 1 → Reads LineOk line-own-bytes line-target slot r → TargetIs row slot (There r)
 line-read row slot r k read = kind-read row slot r by (λ z. omega arith)
   where
-    by : (x : Standing) → kind-of row ≡ kind-is x → EntryOk x → slot ≡ entry-bytes x → r ≡ target-of x
+    by : (x : Standing) → kind-of row ≡ kind-is x → EntryOk x → slot ≡ own-bytes x → r ≡ target-of x
     by (line l) e ok b = read l ok b
     by (group g) e ok b = absurd (omega arith)
     by (individual i) e ok b = absurd (omega arith)
 
-pub group-read : (row : Row) (slot : List ℕ) (r : Target) → kind-of row ≡ 2 → Reads GroupOk group-bytes group-target slot r → TargetIs row slot (There r)
+pub group-read : (row : Row) (slot : List ℕ) (r : Target) → kind-of row ≡ 2 → Reads GroupOk group-own-bytes group-target slot r → TargetIs row slot (There r)
 group-read row slot r k read = kind-read row slot r by (λ z. omega arith)
   where
-    by : (x : Standing) → kind-of row ≡ kind-is x → EntryOk x → slot ≡ entry-bytes x → r ≡ target-of x
+    by : (x : Standing) → kind-of row ≡ kind-is x → EntryOk x → slot ≡ own-bytes x → r ≡ target-of x
     by (group g) e ok b = read g ok b
     by (line l) e ok b = absurd (omega arith)
     by (individual i) e ok b = absurd (omega arith)
 
-pub individual-read : (row : Row) (slot : List ℕ) (r : Target) → kind-of row ≡ 3 → Reads IndividualOk individual-bytes individual-target slot r → TargetIs row slot (There r)
+pub individual-read : (row : Row) (slot : List ℕ) (r : Target) → kind-of row ≡ 3 → Reads IndividualOk individual-own-bytes individual-target slot r → TargetIs row slot (There r)
 individual-read row slot r k read = kind-read row slot r by (λ z. omega arith)
   where
-    by : (x : Standing) → kind-of row ≡ kind-is x → EntryOk x → slot ≡ entry-bytes x → r ≡ target-of x
+    by : (x : Standing) → kind-of row ≡ kind-is x → EntryOk x → slot ≡ own-bytes x → r ≡ target-of x
     by (individual i) e ok b = read i ok b
     by (line l) e ok b = absurd (omega arith)
     by (group g) e ok b = absurd (omega arith)
@@ -265,5 +340,5 @@ module _ {lim : Limits} {s : List ℕ} (row : Row) (store : StoreOf lim s) (plac
   entry-none e = let g = subst (Filled lim s row) e f in entered Absent (λ t h. ap (λ o. said (of target-of o)) (sym (g t h)))
 
   -- ENTRY-THERE: what was read of the slot
-  pub entry-there : (slot : Slot) → place ≡ At slot → (r : Entry) → TargetIs row (midOf (slot .start) (slot .end - slot .start) s) r → Answers (entering lim row s) (entry-told r)
+  pub entry-there : (slot : Slot) → place ≡ At slot → (r : Entry) → TargetIs row (own-part slot s) r → Answers (entering lim row s) (entry-told r)
   entry-there slot e r is = let g = subst (Filled lim s row) e f in entered r (λ t h. is (standing t row) (g .2 t h))

@@ -13,7 +13,7 @@ use Rattle.tables.specs.Layout.{key-address, key-bytes, key-flags, home-bytes, 
 use Rattle.tables.specs.Store.{StoreOf}
 use Rattle.tables.specs.Tables.{Key}
 use Rattle.tables.proofs.EntryCodes.{bit-small}
-use Rattle.tables.proofs.Frames.{key-get, home-get, system-get}
+use Rattle.shared_texts.proofs.FormFrames.{key-stands, home-stands, system-stands}
 use Rattle.values.specs.declared.answers.EmergencyKey.{EmergencyKey}
 use Rattle.values.specs.declared.answers.Key.the-variants.{Armed}
 use Rattle.values.specs.declared.answers.Home.the-variants.{Numbers}
@@ -100,12 +100,12 @@ system-read s lai par p q c ok e =
 module _ (lim : Limits) (store : List ℕ) (s : StoreOf lim store) where
   pub key-answered : (r : EmergencyKey) → ((k : Key) → midOf key-at key-size store ≡ key-bytes k → r ≡ key-of k) → Answers (key-asked lim store) (key-told (Armed r))
   key-answered r f =
-      is-given lim (λ t. some (key-of (t .key))) store s r (λ t h. ap some (sym (f (t .key) (ap (midOf key-at key-size) (h .1) ∙ key-get lim t (h .0)))))
+      is-given lim (λ t. some (key-of (t .key))) store s r (λ t h. ap some (sym (f (t .key) (ap (midOf key-at key-size) (h .1) ∙ key-stands lim t (h .0)))))
 
   pub home-answered : (r : HomeNumbers) → ((h : HomeNumbers) → midOf home-at home-size store ≡ home-bytes h → r ≡ h) → Answers (home-asked lim store) (home-told (Numbers r))
   home-answered r f =
-      is-given lim (λ t. some (t .home)) store s r (λ t h. ap some (sym (f (t .home) (ap (midOf home-at home-size) (h .1) ∙ home-get lim t (h .0)))))
+      is-given lim (λ t. some (t .home)) store s r (λ t h. ap some (sym (f (t .home) (ap (midOf home-at home-size) (h .1) ∙ home-stands lim t (h .0)))))
 
   pub system-answered : (r : SystemCode) → ((c : SystemCode) → SystemOk c → midOf system-at system-size store ≡ system-bytes c → r ≡ c) → Answers (system-asked lim store) (system-told (Code r))
   system-answered r f =
-      is-given lim (λ t. some (t .system)) store s r (λ t h. ap some (sym (f (t .system) (h .0 .system) (ap (midOf system-at system-size) (h .1) ∙ system-get lim t (h .0)))))
+      is-given lim (λ t. some (t .system)) store s r (λ t h. ap some (sym (f (t .system) (h .0 .system) (ap (midOf system-at system-size) (h .1) ∙ system-stands lim t (h .0)))))

@@ -9,12 +9,12 @@ use Rattle.writing.specs.declared.KeyTarget.the-variants.{Current}
 use Rattle.writing.specs.declared.SystemCode.{SystemCode}
 use Rattle.writing.specs.Settings.{Number}
 use Rattle.tables.specs.declared.limits.Limits.{Limits}
-use Rattle.tables.specs.Layout.{layout, Roomy}
+use Rattle.tables.specs.Forms.{layout, Roomy}
 use Rattle.tables.specs.Limits.{slot-places}
 use Rattle.tables.specs.Store.{Holds}
 use Rattle.tables.specs.Tables.{Line as LineEntry, Tables, fresh}
 use Rattle.tables.proofs.FreshLaws.{fresh-allowed}
-use Rattle.tables.proofs.LayoutLaws.{layout-one, holds-store}
+use Rattle.shared_texts.proofs.Forms.{layout-one, holds-store}
 use Rattle.screen.specs.declared.rows.Row.{Row}
 use Rattle.screen.specs.declared.rows.Row.the-variants.{Line, QuickText, StatusText, Group, Individual, GroupContact, IndividualContact, LineSlot, NoTable}
 use Rattle.screen.specs.Rows.{of}

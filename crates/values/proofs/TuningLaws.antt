@@ -1,5 +1,5 @@
 -- The channels of a store: the count stands before them, and each in its slot. Assumes nothing.
-use Rattle.lists.proofs.Kit.{ℕ, zero, suc, _+_, _*_, _-_, _≤_, _<_, _≡_, refl, sym, ap, ap₂, _∙_, subst₂, List, [], _∷_, map, none, some, not-suc-le-zero, le-of-suc-le-suc, arith, midOf, length, getD, length-map, List·getD-eq-default}
+use Rattle.lists.proofs.Kit.{ℕ, zero, suc, _+_, _*_, _-_, _≤_, _<_, _≡_, refl, sym, ap, _∙_, subst, List, [], _∷_, map, none, some, not-suc-le-zero, le-of-suc-le-suc, arith, midOf, length, getD, length-map, List·getD-eq-default}
 use Rattle.lists.specs.Ladder.{Answers}
 use Rattle.slots.specs.Slots.{slot, front, u16, Placed}
 use Rattle.slots.proofs.Tables.{front-length, all-front, place-read}
@@ -8,10 +8,11 @@ use Rattle.counted_lists.proofs.EntryLaws.{entries-count}
 use Rattle.writing.specs.Ranges.{InChannel}
 use Rattle.tables.specs.declared.limits.Limits.{Limits}
 use Rattle.tables.specs.Allowed.{Allowed}
-use Rattle.tables.specs.Layout.{layout, count-size, channel-width, channels-size, channels-at}
+use Rattle.tables.specs.Forms.{layout, region-start}
+use Rattle.tables.specs.Layout.{count-size, channel-width, channels-size}
 use Rattle.tables.specs.Store.{StoreOf, Holds}
 use Rattle.tables.specs.Tables.{Tables}
-use Rattle.tables.proofs.Frames.{channels-counted, channels-listed}
+use Rattle.shared_texts.proofs.FormLists.{channels-counted, channels-listed}
 use Rattle.screen.proofs.SeenLaws.{part-part, front-get}
 use Rattle.screen.proofs.SlotLaws.{slot-within}
 use Rattle.values.specs.declared.answers.Channel.the-variants.{Tuned, Absent}
@@ -35,32 +36,35 @@ pub at-none : {A : Type 0} (ls : List A) (n : ℕ) → length ls ≤ n → getD 
 at-none ls n h = List·getD-eq-default (map some ls) none (omega (arith, length-map ls some))
 
 -- the channel at a position, in its slot
-channel-slot : (lim : Limits) (t : Tables) → Allowed lim t → (n : ℕ) → n < length (t .channels) → (c : ℕ) × (channel-at t n ≡ some c) × (midOf (channels-at + count-size + n * channel-width) channel-width (layout lim t) ≡ u16 c)
+channel-slot : (lim : Limits) (t : Tables) → Allowed lim t → (n : ℕ) → n < length (t .channels)
+    → (c : ℕ) × (channel-at t n ≡ some c) × (midOf (region-start lim 11 + count-size + n * channel-width) channel-width (layout lim t) ≡ u16 c)
 channel-slot lim t ok n h =
     let l = channels-listed lim t ok in
+    let base : ℕ = region-start lim 11 + count-size in
+    let size : ℕ = lim .channels * channel-width in
     let (c, e) = at-some (t .channels) n h in
     let room : n < lim .channels = omega (arith, l .few) in
-    let p : Placed InChannel channel-width u16 (lim .channels) (front (lim .channels) (t .channels)) (midOf (channels-at + count-size) (lim .channels * channel-width) (layout lim t))
+    let p : Placed InChannel channel-width u16 (lim .channels) (front (lim .channels) (t .channels)) (midOf base size (layout lim t))
     = record { many = front-length (lim .channels) (t .channels); each = all-front InChannel (lim .channels) (t .channels) (l .each); bytes = l .bytes } in
     let w : n * channel-width + channel-width - n * channel-width ≡ channel-width = omega arith in (
       c,
       e,
-      sym (part-part (layout lim t) (channels-at + count-size) (lim .channels * channel-width) (n * channel-width) channel-width (slot-within n (lim .channels) channel-width room))
-          ∙ ap (λ (i : ℕ). midOf (n * channel-width) i (midOf (channels-at + count-size) (lim .channels * channel-width) (layout lim t))) (sym w)
-          ∙ place-read InChannel channel-width u16 (λ a. refl) (lim .channels) (front (lim .channels) (t .channels)) (midOf (channels-at + count-size) (lim .channels * channel-width) (layout lim t)) p n room
+      sym (part-part (layout lim t) base size (n * channel-width) channel-width (slot-within n (lim .channels) channel-width room))
+          ∙ ap (λ (i : ℕ). midOf (n * channel-width) i (midOf base size (layout lim t))) (sym w)
+          ∙ place-read InChannel channel-width u16 (λ a. refl) (lim .channels) (front (lim .channels) (t .channels)) (midOf base size (layout lim t)) p n room
           ∙ ap (slot channel-width u16) (front-get (lim .channels) (t .channels) n room ∙ e),
     )
 
 -- ---- the answer
 
--- the count of the channels' region was read
-module _ (lim : Limits) (store : List ℕ) (s : StoreOf lim store) (r : ℕ) (told : Told (midOf channels-at (channels-at + channels-size lim - channels-at) store) r) where
+-- the count of the channels' region, which starts at `from` and ends at `to`, was read
+module _ (lim : Limits) (store : List ℕ) (s : StoreOf lim store) (from to : ℕ) (at : from ≡ region-start lim 11) (behind : to ≡ region-start lim 11 + channels-size lim) (r : ℕ) (told : Told (midOf from (to - from) store) r) where
   -- it is how many there are
   count-is : (t : Tables) → Holds lim t store → r ≡ length (t .channels)
   count-is t h =
-      let size : channels-at + channels-size lim - channels-at ≡ channels-size lim = omega arith in
+      let size : to - from ≡ channels-size lim = omega arith in
       entries-count InChannel channel-width u16 (lim .channels) (t .channels) _ (channels-counted lim t (h .0) (s .roomy)) r
-      (subst₂ (λ (i : ℕ) (x : List ℕ). Told (midOf channels-at i x) r) size (h .1) told)
+      (subst (λ (x : List ℕ). Told x r) (λ i. midOf (at i) (size i) (h .1 i)) told)
 
   module _ (n : ℕ) where
     -- behind the last there is none
@@ -69,13 +73,13 @@ module _ (lim : Limits) (store : List ℕ) (s : StoreOf lim store) (r : ℕ) (to
 
     -- where its slot starts
     abbrev start : ℕ
-    start = channels-at + count-size + n * channel-width
+    start = from + count-size + n * channel-width
 
     module _ (h : n < r) where
-      -- the slot of one that is there lies in the store
-      pub channel-fits : start + channel-width ≤ length store
-      channel-fits =
-          omega (arith, count-is (s .store .tables) (s .store .allowed, s .store .bytes-are), s .store .allowed .channels .0, s .roomy .fits, s .size)
+      -- the slot of one that is there ends with the region, or before
+      pub channel-within : start + channel-width ≤ to
+      channel-within =
+          omega (arith, count-is (s .store .tables) (s .store .allowed, s .store .bytes-are), s .store .allowed .channels .0)
 
       -- and has the channel
       pub channel-there : (c : ℕ) → ((a : ℕ) → midOf start (start + channel-width - start) store ≡ u16 a → c ≡ a) → Answers (tuning lim n store) (channel-told (Tuned c))
@@ -83,4 +87,5 @@ module _ (lim : Limits) (store : List ℕ) (s : StoreOf lim store) (r : ℕ) (to
           is-given lim (λ t. channel-at t n) store s c (λ t o.
           let (a, e, b) = channel-slot lim t (o .0) n (omega (arith, count-is t o)) in
           let w : start + channel-width - start ≡ channel-width = omega arith in
-          e ∙ ap some (sym (read a (ap₂ (λ (j : ℕ) (x : List ℕ). midOf start j x) w (o .1) ∙ b))))
+          let j : start ≡ region-start lim 11 + count-size + n * channel-width = omega arith in
+          e ∙ ap some (sym (read a ((λ i. midOf (j i) (w i) (o .1 i)) ∙ b))))

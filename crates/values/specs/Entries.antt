@@ -1,10 +1,10 @@
 -- How what stands behind a row is found: inner steps, no promise cites these.
 use Prim.Native.Nat.{ℕ, _+_, _-_, _≤_, _<_}
 use mathlib.Core.Path.{_≡_}
-use mathlib.Core.List.{List, map}
+use mathlib.Core.List.{List, _∷_, map}
 use mathlib.Core.Option.{Option, none, some}
 use lib.ListN.{getD, length, take, drop}
-use Rattle.slots.specs.Slots.{written-over}
+use Rattle.slots.specs.Slots.{u24, written-over}
 use Rattle.writing.specs.declared.LineFlags.{LineFlags}
 use Rattle.writing.specs.declared.GroupFlags.{GroupFlags}
 use Rattle.writing.specs.declared.IndividualFlags.{IndividualFlags}
@@ -14,7 +14,9 @@ use Rattle.writing.specs.Writing.{bit}
 use Rattle.tables.specs.declared.limits.Limits.{Limits}
 use Rattle.tables.specs.Allowed.{LineOk, GroupOk, IndividualOk}
 use Rattle.tables.specs.Apply.{and-then}
-use Rattle.tables.specs.Layout.{line-flags, group-flags, individual-flags, line-bytes, group-bytes, individual-bytes, digit-bytes, status-width}
+use Rattle.tables.specs.Heads.{quick-own, status-own, member-own, line-own}
+use Rattle.tables.specs.Layout.{line-flags, group-flags, individual-flags, digit-bytes}
+use Rattle.tables.specs.LineHeads.{head-bytes}
 use Rattle.tables.specs.Store.{Holds}
 use Rattle.tables.specs.Tables.{Line as LineEntry, GroupMember, IndividualMember, Tables}
 use Rattle.screen.specs.declared.names.SlotPlace.{SlotPlace}
@@ -71,12 +73,22 @@ number-of (line l) = some (l .number)
 number-of (group g) = none
 number-of (individual i) = none
 
--- its bytes, and what the rules ask of it
-abbrev pub entry-bytes : Standing → List ℕ
-entry-bytes (line l) = line-bytes l
-entry-bytes (group g) = group-bytes g
-entry-bytes (individual i) = individual-bytes i
+-- the bytes of its own that its slot has, before the text or before how many units that has: flags, and then digits or an address
+abbrev pub line-own-bytes : LineEntry → List ℕ
+line-own-bytes l = head-bytes (l .flags) (l .number)
 
+abbrev pub group-own-bytes : GroupMember → List ℕ
+group-own-bytes g = group-flags (g .flags) ∷ u24 (g .address .0)
+
+abbrev pub individual-own-bytes : IndividualMember → List ℕ
+individual-own-bytes i = individual-flags (i .flags) ∷ u24 (i .address .0)
+
+abbrev pub own-bytes : Standing → List ℕ
+own-bytes (line l) = line-own-bytes l
+own-bytes (group g) = group-own-bytes g
+own-bytes (individual i) = individual-own-bytes i
+
+-- what the rules ask of it
 abbrev pub EntryOk : Standing → Type 0
 EntryOk (line l) = LineOk l
 EntryOk (group g) = GroupOk g
@@ -99,21 +111,33 @@ kind-of (IndividualContact n) = 3
 kind-of (LineSlot n) = 1
 kind-of NoTable = 0
 
+-- how many bytes of its own the slot of a row has
+abbrev pub own-of : Row → ℕ
+own-of (Line n) = line-own
+own-of (QuickText n) = quick-own
+own-of (StatusText n) = status-own
+own-of (Group n) = member-own
+own-of (Individual n) = member-own
+own-of (GroupContact n) = member-own
+own-of (IndividualContact n) = member-own
+own-of (LineSlot n) = line-own
+own-of NoTable = 0
+
 -- ---- slots
 
--- what a slot of the row keeps that is not all zeros: a text, which names nothing, or an entry of the row's kind
+-- what these bytes of its own say of a slot of the row that is not all zeros: it keeps a text, which names nothing, or an entry of the row's kind
 pub data Kept (row : Row) (slot : List ℕ) : Option Standing → Type 0 where
   text : kind-of row ≡ 0 → Kept row slot none
-  entry : (x : Standing) → kind-of row ≡ kind-is x → EntryOk x → slot ≡ entry-bytes x → Kept row slot (some x)
+  entry : (x : Standing) → kind-of row ≡ kind-is x → EntryOk x → slot ≡ own-bytes x → Kept row slot (some x)
 
--- the row's slot, where something stands in it; every slot has as many bytes as a status text's
+-- the row's slot, where something stands in it
 abbrev pub Filled : Limits → List ℕ → Row → SlotPlace → Type 0
 Filled lim s row (At slot) =
-    (slot .start + status-width ≤ slot .end) × (slot .end ≤ length s)
-    × ((t : Tables) → Holds lim t s → Kept row (take (slot .end - slot .start) (drop (slot .start) s)) (standing t row))
+    (slot .text ≡ slot .start + own-of row) × (slot .text ≤ length s)
+    × ((t : Tables) → Holds lim t s → Kept row (take (slot .text - slot .start) (drop (slot .start) s)) (standing t row))
 Filled lim s row Beyond = (t : Tables) → Holds lim t s → standing t row ≡ none
 
--- what was read of the slot of any entry
+-- what was read of the bytes of any entry
 abbrev pub Reads : {A B : Type 0} → (A → Type 0) → (A → List ℕ) → (A → B) → List ℕ → B → Type 0
 Reads P f what slot r = (a : _) → P a → slot ≡ f a → r ≡ what a
 
@@ -125,7 +149,7 @@ either no-one yes-one (some a) = yes-one a
 abbrev pub said : {A : Type 0} → Option A → Asked A
 said o = either (refused 17) given o
 
--- the target that a slot of the row keeps
+-- the target that the bytes of a row's slot keep
 abbrev pub TargetIs : Row → List ℕ → Entry → Type 0
 TargetIs row slot r = (o : Option Standing) → Kept row slot o → entry-told r ≡ said (of target-of o)
 
@@ -139,6 +163,6 @@ DigitsWritten kept before after r = (ds : Number) → InNumber ds → kept ≡ d
 abbrev pub digits-said : List ℕ → Option Number → AfterDigits
 digits-said buffer o = either (stays 17 buffer) (λ ds. record { number = 0; count = length ds; buffer = written-over ds buffer }) o
 
--- the digits that a slot of the row keeps
+-- the digits that they keep
 abbrev pub DigitsAre : Row → List ℕ → List ℕ → List ℕ → Digits → Type 0
 DigitsAre row slot before after r = (o : Option Standing) → Kept row slot o → digits-told r after ≡ digits-said before (and-then o number-of)

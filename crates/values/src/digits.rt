@@ -10,9 +10,8 @@ use tables::places::LINE_TEXT;
 ghost use Prim.Native.Nat.{_≤_};
 ghost use lib.ListN.{length};
 ghost use Rattle.lists.specs.Ladder.{Answers};
-ghost use Rattle.tables.specs.Layout.{status-width};
 ghost use Rattle.values.specs.Digits.{digits-told, writing-digits};
-ghost use Rattle.values.specs.Entries.{DigitsAre, DigitsWritten};
+ghost use Rattle.values.specs.Entries.{DigitsAre, DigitsWritten, own-of};
 
 // The most digits that a line can have: its slot has a byte for each.
 const MOST: usize = LINE_TEXT - LINE_DIGITS;
@@ -34,9 +33,9 @@ fn write_kept(kept: &[u8], buffer: &mut [u8]) -> usize
     i
 }
 
-// Writes the digits of a slot of the row, where the row is a line's.
+// Writes the digits that the bytes before the text keep in a row's slot, where the row is a line's.
 fn digits_of(row: Row, slot: &[u8], buffer: &mut [u8]) -> Digits
-    requires { ⌜ (status-width ≤ length (now slot)) × (18 ≤ length (now buffer)) ⌝ }
+    requires { ⌜ (own-of row ≤ length (now slot)) × (18 ≤ length (now buffer)) ⌝ }
     ensures { λ r. ⌜ DigitsAre row (now (slot .entry)) (now (buffer .entry)) (now (buffer .exit)) r ⌝ }
 {
     match row {
@@ -61,6 +60,6 @@ pub fn digits_in(row: Row, store: &[u8], buffer: &mut [u8], limits: Limits) -> D
         return Digits::Absent;
     };
     let start = slot.start;
-    let end = slot.end;
-    digits_of(row, &store[start..end], buffer)
+    let text = slot.text;
+    digits_of(row, &store[start..text], buffer)
 }

@@ -20,26 +20,26 @@ ghost use Prim.Native.Nat.{_≤_};
 ghost use lib.ListN.{length};
 ghost use Rattle.lists.specs.Ladder.{Answers};
 ghost use Rattle.tables.specs.Allowed.{GroupOk, IndividualOk, LineOk};
-ghost use Rattle.tables.specs.Layout.{group-bytes, individual-bytes, line-bytes, status-width};
+ghost use Rattle.tables.specs.Heads.{line-own, member-own};
 ghost use Rattle.tables.specs.Store.{StoreOf};
-ghost use Rattle.values.specs.Entries.{Filled, Reads, TargetIs};
+ghost use Rattle.values.specs.Entries.{Filled, Reads, TargetIs, group-own-bytes, individual-own-bytes, line-own-bytes, own-of};
 ghost use Rattle.values.specs.Values.{entering, entry-told, group-target, individual-target, line-target};
 
 // A slot begins with its flags.
 const FLAGS: usize = 0;
 
-// The target of a line's slot.
+// The target of a line, of the bytes that its slot has before the text; they are the same however texts are kept.
 fn line_at(slot: &[u8]) -> Target
-    requires { ⌜ status-width ≤ length (now slot) ⌝ }
-    ensures { λ r. ⌜ Reads LineOk line-bytes line-target (now (slot .entry)) r ⌝ }
+    requires { ⌜ line-own ≤ length (now slot) ⌝ }
+    ensures { λ r. ⌜ Reads LineOk line-own-bytes line-target (now (slot .entry)) r ⌝ }
 {
     Target::Line(line_flags_of(slot[FLAGS], slot[LINE_IDTYPE]))
 }
 
 // Of a group's.
 fn group_at(slot: &[u8]) -> Target
-    requires { ⌜ status-width ≤ length (now slot) ⌝ }
-    ensures { λ r. ⌜ Reads GroupOk group-bytes group-target (now (slot .entry)) r ⌝ }
+    requires { ⌜ member-own ≤ length (now slot) ⌝ }
+    ensures { λ r. ⌜ Reads GroupOk group-own-bytes group-target (now (slot .entry)) r ⌝ }
 {
     let address = address_of(&slot[MEMBER_ADDRESS..MEMBER_TEXT]);
     Target::Group(group_flags_of(slot[FLAGS]), GroupAddress(address))
@@ -47,16 +47,16 @@ fn group_at(slot: &[u8]) -> Target
 
 // Of an individual's.
 fn individual_at(slot: &[u8]) -> Target
-    requires { ⌜ status-width ≤ length (now slot) ⌝ }
-    ensures { λ r. ⌜ Reads IndividualOk individual-bytes individual-target (now (slot .entry)) r ⌝ }
+    requires { ⌜ member-own ≤ length (now slot) ⌝ }
+    ensures { λ r. ⌜ Reads IndividualOk individual-own-bytes individual-target (now (slot .entry)) r ⌝ }
 {
     let address = address_of(&slot[MEMBER_ADDRESS..MEMBER_TEXT]);
     Target::Individual(individual_flags_of(slot[FLAGS]), IndividualAddress(address))
 }
 
-// What a slot of the row keeps, by the row's kind; a text is no target.
+// What these bytes of a row's slot keep, by the row's kind; a text is no target.
 fn target_of(row: Row, slot: &[u8]) -> Entry
-    requires { ⌜ status-width ≤ length (now slot) ⌝ }
+    requires { ⌜ own-of row ≤ length (now slot) ⌝ }
     ensures { λ r. ⌜ TargetIs row (now (slot .entry)) r ⌝ }
 {
     match row {
@@ -94,6 +94,6 @@ pub fn entry_in(row: Row, store: &[u8], limits: Limits) -> Entry
         return Entry::Absent;
     };
     let start = slot.start;
-    let end = slot.end;
-    target_of(row, &store[start..end])
+    let text = slot.text;
+    target_of(row, &store[start..text])
 }

@@ -3,7 +3,6 @@ use tables::limits::HANDHELD_SIZE;
 use tables::limits::VEHICLE_SIZE;
 
 mod asking_cases;
-mod moving;
 mod moving_cases;
 mod room_cases;
 mod size_cases;

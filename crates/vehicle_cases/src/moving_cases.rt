@@ -1,6 +1,6 @@
 // What a vehicle set is exported as, taken by a hand-held: which parts fit, and that the tables are the same then; and back again.
-use super::moving::move_all;
-use super::moving::move_part;
+use case_answers::moving::move_all;
+use case_answers::moving::move_part;
 use case_lines::printing::decimal;
 use case_lines::printing::text;
 use case_lines::printing::yes_or_no;

@@ -1,6 +1,6 @@
 // Sizes by which a vehicle set goes: of its store, and of the buffers for an export and a report.
-use super::moving::export_of;
 use case_answers::count_lines::held;
+use case_answers::moving::export_of;
 use case_answers::report_lines::asked;
 use case_lines::printing::decimal;
 use case_lines::printing::started;

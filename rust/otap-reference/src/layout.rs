@@ -1,89 +1,80 @@
 //! The bytes of a store as docs/STORE.md describes them: an independent reading, as the reference is of document 01.
 
+mod regions;
+
+pub use regions::{
+    text_at, Regions, Slots, CHANNEL, COUNT, LINE_HEAD, LINE_KEY, MEMBER_HEAD, MEMBER_KEY,
+};
+
 use crate::reference::callers::order;
-use crate::reference::limits::Limits;
+use crate::reference::limits::{Limits, Texts};
 use crate::reference::message::Hash;
 use crate::reference::settings::{EmergencyKey, GroupSlot, IndividualSlot, SystemCode};
 use crate::reference::tables::{Line, Set};
+use crate::reference::texts::{QUICK_TEXT, SHORT_TEXT};
+use regions::FIXED;
 use std::ops::Range;
 
 #[cfg(test)]
 mod order_tests;
 #[cfg(test)]
+mod shared_tests;
+#[cfg(test)]
 mod tests;
-
-/// The first byte of the regions behind the individual slots that begin at the same byte in every set; from the group contacts on, each begins with its count.
-pub const LINE_SLOTS_AT: usize = 7_286;
-pub const GROUP_CONTACTS_AT: usize = 8_118;
-pub const INDIVIDUAL_CONTACTS_AT: usize = 10_424;
-pub const CHANNELS_AT: usize = 12_730;
-/// Bytes of a count, high byte first.
-pub const COUNT: usize = 2;
-
-pub const CHANNEL: usize = 2;
-const QUICK: usize = 46;
-const STATUS: usize = 33;
-/// Of a group or an individual, in a slot or among the contacts.
-pub const MEMBER: usize = 36;
-/// Of a line, in a slot or among the contacts.
-pub const LINE: usize = 52;
-/// IDtype and digits among them.
-pub const LINE_KEY: Range<usize> = 1..20;
-
-/// Where the other regions begin.
-impl Limits {
-    pub fn lines_at(self) -> usize {
-        CHANNELS_AT + COUNT + self.channels * CHANNEL
-    }
-
-    /// The order of the lines, behind their slots: a byte for each place.
-    pub fn order_at(self) -> usize {
-        self.lines_at() + COUNT + self.lines * LINE
-    }
-
-    /// The first byte that no table uses.
-    pub fn spare_at(self) -> usize {
-        self.order_at() + self.lines
-    }
-}
 
 /// The only bytes that keep this set.
 pub fn bytes(set: &Set) -> Vec<u8> {
     let (tables, limits) = (&set.tables, set.limits);
+    let regions = limits.regions();
+    let text = |text: &[u16]| in_slot(limits.texts, text);
+    let group = |slot: &GroupSlot| [group(slot), text(&slot.text)].concat();
+    let individual = |slot: &IndividualSlot| [individual(slot), text(&slot.text)].concat();
+    let line = |slot: &Line| [line(slot), text(&slot.text)].concat();
     let mut out = hash(&set.hash);
     out.extend(key(&tables.emergency));
     out.extend(tables.home.nzi.to_be_bytes());
     out.extend(tables.home.np.to_be_bytes());
     out.extend(system(&tables.system));
-    slots(&mut out, QUICK, &tables.quick_texts, |text| units(text));
-    slots(&mut out, STATUS, &tables.status_texts, |text| [vec![1], units(text)].concat());
-    slots(&mut out, MEMBER, &tables.groups, group);
-    slots(&mut out, MEMBER, &tables.individuals, individual);
-    slots(&mut out, LINE, &tables.line_slots, line);
-    list(&mut out, MEMBER, &tables.group_contacts, group);
-    out.resize(INDIVIDUAL_CONTACTS_AT, 0);
-    list(&mut out, MEMBER, &tables.individual_contacts, individual);
-    out.resize(CHANNELS_AT, 0);
-    list(&mut out, CHANNEL, &tables.channels, |channel| channel.to_be_bytes().to_vec());
-    out.resize(limits.lines_at(), 0);
-    list(&mut out, LINE, &tables.lines, line);
-    out.resize(limits.order_at(), 0);
+    slots(&mut out, regions.quick_texts, &tables.quick_texts, |held| text(held));
+    slots(&mut out, regions.status_texts, &tables.status_texts, |held| {
+        [vec![1], text(held)].concat()
+    });
+    slots(&mut out, regions.groups, &tables.groups, group);
+    slots(&mut out, regions.individuals, &tables.individuals, individual);
+    slots(&mut out, regions.line_slots, &tables.line_slots, line);
+    list(&mut out, regions.group_contacts, &tables.group_contacts, group);
+    list(&mut out, regions.individual_contacts, &tables.individual_contacts, individual);
+    list(&mut out, regions.channels, &tables.channels, |channel| channel.to_be_bytes().to_vec());
+    list(&mut out, regions.lines, &tables.lines, line);
     out.extend(order(&tables.lines).into_iter().map(named));
+    out.resize(regions.area.start, 0);
+    if let Texts::Shared(_) = limits.texts {
+        tables.texts().for_each(|held| out.extend(units(held)));
+    }
     out.resize(limits.store, 0);
     out
 }
 
-/// A table by index or code: every slot, an empty one all 0.
-fn slots<T>(out: &mut Vec<u8>, size: usize, table: &[Option<T>], slot: impl Fn(&T) -> Vec<u8>) {
-    for entry in table {
-        push(out, size, entry.as_ref().map_or(Vec::new(), &slot));
+/// What a slot has of its text: the units, or, where these stand in the area, how many they are.
+fn in_slot(texts: Texts, text: &[u16]) -> Vec<u8> {
+    match texts {
+        Texts::Placed => units(text),
+        Texts::Shared(_) => vec![u8::try_from(text.len()).expect("a text has at most 23 units")],
     }
 }
 
-/// A table by position: its count, then the slots in use.
-fn list<T>(out: &mut Vec<u8>, size: usize, table: &[T], slot: impl Fn(&T) -> Vec<u8>) {
+/// A table by index or code: every slot, an empty one all 0.
+fn slots<T>(out: &mut Vec<u8>, slots: Slots, table: &[Option<T>], slot: impl Fn(&T) -> Vec<u8>) {
+    for entry in table {
+        push(out, slots.width, entry.as_ref().map_or(Vec::new(), &slot));
+    }
+}
+
+/// A table by position: its count, then the slots in use, then empty ones.
+fn list<T>(out: &mut Vec<u8>, slots: Slots, table: &[T], slot: impl Fn(&T) -> Vec<u8>) {
     out.extend(count(table.len()));
-    table.iter().for_each(|entry| push(out, size, slot(entry)));
+    table.iter().for_each(|entry| push(out, slots.width, slot(entry)));
+    out.resize(slots.end(), 0);
 }
 
 fn count(entries: usize) -> [u8; COUNT] {
@@ -134,6 +125,7 @@ fn system(code: &SystemCode) -> [u8; 3] {
     [high, low, flags(&[(code.la, 3), (code.roaming, 1), (code.par.into(), 0)])]
 }
 
+/// The heads of slots: what stands before the text.
 fn group(slot: &GroupSlot) -> Vec<u8> {
     let said = flags(&[
         (slot.attribute, 6),
@@ -143,13 +135,13 @@ fn group(slot: &GroupSlot) -> Vec<u8> {
         (slot.emergency.into(), 2),
         (slot.priority, 0),
     ]);
-    [vec![said], address(slot.address.0).to_vec(), units(&slot.text)].concat()
+    [&[said][..], &address(slot.address.0)].concat()
 }
 
 fn individual(slot: &IndividualSlot) -> Vec<u8> {
     let said =
         flags(&[(slot.encryption.into(), 3), (slot.emergency.into(), 2), (slot.priority, 0)]);
-    [vec![said], address(slot.address.0).to_vec(), units(&slot.text)].concat()
+    [&[said][..], &address(slot.address.0)].concat()
 }
 
 fn line(line: &Line) -> Vec<u8> {
@@ -158,47 +150,61 @@ fn line(line: &Line) -> Vec<u8> {
         flags(&[(held.encryption.into(), 3), (held.emergency.into(), 2), (held.priority, 0)]);
     let mut out = vec![said, held.pabx.into()];
     out.extend(line.digits.iter().map(|digit| digit + 1));
-    out.resize(20, 0);
-    out.extend(units(&line.text));
+    out.resize(LINE_HEAD, 0);
     out
 }
 
 /// Whether bytes are those of some set of this kind.
 pub fn is_store(bytes: &[u8], limits: Limits) -> bool {
-    let (lines_at, order_at, spare_at) = (limits.lines_at(), limits.order_at(), limits.spare_at());
+    let (regions, texts) = (limits.regions(), limits.texts);
+    let is_group = |slot: &[u8]| is_group(slot, texts);
+    let is_individual = |slot: &[u8]| is_individual(slot, texts);
+    let is_line = |slot: &[u8]| is_line(slot, texts);
+    let is_quick = |slot: &[u8]| is_text(slot, texts, QUICK_TEXT);
+    let is_status = |slot: &[u8]| slot[0] == 1 && is_text(&slot[1..], texts, SHORT_TEXT);
     bytes.len() == limits.store
-        && is_hash(&bytes[..11])
+        && are_fixed(&bytes[..FIXED])
+        && all(bytes, regions.quick_texts, is_quick)
+        && all(bytes, regions.status_texts, is_status)
+        && all(bytes, regions.groups, is_group)
+        && all(bytes, regions.individuals, is_individual)
+        && all(bytes, regions.line_slots, is_line)
+        && keyed(bytes, regions.group_contacts, is_group, MEMBER_KEY)
+        && keyed(bytes, regions.individual_contacts, is_individual, MEMBER_KEY)
+        && counted(bytes, regions.channels, is_channel)
+        && keyed(bytes, regions.lines, is_line, LINE_KEY)
+        && is_order(bytes, &regions)
+        && (texts == Texts::Placed || is_area(bytes, &regions))
+        && is_empty(&bytes[regions.spare()..])
+}
+
+fn are_fixed(bytes: &[u8]) -> bool {
+    is_hash(&bytes[..11])
         && is_key(&bytes[11..15])
         && is_home(&bytes[15..19])
         && is_system(&bytes[19..22])
-        && all(&bytes[22..2_966], QUICK, |slot| slot[..2] != [0, 0] && is_text(slot))
-        && all(&bytes[2_966..6_134], STATUS, |slot| slot[0] == 1 && is_text(&slot[1..]))
-        && all(&bytes[6_134..6_710], MEMBER, is_group)
-        && all(&bytes[6_710..LINE_SLOTS_AT], MEMBER, is_individual)
-        && all(&bytes[LINE_SLOTS_AT..GROUP_CONTACTS_AT], LINE, is_line)
-        && are_contacts(&bytes[GROUP_CONTACTS_AT..INDIVIDUAL_CONTACTS_AT], is_group)
-        && are_contacts(&bytes[INDIVIDUAL_CONTACTS_AT..CHANNELS_AT], is_individual)
-        && counted(&bytes[CHANNELS_AT..lines_at], CHANNEL, is_channel)
-        && are_lines(&bytes[lines_at..order_at])
-        && is_order(&bytes[order_at..spare_at], &bytes[lines_at..order_at])
-        && is_empty(&bytes[spare_at..])
 }
 
-/// A list of groups or individuals, in which no address stands twice.
-fn are_contacts(bytes: &[u8], is_member: fn(&[u8]) -> bool) -> bool {
-    counted(bytes, MEMBER, is_member) && keys_differ(&bytes[COUNT..], MEMBER, 1..4)
+/// A list in which no key stands twice: of contacts the address, of lines IDtype and digits.
+fn keyed(bytes: &[u8], slots: Slots, is_entry: impl Fn(&[u8]) -> bool, key: Range<usize>) -> bool {
+    counted(bytes, slots, is_entry) && keys_differ(slots.of(bytes), slots.width, key)
 }
 
-/// The line contacts, in which no IDtype and digits stand twice.
-fn are_lines(bytes: &[u8]) -> bool {
-    counted(bytes, LINE, is_line) && keys_differ(&bytes[COUNT..], LINE, LINE_KEY)
+/// The units that the slots count, none of them 0, and then zeros only.
+fn is_area(bytes: &[u8], regions: &Regions) -> bool {
+    let area = &bytes[regions.area.clone()];
+    let used = 2 * regions.units(bytes, &regions.with_texts());
+    used <= area.len()
+        && area[..used].chunks_exact(2).all(|unit| unit != [0, 0])
+        && is_empty(&area[used..])
 }
 
 /// As many names of lines as are counted, the key of each before the next one's, so that none is named twice; then zeros only.
-fn is_order(order: &[u8], lines: &[u8]) -> bool {
-    let count = usize::from(pair(lines));
-    let slots: Vec<&[u8]> = lines[COUNT..].chunks_exact(LINE).take(count).collect();
-    let (names, rest) = order.split_at(count);
+fn is_order(bytes: &[u8], regions: &Regions) -> bool {
+    let lines = regions.lines;
+    let count = usize::from(lines.count(bytes));
+    let slots: Vec<&[u8]> = lines.of(bytes).chunks_exact(lines.width).take(count).collect();
+    let (names, rest) = bytes[regions.order.clone()].split_at(count);
     // Digits are kept as one more, so that the end of a number, 0, comes before any digit.
     let key = |&name: &u8| Some(&slots.get(usize::from(name).checked_sub(1)?)?[LINE_KEY]);
     let keys: Option<Vec<&[u8]>> = names.iter().map(key).collect();
@@ -210,26 +216,33 @@ fn is_empty(bytes: &[u8]) -> bool {
 }
 
 /// Every slot is empty or an entry.
-fn all(bytes: &[u8], size: usize, is_entry: impl Fn(&[u8]) -> bool) -> bool {
-    bytes.chunks_exact(size).all(|slot| is_empty(slot) || is_entry(slot))
+fn all(bytes: &[u8], slots: Slots, is_entry: impl Fn(&[u8]) -> bool) -> bool {
+    slots.of(bytes).chunks_exact(slots.width).all(|slot| is_empty(slot) || is_entry(slot))
 }
 
 /// A count, as many entries, and then empty slots only. No entry is an empty slot, so that one count is right.
-fn counted(bytes: &[u8], size: usize, is_entry: impl Fn(&[u8]) -> bool) -> bool {
-    let (count, slots) = bytes.split_at(COUNT);
-    let used = usize::from(pair(count)) * size;
-    used <= slots.len()
-        && slots[..used].chunks_exact(size).all(is_entry)
-        && is_empty(&slots[used..])
+fn counted(bytes: &[u8], slots: Slots, is_entry: impl Fn(&[u8]) -> bool) -> bool {
+    let used = usize::from(slots.count(bytes)) * slots.width;
+    let slots_bytes = slots.of(bytes);
+    used <= slots_bytes.len()
+        && slots_bytes[..used].chunks_exact(slots.width).all(is_entry)
+        && is_empty(&slots_bytes[used..])
 }
 
 fn pair(bytes: &[u8]) -> u16 {
     u16::from_be_bytes([bytes[0], bytes[1]])
 }
 
-fn is_text(bytes: &[u8]) -> bool {
-    let length = bytes.chunks_exact(2).take_while(|unit| *unit != [0, 0]).count();
-    is_empty(&bytes[2 * length..])
+/// What a slot has of a text of at most so many units: these with zeros behind them, or their number. No slot but an empty one is all 0, so that a quick
+/// text has a unit.
+fn is_text(bytes: &[u8], texts: Texts, most: usize) -> bool {
+    match texts {
+        Texts::Placed => {
+            let length = bytes.chunks_exact(2).take_while(|unit| *unit != [0, 0]).count();
+            is_empty(&bytes[2 * length..])
+        }
+        Texts::Shared(_) => usize::from(bytes[0]) <= most,
+    }
 }
 
 fn is_address(bytes: &[u8]) -> bool {
@@ -261,26 +274,29 @@ fn is_system(bytes: &[u8]) -> bool {
 }
 
 /// The attribute, in the two highest bits, is not 00.
-fn is_group(slot: &[u8]) -> bool {
-    slot[0] >= 64 && is_member(slot)
+fn is_group(slot: &[u8], texts: Texts) -> bool {
+    slot[0] >= 64 && is_member(slot, texts)
 }
 
-fn is_individual(slot: &[u8]) -> bool {
-    slot[0] < 16 && is_member(slot)
+fn is_individual(slot: &[u8], texts: Texts) -> bool {
+    slot[0] < 16 && is_member(slot, texts)
 }
 
-fn is_member(slot: &[u8]) -> bool {
-    is_address(&slot[1..4]) && is_text(&slot[4..])
+fn is_member(slot: &[u8], texts: Texts) -> bool {
+    let (head, text) = slot.split_at(MEMBER_HEAD);
+    is_address(&head[MEMBER_KEY]) && is_text(text, texts, SHORT_TEXT)
 }
 
 fn is_channel(slot: &[u8]) -> bool {
     (241..=640).contains(&pair(slot))
 }
 
-fn is_line(slot: &[u8]) -> bool {
-    let digits = &slot[2..20];
+fn is_line(slot: &[u8], texts: Texts) -> bool {
+    let (head, text) = slot.split_at(LINE_HEAD);
+    let digits = &head[2..];
     let length = digits.iter().take_while(|&&digit| (1..=10).contains(&digit)).count();
-    slot[0] < 16 && slot[1] < 2 && length > 0 && is_empty(&digits[length..]) && is_text(&slot[20..])
+    let is_number = length > 0 && is_empty(&digits[length..]);
+    head[0] < 16 && head[1] < 2 && is_number && is_text(text, texts, SHORT_TEXT)
 }
 
 /// No two entries have one key, which of a line is IDtype and digits, and of a contact the address.

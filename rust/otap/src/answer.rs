@@ -100,7 +100,7 @@ pub enum Outcome {
     Taken,
     /// 1: OTAPVer is not 1.
     WrongVersion,
-    /// 2: a table has no room.
+    /// 2: a table is full, or all texts after a setting are over the bytes that they share, [`Set::TEXT_BYTES`](crate::Set::TEXT_BYTES).
     NoRoom,
     /// 3: a setting's type is not among the thirteen.
     UnknownType,

@@ -20,12 +20,13 @@ pub struct Counts {
 }
 
 impl Counts {
-    /// Line contacts that there is still room for.
+    /// Line contacts that there is still a place for. A free place promises no room for a text, which shares
+    /// [`Set::TEXT_BYTES`](crate::Set::TEXT_BYTES) with all others.
     pub fn free_lines(&self) -> usize {
         self.most_lines.saturating_sub(self.lines)
     }
 
-    /// Channels that there is still room for.
+    /// Channels that there is still a place for.
     pub fn free_channels(&self) -> usize {
         self.most_channels.saturating_sub(self.channels)
     }

@@ -20,6 +20,8 @@ pub trait Sizes {
     const MOST_LINES: usize;
     /// A set has room for so many channels.
     const MOST_CHANNELS: usize;
+    /// All texts of a set share so many bytes, two a unit; nothing where each has a place of its own, and no sum binds them.
+    const TEXT_BYTES: Option<usize>;
 }
 
 impl Sizes for Handheld {
@@ -27,6 +29,7 @@ impl Sizes for Handheld {
     const LONGEST_MESSAGE: usize = 4_096;
     const MOST_LINES: usize = 32;
     const MOST_CHANNELS: usize = 64;
+    const TEXT_BYTES: Option<usize> = Some(4_096);
 }
 
 impl Sizes for Vehicle {
@@ -34,6 +37,7 @@ impl Sizes for Vehicle {
     const LONGEST_MESSAGE: usize = 8_192;
     const MOST_LINES: usize = 128;
     const MOST_CHANNELS: usize = 256;
+    const TEXT_BYTES: Option<usize> = None;
 }
 
 /// A kind of set whose archive is linked: its sizes and its functions. No other can be made outside this crate.

@@ -28,7 +28,7 @@ pub enum Part {
 }
 
 impl Part {
-    /// Each of them; committed in this order they give any other set the same tables, if it has room for them: [`Set::export`](crate::Set::export) says when.
+    /// Each of them; committed in this order they give a fresh set the same tables, if it has room for them: [`Set::export`](crate::Set::export) says when.
     pub const ALL: &'static [Part] = &[
         Part::Lines,
         Part::KeyHomeSystem,

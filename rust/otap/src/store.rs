@@ -68,6 +68,13 @@ impl<K: Sizes> Set<'_, K> {
     pub const MOST_LINES: usize = K::MOST_LINES;
     /// Room for so many channels.
     pub const MOST_CHANNELS: usize = K::MOST_CHANNELS;
+    /// Bytes that all texts share, two a unit: a setting after which the texts held are more has no room. A vehicle has none, for each text has
+    /// its place.
+    ///
+    /// ```
+    /// assert_eq!(otap::Store::TEXT_BYTES, Some(4_096));
+    /// ```
+    pub const TEXT_BYTES: Option<usize> = K::TEXT_BYTES;
 
     /// The places of a table: every row that it has is one of them.
     ///
@@ -210,10 +217,11 @@ impl<'s, K: Kind> Set<'s, K> {
 
     /// Writes a part's request to the start of the buffer; refused with 15 or 11.
     ///
-    /// All parts, in the order of [`Part::ALL`], give a set of the same kind the same tables, whatever it held, and so do a hand-held's a
-    /// vehicle. A hand-held takes all of a vehicle's exactly if the lines are at most 32, the channels at most 64, and no request is over
-    /// 4,096 bytes. Otherwise it refuses the first part that does not fit, with 12 where that is over 4,096 bytes, else with 2, and keeps
-    /// what the parts before it left.
+    /// All parts, in the order of [`Part::ALL`], give a fresh set of the same kind the same tables, and a vehicle's or a hand-held's any vehicle,
+    /// whatever it held. A hand-held that is not fresh may refuse one of them with 2: texts of a table whose part is still to come share the room.
+    /// A fresh hand-held takes all of a vehicle's exactly if the lines are at most 32, the channels at most 64, no request is over 4,096 bytes,
+    /// and the texts are at most 4,096 bytes, two a unit. Otherwise it refuses the first part that does not fit, with 12 where that is over
+    /// 4,096 bytes, else with 2, and keeps what the parts before it left.
     ///
     /// ```
     /// # fn main() -> Result<(), otap::Refusal> {

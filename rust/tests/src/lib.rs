@@ -1,6 +1,7 @@
 //! Small helpers shared by the tests.
 #![deny(unsafe_code)]
 
+pub mod fitting;
 pub mod joining;
 pub mod pair;
 pub mod raw;
@@ -13,9 +14,11 @@ use otap_reference::reference::limits::HANDHELD;
 use otap_reference::reference::message;
 use otap_reference::reference::plan::{GroupAddress, IndividualAddress};
 use otap_reference::reference::settings::{
-    ContactEntry, GroupFlags, IndividualFlags, LineEntry, LineFlags, Operation, Setting, TextEntry,
+    parse, ContactEntry, GroupFlags, IndividualFlags, LineEntry, LineFlags, Operation, Setting,
+    TextEntry,
 };
 use otap_reference::reference::tables::Set;
+use otap_reference::reference::texts::Coding;
 
 pub fn bytes(hex: &str) -> Vec<u8> {
     hex.split_whitespace()
@@ -103,4 +106,16 @@ fn text_entries(entries: &[(u8, &str)]) -> Vec<TextEntry> {
 
 pub fn units(text: &str) -> Vec<u16> {
     text.encode_utf16().collect()
+}
+
+/// The settings that a message's bytes begin with, each with its own bytes.
+pub fn settings_of(message: &[u8], coding: Coding) -> Vec<(Setting, &[u8])> {
+    let mut rest = message.get(8..).unwrap_or(&[]);
+    let mut settings = Vec::new();
+    while let Ok((setting, length)) = parse(rest, coding, true) {
+        let (bytes, behind) = rest.split_at(length);
+        settings.push((setting, bytes));
+        rest = behind;
+    }
+    settings
 }

@@ -6,7 +6,6 @@ use otap_reference::layout;
 use otap_reference::reference::callers::line_of;
 use otap_reference::reference::commit::{commit_from, judge_from, Answer};
 use otap_reference::reference::export::{export, Exported};
-use otap_reference::reference::limits::Limits;
 use otap_reference::reference::menu::{self, counts};
 use otap_reference::reference::screen::{self, row_number, row_part, Shown};
 use otap_reference::reference::tables::Set;
@@ -128,6 +127,11 @@ impl<K: Tried> Pair<K> {
             None => (absent_number(is_store, room), Shown::Nothing),
         };
         let before = self.bytes.clone();
+        // A number stands at the scratch's start, a text where docs/STORE.md says.
+        let offset = match (reference_row(table, row), &shown) {
+            (Some(row), Shown::Stored(_)) => layout::text_at(&before, K::LIMITS, row),
+            _ => 0,
+        };
         if let Some(named) = Table::from_number(table) {
             let store = self.store();
             let checked = store.check_row(named, row, &scratch);
@@ -135,7 +139,7 @@ impl<K: Tried> Pair<K> {
             let given = store.row(named, row, &mut scratch);
             assert_eq!(number_of(&given), number, "table {table} row {row}");
             if let Ok(part) = given {
-                assert_same(K::LIMITS, part, &shown, table, row);
+                assert_same(part, &shown, offset, table, row);
             }
         } else {
             assert_eq!(K::otap_row_number(table, row, &self.bytes, &scratch), u32::from(number));
@@ -231,10 +235,10 @@ fn packed_caller(answer: Result<Option<u32>, u8>) -> u64 {
     answer.map_or_else(u64::from, |row| row.map_or(0, |row| 1 << 8 | u64::from(row) << 16))
 }
 
-fn assert_same(limits: Limits, part: Row, shown: &Shown, table: u32, row: u32) {
-    let (slice, offset, units) = match shown {
-        Shown::Stored(units) => (Slice::Store, text_offset(limits, table, row), units),
-        Shown::Scratch(units) => (Slice::Scratch, 0, units),
+fn assert_same(part: Row, shown: &Shown, offset: usize, table: u32, row: u32) {
+    let (slice, units) = match shown {
+        Shown::Stored(units) => (Slice::Store, units),
+        Shown::Scratch(units) => (Slice::Scratch, units),
         Shown::Nothing => panic!("table {table} row {row} is not there"),
     };
     assert_eq!(part.slice(), slice, "table {table} row {row}");
@@ -242,21 +246,6 @@ fn assert_same(limits: Limits, part: Row, shown: &Shown, table: u32, row: u32) {
     let bytes: Vec<u8> = units.iter().flat_map(|unit| unit.to_be_bytes()).collect();
     assert_eq!(part.bytes(), bytes, "table {table} row {row}");
     assert!(part.units().eq(units.iter().copied()));
-}
-
-/// Where docs/STORE.md says that a row's text stands.
-fn text_offset(limits: Limits, table: u32, row: u32) -> usize {
-    let row = row as usize;
-    match table {
-        1 => 12_734 + 2 * limits.channels + 52 * row + 20,
-        2 => 22 + 46 * row,
-        3 => 2_966 + 33 * (row - 32) + 1,
-        4 => 6_134 + 36 * row + 4,
-        5 => 6_710 + 36 * row + 4,
-        6 => 8_120 + 36 * row + 4,
-        7 => 10_426 + 36 * row + 4,
-        _ => 7_286 + 52 * row + 20,
-    }
 }
 
 /// The reference names rows by table; a table outside the eight has none.

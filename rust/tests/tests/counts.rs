@@ -2,19 +2,22 @@
 
 use otap_reference::inputs::{longest_input, Inputs};
 use otap_reference::reference::commit::{judge_and_commit, REPLY_ROOM};
+use otap_reference::reference::limits::{Limits, Texts};
 use otap_reference::reference::message::{first_byte, REQUEST};
-use otap_reference::reference::numbers::BAD_FIELD;
-use otap_reference::reference::settings::{GroupSlot, BACKGROUND};
-use otap_reference::reference::tables::{Line, Set};
-use otap_reference::reference::texts::Text;
+use otap_reference::reference::numbers::{BAD_FIELD, NO_ROOM, TAKEN};
+use otap_reference::reference::settings::{GroupSlot, Operation, Setting, BACKGROUND};
+use otap_reference::reference::tables::{Line, Set, Tables};
+use otap_reference::reference::texts::Coding;
 use otap_tests::for_both_sets;
 use otap_tests::sets::Tried;
+use otap_tests::settings_of;
 use std::collections::BTreeMap;
 
 for_both_sets!(
     every_number_comes_often,
     tables_fill_and_messages_grow_long,
     contacts_and_line_slots_come_often,
+    areas_fill,
     numbers_of_both_idtypes_come_often,
     every_coding_type_comes_often,
     the_same_seed_gives_the_same_messages,
@@ -107,6 +110,55 @@ fn contacts_and_line_slots_come_often<K: Tried>() {
     assert!(hidden > 1_000 / K::SHARE && slots > 1_000 / K::SHARE);
 }
 
+/// A hand-held's area is often full, or over it only for the sum, and at times only within a setting; a vehicle holds more than that.
+fn areas_fill<K: Tried>() {
+    let (mut full, mut by_sum, mut within, mut more) = (0, 0, 0, 0);
+    let unbound = Limits { texts: Texts::Placed, ..K::LIMITS };
+    for seed in K::seeds(0, SEEDS) {
+        let mut inputs = Inputs::new(seed, K::LIMITS);
+        let mut set = Set::fresh(K::LIMITS);
+        for _ in 0..MESSAGES {
+            let message = inputs.message();
+            let before = Set { limits: unbound, ..set.clone() };
+            let [said, other] = [&mut set, &mut before.clone()]
+                .map(|set| judge_and_commit(&message, set, &mut [0; REPLY_ROOM]).number);
+            by_sum += usize::from((said, other) == (NO_ROOM, TAKEN));
+            let passes = said == TAKEN && passes_within(&message, before.tables, unbound);
+            within += usize::from(passes);
+            let bytes = set.tables.text_bytes();
+            full += usize::from(bytes == 4_096);
+            more += usize::from(bytes > 4_096);
+        }
+    }
+    println!("{full} full areas, {by_sum} refused by the sum, {within} over it within a setting");
+    println!("{more} with more than that");
+    if K::TEXT_BYTES.is_some() {
+        assert!(full > 1_000 && by_sum > 200 && within > 50 && more == 0);
+    } else {
+        assert!(by_sum == 0 && more > 1_000 / K::SHARE);
+    }
+}
+
+/// Whether a request that is taken would pass 4,096 bytes if the sum were judged after each entry of its status texts.
+fn passes_within(message: &[u8], mut tables: Tables, limits: Limits) -> bool {
+    let coding = Coding::from_number(message[5] & 15);
+    let Some(coding) = coding.filter(|_| message[6] == first_byte(REQUEST)) else { return false };
+    let mut passes = false;
+    for (setting, _) in settings_of(message, coding) {
+        if let Setting::StatusTexts { operation: Operation::Add, entries } = &setting {
+            for entry in entries {
+                let (operation, entries) = (Operation::Add, vec![entry.clone()]);
+                let one = Setting::StatusTexts { operation, entries };
+                tables.apply(one, limits).expect("each has its place");
+                passes |= tables.text_bytes() > 4_096;
+            }
+        } else {
+            tables.apply(setting, limits).expect("it was taken");
+        }
+    }
+    passes
+}
+
 /// One number often stands with both IDtypes, in full tables too, and each of the two lines is overwritten and deleted alone.
 fn numbers_of_both_idtypes_come_often<K: Tried>() {
     let (mut full, mut overwritten, mut deleted) = (0, 0, 0);
@@ -151,13 +203,13 @@ fn every_coding_type_comes_often<K: Tried>() {
         let mut set = Set::fresh(K::LIMITS);
         for _ in 0..MESSAGES {
             let message = inputs.message();
-            let before = names(&set);
+            let before = set.tables.clone();
             let answer = judge_and_commit(&message, &mut set, &mut [0; REPLY_ROOM]);
             if answer.length == 0 || message[6] != first_byte(REQUEST) {
                 continue;
             }
             let coding = usize::from(message[5] & 0x0F);
-            changed[coding] += usize::from(names(&set) != before);
+            changed[coding] += usize::from(!set.tables.texts().eq(before.texts()));
             let bad_field = usize::from(answer.number == BAD_FIELD);
             refused[coding][usize::from(answer.failed.min(1))] += bad_field;
         }
@@ -171,19 +223,6 @@ fn every_coding_type_comes_often<K: Tried>() {
         assert_eq!((with_place > 2_000 / K::SHARE, with_place > 0), (known, known), "{coding}");
         assert!(without_place > 10 / K::SHARE, "{coding}");
     }
-}
-
-/// All texts of a set.
-fn names(set: &Set) -> Vec<Text> {
-    let tables = &set.tables;
-    let held = tables.quick_texts.iter().chain(&tables.status_texts).flatten().cloned();
-    let lines = tables.lines.iter().map(|line| line.text.clone());
-    let lines = lines.chain(tables.line_slots.iter().flatten().map(|slot| slot.text.clone()));
-    let groups = tables.groups.iter().flatten().chain(&tables.group_contacts);
-    let groups = groups.map(|group| group.text.clone());
-    let individuals = tables.individuals.iter().flatten().chain(&tables.individual_contacts);
-    let individuals = individuals.map(|individual| individual.text.clone());
-    held.chain(lines).chain(groups).chain(individuals).collect()
 }
 
 fn the_same_seed_gives_the_same_messages<K: Tried>() {

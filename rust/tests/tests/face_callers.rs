@@ -55,7 +55,7 @@ fn rows<K: Tried, const N: usize>(pair: &mut Pair<K>, keys: [(u32, &str); N]) ->
 
 /// The bytes of the order in use; those behind are 0.
 fn order<K: Tried>(pair: &Pair<K>) -> Vec<u8> {
-    let order = &pair.bytes[K::LIMITS.order_at()..K::LIMITS.spare_at()];
+    let order = &pair.bytes[K::LIMITS.regions().order];
     let used = order.iter().take_while(|&&name| name != 0).count();
     assert!(order[used..].iter().all(|&name| name == 0));
     order[..used].to_vec()
@@ -258,20 +258,21 @@ fn poked_orders_have_no_callers<K: Tried>() {
     assert!(stores > 200 && refused > 3_000);
 }
 
-/// The first two bytes exchanged, a longer number before a shorter one; and each byte of the order and the first behind it.
+/// The first two bytes exchanged, a longer number before a shorter one; and each byte of the order.
 fn bytes_of_four_lines<K: Tried>() {
     let pair = four::<K>();
+    let order = K::LIMITS.regions().order.start;
     let opened = |place: usize, byte: u8| {
         let mut poked = pair.bytes.clone();
-        poked[K::LIMITS.order_at() + place] = byte;
+        poked[order + place] = byte;
         Set::<K>::open(&mut poked).map(|_| ())
     };
     let mut exchanged = pair.bytes.clone();
-    exchanged.swap(K::LIMITS.order_at(), K::LIMITS.order_at() + 1);
+    exchanged.swap(order, order + 1);
     let answer = Set::<K>::lent(&mut exchanged).line_of(PSTN, &[3]);
     assert_eq!(answer, Err(Refusal::NotAStore));
-    for place in 0..=K::MOST_LINES {
-        let right = pair.bytes[K::LIMITS.order_at() + place];
+    for place in 0..K::MOST_LINES {
+        let right = pair.bytes[order + place];
         for byte in (0..=K::MOST_LINES as u8 + 1).chain([64, 128, 255]) {
             assert_eq!(opened(place, byte).is_ok(), byte == right, "{place}: {byte}");
         }

@@ -1,6 +1,8 @@
 //! Group contacts, individual contacts and background groups: the archive behind the face against the reference, and by hand.
 
 use otap::{Part, Refusal, Set, Slice, Table, CONTACT_ROWS, SCRATCH_ROOM};
+use otap_reference::layout::{self, Slots, COUNT};
+use otap_reference::reference::screen::Row;
 use otap_reference::reference::settings::Operation::{self, Add, Delete, Replace};
 use otap_tests::for_both_sets;
 use otap_tests::pair::Pair;
@@ -64,23 +66,35 @@ fn exported<K: Tried>(pair: &mut Pair<K>, part: Part) -> Vec<u8> {
     store.export(part, &mut buffer).expect("a part of a store")[8..].to_vec()
 }
 
-/// Settings of either list, for what both do alike, and the first byte of its slots.
+/// Settings of either list, for what both do alike, and where its slots stand.
 type Contacts = fn(Operation, &[(u32, &str)]) -> Vec<u8>;
-const LISTS: [(Contacts, Table, usize); 2] = [
-    (|operation, contacts| group_contacts(operation, 3, contacts), Table::GroupContacts, 8_120),
-    (individual_contacts, Table::IndividualContacts, 10_426),
-];
+fn lists<K: Tried>() -> [(Contacts, Table, Slots); 2] {
+    let regions = K::LIMITS.regions();
+    let groups: Contacts = |operation, contacts| group_contacts(operation, 3, contacts);
+    [
+        (groups, Table::GroupContacts, regions.group_contacts),
+        (individual_contacts, Table::IndividualContacts, regions.individual_contacts),
+    ]
+}
 
 /// Contacts without names, from address 100001 on.
 fn numbered(places: std::ops::Range<u32>) -> Vec<(u32, &'static str)> {
     places.map(|place| (0x10_0001 + place, "")).collect()
 }
 
-/// The low bytes of the addresses that a list holds, as the store keeps them from this byte on, behind a count.
-fn kept<K: Tried>(pair: &Pair<K>, first: usize) -> Vec<u8> {
-    let count = usize::from(pair.bytes[first - 1]);
-    assert_eq!(pair.bytes[first - 2], 0);
-    pair.bytes[first..].chunks(36).take(count).map(|slot| slot[3]).collect()
+/// The low bytes of the addresses that a list holds, as the store keeps them, behind a count.
+fn kept<K: Tried>(pair: &Pair<K>, list: Slots) -> Vec<u8> {
+    (0..list.count(&pair.bytes).into()).map(|place| pair.bytes[list.slot(place) + 3]).collect()
+}
+
+/// The count of a list, then flags and address of its first contact.
+fn start<K: Tried>(pair: &Pair<K>, list: Slots) -> &[u8] {
+    &pair.bytes[list.at - COUNT..][..6]
+}
+
+/// Flags and address of a contact.
+fn head<K: Tried>(pair: &Pair<K>, list: Slots, place: usize) -> &[u8] {
+    &pair.bytes[list.slot(place)..][..4]
 }
 
 fn a_response_group_and_a_background_group<K: Tried>() {
@@ -88,12 +102,15 @@ fn a_response_group_and_a_background_group<K: Tried>() {
     let mut response = after::<K>(&[RESPONSE]);
     assert_eq!(shown(&mut response, Table::GroupContacts, 0), stored("A"));
     assert_eq!(shown(&mut response, Table::GroupContacts, 1), NO_ROW);
-    assert_eq!(response.bytes[8_118..8_128], bytes("00 01 80 10 00 01 00 41 00 00"));
+    let list = K::LIMITS.regions().group_contacts;
+    assert_eq!(start(&response, list), bytes("00 01 80 10 00 01"));
     let both = format!("{clear} {RESPONSE}");
     assert_eq!(exported(&mut response, Part::GroupContacts), bytes(&both));
     let mut background = after::<K>(&[BACKGROUND]);
     assert_eq!(shown(&mut background, Table::GroupContacts, 0), NO_ROW);
-    assert_eq!(background.bytes[8_118..8_128], bytes("00 01 40 10 00 01 00 41 00 00"));
+    assert_eq!(start(&background, list), bytes("00 01 40 10 00 01"));
+    let text = layout::text_at(&background.bytes, K::LIMITS, Row::GroupContact(0));
+    assert_eq!(background.bytes[text..][..4], bytes("00 41 00 00"));
     let both = format!("{clear} {BACKGROUND}");
     assert_eq!(exported(&mut background, Part::GroupContacts), bytes(&both));
 }
@@ -195,37 +212,39 @@ fn flags_and_text_are_overwritten_in_their_place<K: Tried>() {
         "C8 00 13 7F C0 02 10 00 01 00 61 00 00 10 00 02 00 62 00 00",
         "C9 00 12 7C 02 10 00 01 00 61 00 00 10 00 02 00 62 00 00",
     ]);
-    assert_eq!((pair.bytes[8_120], pair.bytes[8_156]), (0xFF, 0xFF));
-    assert_eq!((pair.bytes[10_426], pair.bytes[10_462]), (0x0F, 0x0F));
+    let regions = K::LIMITS.regions();
+    let (groups, individuals) = (regions.group_contacts, regions.individual_contacts);
+    assert_eq!([0, 1].map(|place| head(&pair, groups, place)[0]), [0xFF; 2]);
+    assert_eq!([0, 1].map(|place| head(&pair, individuals, place)[0]), [0x0F; 2]);
     let again = ["C8 00 0A 60 00 01 10 00 01 00 00", "C9 00 09 40 01 10 00 01 00 00"];
     assert_eq!(pair.commit(&hex_request(&again)), 0);
-    assert_eq!(pair.bytes[8_118..8_126], bytes("00 02 80 10 00 01 00 00"));
-    assert_eq!(pair.bytes[8_156..8_162], bytes("FF 10 00 02 00 62"));
-    assert_eq!(pair.bytes[10_424..10_432], bytes("00 02 00 10 00 01 00 00"));
-    assert_eq!(pair.bytes[10_462..10_468], bytes("0F 10 00 02 00 62"));
+    assert_eq!(start(&pair, groups), bytes("00 02 80 10 00 01"));
+    assert_eq!(head(&pair, groups, 1), bytes("FF 10 00 02"));
+    assert_eq!(start(&pair, individuals), bytes("00 02 00 10 00 01"));
+    assert_eq!(head(&pair, individuals, 1), bytes("0F 10 00 02"));
     assert_eq!(shown(&mut pair, Table::GroupContacts, 0), number("32820900"));
     assert_eq!(shown(&mut pair, Table::IndividualContacts, 0), number("32820200"));
     assert_eq!(shown(&mut pair, Table::IndividualContacts, 1), stored("b"));
 }
 
 fn a_delete_closes_the_gap_and_a_replace_empties_first<K: Tried>() {
-    for (contacts, table, first) in LISTS {
+    for (contacts, table, list) in lists::<K>() {
         let mut pair = Pair::<K>::fresh();
         assert_eq!(pair.commit(&request(&[contacts(Add, &numbered(0..5))])), 0);
         // An absent address does nothing, and a text does not count.
         let gone = [(0x10_0003, "x"), (0x20_0002, ""), (0x10_0003, "")];
         assert_eq!(pair.commit(&request(&[contacts(Delete, &gone)])), 0);
-        assert_eq!(kept(&pair, first), [1, 2, 4, 5]);
+        assert_eq!(kept(&pair, list), [1, 2, 4, 5]);
         assert_eq!(shown(&mut pair, table, 4), NO_ROW);
         assert_eq!(pair.commit(&request(&[contacts(Add, &numbered(2..3))])), 0);
-        assert_eq!(kept(&pair, first), [1, 2, 4, 5, 3]);
+        assert_eq!(kept(&pair, list), [1, 2, 4, 5, 3]);
         let new = [(0x10_0009, "a"), (0x10_0003, "b"), (0x10_0009, "c")];
         assert_eq!(pair.commit(&request(&[contacts(Replace, &new)])), 0);
-        assert_eq!(kept(&pair, first), [9, 3]);
+        assert_eq!(kept(&pair, list), [9, 3]);
         assert_eq!(shown(&mut pair, table, 0), stored("c"));
         pair.compare_exports();
         assert_eq!(pair.commit(&request(&[contacts(Delete, &[])])), 0);
-        assert_eq!(kept(&pair, first), [9, 3]);
+        assert_eq!(kept(&pair, list), [9, 3]);
         assert_eq!(pair.commit(&request(&[contacts(Replace, &[])])), 0);
         assert!(pair.bytes == Pair::<K>::fresh().bytes);
     }
@@ -233,7 +252,7 @@ fn a_delete_closes_the_gap_and_a_replace_empties_first<K: Tried>() {
 
 /// By one setting and by many; a known address needs no new place, and a freed one is used.
 fn the_65th_has_no_room<K: Tried>() {
-    for (contacts, table, first) in LISTS {
+    for (contacts, table, list) in lists::<K>() {
         let each = |places: std::ops::Range<u32>| {
             places.map(|place| contacts(Add, &numbered(place..place + 1))).collect::<Vec<_>>()
         };
@@ -257,8 +276,8 @@ fn the_65th_has_no_room<K: Tried>() {
         let [absent, known] = [80..81, 3..4].map(|places| contacts(Delete, &numbered(places)));
         assert_eq!(pair.told(&request(&[absent, new.clone()])), (2, 2));
         assert_eq!(pair.told(&request(&[known, new])), (0, 0));
-        assert_eq!(kept(&pair, first)[63], 71);
-        assert_eq!(kept(&pair, first)[..4], [1, 2, 3, 5]);
+        assert_eq!(kept(&pair, list)[63], 71);
+        assert_eq!(kept(&pair, list)[..4], [1, 2, 3, 5]);
         pair.compare_exports();
         pair.compare_rows();
     }
@@ -266,7 +285,9 @@ fn the_65th_has_no_room<K: Tried>() {
 
 /// An address twice is no store, and neither is a count that is not the list's. Places are those of the second slot, but for `at`.
 fn bytes_of_contacts<K: Tried>() {
-    for (contacts, _, first) in LISTS {
+    for (contacts, table, list) in lists::<K>() {
+        let is_group = table == Table::GroupContacts;
+        let row_of = if is_group { Row::GroupContact } else { Row::IndividualContact };
         let mut pair = Pair::<K>::fresh();
         let two = [(0x10_0001, "a"), (0x10_0002, "b")];
         assert_eq!(pair.commit(&request(&[contacts(Add, &two)])), 0);
@@ -275,20 +296,22 @@ fn bytes_of_contacts<K: Tried>() {
             changes.iter().for_each(|&(place, byte)| poked[place] = byte);
             Set::<K>::open(&mut poked).is_ok()
         };
-        let second = first + 36;
+        let (first, second) = (list.slot(0), list.slot(1));
         let opened = |changes: &[(usize, u8)]| {
             at(&changes.iter().map(|&(place, byte)| (second + place, byte)).collect::<Vec<_>>())
         };
         assert!(opened(&[]));
         assert!(!opened(&[(3, 1)]), "one address twice");
         assert!(!opened(&[(3, 1), (0, pair.bytes[second] ^ 1)]), "with other flags");
-        assert!(!opened(&[(3, 1), (5, b'c')]), "with another text");
+        let text = layout::text_at(&pair.bytes, K::LIMITS, row_of(1)) + 1 - second;
+        assert!(!opened(&[(3, 1), (text, b'c')]), "with another text");
+        assert!(opened(&[(text, b'c')]), "another text alone");
         assert!(opened(&[(2, 1), (3, 1)]), "100101");
         assert!(opened(&[(1, 0x11), (3, 1)]), "110001");
         assert!(!opened(&[(1, 0x0F)]) && !opened(&[(3, 0)]), "an address out of range");
-        let wrong = if first == 8_120 { 0x3F } else { 0x10 };
+        let wrong = if is_group { 0x3F } else { 0x10 };
         assert!(!opened(&[(0, wrong)]), "flags out of range");
-        assert!(!opened(&[(36, 0x40)]), "a byte behind the list");
+        assert!(!opened(&[(list.width, 0x40)]), "a byte behind the list");
         for count in [0, 1, 3, 64, 255] {
             assert!(!at(&[(first - 1, count)]), "count {count}");
         }

@@ -2,7 +2,9 @@
 
 use otap::{Attribute, CallFlags, Entry, GroupAddress, IndividualAddress, KeyTarget, Refusal};
 use otap::{Part, Set, Table, MOST_DIGITS, PABX, PSTN};
-use otap_reference::inputs::pokes::{poke_count, poke_line_slot, poke_list, poke_order};
+use otap_reference::inputs::pokes::{
+    poke_count, poke_line_slot, poke_list, poke_order, poke_texts,
+};
 use otap_reference::inputs::random::Random;
 use otap_reference::inputs::values::Value;
 use otap_reference::inputs::Inputs;
@@ -218,12 +220,13 @@ fn poked_stores<K: Tried>() {
         }
         for turn in 0..40 {
             let mut poked = pair.bytes.clone();
-            match turn % 5 {
+            match turn % 6 {
                 0 => poke_count(&mut random, K::LIMITS, &mut poked),
                 1 => poke_list(&mut random, K::LIMITS, &mut poked),
                 2 => poke_order(&mut random, K::LIMITS, &mut poked),
                 3 => poke_line_slot(&mut random, K::LIMITS, &mut poked),
-                _ => poked[random.below(K::LIMITS.spare_at())] ^= 1 << random.below(8),
+                4 => poke_texts(&mut random, K::LIMITS, &mut poked),
+                _ => poked[random.below(K::LIMITS.regions().spare())] ^= 1 << random.below(8),
             }
             if layout::is_store(&poked, K::LIMITS) {
                 told_by::<K>(poked).compare_values();

@@ -1,6 +1,8 @@
 //! Line slots, and the parts of an export that came with the contact lists: the archive behind the face against the reference, and by hand.
 
 use otap::{Part, Refusal, Set, Slice, Table, SCRATCH_ROOM};
+use otap_reference::layout;
+use otap_reference::reference::screen::Row;
 use otap_reference::reference::settings::Operation::Add;
 use otap_tests::for_both_sets;
 use otap_tests::pair::Pair;
@@ -48,9 +50,11 @@ fn slots_by_their_index<K: Tried>() {
         assert_eq!(shown(&mut pair, absent), Err(Refusal::NoSuchRow));
     }
     // Flags, IDtype and digits, each digit one more than itself.
-    assert_eq!(pair.bytes[7_286 + 3 * 52..][..7], [0, 1, 3, 4, 5, 6, 0]);
-    assert_eq!(pair.bytes[7_286 + 15 * 52..][..4], [15, 0, 2, 0]);
-    assert_eq!(pair.bytes[7_286 + 15 * 52 + 20..][..4], bytes("00 41 00 00"));
+    let slots = K::LIMITS.regions().line_slots;
+    assert_eq!(pair.bytes[slots.slot(3)..][..7], [0, 1, 3, 4, 5, 6, 0]);
+    assert_eq!(pair.bytes[slots.slot(15)..][..4], [15, 0, 2, 0]);
+    let text = layout::text_at(&pair.bytes, K::LIMITS, Row::LineSlot(15));
+    assert_eq!(pair.bytes[text..][..4], bytes("00 41 00 00"));
     // Overwritten, number and all; then emptied by a delete, whose number is not the slot's.
     assert_eq!(pair.commit(&hex_request(&["D3 00 09 40 03 1F 00 62 00 00"])), 0);
     assert_eq!(shown(&mut pair, 3), Ok((Slice::Store, "b".into())));
@@ -153,22 +157,32 @@ fn parts_of_contacts_and_slots<K: Tried>() {
     assert_eq!(part(Part::LineSlots)[..29], bytes(slots));
 }
 
-/// All three tables full, of texts and numbers of the greatest length.
+/// So many units are the longest texts that all three tables have room for when they are full: of 144, 14 units are 4,032 bytes.
+fn longest<K: Tried>() -> usize {
+    match K::TEXT_BYTES {
+        None => 16,
+        Some(area) => area / (2 * (64 + 64 + 16)),
+    }
+}
+
+/// All three tables full, of numbers of the greatest length and the longest texts that fit.
 fn full<K: Tried>() -> Pair<K> {
     let mut pair = Pair::<K>::fresh();
-    let text = "y".repeat(16);
+    let text = "y".repeat(longest::<K>());
     let contacts: Vec<(u32, &str)> = (1..65).map(|place| (0x10_0000 + place, &text[..])).collect();
     let lists = [group_contacts(Add, 1, &contacts), individual_contacts(Add, &contacts)];
     for setting in lists {
         assert_eq!(pair.commit(&request(&[setting])), 0);
     }
-    let (digits, units) = ("99 ".repeat(9), "00 79 ".repeat(16));
-    let slot = |index| bytes(&format!("D3 00 30 4E {index:02X} {digits} FF {units} 00 00"));
+    let (digits, units) = ("99 ".repeat(9), "00 79 ".repeat(longest::<K>()));
+    let length = 16 + 2 * longest::<K>();
+    let slot =
+        |index| bytes(&format!("D3 00 {length:02X} 4E {index:02X} {digits} FF {units} 00 00"));
     assert_eq!(pair.commit(&request(&(0..16).map(slot).collect::<Vec<_>>())), 0);
     pair
 }
 
-/// Whatever the other store held, it has the same tables then, background groups too.
+/// From fresh to full and back: the other store has the same tables then, background groups too.
 fn full_tables_go_to_another_store<K: Tried>() {
     let mut full = full::<K>();
     for table in [Table::IndividualContacts, Table::LineSlots] {
@@ -179,7 +193,9 @@ fn full_tables_go_to_another_store<K: Tried>() {
         let store = full.store();
         store.export(part, &mut vec![0; K::LONGEST_MESSAGE]).expect("a part of a store").len()
     });
-    assert_eq!(lengths, [8 + 6 + 64 * 43, 8 + 5 + 64 * 42, 8 + 16 * 49]);
+    let text = 2 * longest::<K>();
+    let each = [11 + text, 10 + text, 17 + text];
+    assert_eq!(lengths, [8 + 6 + 64 * each[0], 8 + 5 + 64 * each[1], 8 + 16 * each[2]]);
     for (from, into) in [(&full, &Pair::<K>::fresh()), (&Pair::<K>::fresh(), &full)] {
         let (mut bytes, mut other) = (from.bytes.clone(), into.clone());
         let store = Set::<K>::lent(&mut bytes);

@@ -1,6 +1,8 @@
 //! Two lines with one number: the identity of a line is its IDtype together with its digits.
 
 use otap::{Part, Refusal, Set, Slice, Table, SCRATCH_ROOM};
+use otap_reference::layout;
+use otap_reference::reference::screen::Row;
 use otap_reference::reference::settings::Operation::{self, Add, Delete, Replace};
 use otap_tests::for_both_sets;
 use otap_tests::pair::Pair;
@@ -51,7 +53,7 @@ fn told<K: Tried>(pair: &mut Pair<K>, settings: &[Vec<u8>]) -> (u8, usize) {
 
 /// IDtype and the first four digits of the line at a position, which stand where docs/STORE.md says.
 fn kept<K: Tried>(pair: &Pair<K>, position: usize) -> &[u8] {
-    &pair.bytes[K::LIMITS.lines_at() + 2 + 52 * position + 1..][..5]
+    &pair.bytes[K::LIMITS.regions().lines.slot(position) + 1..][..5]
 }
 
 fn both_present_and_one_deleted<K: Tried>() {
@@ -79,9 +81,9 @@ fn each_is_overwritten_alone<K: Tried>() {
     ] {
         let both = after::<K>(&[EXTENSION, TELEPHONE]);
         let mut named = after::<K>(&[EXTENSION, TELEPHONE, message]);
-        let slots = |pair: &Pair<K>, place| {
-            pair.bytes[K::LIMITS.lines_at() + 2 + 52 * place..][..52].to_vec()
-        };
+        let lines = K::LIMITS.regions().lines;
+        let slots =
+            |pair: &Pair<K>, place| pair.bytes[lines.slot(place)..lines.slot(place + 1)].to_vec();
         assert_eq!(slots(&named, 1 - place), slots(&both, 1 - place));
         assert_eq!((kept(&named, place), slots(&named, place)[0]), (kept(&both, place), 15));
         let mut scratch = [0; SCRATCH_ROOM];
@@ -168,16 +170,17 @@ fn bytes_of_both_lines<K: Tried>() {
         changes.iter().for_each(|&(place, byte)| poked[place] = byte);
         Set::<K>::open(&mut poked).map(|store| store.bytes().to_vec())
     };
-    let first = K::LIMITS.lines_at() + 3;
-    let second = first + 52;
+    let lines = K::LIMITS.regions().lines;
+    let (first, second) = (lines.slot(0) + 1, lines.slot(1) + 1);
     assert_eq!(opened(&[]).as_ref(), Ok(&both));
     assert_eq!(opened(&[(first, 0)]), Err(Refusal::NotAStore));
     assert_eq!(opened(&[(second, 1)]), Err(Refusal::NotAStore));
     assert_eq!(opened(&[(second, 2)]), Err(Refusal::NotAStore));
     assert_eq!(opened(&[(second, 1), (second - 1, 15)]), Err(Refusal::NotAStore), "other flags");
-    assert_eq!(opened(&[(second, 1), (second + 20, 1)]), Err(Refusal::NotAStore), "a text");
+    let text = layout::text_at(&both, K::LIMITS, Row::Line(1)) + 1;
+    assert_eq!(opened(&[(second, 1), (text, 1)]), Err(Refusal::NotAStore), "a text");
     // The order has the telephone before the extension; as it stands, it is the other line's turn.
-    let order = K::LIMITS.order_at();
+    let order = K::LIMITS.regions().order.start;
     let (one, two) = ((order, 1), (order + 1, 2));
     assert!(opened(&[(second, 1), (second + 4, 7), one, two]).is_ok(), "PABX 2346");
     assert!(opened(&[(second, 1), (second + 5, 1), one, two]).is_ok(), "PABX 23450");

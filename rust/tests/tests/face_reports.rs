@@ -32,23 +32,29 @@ for_both_sets!(
     no_store_has_a_report,
 );
 
-/// Every table full, and each text as long as it may be.
-fn full<K: Tried>() -> Pair<K> {
-    let (long, longer) = ("\u{8B66}".repeat(16), "\u{5BDF}".repeat(23));
-    let contacts: Vec<_> = (0x10_0001..).take(64).map(|address| (address, &long[..])).collect();
-    let quick: Vec<_> = (0..64).map(|index| (index, &longer[..])).collect();
-    let status: Vec<_> = (32..128).map(|code| (code, &long[..])).collect();
+/// The longest texts, of 16 units and of 23.
+const LONG: &str = "警警警警警警警警警警警警警警警警";
+const LONGER: &str = "察察察察察察察察察察察察察察察察察察察察察察察";
+
+/// Every table full, and each text of the type asked as long as it may be. Of a hand-held the others are as short as they may be, since all share one area.
+fn full<K: Tried>(asked: u8) -> Pair<K> {
+    let is_long = |byte| byte == asked || K::TEXT_BYTES.is_none();
+    let text = |byte| if is_long(byte) { LONG } else { "" };
+    let addresses = |byte| (0x10_0001..).take(64).map(|at| (at, text(byte))).collect::<Vec<_>>();
+    let quick = if is_long(0xCC) { LONGER } else { "A" };
+    let quick: Vec<_> = (0..64).map(|index| (index, quick)).collect();
+    let status: Vec<_> = (32..128).map(|code| (code, text(0xD0))).collect();
     let channels: Vec<_> = (241..).take(K::MOST_CHANNELS).collect();
     let line = |place: u8| LineEntry {
         digits: [&[7; 15][..], &[place / 100, place / 10 % 10, place % 10]].concat(),
-        text: units(&long),
+        text: units(text(0xCA)),
     };
     let flags = LineFlags { pabx: true, ..LineFlags::default() };
     let entries = (0..K::MOST_LINES as u8).map(line).collect();
     let lines = Setting::Lines { operation: Replace, flags, entries };
     let requests = [
-        vec![otap_tests::group_contacts(Replace, 3, &contacts), lines.write()],
-        vec![otap_tests::individual_contacts(Replace, &contacts)],
+        vec![otap_tests::group_contacts(Replace, 3, &addresses(0xC8)), lines.write()],
+        vec![otap_tests::individual_contacts(Replace, &addresses(0xC9))],
         vec![otap_tests::quick(Replace, &quick[..63]), otap_tests::quick(Add, &quick[63..])],
         vec![otap_tests::status(Replace, &status)],
         vec![otap_tests::channels(Replace, &channels), stamped()],
@@ -98,7 +104,7 @@ fn by_hand<K: Tried>() {
 
 /// Each of the 256 bytes by itself and behind others, on a fresh store, a small one and a full one.
 fn every_type<K: Tried>() {
-    for mut pair in [Pair::<K>::fresh(), each::<K>(), full::<K>()] {
+    for mut pair in [Pair::<K>::fresh(), each::<K>(), full::<K>(0xD0)] {
         for byte in 0..=255 {
             let asks = ASKED.contains(&byte);
             for types in [vec![byte], vec![0xCE, byte, 0xCD], vec![byte; 3]] {
@@ -128,11 +134,10 @@ fn totals<K: Tried>() -> [(u8, Option<usize>); 5] {
 
 /// Of each table by itself and of the ten in one report.
 fn full_stores<K: Tried>() {
-    let mut pair = full::<K>();
     let (lines, channels) = (48 * K::MOST_LINES, 5 * K::MOST_CHANNELS);
     let lengths = [2_624, 2_560, lines, 6, 3_264, 5, channels, 5, 3_648, 13];
     for (byte, length) in ASKED.into_iter().zip(lengths) {
-        let messages = pair.messages_to(&[byte]);
+        let messages = full::<K>(byte).messages_to(&[byte]);
         let parameters: usize = messages.iter().map(|message| message.len() - 10).sum();
         // 256 channels are one more than a message counts.
         let is_cut = byte == 0xCE && K::MOST_CHANNELS == 256;
@@ -142,14 +147,15 @@ fn full_stores<K: Tried>() {
             "{byte:02X}"
         );
     }
-    assert_eq!(assert_read_back(&mut pair, &ASKED), if K::LIMITS == HANDHELD { 4 } else { 3 });
+    // Of a hand-held the first message has 255 parameters, and the other what is left of 388.
+    let total = assert_read_back(&mut full::<K>(0xD0), &ASKED);
+    assert_eq!(total, if K::LIMITS == HANDHELD { 2 } else { 3 });
 }
 
 /// Of one table as often as a query can ask: a report with its last message and none behind it, or refused with 4.
 fn asked_255_times<K: Tried>() {
-    let mut pair = full::<K>();
     for (byte, total) in totals::<K>() {
-        let types = [byte; 255];
+        let (mut pair, types) = (full::<K>(byte), [byte; 255]);
         if let Some(total) = total {
             assert_eq!(assert_read_back(&mut pair, &types), total, "{byte:02X}");
         }
@@ -164,7 +170,7 @@ fn asked_255_times<K: Tried>() {
 
 /// Every message has what its bytes and its count allow, of a hand-held and of a vehicle.
 fn counts_of_messages<K: Tried>() {
-    let mut pair = full::<K>();
+    let mut pair = full::<K>(0xD0);
     let mut counts =
         |types: &[u8]| pair.messages_to(types).iter().map(|message| message[9]).collect::<Vec<_>>();
     if K::LIMITS == HANDHELD {
@@ -179,7 +185,7 @@ fn counts_of_messages<K: Tried>() {
 
 /// Every message of a report is as full as it can be, up to the last byte.
 fn to_the_last_byte<K: Tried>() {
-    let mut pair = full::<K>();
+    let mut pair = full::<K>(0xD0);
     // 96 status texts, a hash and eight quick texts leave 17 bytes of a hand-held's, which CD, CF and CD fill but for two; with 64 quick texts
     // 25 lines and 11 CD do so of a vehicle's.
     let (quick, lines, fits) = match K::LIMITS {
@@ -196,13 +202,15 @@ fn to_the_last_byte<K: Tried>() {
     }
 }
 
-/// Deletes all but the first quick texts and lines of a full set, and keeps a hash.
+/// Leaves so many quick texts, which are the longest, and lines of a full set, and a hash.
 fn keep<K: Tried>(pair: &mut Pair<K>, quick: u8, lines: usize) {
-    let quick: Vec<_> = (quick..64).map(|index| (index, "")).collect();
+    let texts: Vec<_> = (0..quick).map(|index| (index, LONGER)).collect();
+    let (most, more) = texts.split_at(texts.len().min(63));
     let gone: Vec<Vec<u8>> =
         pair.set.tables.lines[lines..].iter().map(|line| line.digits.clone()).collect();
     let gone: Vec<&[u8]> = gone.iter().map(|digits| &digits[..]).collect();
-    let settings = [otap_tests::quick(Delete, &quick), lines_of(true, Delete, &gone), stamped()];
+    let quick = [otap_tests::quick(Replace, most), otap_tests::quick(Add, more)];
+    let settings = [&quick[..], &[lines_of(true, Delete, &gone), stamped()]].concat();
     assert_eq!(pair.commit(&request(&settings)), 0);
 }
 
@@ -272,7 +280,7 @@ fn refusals_in_order<K: Tried>() {
 
 /// A query, and a report, is no message to commit: 14, and the store stays.
 fn taking_refuses_queries_and_reports<K: Tried>() {
-    let mut pair = full::<K>();
+    let mut pair = full::<K>(0xD0);
     let report = pair.messages_to(&[0xCE]).remove(0);
     for message in [query(&[0xCE]), query(&ASKED), report] {
         assert_eq!(pair.commit(&message), 14);
@@ -309,7 +317,7 @@ fn queries_to_many_stores<K: Tried>() {
 
 /// Bytes that no store has: 11, and nothing is written.
 fn no_store_has_a_report<K: Tried>() {
-    let mut pair = full::<K>();
+    let mut pair = full::<K>(0xD0);
     for place in [0, 11, 19, K::STORE_SIZE - 1] {
         let held = std::mem::replace(&mut pair.bytes[place], 0xFE);
         let mut buffer = vec![0; K::LONGEST_MESSAGE];

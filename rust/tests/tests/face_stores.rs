@@ -2,11 +2,12 @@
 
 use otap::{Outcome, Part, Set, Table};
 use otap::{MOST_DIGITS, REPLY_ROOM, SCRATCH_ROOM};
-use otap_reference::inputs::pokes::{poke_count, poke_line_slot, poke_list, poke_order};
+use otap_reference::inputs::pokes::{
+    fit_texts, poke_count, poke_line_slot, poke_list, poke_order, poke_texts,
+};
 use otap_reference::inputs::random::Random;
 use otap_reference::inputs::Inputs;
-use otap_reference::layout;
-use otap_reference::reference::limits::HANDHELD;
+use otap_reference::layout::{self, Slots};
 use otap_reference::reference::message::{query, request, Hash};
 use otap_reference::reference::queries;
 use otap_reference::reference::settings::{LastItem, Setting};
@@ -21,6 +22,7 @@ for_both_sets!(
     poked_counts_are_refused,
     poked_orders_are_refused,
     poked_line_slots_are_refused_or_are_a_store,
+    poked_texts_are_refused_or_are_a_store,
     every_byte_of_a_fresh_store,
     bytes_of_no_store,
 );
@@ -133,22 +135,13 @@ fn damaged_bytes_are_refused_or_are_a_store<K: Tried>() {
     assert!(stores > 1_000 / K::SHARE && refused > 1_000 / K::SHARE);
 }
 
-/// First slot, slots and size of each region that has slots; those of contacts, channels and lines stand behind their count.
-fn slots<K: Tried>() -> [(usize, usize, usize); 9] {
-    [
-        (22, 64, 46),
-        (2_966, 96, 33),
-        (6_134, 16, 36),
-        (6_710, 16, 36),
-        (7_286, 16, 52),
-        (8_120, 64, 36),
-        (10_426, 64, 36),
-        (12_732, K::MOST_CHANNELS, 2),
-        (12_734 + 2 * K::MOST_CHANNELS, K::MOST_LINES, 52),
-    ]
+/// The tables that have slots.
+fn slots<K: Tried>() -> Vec<Slots> {
+    let regions = K::LIMITS.regions();
+    regions.with_texts().into_iter().chain([regions.channels]).collect()
 }
 
-/// Slots copied over others, emptied or exchanged: gaps, equal keys, and entries of another order.
+/// Slots copied over others, emptied or exchanged: gaps, equal keys, and entries of another order. Half of the time a shared area follows.
 fn damaged_slots_are_refused_or_are_a_store<K: Tried>() {
     let mut random = Random::new(6);
     let (mut stores, mut refused) = (0, 0);
@@ -156,13 +149,16 @@ fn damaged_slots_are_refused_or_are_a_store<K: Tried>() {
         let pair = grown::<K>(seed, 40);
         for _ in 0..300 {
             let mut bytes = pair.bytes.clone();
-            let (first, slots, size) = random.pick(&slots::<K>());
-            let from = first + random.below(slots) * size;
-            let to = first + random.below(slots) * size;
+            let slots = random.pick(&slots::<K>());
+            let [from, to] = [(); 2].map(|()| slots.slot(random.below(slots.places)));
+            let size = slots.width;
             match random.below(3) {
                 0 => bytes.copy_within(from..from + size, to),
                 1 => bytes[to..to + size].fill(0),
                 _ => (0..size).for_each(|place| bytes.swap(from + place, to + place)),
+            }
+            if random.flag() {
+                fit_texts(K::LIMITS, &mut bytes);
             }
             if is_store::<K>(&mut bytes) {
                 assert!(
@@ -248,11 +244,31 @@ fn poked_line_slots_are_refused_or_are_a_store<K: Tried>() {
     assert!(stores > 1_000 / K::SHARE && refused > 500 / K::SHARE);
 }
 
-/// Every byte of a store; of a vehicle's 29,122 behind the tables, which are alike, every 31st and the last.
+/// Texts that are other ones, that have another length, or that leave a byte behind.
+fn poked_texts_are_refused_or_are_a_store<K: Tried>() {
+    let mut random = Random::new(10);
+    let (mut stores, mut refused) = (0, 0);
+    for seed in K::seeds(5_700, 30) {
+        let pair = grown::<K>(seed, 40);
+        for turn in 0..300 {
+            let mut bytes = pair.bytes.clone();
+            poke_texts(&mut random, K::LIMITS, &mut bytes);
+            if is_store::<K>(&mut bytes) {
+                assert!(made_again::<K>(&mut bytes) == bytes, "seed {seed} turn {turn}");
+                stores += 1;
+            } else {
+                refused += 1;
+            }
+        }
+    }
+    println!("{stores} still a store, {refused} refused");
+    assert!(stores > 1_000 / K::SHARE && refused > 1_000 / K::SHARE);
+}
+
+/// Every byte of a store; of those behind the tables, which are alike, every 31st and the last.
 fn places<K: Tried>() -> impl Iterator<Item = usize> {
-    let (spare, size) = (K::LIMITS.spare_at(), K::STORE_SIZE);
-    let step = if K::LIMITS == HANDHELD { 1 } else { 31 };
-    (0..spare).chain((spare..size).step_by(step)).chain([size - 1])
+    let (spare, size) = (K::LIMITS.regions().spare(), K::STORE_SIZE);
+    (0..spare).chain((spare..size).step_by(31)).chain([size - 1])
 }
 
 /// Every byte of a fresh store changed: a store only where made again it is the same.

@@ -1,18 +1,17 @@
 //! What a hand-held takes of a vehicle's export, and a vehicle of a hand-held's: at which part it stops, with which number and failed ID, and the store then.
 
 use otap::{Handheld, Part, Refusal, Set, Store, Vehicle, VehicleStore};
+use otap_reference::inputs::random::Random;
+use otap_reference::inputs::requests::texts;
 use otap_reference::inputs::Inputs;
-use otap_reference::reference::export::part_bytes;
-use otap_reference::reference::limits::{Limits, HANDHELD, VEHICLE};
+use otap_reference::reference::limits::{Limits, Texts, HANDHELD, VEHICLE};
 use otap_reference::reference::queries::query;
-use otap_reference::reference::settings::Operation::Replace;
+use otap_reference::reference::settings::Operation::{Add, Replace};
 use otap_reference::reference::settings::{LineEntry, LineFlags, Setting};
+use otap_tests::fitting::{foreseen, Stopped};
 use otap_tests::pair::{number_of, patterned, Pair};
 use otap_tests::sets::Tried;
 use otap_tests::{channels, hex_request, lines_add, quick, request, status};
-
-/// A part that is not taken: its number, and the number and failed ID of the answer.
-type Stopped = Option<(u32, u8, u8)>;
 
 /// The parts of an export, as the archive writes them.
 fn exported<K: Tried>(pair: &mut Pair<K>) -> Vec<(u32, Vec<u8>)> {
@@ -30,21 +29,6 @@ fn stops<F: Tried, T: Tried>(from: &mut Pair<F>, to: &mut Pair<T>) -> Stopped {
     exported(from).into_iter().find_map(|(part, message)| {
         let (number, failed) = to.told(&message);
         (number != 0).then_some((part, number, failed))
-    })
-}
-
-/// What the rules say of it: the first part that is over the other's message size, or that holds more than its room.
-fn foreseen<F: Tried>(from: &Pair<F>, to: Limits) -> Stopped {
-    let (lines, channels) = from.set.counts();
-    (1..=Part::ALL.len() as u8).find_map(|part| {
-        let request = part_bytes(part, &from.set).expect("a part");
-        let stopped = match part {
-            _ if request.len() > to.message => Some((12, 0)),
-            1 if lines > to.lines => Some((2, to.lines as u8 + 2)),
-            4 if channels > to.channels => Some((2, 1)),
-            _ => None,
-        };
-        stopped.map(|(number, failed)| (part.into(), number, failed))
     })
 }
 
@@ -80,7 +64,7 @@ fn other() -> Pair<Handheld> {
 fn assert_stops(lines: usize, channels: usize, stopped: Stopped) {
     for mut to in [Pair::<Handheld>::fresh(), other()] {
         let mut from = holding::<Vehicle>(lines, channels);
-        assert_eq!(foreseen(&from, HANDHELD), stopped, "{lines} {channels}");
+        assert_eq!(foreseen(&from.set, &to.set), stopped, "{lines} {channels}");
         let mut before = to.clone();
         assert_eq!(stops(&mut from, &mut to), stopped, "{lines} {channels}");
         let taken = stopped.map_or(Part::ALL.len(), |(part, ..)| part as usize - 1);
@@ -130,6 +114,44 @@ fn how_long_part_1_is() {
     assert_eq!([32, 33, 83, 84, 128].map(length), [1_581, 1_630, 4_080, 4_129, 6_285]);
 }
 
+/// A vehicle with so many status texts and group slots of 16 units behind 64 quick texts of 23, all of them to a fresh hand-held and to another.
+#[test]
+fn texts_that_fit_and_texts_that_do_not() {
+    let (long, longer) = ("y".repeat(16), "y".repeat(23));
+    let slot = |index: u8| {
+        let units = "00 79 ".repeat(16);
+        otap_tests::bytes(&format!("D1 00 29 60 {index:02X} 10 00 01 {units} 00 00"))
+    };
+    for (texts, groups, fresh, other) in [
+        // The other's lines and quick text are gone when status texts come; its group slot, of 32 bytes, is not, and goes when it is itself overwritten or
+        // deleted, behind the others.
+        (35, 0, None, None),
+        (36, 0, None, Some((5, 2, 1))),
+        (37, 0, Some((5, 2, 1)), Some((5, 2, 1))),
+        (34, 1, None, None),
+        (35, 1, None, Some((6, 2, 1))),
+        (34, 2, None, Some((6, 2, 2))),
+        (33, 3, None, Some((6, 2, 3))),
+        (35, 2, Some((6, 2, 2)), Some((6, 2, 1))),
+        (20, 16, None, None),
+        (21, 16, Some((6, 2, 16)), Some((6, 2, 15))),
+        (96, 16, Some((5, 2, 1)), Some((5, 2, 1))),
+    ] {
+        let quick_texts: Vec<(u8, &str)> = (0..64).map(|index| (index, &longer[..])).collect();
+        let codes: Vec<(u8, &str)> = (32..32 + texts).map(|code| (code, &long[..])).collect();
+        let mut from = Pair::<Vehicle>::fresh();
+        let (most, last) = quick_texts.split_at(63);
+        let settings = [quick(Replace, most), quick(Add, last), status(Replace, &codes)];
+        let slots: Vec<_> = (0..groups).map(slot).collect();
+        assert_eq!(from.told(&request(&[&settings[..], &slots].concat())), (0, 0));
+        assert_eq!(stops(&mut from, &mut Pair::<Handheld>::fresh()), fresh, "{texts} {groups}");
+        let mut to = Pair::<Handheld>::fresh();
+        assert_eq!(to.told(&request(&[slot(15), lines(2), quick(Replace, &[(6, "C3")])])), (0, 0));
+        assert_eq!(foreseen(&from.set, &to.set), other, "{texts} {groups}");
+        assert_eq!(stops(&mut from, &mut to), other, "{texts} {groups}");
+    }
+}
+
 #[test]
 fn channels_that_fit_and_channels_that_do_not() {
     for (count, stopped) in
@@ -161,7 +183,7 @@ fn what_fits_goes_both_ways() {
     }
 }
 
-/// Whatever either holds: a hand-held's is taken by every vehicle and every set's by its own kind.
+/// Whatever either holds: a hand-held's is taken by every vehicle and by every fresh hand-held, and a vehicle's by every vehicle.
 #[test]
 fn a_handhelds_export_is_always_taken() {
     let (mut handheld, mut vehicle) = (Pair::<Handheld>::fresh(), Pair::<Vehicle>::fresh());
@@ -175,26 +197,44 @@ fn a_handhelds_export_is_always_taken() {
         assert_same(&mut handheld, &mut other);
         assert_same(&mut vehicle, &mut other);
         assert_same(&mut handheld.clone(), &mut handheld);
+        assert_same(&mut handheld, &mut Pair::<Handheld>::fresh());
     }
 }
 
-/// Whatever a vehicle holds, a hand-held stops where the rules say, or not at all, and then has the same tables.
+/// Whatever a vehicle holds, a hand-held stops where the rules say, or not at all, and then has the same tables. A fresh one does not stop exactly if lines,
+/// channels and texts fit.
 #[test]
 fn many_vehicles_to_many_handhelds() {
-    let mut met = [0; 3];
+    let mut met = [0; 4];
     for seed in 9_500..9_560 {
         let mut inputs = [Inputs::new(seed, VEHICLE), Inputs::new(!seed, HANDHELD)];
         let (mut from, mut to) = (Pair::<Vehicle>::fresh(), Pair::<Handheld>::fresh());
+        let mut random = Random::new(seed);
         for _ in 0..20 {
             from.commit(&inputs[0].message());
             to.commit(&inputs[1].message());
+            if seed % 2 == 0 {
+                // Lines and channels that fit, and more texts.
+                let none = request(&[lines(0), channels(Replace, &[])]);
+                assert_eq!(from.told(&none), (0, 0));
+                from.commit(&texts::fill(&mut random, &from.set).bytes());
+            }
+            let wanted = foreseen(&from.set, &to.set);
             let stopped = stops(&mut from, &mut to);
-            assert_eq!(stopped, foreseen(&from, HANDHELD), "seed {seed}");
+            assert_eq!(stopped, wanted, "seed {seed}");
             assert!(stopped.is_some() || to.set.tables == from.set.tables, "seed {seed}");
-            met[stopped.map_or(0, |(part, ..)| if part == 1 { 1 } else { 2 })] += 1;
+            let (lines, channels) = from.set.counts();
+            let fits = lines <= 32 && channels <= 64 && from.set.tables.text_bytes() <= 4_096;
+            assert_eq!(stops(&mut from, &mut Pair::<Handheld>::fresh()).is_none(), fits);
+            assert!(fits || stopped.is_some(), "seed {seed}");
+            met[stopped.map_or(0, |(part, ..)| match part {
+                1 => 1,
+                4 => 2,
+                _ => 3,
+            })] += 1;
         }
     }
-    println!("{met:?}: taken, stopped at the lines, at the channels");
+    println!("{met:?}: taken, stopped at the lines, at the channels, at texts");
     assert!(met.iter().all(|&times| times > 50), "{met:?}");
 }
 
@@ -238,7 +278,9 @@ fn sizes_of_both() {
         let (lines, channels) = (Set::<K>::MOST_LINES, Set::<K>::MOST_CHANNELS);
         assert_eq!(Set::<K>::EXPORT_ROOM, Set::<K>::LONGEST_MESSAGE);
         assert_eq!(Set::<K>::REPORT_ROOM, Set::<K>::LONGEST_MESSAGE);
-        Limits { lines, channels, message: Set::<K>::LONGEST_MESSAGE, store: Set::<K>::STORE_SIZE }
+        let (message, store) = (Set::<K>::LONGEST_MESSAGE, Set::<K>::STORE_SIZE);
+        let texts = Set::<K>::TEXT_BYTES.map_or(Texts::Placed, Texts::Shared);
+        Limits { lines, channels, message, store, texts }
     }
     assert_eq!((limits::<Handheld>(), limits::<Vehicle>()), (HANDHELD, VEHICLE));
     assert_eq!((otap::JOIN_ROOM, otap::VEHICLE_JOIN_ROOM), (HANDHELD.message, VEHICLE.message));

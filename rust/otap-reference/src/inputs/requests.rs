@@ -1,6 +1,7 @@
 //! Whole requests in good form, of several shapes.
 
 mod fills;
+pub mod texts;
 
 use super::draft::Draft;
 use super::maker::{Maker, Size};
@@ -10,7 +11,8 @@ use crate::reference::tables::Set;
 /// A request in good form; it may still find no room.
 pub fn request(random: &mut Random, set: &Set) -> Draft {
     match random.below(100) {
-        0..=38 => few(random, set),
+        0..=26 => few(random, set),
+        27..=38 => texts::fill(random, set),
         39..=46 => many(random, set),
         47..=54 => {
             let most = set.limits.message;

@@ -39,15 +39,16 @@ fn many(limits: Limits, count: u8) -> Vec<u8> {
 /// Whether these bytes with another order, zeros behind it, are a store.
 fn with_order(bytes: &[u8], limits: Limits, order: &[u8]) -> bool {
     let mut poked = bytes.to_vec();
-    poked[limits.order_at()..limits.spare_at()].fill(0);
-    poked[limits.order_at()..][..order.len()].copy_from_slice(order);
+    let at = limits.regions().order;
+    poked[at.clone()].fill(0);
+    poked[at.start..][..order.len()].copy_from_slice(order);
     is_store(&poked, limits)
 }
 
 /// Whether these bytes with one byte changed are a store; the first of the order is 0.
 fn with_byte(bytes: &[u8], limits: Limits, place: usize, byte: u8) -> bool {
     let mut poked = bytes.to_vec();
-    poked[limits.order_at() + place] = byte;
+    poked[limits.regions().order.start + place] = byte;
     is_store(&poked, limits)
 }
 
@@ -55,9 +56,14 @@ fn with_byte(bytes: &[u8], limits: Limits, place: usize, byte: u8) -> bool {
 fn the_order_of_four_lines() {
     let bytes = kept(&FOUR);
     assert!(is_store(&bytes, HANDHELD));
-    assert_eq!(bytes[14_526..14_530], [3, 1, 4, 2]);
-    assert!(is_empty(&bytes[14_530..]));
-    assert!(is_empty(&bytes[12_862 + 4 * 52..14_526]));
+    assert_eq!(bytes[2_222..2_226], [3, 1, 4, 2]);
+    assert!(is_empty(&bytes[2_226..2_254]));
+    assert!(is_empty(&bytes[1_550 + 4 * 21..2_222]));
+    let bytes = kept_by(VEHICLE, &FOUR);
+    assert!(is_store(&bytes, VEHICLE));
+    assert_eq!(bytes[19_902..19_906], [3, 1, 4, 2]);
+    assert!(is_empty(&bytes[19_906..]));
+    assert!(is_empty(&bytes[13_246 + 4 * 52..19_902]));
 }
 
 /// Of all arrangements of four names, and of four bytes with a name twice.
@@ -104,13 +110,13 @@ fn false_orders_of_four_lines() {
     }
 }
 
-/// Names or other bytes, in use or behind, in the order's last byte and in the first spare one.
+/// Names or other bytes, in use or behind, and in the order's last byte.
 #[test]
 fn every_byte_of_the_order() {
     let bytes = kept(&FOUR);
-    for place in 0..=32 {
+    for place in 0..32 {
         for byte in (0..=34).chain([64, 127, 128, 254, 255]) {
-            let right = bytes[14_526 + place];
+            let right = bytes[2_222 + place];
             assert_eq!(with_byte(&bytes, HANDHELD, place, byte), byte == right, "{place}: {byte}");
         }
     }
@@ -119,7 +125,7 @@ fn every_byte_of_the_order() {
 #[test]
 fn no_lines_have_no_order() {
     let bytes = kept(&[]);
-    assert!(is_store(&bytes, HANDHELD) && is_empty(&bytes[12_860..]));
+    assert!(is_store(&bytes, HANDHELD) && is_empty(&bytes[1_548..]));
     for place in 0..32 {
         for byte in [1, 2, 32, 33, 255] {
             assert!(!with_byte(&bytes, HANDHELD, place, byte), "{place}: {byte}");
@@ -143,7 +149,7 @@ fn a_full_order() {
     for (limits, count) in [(HANDHELD, 31), (HANDHELD, 32), (VEHICLE, 127), (VEHICLE, 128)] {
         let bytes = many(limits, count);
         assert!(is_store(&bytes, limits), "{count}");
-        let order = bytes[limits.order_at()..][..usize::from(count)].to_vec();
+        let order = bytes[limits.regions().order.start..][..usize::from(count)].to_vec();
         assert_eq!((1..=count).filter(|name| order.contains(name)).count(), order.len());
         for place in 0..order.len() {
             let next = order[(place + 1) % order.len()];
@@ -157,11 +163,11 @@ fn a_full_order() {
     }
 }
 
-/// A key that changes moves its line in the order; flags and text do not.
+/// A key that changes moves its line in the order; flags do not, and nor does a text.
 #[test]
 fn the_order_follows_the_keys() {
     let bytes = kept(&FOUR);
-    let slot = |position: usize| 12_862 + position * 52;
+    let slot = |position: usize| 1_550 + position * 21;
     let changed = |place: usize, byte: u8, order: &[u8]| {
         let mut poked = bytes.clone();
         poked[place] = byte;
@@ -176,6 +182,6 @@ fn the_order_follows_the_keys() {
     assert_eq!(changed(slot(3) + 2, 1, &[4, 3, 1, 2]), (false, true), "0");
     for position in 0..4 {
         assert_eq!(changed(slot(position), 15, &[3, 1, 4, 2]), (true, true), "flags");
-        assert_eq!(changed(slot(position) + 20, 0, &[3, 1, 4, 2]), (true, true), "text");
+        assert_eq!(changed(2_254 + 2 * position, 0, &[3, 1, 4, 2]), (true, true), "text");
     }
 }

@@ -2,7 +2,7 @@
 
 pub mod bits;
 #[cfg(test)]
-mod by_hand;
+pub(crate) mod by_hand;
 pub mod callers;
 pub mod commit;
 pub mod export;

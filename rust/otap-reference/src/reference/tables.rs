@@ -1,6 +1,6 @@
 //! The tables and what each operation does to them.
 
-use super::limits::Limits;
+use super::limits::{Limits, Texts};
 use super::message::Hash;
 pub use super::settings::Line;
 use super::settings::{
@@ -11,6 +11,8 @@ use super::texts::Text;
 
 #[cfg(test)]
 mod contact_tests;
+#[cfg(test)]
+mod room_tests;
 #[cfg(test)]
 mod tests;
 
@@ -125,8 +127,36 @@ fn apply_keyed<T: Keyed>(
 }
 
 impl Tables {
-    /// Applies one setting by the room of a set; without room the tables are left half changed, for the caller to drop.
+    /// Applies one setting by the room of a set; without room the tables are left changed, for the caller to drop.
     pub fn apply(&mut self, setting: Setting, limits: Limits) -> Result<(), NoRoom> {
+        self.change(setting, limits)?;
+        match limits.texts {
+            // Of the whole setting: while it acts, its texts may pass the area.
+            Texts::Shared(area) if self.text_bytes() > area => Err(NoRoom),
+            _ => Ok(()),
+        }
+    }
+
+    /// The texts of all tables: by table in the order in which a store has them, and then by row.
+    pub fn texts(&self) -> impl Iterator<Item = &Text> {
+        let quick_and_status = self.quick_texts.iter().chain(&self.status_texts).flatten();
+        let groups = self.groups.iter().flatten().map(|group| &group.text);
+        let individuals = self.individuals.iter().flatten().map(|individual| &individual.text);
+        let line_slots = self.line_slots.iter().flatten().map(|line| &line.text);
+        let group_contacts = self.group_contacts.iter().map(|group| &group.text);
+        let individual_contacts = self.individual_contacts.iter().map(|one| &one.text);
+        let lines = self.lines.iter().map(|line| &line.text);
+        let slots = groups.chain(individuals).chain(line_slots);
+        quick_and_status.chain(slots).chain(group_contacts).chain(individual_contacts).chain(lines)
+    }
+
+    /// What they take in a shared area.
+    pub fn text_bytes(&self) -> usize {
+        self.texts().map(|text| 2 * text.len()).sum()
+    }
+
+    /// What a setting does to its table, by the places that a set has.
+    fn change(&mut self, setting: Setting, limits: Limits) -> Result<(), NoRoom> {
         match setting {
             Setting::GroupContacts { operation, flags, entries } => {
                 let new = entries.into_iter().map(|entry| flags.of(entry.address, entry.text));

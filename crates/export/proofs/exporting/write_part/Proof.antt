@@ -45,7 +45,7 @@ returns c =
     let a = s .args in
     let k = c .before .before .before .before .before .span-of in
     let w = c .before .before .write-held in
-    λ x. part-written (a .limits) (a .store .now) (a .buffer .now) (w .last .0) (w .result) x (s .pre .2) (a .part) (k .result .0) (k .result .1) (k .ensures .0) (k .ensures .1) (omega arith) (w .ensures)
+    λ x. part-written (a .limits) (a .work .now) (a .buffer .now) (w .last .0) (w .result) x (s .pre .2) (a .part) (k .result .0) (k .result .1) (k .ensures .0) (k .ensures .1) (omega arith) (w .ensures)
 
 pub write-part-spec : {M : Type 1} → statement M
 write-part-spec =

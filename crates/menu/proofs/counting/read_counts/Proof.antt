@@ -1,20 +1,17 @@
-use Rattle.lists.proofs.Kit.{needs, arith, _+_, _*_, _-_}
-use Rattle.tables.specs.Layout.{channels-size, count-size, line-width, lines-at, channels-at}
+use Rattle.lists.proofs.Kit.{needs, arith, _+_, _-_}
+use Rattle.tables.specs.Layout.{count-size}
 use Rattle.menu.proofs.CountLaws.{counts-read}
 use Rattle.menu.proofs.counting.read_counts.Statement.{statement}
 use Rattle.menu.proofs.counting.read_counts.Tie as tie
 
-mul-lines : tie.Need-mul-lines
-mul-lines c = search needs
+channels-at-requires : tie.Need-channels-at-requires
+channels-at-requires c κs = search needs
 
-add-lines : tie.Need-add-lines
-add-lines c = search needs
+lines-at-requires : tie.Need-lines-at-requires
+lines-at-requires c κs = search needs
 
-add-lines-2 : tie.Need-add-lines-2
-add-lines-2 c = search needs
-
-mul-order : tie.Need-mul-order
-mul-order c = search needs
+line-slots-requires : tie.Need-line-slots-requires
+line-slots-requires c κs = search needs
 
 add-order : tie.Need-add-order
 add-order c = search needs
@@ -46,26 +43,32 @@ part-count-end-2 c = search needs
 count-requires-2 : tie.Need-count-requires-2
 count-requires-2 c κs = search needs
 
-cast-t15 : tie.Need-cast-t15
-cast-t15 c = search needs
-
 cast-t16 : tie.Need-cast-t16
 cast-t16 c = search needs
 
+cast-t17 : tie.Need-cast-t17
+cast-t17 c = search needs
+
 returns : tie.Need-returns
 returns c =
-    let s = c .before .before .before .before .before .before .before in
+    let s = c .before .before .before .before .before .before .before .before in
     let a = s .args in
-    counts-read (a .limits) (s .pre .0) (a .store .now) (lines-at (a .limits) + (count-size + a .limits .lines * line-width) - lines-at (a .limits)) (channels-at + channels-size (a .limits) - channels-at) (omega arith) (omega arith) (c .before .before .count .result) (c .count2 .result) (c .before .before .count .ensures) (c .count2 .ensures)
+    let channels = c .before .before .before .before .before .before .channels-at in
+    let lines = c .before .before .before .before .before .lines-at in
+    let slots = c .before .before .before .before .line-slots in
+    let at = lines .ensures .2 (s .pre .0 .few-channels) in
+    counts-read (a .limits) (s .pre .0) (a .store .now)
+    (lines .result) (lines .result + (count-size + slots .result) - lines .result) (channels .result) (lines .result - channels .result)
+    (at .0) (omega (arith, slots .ensures .1 (s .pre .0 .few-lines))) (channels .ensures .0) (omega (arith, channels .ensures .0, at .1))
+    (c .before .before .count .result) (c .count2 .result) (c .before .before .count .ensures) (c .count2 .ensures)
 
 pub read-counts-spec : {M : Type 1} → statement M
 read-counts-spec =
     tie.close
     (tie.spec
-    mul-lines
-    add-lines
-    add-lines-2
-    mul-order
+    channels-at-requires
+    lines-at-requires
+    line-slots-requires
     add-order
     add-order-2
     sub-count
@@ -76,6 +79,6 @@ read-counts-spec =
     part-count-start-2
     part-count-end-2
     count-requires-2
-    cast-t15
     cast-t16
+    cast-t17
     returns)

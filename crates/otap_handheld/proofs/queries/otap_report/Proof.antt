@@ -3,6 +3,9 @@ use Rattle.reporting.proofs.ReportLaws.{handheld-reportable}
 use Rattle.otap_handheld.proofs.queries.otap_report.Statement.{statement}
 use Rattle.otap_handheld.proofs.queries.otap_report.Tie as tie
 
+slice-aggregate-packed-report : tie.Need-slice-aggregate-packed-report
+slice-aggregate-packed-report c = search needs
+
 packed-report-requires : tie.Need-packed-report-requires
 packed-report-requires c κs = search needs
 
@@ -10,7 +13,7 @@ same-length : tie.Need-same-length
 same-length c = search needs
 
 returns : tie.Need-returns
-returns c = c .before .before .packed-report .ensures handheld-reportable
+returns c = c .before .before .before .packed-report .ensures handheld-reportable (search needs)
 
 pub otap-report-spec : {M : Type 1} → statement M
-otap-report-spec = tie.close (tie.spec packed-report-requires same-length returns)
+otap-report-spec = tie.close (tie.spec slice-aggregate-packed-report packed-report-requires same-length returns)

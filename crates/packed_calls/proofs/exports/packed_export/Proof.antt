@@ -12,10 +12,13 @@ pack-export-requires c κs = search needs
 same-length : tie.Need-same-length
 same-length c = search needs
 
+same-length-2 : tie.Need-same-length-2
+same-length-2 c = search needs
+
 returns : tie.Need-returns
 returns c =
-    let x = c .before .before .before .export-in in
-    λ ok. exports-packed _ ok _ _ _ _ (x .result) (c .pack-export .result) (x .ensures .1 (ok .exportable)) (c .pack-export .ensures)
+    let x = c .before .before .before .before .before .export-in in
+    λ ok lent. exports-packed _ ok _ _ _ _ (x .result) (c .pack-export .result) (x .ensures .1 (ok .exportable) lent) (c .pack-export .ensures)
 
 pub packed-export-spec : {M : Type 1} → statement M
-packed-export-spec = tie.close (tie.spec export-in-requires pack-export-requires same-length returns)
+packed-export-spec = tie.close (tie.spec export-in-requires pack-export-requires same-length same-length-2 returns)

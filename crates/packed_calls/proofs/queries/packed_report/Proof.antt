@@ -13,11 +13,14 @@ pack-report-requires c κs = search needs
 same-length : tie.Need-same-length
 same-length c = search needs
 
+same-length-2 : tie.Need-same-length-2
+same-length-2 c = search needs
+
 returns : tie.Need-returns
 returns c =
-    let x = c .before .before .before .report-in in
-    let a = c .before .before .before .before .before .before .before .before .args in
-    λ can. report-packed _ _ _ _ _ (bytes-all (a .query .now) (λ i. (c .before .before .before .before .before .before .before .shared-slice-known .given i) .fits)) can _ (x .result) (c .pack-report .result) (x .ensures can) (c .pack-report .ensures)
+    let x = c .before .before .before .before .before .report-in in
+    let a = c .before .before .before .before .before .before .before .before .before .before .before .before .args in
+    λ can lent. report-packed _ _ _ _ _ (bytes-all (a .query .now) (λ i. (c .before .before .before .before .before .before .before .before .before .before .before .shared-slice-known .given i) .fits)) can _ (x .result) (c .pack-report .result) (x .ensures can lent) (c .pack-report .ensures)
 
 pub packed-report-spec : {M : Type 1} → statement M
-packed-report-spec = tie.close (tie.spec report-in-requires pack-report-requires same-length returns)
+packed-report-spec = tie.close (tie.spec report-in-requires pack-report-requires same-length same-length-2 returns)

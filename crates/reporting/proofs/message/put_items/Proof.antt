@@ -4,15 +4,15 @@ use Rattle.reporting.proofs.message.put_items.Statement.{statement}
 use Rattle.reporting.proofs.message.put_items.Tie as tie
 
 abbrev Inv-loop : tie.InvT-loop
-Inv-loop buffer₀ types store limits ask₀ spot₀ buffer ask spot = (length buffer ≡ length buffer₀) × (spot .rank ≤ spot .place) × Putting limits types store ask₀ spot₀ buffer₀ ask buffer spot
+Inv-loop buffer₀ types work limits ask₀ spot₀ buffer ask spot = (length buffer ≡ length buffer₀) × (spot .rank ≤ spot .place) × Putting limits types work ask₀ spot₀ buffer₀ ask buffer spot
 
 abbrev μ-loop : tie.MeasureT-loop
-μ-loop buffer₀ types store limits ask₀ spot₀ buffer ask spot = length types - ask
+μ-loop buffer₀ types work limits ask₀ spot₀ buffer ask spot = length types - ask
 
 loop-holds : tie.Need-loop-holds Inv-loop μ-loop
 loop-holds c =
     let a = c .before .before .before .before .args in
-    (refl, c .before .before .before .before .pre .2, putting-start (a .limits) (a .types .now) (a .store .now) (a .plan .from .ask) (record { end = 10; place = a .plan .from .place; rank = a .plan .from .rank; left = a .plan .own }) (a .buffer .now))
+    (refl, c .before .before .before .before .pre .2, putting-start (a .limits) (a .types .now) (a .work .now) (a .plan .from .ask) (record { end = 10; place = a .plan .from .place; rank = a .plan .from .rank; left = a .plan .own }) (a .buffer .now))
 
 same-length : tie.Need-same-length Inv-loop μ-loop
 same-length c = search needs
@@ -21,7 +21,7 @@ returns : tie.Need-returns Inv-loop μ-loop
 returns c =
     let a = c .before .before .before .before .before .before .before .before .args in
     let l = c .before .before .before .loop in
-    putting-full (a .limits) (a .types .now) (a .store .now) (a .plan .from .ask) (record { end = 10; place = a .plan .from .place; rank = a .plan .from .rank; left = a .plan .own }) (a .buffer .now) (l .ask) (l .buffer) (l .spot) (l .inv .2) (c .if1 .taken)
+    putting-full (a .limits) (a .types .now) (a .work .now) (a .plan .from .ask) (record { end = 10; place = a .plan .from .place; rank = a .plan .from .rank; left = a .plan .own }) (a .buffer .now) (l .ask) (l .buffer) (l .spot) (l .inv .2) (c .if1 .taken)
 
 shared-slice-read-byte : tie.Need-shared-slice-read-byte Inv-loop μ-loop
 shared-slice-read-byte c = search needs
@@ -42,7 +42,7 @@ loop-again c =
     let a = c .before .before .before .before .before .before .before .before .before .before .before .before .before .args in
     let l = c .before .before .before .before .before .before .before .before .loop in
     let w = c .before .before .put-type in
-    (omega arith, omega (arith, w .ensures .first .0, w .ensures .first .1), putting-more (a .limits) (a .types .now) (a .store .now) (a .plan .from .ask) (record { end = 10; place = a .plan .from .place; rank = a .plan .from .rank; left = a .plan .own }) (a .buffer .now) (l .ask) (l .buffer) (w .last .0) (l .spot) (w .result) (omega arith) (l .inv .2) (w .ensures))
+    (omega arith, omega (arith, w .ensures .first .0, w .ensures .first .1), putting-more (a .limits) (a .types .now) (a .work .now) (a .plan .from .ask) (record { end = 10; place = a .plan .from .place; rank = a .plan .from .rank; left = a .plan .own }) (a .buffer .now) (l .ask) (l .buffer) (w .last .0) (l .spot) (w .result) (omega arith) (l .inv .2) (w .ensures))
 
 same-length-2 : tie.Need-same-length-2 Inv-loop μ-loop
 same-length-2 c = search needs
@@ -51,7 +51,7 @@ returns-2 : tie.Need-returns-2 Inv-loop μ-loop
 returns-2 c =
     let a = c .before .before .before .before .before .before .args in
     let l = c .before .loop in
-    putting-end (a .limits) (a .types .now) (a .store .now) (a .plan .from .ask) (record { end = 10; place = a .plan .from .place; rank = a .plan .from .rank; left = a .plan .own }) (a .buffer .now) (l .ask) (l .buffer) (l .spot) (l .inv .2) (omega arith)
+    putting-end (a .limits) (a .types .now) (a .work .now) (a .plan .from .ask) (record { end = 10; place = a .plan .from .place; rank = a .plan .from .rank; left = a .plan .own }) (a .buffer .now) (l .ask) (l .buffer) (l .spot) (l .inv .2) (omega arith)
 
 pub put-items-spec : {M : Type 1} → statement M
 put-items-spec =

@@ -18,7 +18,7 @@ returns c =
     let a = c .before .before .before .before .before .before .args in
     let p = c .before .before .before .before .before .before .pre in
     let w = c .before .before .write-place in
-    put-empty (a .limits) (a .asked) (a .store .now) (a .spot) (a .buffer .now) _ (w .last .0) (w .result) (p .2) (p .3) (omega arith) (w .ensures) (c .if1 .taken)
+    put-empty (a .limits) (a .asked) (a .work .now) (a .spot) (a .buffer .now) _ (w .last .0) (w .result) (p .2) (p .3) (omega arith) (w .ensures) (c .if1 .taken)
 
 sub-put-bytes : tie.Need-sub-put-bytes
 sub-put-bytes c = search needs
@@ -49,7 +49,7 @@ returns-2 c =
     let a = c .before .before .before .before .before .before .before .before .before .before .before .before .args in
     let p = c .before .before .before .before .before .before .before .before .before .before .before .before .pre in
     let w = c .before .before .before .before .before .before .before .before .write-place in
-    put-used (a .limits) (a .asked) (a .store .now) (a .spot) (a .buffer .now) _ (w .last .0) (w .result) (p .2) (p .3) (omega arith) (w .ensures) (c .before .before .put-bytes .last .0) (c .before .before .put-bytes .result) (c .before .before .before .before .before .before .if1 .left) (p .4) (c .before .before .put-bytes .ensures)
+    put-used (a .limits) (a .asked) (a .work .now) (a .spot) (a .buffer .now) _ (w .last .0) (w .result) (p .2) (p .3) (omega arith) (w .ensures) (c .before .before .put-bytes .last .0) (c .before .before .put-bytes .result) (c .before .before .before .before .before .before .if1 .left) (p .4) (c .before .before .put-bytes .ensures)
 
 pub put-place-spec : {M : Type 1} → statement M
 put-place-spec =

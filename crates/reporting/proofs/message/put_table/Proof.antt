@@ -4,10 +4,10 @@ use Rattle.reporting.proofs.message.put_table.Statement.{statement}
 use Rattle.reporting.proofs.message.put_table.Tie as tie
 
 abbrev Inv-loop : tie.InvT-loop
-Inv-loop buffer₀ asked store limits places s₀ buffer s = (length buffer ≡ length buffer₀) × (s .rank ≤ s .place) × Passing limits asked store s₀ buffer₀ buffer s
+Inv-loop buffer₀ asked work limits places s₀ buffer s = (length buffer ≡ length buffer₀) × (s .rank ≤ s .place) × Passing limits asked work s₀ buffer₀ buffer s
 
 abbrev μ-loop : tie.MeasureT-loop
-μ-loop buffer₀ asked store limits places s₀ buffer s = places - s .place
+μ-loop buffer₀ asked work limits places s₀ buffer s = places - s .place
 
 places-of-requires : tie.Need-places-of-requires Inv-loop μ-loop
 places-of-requires c κs = search needs
@@ -15,7 +15,7 @@ places-of-requires c κs = search needs
 loop-holds : tie.Need-loop-holds Inv-loop μ-loop
 loop-holds c =
     let a = c .before .before .before .args in
-    (refl, c .before .before .before .pre .2, passing-start (a .limits) (a .asked) (a .store .now) (a .spot) (a .buffer .now))
+    (refl, c .before .before .before .pre .2, passing-start (a .limits) (a .asked) (a .work .now) (a .spot) (a .buffer .now))
 
 same-length : tie.Need-same-length Inv-loop μ-loop
 same-length c = search needs
@@ -24,7 +24,7 @@ returns : tie.Need-returns Inv-loop μ-loop
 returns c =
     let a = c .before .before .before .before .before .before .before .before .args in
     let l = c .before .before .before .before .loop in
-    passing-full (a .limits) (a .asked) (a .store .now) (a .spot) (a .buffer .now) (l .buffer) (l .s) (l .inv .2) (c .if2 .taken)
+    passing-full (a .limits) (a .asked) (a .work .now) (a .spot) (a .buffer .now) (l .buffer) (l .s) (l .inv .2) (c .if2 .taken)
 
 put-place-requires : tie.Need-put-place-requires Inv-loop μ-loop
 put-place-requires c κs =
@@ -39,7 +39,7 @@ loop-again c =
     let a = c .before .before .before .before .before .before .before .before .before .before .before .before .args in
     let l = c .before .before .before .before .before .before .before .before .loop in
     let w = c .before .before .put-place in
-    (omega arith, w .ensures .ranked, passing-more (a .limits) (a .asked) (a .store .now) (a .spot) (a .buffer .now) (l .buffer) (w .last .0) (l .s) (w .result) (l .inv .2) (w .ensures))
+    (omega arith, w .ensures .ranked, passing-more (a .limits) (a .asked) (a .work .now) (a .spot) (a .buffer .now) (l .buffer) (w .last .0) (l .s) (w .result) (l .inv .2) (w .ensures))
 
 same-length-2 : tie.Need-same-length-2 Inv-loop μ-loop
 same-length-2 c = search needs
@@ -48,7 +48,7 @@ returns-2 : tie.Need-returns-2 Inv-loop μ-loop
 returns-2 c =
     let a = c .before .before .before .before .before .before .args in
     let l = c .before .before .loop in
-    passing-end (a .limits) (a .asked) (a .store .now) (a .spot) (a .buffer .now) (l .buffer) (l .s) (l .inv .2) (omega (arith, c .before .before .before .places-of .ensures))
+    passing-end (a .limits) (a .asked) (a .work .now) (a .spot) (a .buffer .now) (l .buffer) (l .s) (l .inv .2) (omega (arith, c .before .before .before .places-of .ensures))
 
 pub put-table-spec : {M : Type 1} → statement M
 put-table-spec =

@@ -26,7 +26,7 @@ returns : tie.Need-returns
 returns c =
     let a = c .before .before .before .before .before .before .before .before .before .before .args in
     let w = c .before .before .put-bytes in
-    error-put (a .limits) (a .byte) (a .store .now) (a .spot) (a .buffer .now) (w .last .0) (w .result) _ (omega arith) (subst (AskedIs (a .byte)) (c .before .before .before .before .before .enum-told .given .1) (c .before .before .before .before .before .before .before .asked-by .ensures)) (omega arith) (c .before .before .before .before .before .before .before .before .before .before .pre .3) (w .ensures)
+    error-put (a .limits) (a .byte) (a .work .now) (a .spot) (a .buffer .now) (w .last .0) (w .result) _ (omega arith) (subst (AskedIs (a .byte)) (c .before .before .before .before .before .enum-told .given .1) (c .before .before .before .before .before .before .before .asked-by .ensures)) (omega arith) (c .before .before .before .before .before .before .before .before .before .before .pre .3) (w .ensures)
 
 put-table-requires : tie.Need-put-table-requires
 put-table-requires c κs = search needs
@@ -38,7 +38,7 @@ returns-2 : tie.Need-returns-2
 returns-2 c =
     let a = c .before .before .before .before .before .before .before .before .before .before .args in
     let w = c .before .before .put-table in
-    type-put (a .limits) (a .byte) (a .store .now) (a .spot) (a .buffer .now) (w .last .0) _ (w .result) (subst (AskedIs (a .byte)) (c .before .before .before .before .before .asked .given .1) (c .before .before .before .before .before .before .before .asked-by .ensures)) (w .ensures)
+    type-put (a .limits) (a .byte) (a .work .now) (a .spot) (a .buffer .now) (w .last .0) _ (w .result) (subst (AskedIs (a .byte)) (c .before .before .before .before .before .asked .given .1) (c .before .before .before .before .before .before .before .asked-by .ensures)) (w .ensures)
 
 pub put-type-spec : {M : Type 1} → statement M
 put-type-spec =

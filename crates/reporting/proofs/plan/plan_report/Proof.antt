@@ -5,15 +5,15 @@ use Rattle.reporting.proofs.plan.plan_report.Statement.{statement}
 use Rattle.reporting.proofs.plan.plan_report.Tie as tie
 
 abbrev Inv-loop : tie.InvT-loop
-Inv-loop types store limits room j w₀ ask₀ w ask = (ask ≤ length types) × Planning limits types store room j ask w
+Inv-loop types work limits room j w₀ ask₀ w ask = (ask ≤ length types) × Planning limits types work room j ask w
 
 abbrev μ-loop : tie.MeasureT-loop
-μ-loop types store limits room j w₀ ask₀ w ask = length types - ask
+μ-loop types work limits room j w₀ ask₀ w ask = length types - ask
 
 loop-holds : tie.Need-loop-holds Inv-loop μ-loop
 loop-holds c =
     let a = c .before .before .args in
-    (omega arith, planning-start (a .limits) (a .types .now) (a .store .now) (a .room) (a .j))
+    (omega arith, planning-start (a .limits) (a .types .now) (a .work .now) (a .room) (a .j))
 
 shared-slice-read-asked-by : tie.Need-shared-slice-read-asked-by Inv-loop μ-loop
 shared-slice-read-asked-by c = search needs
@@ -37,7 +37,7 @@ returns : tie.Need-returns Inv-loop μ-loop
 returns c =
     let a = c .before .before .before .before .before .before .before .before .before .args in
     let l = c .before .before .before .before .before .before .loop in
-    planning-unknown (a .limits) (a .types .now) (a .store .now) (a .room) (a .j) (l .ask) (l .w) (c .step .result) (omega arith) (omega (arith, c .before .before .before .before .before .before .before .before .before .pre .2)) (l .inv .1) (subst (AskedIs _) (c .before .enum-told .given .1) (c .before .before .before .asked-by .ensures)) (c .step .ensures)
+    planning-unknown (a .limits) (a .types .now) (a .work .now) (a .room) (a .j) (l .ask) (l .w) (c .step .result) (omega arith) (omega (arith, c .before .before .before .before .before .before .before .before .before .pre .2)) (l .inv .1) (subst (AskedIs _) (c .before .enum-told .given .1) (c .before .before .before .asked-by .ensures)) (c .step .ensures)
 
 plan-table-requires : tie.Need-plan-table-requires Inv-loop μ-loop
 plan-table-requires c κs =
@@ -55,13 +55,13 @@ loop-again : tie.Need-loop-again Inv-loop μ-loop
 loop-again c =
     let a = c .before .before .before .before .before .before .before .before .before .before .args in
     let l = c .before .before .before .before .before .before .before .loop in
-    (omega arith, planning-turn (a .limits) (a .types .now) (a .store .now) (a .room) (a .j) (l .ask) (l .w) (c .plan-table .result) _ (omega arith) (l .inv .1) (subst (AskedIs _) (c .before .before .asked .given .1) (c .before .before .before .before .asked-by .ensures)) (c .plan-table .ensures))
+    (omega arith, planning-turn (a .limits) (a .types .now) (a .work .now) (a .room) (a .j) (l .ask) (l .w) (c .plan-table .result) _ (omega arith) (l .inv .1) (subst (AskedIs _) (c .before .before .asked .given .1) (c .before .before .before .before .asked-by .ensures)) (c .plan-table .ensures))
 
 returns-2 : tie.Need-returns-2 Inv-loop μ-loop
 returns-2 c =
     let a = c .before .before .before .before .args in
     let l = c .before .loop in
-    planning-end (a .limits) (a .types .now) (a .store .now) (a .room) (a .j) (l .ask) (l .w) (omega arith) (omega (arith, c .before .before .before .before .pre .2)) (l .inv .1)
+    planning-end (a .limits) (a .types .now) (a .work .now) (a .room) (a .j) (l .ask) (l .w) (omega arith) (omega (arith, c .before .before .before .before .pre .2)) (l .inv .1)
 
 pub plan-report-spec : {M : Type 1} → statement M
 plan-report-spec =

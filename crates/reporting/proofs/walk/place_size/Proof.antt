@@ -13,7 +13,7 @@ returns : tie.Need-returns
 returns c =
     let a = c .before .before .before .before .args in
     let w = c .before .write-place in
-    size-is (a .limits) (a .asked) (a .store .now) (a .place) (a .rank) _ (w .last .0) (w .result) (omega arith) (w .ensures)
+    size-is (a .limits) (a .asked) (a .work .now) (a .place) (a .rank) _ (w .last .0) (w .result) (omega arith) (w .ensures)
 
 pub place-size-spec : {M : Type 1} → statement M
 place-size-spec = tie.close (tie.spec slice-aggregate-write-place write-place-requires returns)

@@ -49,7 +49,7 @@ returns : tie.Need-returns
 returns c =
     let a = c .before .before .before .before .before .before .before .before .before .args in
     let w = c .before .before .write-item in
-    place-written (a .limits) (a .asked) (c .before .before .before .before .before .start-of .ensures) (c .before .before .before .before .before .before .width-of .ensures) (a .place) (c .before .before .before .before .before .before .before .before .before .pre .2) (a .store .now) (a .rank) (a .scratch .now) (w .last .0) (w .result) (w .ensures)
+    place-written (a .limits) (a .asked) (c .before .before .before .before .before .start-of .ensures) (c .before .before .before .before .before .before .width-of .ensures) (a .place) (c .before .before .before .before .before .before .before .before .before .pre .2) (a .work .now) (a .rank) (a .scratch .now) (w .last .0) (w .result) (w .ensures)
 
 pub write-place-spec : {M : Type 1} → statement M
 write-place-spec =

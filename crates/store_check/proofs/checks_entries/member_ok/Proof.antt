@@ -18,10 +18,10 @@ individual-ok-requires : tie.Need-individual-ok-requires
 individual-ok-requires c κs = search needs
 
 returns : tie.Need-returns
-returns c = entry-told (c .group-ok .result) (c .before .before .before .before .args .s .now) (Of (c .before .before .before .before .args .who)) (Of OfGroups) (ap Of (c .before .enum-told .given .1)) (c .group-ok .ensures)
+returns c = entry-told (c .before .before .before .before .args .form) (c .group-ok .result) (c .before .before .before .before .args .s .now) (Of (c .before .before .before .before .args .who)) (Of OfGroups) (ap Of (c .before .enum-told .given .1)) (c .group-ok .ensures)
 
 returns-2 : tie.Need-returns-2
-returns-2 c = entry-told (c .individual-ok .result) (c .before .before .before .before .args .s .now) (Of (c .before .before .before .before .args .who)) (Of OfIndividuals) (ap Of (c .before .enum-told2 .given .1)) (c .individual-ok .ensures)
+returns-2 c = entry-told (c .before .before .before .before .args .form) (c .individual-ok .result) (c .before .before .before .before .args .s .now) (Of (c .before .before .before .before .args .who)) (Of OfIndividuals) (ap Of (c .before .enum-told2 .given .1)) (c .individual-ok .ensures)
 
 pub member-ok-spec : {M : Type 1} → statement M
 member-ok-spec =

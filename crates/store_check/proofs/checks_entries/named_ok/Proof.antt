@@ -1,7 +1,6 @@
-use Rattle.lists.proofs.Kit.{needs, arith}
+use Rattle.lists.proofs.Kit.{needs}
 use Rattle.tables.proofs.AnswerLaws.{refused, not-said, was-said, turned}
 use Rattle.store_check.proofs.EntryChecks.{member-is}
-use Rattle.slots.proofs.Tables.{slot-wide}
 use Rattle.store_check.proofs.checks_entries.named_ok.Statement.{statement}
 use Rattle.store_check.proofs.checks_entries.named_ok.Tie as tie
 
@@ -18,7 +17,9 @@ address-ok-requires : tie.Need-address-ok-requires
 address-ok-requires c κs = search needs
 
 returns : tie.Need-returns
-returns c = refused (λ x. not-said (c .before .address-ok .result) (c .before .address-ok .ensures) (c .if1 .taken) (member-is (c .before .before .before .before .args .s .now) (c .before .before .before .before .pre) .1 x .0))
+returns c =
+    let a = c .before .before .before .before .args in
+    refused (λ x. not-said (c .before .address-ok .result) (c .before .address-ok .ensures) (c .if1 .taken) (member-is (a .form) (a .s .now) .1 x .0))
 
 sub-text-ok : tie.Need-sub-text-ok
 sub-text-ok c = search needs
@@ -34,9 +35,10 @@ text-ok-requires c κs = search needs
 
 returns-2 : tie.Need-returns-2
 returns-2 c =
-    let t = member-is (c .before .before .before .before .before .before .args .s .now) (c .before .before .before .before .before .before .pre) in
+    let b = c .before .before .before .before .before .before .args in
+    let t = member-is (b .form) (b .s .now) in
     let a = was-said (c .before .before .before .address-ok .result) (c .before .before .before .address-ok .ensures) (c .before .before .if1 .left) in
-    turned (c .text-ok .result) (c .text-ok .ensures 16 (slot-wide (c .before .before .before .before .before .before .args .s .now) 3 32 (omega arith))) (λ x. t .0 (a, x)) (λ x. t .1 x .1)
+    turned (c .text-ok .result) (c .text-ok .ensures) (λ x. t .0 (a, x)) (λ x. t .1 x .1)
 
 pub named-ok-spec : {M : Type 1} → statement M
 named-ok-spec =

@@ -1,6 +1,5 @@
 use Rattle.lists.proofs.Kit.{needs}
 use Rattle.tables.proofs.AnswerLaws.{refused, not-said, was-said, turned}
-use Rattle.store_check.proofs.FixedChecks.{fixed-is}
 use Rattle.store_check.proofs.checks_fixed.fixed_ok.Statement.{statement}
 use Rattle.store_check.proofs.checks_fixed.fixed_ok.Tie as tie
 
@@ -17,7 +16,7 @@ hash-ok-requires : tie.Need-hash-ok-requires
 hash-ok-requires c κs = search needs
 
 returns : tie.Need-returns
-returns c = refused (λ x. not-said (c .before .hash-ok .result) (c .before .hash-ok .ensures) (c .if1 .taken) (fixed-is (c .before .before .before .before .args .s .now) (c .before .before .before .before .pre) .1 x .0))
+returns c = refused (λ x. not-said (c .before .hash-ok .result) (c .before .hash-ok .ensures) (c .if1 .taken) (x .0))
 
 sub-key-ok : tie.Need-sub-key-ok
 sub-key-ok c = search needs
@@ -32,7 +31,7 @@ key-ok-requires : tie.Need-key-ok-requires
 key-ok-requires c κs = search needs
 
 returns-2 : tie.Need-returns-2
-returns-2 c = refused (λ x. not-said (c .before .key-ok .result) (c .before .key-ok .ensures) (c .if2 .taken) (fixed-is (c .before .before .before .before .before .before .before .args .s .now) (c .before .before .before .before .before .before .before .pre) .1 x .1 .0))
+returns-2 c = refused (λ x. not-said (c .before .key-ok .result) (c .before .key-ok .ensures) (c .if2 .taken) (x .1 .0))
 
 sub-home-ok : tie.Need-sub-home-ok
 sub-home-ok c = search needs
@@ -47,7 +46,7 @@ home-ok-requires : tie.Need-home-ok-requires
 home-ok-requires c κs = search needs
 
 returns-3 : tie.Need-returns-3
-returns-3 c = refused (λ x. not-said (c .before .home-ok .result) (c .before .home-ok .ensures) (c .if3 .taken) (fixed-is (c .before .before .before .before .before .before .before .before .before .before .args .s .now) (c .before .before .before .before .before .before .before .before .before .before .pre) .1 x .1 .1 .0))
+returns-3 c = refused (λ x. not-said (c .before .home-ok .result) (c .before .home-ok .ensures) (c .if3 .taken) (x .1 .1 .0))
 
 sub-system-ok : tie.Need-sub-system-ok
 sub-system-ok c = search needs
@@ -63,11 +62,10 @@ system-ok-requires c κs = search needs
 
 returns-4 : tie.Need-returns-4
 returns-4 c =
-    let t = fixed-is (c .before .before .before .before .before .before .before .before .before .before .before .before .args .s .now) (c .before .before .before .before .before .before .before .before .before .before .before .before .pre) in
     let h = was-said (c .before .before .before .before .before .before .before .before .before .hash-ok .result) (c .before .before .before .before .before .before .before .before .before .hash-ok .ensures) (c .before .before .before .before .before .before .before .before .if1 .left) in
     let k = was-said (c .before .before .before .before .before .before .key-ok .result) (c .before .before .before .before .before .before .key-ok .ensures) (c .before .before .before .before .before .if2 .left) in
     let n = was-said (c .before .before .before .home-ok .result) (c .before .before .before .home-ok .ensures) (c .before .before .if3 .left) in
-    turned (c .system-ok .result) (c .system-ok .ensures) (λ x. t .0 (h, (k, (n, x)))) (λ x. t .1 x .1 .1 .1)
+    turned (c .system-ok .result) (c .system-ok .ensures) (λ x. (h, (k, (n, (x, tt))))) (λ x. x .1 .1 .1 .0)
 
 pub fixed-ok-spec : {M : Type 1} → statement M
 fixed-ok-spec =

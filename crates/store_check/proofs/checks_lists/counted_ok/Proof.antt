@@ -1,8 +1,8 @@
 use Rattle.lists.proofs.Kit.{needs, arith, true, _↔_, _-_, _/_, _<_, _≡_, sym, subst, length, take, midOf}
-use Rattle.slots.specs.Slots.{u16, zeros?, Found, ListOf}
+use Rattle.slots.specs.Slots.{u16, zeros?, Found}
 use Rattle.tables.proofs.AnswerLaws.{refused, not-said, was-said}
 use Rattle.tables.specs.Layout.{count-size}
-use Rattle.store_check.specs.Checks.{OkIn, width-in, bytes-in}
+use Rattle.store_check.specs.Checks.{width-in, ListIn}
 use Rattle.store_check.proofs.CheckLaws.{rest-is}
 use Rattle.store_check.proofs.CountChecks.{counted-is, counted-list}
 use Rattle.store_check.proofs.TableChecks.{wide-in}
@@ -24,7 +24,7 @@ list-ok-requires c κs = search needs
 returns : tie.Need-returns
 returns c =
     let a = c .before .before .before .before .args in
-    λ n l. refused (λ x. not-said (c .before .list-ok .result) (c .before .list-ok .ensures n (omega arith)) (c .if1 .taken) (subst (ListOf (OkIn (a .t)) (width-in (a .t)) (bytes-in (a .t)) n) (sym (rest-is (a .s .now) 2 (length (a .s .now) - 2) (omega arith))) (counted-list (a .t) n (a .s .now) x)))
+    λ n l. refused (λ x. not-said (c .before .list-ok .result) (c .before .list-ok .ensures n (omega arith)) (c .if1 .taken) (subst (ListIn (a .form) (a .t) n) (sym (rest-is (a .s .now) 2 (length (a .s .now) - 2) (omega arith))) (counted-list (a .form) (a .t) n (a .s .now) x)))
 
 width-requires : tie.Need-width-requires
 width-requires c κs = search needs
@@ -42,7 +42,9 @@ used-requires : tie.Need-used-requires
 used-requires c κs = search needs
 
 div-count-is : tie.Need-div-count-is
-div-count-is c = omega (arith, wide-in (c .before .before .before .before .before .before .before .args .t), c .before .before .width .ensures)
+div-count-is c =
+    let a = c .before .before .before .before .before .before .before .args in
+    omega (arith, wide-in (a .form) (a .t), c .before .before .width .ensures .0)
 
 count-is-requires : tie.Need-count-is-requires
 count-is-requires c κs = search needs
@@ -53,9 +55,9 @@ returns-2 c =
     let w = c .before .before .before .width in
     let e = rest-is (a .s .now) 2 (length (a .s .now) - 2) (omega arith) in
     λ n l.
-    counted-is (a .t) n (a .s .now) (c .before .used .result) (subst (λ x. Found (0 < width-in (a .t)) zeros? (width-in (a .t)) x (c .before .used .result)) e (subst (λ v. Found (0 < v) zeros? v (midOf 2 (length (a .s .now) - 2) (a .s .now)) (c .before .used .result)) (w .ensures) (c .before .used .ensures)))
-    (subst (ListOf (OkIn (a .t)) (width-in (a .t)) (bytes-in (a .t)) n) e (was-said (c .before .before .before .before .before .list-ok .result) (c .before .before .before .before .before .list-ok .ensures n (omega arith)) (c .before .before .before .before .if1 .left)))
-    (c .count-is .result) (subst (λ v. (c .count-is .result ≡ true) ↔ (take count-size (a .s .now) ≡ u16 (c .before .used .result / v))) (w .ensures) (c .count-is .ensures))
+    counted-is (a .form) (a .t) n (a .s .now) (c .before .used .result) (subst (λ x. Found (0 < width-in (a .form) (a .t)) zeros? (width-in (a .form) (a .t)) x (c .before .used .result)) e (subst (λ v. Found (0 < v) zeros? v (midOf 2 (length (a .s .now) - 2) (a .s .now)) (c .before .used .result)) (w .ensures .0) (c .before .used .ensures)))
+    (subst (ListIn (a .form) (a .t) n) e (was-said (c .before .before .before .before .before .list-ok .result) (c .before .before .before .before .before .list-ok .ensures n (omega arith)) (c .before .before .before .before .if1 .left)))
+    (c .count-is .result) (subst (λ v. (c .count-is .result ≡ true) ↔ (take count-size (a .s .now) ≡ u16 (c .before .used .result / v))) (w .ensures .0) (c .count-is .ensures))
 
 pub counted-ok-spec : {M : Type 1} → statement M
 counted-ok-spec =

@@ -10,7 +10,9 @@ places-ok-requires : tie.Need-places-ok-requires
 places-ok-requires c κs = search needs
 
 returns : tie.Need-returns
-returns c = λ n l. refused (λ x. not-said (c .before .places-ok .result) (c .before .places-ok .ensures n l) (c .if1 .taken) (list-places (OkIn (c .before .before .before .args .t)) (width-in (c .before .before .before .args .t)) (bytes-in (c .before .before .before .args .t)) n (c .before .before .before .args .s .now) x))
+returns c =
+    let a = c .before .before .before .args in
+    λ n l. refused (λ x. not-said (c .before .places-ok .result) (c .before .places-ok .ensures n l) (c .if1 .taken) (list-places (OkIn (a .form) (a .t)) (width-in (a .form) (a .t)) (bytes-in (a .form) (a .t)) n (a .s .now) x))
 
 width-requires : tie.Need-width-requires
 width-requires c κs = search needs
@@ -32,8 +34,10 @@ is-clear-requires c κs = search needs
 
 returns-2 : tie.Need-returns-2
 returns-2 c =
+    let a = c .before .before .before .before .before .before .before .args in
+    let w = c .before .before .before .width in
     λ n l.
-    list-is (c .before .before .before .before .before .before .before .args .t) n (c .before .before .before .before .before .before .before .args .s .now) (c .before .before .before .width .result) (c .before .before .used .result) (c .before .before .before .width .ensures) (c .before .before .used .ensures)
+    list-is (a .form) (a .t) n (a .s .now) (w .result) (c .before .before .used .result) (w .ensures .0) (c .before .before .used .ensures)
     (was-said (c .before .before .before .before .before .places-ok .result) (c .before .before .before .before .before .places-ok .ensures n l) (c .before .before .before .before .if1 .left)) (c .is-clear .result) (c .is-clear .ensures)
 
 pub list-ok-spec : {M : Type 1} → statement M

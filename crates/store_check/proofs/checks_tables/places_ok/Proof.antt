@@ -9,18 +9,18 @@ use Rattle.store_check.proofs.checks_tables.places_ok.Statement.{statem
 use Rattle.store_check.proofs.checks_tables.places_ok.Tie as tie
 
 abbrev Inv-loop : tie.InvT-loop
-Inv-loop t s w at₀ at = (at ≤ length s) × (w ≡ width-in t) × (LeftIn t s at)
+Inv-loop f t s w at₀ at = (at ≤ length s) × (w ≡ width-in f t) × (LeftIn f t s at)
 
 abbrev μ-loop : tie.MeasureT-loop
-μ-loop t s w at₀ at = length s - at
+μ-loop f t s w at₀ at = length s - at
 
 width-requires : tie.Need-width-requires Inv-loop μ-loop
 width-requires c κs = search needs
 
 loop-holds : tie.Need-loop-holds Inv-loop μ-loop
 loop-holds c =
-    let t = c .before .before .args .t in
-    (omega arith, c .width .ensures, λ n. left-start (PlacesOf (OkIn t) (width-in t) (bytes-in t)) (width-in t) n (c .before .before .args .s .now))
+    let a = c .before .before .args in
+    (omega arith, c .width .ensures .0, λ n. left-start (PlacesOf (OkIn (a .form) (a .t)) (width-in (a .form) (a .t)) (bytes-in (a .form) (a .t))) (width-in (a .form) (a .t)) n (a .s .now))
 
 sub-loop : tie.Need-sub-loop Inv-loop μ-loop
 sub-loop c = search needs
@@ -50,38 +50,38 @@ part-entry-ok-end : tie.Need-part-entry-ok-end Inv-loop μ-loop
 part-entry-ok-end c = search needs
 
 entry-ok-requires : tie.Need-entry-ok-requires Inv-loop μ-loop
-entry-ok-requires c κs = slot-wide (c .before .before .before .before .before .before .before .before .args .s .now) (c .before .before .before .before .before .loop .at) (c .before .before .before .before .before .before .width .result) (omega arith) ∙ c .before .before .before .before .before .before .width .ensures
+entry-ok-requires c κs = slot-wide (c .before .before .before .before .before .before .before .before .args .s .now) (c .before .before .before .before .before .loop .at) (c .before .before .before .before .before .before .width .result) (omega arith) ∙ c .before .before .before .before .before .before .width .ensures .0
 
 returns : tie.Need-returns Inv-loop μ-loop
 returns c =
     λ n l.
-    refused (pass-stop (c .before .before .before .before .before .before .before .before .before .before .args .t) (c .before .before .before .before .before .before .before .before .before .before .args .s .now) (c .before .before .before .before .before .before .before .loop .at) (c .before .before .before .before .before .before .before .before .width .result) (c .before .before .before .before .before .before .before .before .width .ensures) (c .before .before .before .before .before .before .before .loop .inv .2) (omega arith)
+    refused (pass-stop (c .before .before .before .before .before .before .before .before .before .before .args .form) (c .before .before .before .before .before .before .before .before .before .before .args .t) (c .before .before .before .before .before .before .before .before .before .before .args .s .now) (c .before .before .before .before .before .before .before .loop .at) (c .before .before .before .before .before .before .before .before .width .result) (c .before .before .before .before .before .before .before .before .width .ensures .0) (c .before .before .before .before .before .before .before .loop .inv .2) (omega arith)
     (sym (c .before .before .before .before .is-zeros .ensures) ∙ not-true (c .before .before .before .before .is-zeros .result) (c .before .before .before .if1 .taken)) (not-said (c .before .entry-ok .result) (c .before .entry-ok .ensures) (c .if2 .taken)) n l)
 
 loop-less : tie.Need-loop-less Inv-loop μ-loop
-loop-less c = omega (arith, wide-in (c .before .before .before .before .before .before .before .before .before .before .args .t))
+loop-less c = omega (arith, wide-in (c .before .before .before .before .before .before .before .before .before .before .args .form) (c .before .before .before .before .before .before .before .before .before .before .args .t))
 
 loop-again : tie.Need-loop-again Inv-loop μ-loop
 loop-again c = (
   omega arith,
-  c .before .before .before .before .before .before .before .before .width .ensures,
-  pass-entry (c .before .before .before .before .before .before .before .before .before .before .args .t) (c .before .before .before .before .before .before .before .before .before .before .args .s .now) (c .before .before .before .before .before .before .before .loop .at) (c .before .before .before .before .before .before .before .before .width .result) (c .before .before .before .before .before .before .before .before .width .ensures) (c .before .before .before .before .before .before .before .loop .inv .2) (omega arith)
+  c .before .before .before .before .before .before .before .before .width .ensures .0,
+  pass-entry (c .before .before .before .before .before .before .before .before .before .before .args .form) (c .before .before .before .before .before .before .before .before .before .before .args .t) (c .before .before .before .before .before .before .before .before .before .before .args .s .now) (c .before .before .before .before .before .before .before .loop .at) (c .before .before .before .before .before .before .before .before .width .result) (c .before .before .before .before .before .before .before .before .width .ensures .0) (c .before .before .before .before .before .before .before .loop .inv .2) (omega arith)
       (was-said (c .before .entry-ok .result) (c .before .entry-ok .ensures) (c .if2 .left)),
 )
 
 loop-less-2 : tie.Need-loop-less-2 Inv-loop μ-loop
-loop-less-2 c = omega (arith, wide-in (c .before .before .before .before .before .before .before .args .t))
+loop-less-2 c = omega (arith, wide-in (c .before .before .before .before .before .before .before .args .form) (c .before .before .before .before .before .before .before .args .t))
 
 loop-again-2 : tie.Need-loop-again-2 Inv-loop μ-loop
 loop-again-2 c = (
   omega arith,
-  c .before .before .before .before .before .width .ensures,
-  pass-empty (c .before .before .before .before .before .before .before .args .t) (c .before .before .before .before .before .before .before .args .s .now) (c .before .before .before .before .loop .at) (c .before .before .before .before .before .width .result) (c .before .before .before .before .before .width .ensures) (c .before .before .before .before .loop .inv .2) (omega arith)
+  c .before .before .before .before .before .width .ensures .0,
+  pass-empty (c .before .before .before .before .before .before .before .args .form) (c .before .before .before .before .before .before .before .args .t) (c .before .before .before .before .before .before .before .args .s .now) (c .before .before .before .before .loop .at) (c .before .before .before .before .before .width .result) (c .before .before .before .before .before .width .ensures .0) (c .before .before .before .before .loop .inv .2) (omega arith)
       (sym (c .before .is-zeros .ensures) ∙ not-false (c .before .is-zeros .result) (c .if1 .left)),
 )
 
 returns-2 : tie.Need-returns-2 Inv-loop μ-loop
-returns-2 c = λ n l. granted (pass-end (c .before .before .before .before .args .t) (c .before .before .before .before .args .s .now) (c .before .loop .at) (c .before .before .width .result) (c .before .before .width .ensures) (c .before .loop .inv .2) (omega arith) n l)
+returns-2 c = λ n l. granted (pass-end (c .before .before .before .before .args .form) (c .before .before .before .before .args .t) (c .before .before .before .before .args .s .now) (c .before .loop .at) (c .before .before .width .result) (c .before .before .width .ensures .0) (c .before .loop .inv .2) (omega arith) n l)
 
 pub places-ok-spec : {M : Type 1} → statement M
 places-ok-spec =

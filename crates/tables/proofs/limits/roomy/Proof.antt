@@ -25,14 +25,20 @@ add-lines c = search needs
 add-lines-2 : tie.Need-add-lines-2
 add-lines-2 c = search needs
 
-add-result : tie.Need-add-result
-add-result c = search needs
+add-if3 : tie.Need-add-if3
+add-if3 c = search needs
 
-add-result-2 : tie.Need-add-result-2
-add-result-2 c = search needs
+add-if3-2 : tie.Need-add-if3-2
+add-if3-2 c = search needs
 
 returns-3 : tie.Need-returns-3
-returns-3 c = room-is (c .before .before .before .before .before .before .before .before .args .limits) (omega arith) (omega arith)
+returns-3 c = refused (λ r. omega (arith, r .fits))
+
+area-fits-requires : tie.Need-area-fits-requires
+area-fits-requires c κs = search needs
+
+returns-4 : tie.Need-returns-4
+returns-4 c = room-is (c .before .before .before .before .before .before .before .before .before .before .args .limits) (omega arith) (omega arith) (omega arith) (c .area-fits .result) (c .area-fits .ensures)
 
 pub roomy-spec : {M : Type 1} → statement M
 roomy-spec =
@@ -45,6 +51,8 @@ roomy-spec =
     mul-lines
     add-lines
     add-lines-2
-    add-result
-    add-result-2
-    returns-3)
+    add-if3
+    add-if3-2
+    returns-3
+    area-fits-requires
+    returns-4)

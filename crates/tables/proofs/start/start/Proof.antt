@@ -1,5 +1,5 @@
 use Rattle.lists.proofs.Kit.{needs, arith, refl, ap, inl, inr, List, ℕ}
-use Rattle.tables.specs.Layout.{Roomy}
+use Rattle.tables.specs.Forms.{Roomy}
 use Rattle.tables.specs.Store.{Begun}
 use Rattle.tables.proofs.AnswerLaws.{not-said, was-said}
 use Rattle.tables.proofs.StartLaws.{fresh-made}

@@ -11,7 +11,7 @@ store-here : (c : tie.Else2) → StoreOf (c .before .before .before .before .bef
 store-here c = was-said (c .before .is-store .result) (c .before .is-store .ensures) (c .if2 .left)
 
 -- the slot that was found for the row
-slot-here : (c : tie.After-slot) → SlotIn (c .before .before .before .before .before .before .before .before .args .store .now) (c .slot .given .0 .0)
+slot-here : (c : tie.After-slot) → SlotIn (c .before .before .before .before .before .before .before .before .args .store .now) (c .before .before .before .before .before .before .before .before .args .row) (c .slot .given .0 .0)
 slot-here c =
     let a = c .before .before .before .before .before .before .before .before .args in
     slot-in (a .limits) (a .store .now) (a .row) (c .slot .given .0 .0) (c .before .before .filled-slot .ensures) (c .slot .given .1)
@@ -41,13 +41,13 @@ returns-3 c =
     digits-none (a .row) (a .buffer .now) (omega (arith, c .before .before .before .before .before .if1 .left)) (store-here (c .before .before .before)) (f .result) (f .ensures) (c .enum-told .given .1)
 
 sub-digits-of : tie.Need-sub-digits-of
-sub-digits-of c = let f = slot-here (c .before) in omega (arith, f .wide, f .inside)
+sub-digits-of c = let f = slot-here (c .before) in omega (arith, f .own, f .inside)
 
 part-digits-of-start : tie.Need-part-digits-of-start
-part-digits-of-start c = let f = slot-here (c .before) in omega (arith, f .wide, f .inside)
+part-digits-of-start c = let f = slot-here (c .before) in omega (arith, f .own, f .inside)
 
 part-digits-of-end : tie.Need-part-digits-of-end
-part-digits-of-end c = let f = slot-here (c .before) in omega (arith, f .wide, f .inside)
+part-digits-of-end c = let f = slot-here (c .before) in omega (arith, f .own, f .inside)
 
 digits-of-requires : tie.Need-digits-of-requires
 digits-of-requires c κs = (slot-here (c .before .before .before) .many, omega (arith, c .before .before .before .before .before .before .before .before .if1 .left))

@@ -1,6 +1,6 @@
-use Rattle.lists.proofs.Kit.{needs, arith, mid-len}
+use Rattle.lists.proofs.Kit.{needs, arith, mid-len, length}
 use Rattle.values.proofs.DigitLaws.{line-digits, no-digits}
-use Rattle.values.proofs.EntryLaws.{line-kind, no-line}
+use Rattle.values.proofs.EntryLaws.{line-kind, no-line, kind-wide}
 use Rattle.values.proofs.digits.digits_of.Statement.{statement}
 use Rattle.values.proofs.digits.digits_of.Tie as tie
 
@@ -11,10 +11,15 @@ part-write-kept-start : tie.Need-part-write-kept-start
 part-write-kept-start c = search needs
 
 part-write-kept-end : tie.Need-part-write-kept-end
-part-write-kept-end c = search needs
+part-write-kept-end c =
+    let s = c .before .before .before in
+    kind-wide (s .args .row) 1 (length (s .args .slot .now)) (line-kind (s .args .row) (c .match .keys1)) (s .pre .0)
 
 write-kept-requires : tie.Need-write-kept-requires
-write-kept-requires c κs = let s = c .before .before .before .before .before in (omega (arith, mid-len 2 20 (s .args .slot .now) (omega arith)), s .pre .1)
+write-kept-requires c κs =
+    let s = c .before .before .before .before .before in
+    let h = kind-wide (s .args .row) 1 (length (s .args .slot .now)) (line-kind (s .args .row) (c .before .before .match .keys1)) (s .pre .0) in
+    (omega (arith, mid-len 2 20 (s .args .slot .now) h), s .pre .1)
 
 same-length : tie.Need-same-length
 same-length c = search needs

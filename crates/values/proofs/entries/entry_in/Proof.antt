@@ -10,7 +10,7 @@ store-here : (c : tie.Else1) → StoreOf (c .before .before .before .args .limit
 store-here c = was-said (c .before .is-store .result) (c .before .is-store .ensures) (c .if1 .left)
 
 -- the slot that was found for the row
-slot-here : (c : tie.After-slot) → SlotIn (c .before .before .before .before .before .before .args .store .now) (c .slot .given .0 .0)
+slot-here : (c : tie.After-slot) → SlotIn (c .before .before .before .before .before .before .args .store .now) (c .before .before .before .before .before .before .args .row) (c .slot .given .0 .0)
 slot-here c =
     let a = c .before .before .before .before .before .before .args in
     slot-in (a .limits) (a .store .now) (a .row) (c .slot .given .0 .0) (c .before .before .filled-slot .ensures) (c .slot .given .1)
@@ -34,13 +34,13 @@ returns-2 : tie.Need-returns-2
 returns-2 c = entry-none (c .before .before .before .before .before .before .args .row) (store-here (c .before .before .before)) (c .before .before .filled-slot .result) (c .before .before .filled-slot .ensures) (c .enum-told .given .1)
 
 sub-target-of : tie.Need-sub-target-of
-sub-target-of c = let f = slot-here (c .before) in omega (arith, f .wide, f .inside)
+sub-target-of c = let f = slot-here (c .before) in omega (arith, f .own, f .inside)
 
 part-target-of-start : tie.Need-part-target-of-start
-part-target-of-start c = let f = slot-here (c .before) in omega (arith, f .wide, f .inside)
+part-target-of-start c = let f = slot-here (c .before) in omega (arith, f .own, f .inside)
 
 part-target-of-end : tie.Need-part-target-of-end
-part-target-of-end c = let f = slot-here (c .before) in omega (arith, f .wide, f .inside)
+part-target-of-end c = let f = slot-here (c .before) in omega (arith, f .own, f .inside)
 
 target-of-requires : tie.Need-target-of-requires
 target-of-requires c κs = slot-here (c .before .before) .many

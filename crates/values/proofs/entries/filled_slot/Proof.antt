@@ -21,13 +21,13 @@ returns : tie.Need-returns
 returns c = let s = c .before .before .before .before in filled-beyond (s .args .limits) (s .args .store .now) (s .args .row) (c .before .before .row-slot .result) (c .before .before .row-slot .ensures (s .pre .roomy)) (c .enum-told .given .1)
 
 sub-is-zeros : tie.Need-sub-is-zeros
-sub-is-zeros c = let f = found-fits (slot-here (c .before)) in omega (arith, f .some-byte, f .inside)
+sub-is-zeros c = let f = found-fits (slot-here (c .before)) in omega (arith, f .text-in, f .ends, f .inside)
 
 part-is-zeros-start : tie.Need-part-is-zeros-start
-part-is-zeros-start c = let f = found-fits (slot-here (c .before)) in omega (arith, f .some-byte, f .inside)
+part-is-zeros-start c = let f = found-fits (slot-here (c .before)) in omega (arith, f .text-in, f .ends, f .inside)
 
 part-is-zeros-end : tie.Need-part-is-zeros-end
-part-is-zeros-end c = let f = found-fits (slot-here (c .before)) in omega (arith, f .some-byte, f .inside)
+part-is-zeros-end c = let f = found-fits (slot-here (c .before)) in omega (arith, f .text-in, f .ends, f .inside)
 
 is-zeros-requires : tie.Need-is-zeros-requires
 is-zeros-requires c κs = search needs

@@ -1,16 +1,16 @@
-use Rattle.lists.proofs.Kit.{needs}
-use Rattle.values.proofs.EntryLaws.{line-kind, group-kind, individual-kind, text-kind, line-read, group-read, individual-read, text-read}
+use Rattle.lists.proofs.Kit.{needs, length}
+use Rattle.values.proofs.EntryLaws.{line-kind, group-kind, individual-kind, text-kind, kind-wide, line-read, group-read, individual-read, text-read}
 use Rattle.values.proofs.entries.target_of.Statement.{statement}
 use Rattle.values.proofs.entries.target_of.Tie as tie
 
 line-at-requires : tie.Need-line-at-requires
-line-at-requires c κs = search needs
+line-at-requires c κs = let s = c .before .before in kind-wide (s .args .row) 1 (length (s .args .slot .now)) (line-kind (s .args .row) (c .match .keys1)) (s .pre)
 
 group-at-requires : tie.Need-group-at-requires
-group-at-requires c κs = search needs
+group-at-requires c κs = let s = c .before .before in kind-wide (s .args .row) 2 (length (s .args .slot .now)) (group-kind (s .args .row) (c .match .keys2)) (s .pre)
 
 individual-at-requires : tie.Need-individual-at-requires
-individual-at-requires c κs = search needs
+individual-at-requires c κs = let s = c .before .before in kind-wide (s .args .row) 3 (length (s .args .slot .now)) (individual-kind (s .args .row) (c .match .keys3)) (s .pre)
 
 returns : tie.Need-returns
 returns c = line-read (c .before .before .before .args .row) (c .before .before .before .args .slot .now) (c .line-at .result) (line-kind (c .before .before .before .args .row) (c .before .match .keys1)) (c .line-at .ensures)

@@ -7,7 +7,8 @@ use crate::reference::commit::{commit, REPLY_ROOM};
 use crate::reference::export::{export, part_bytes, Exported, PARTS};
 use crate::reference::joining::{join, Refused};
 use crate::reference::message::{request, REQUEST_HEAD};
-use crate::reference::settings::{Line, LineEntry, LineFlags, Operation, Setting};
+use crate::reference::plan::GroupAddress;
+use crate::reference::settings::{GroupFlags, Line, LineEntry, LineFlags, Operation, Setting};
 use crate::reference::tables::Set;
 
 /// So many numbers, of three digits.
@@ -120,6 +121,59 @@ fn channels_of_a_vehicle_to_a_handheld() {
         wanted.tables.channels = vec![241; if count == 64 { 64 } else { 0 }];
         assert_eq!((told, left), (stopped, wanted), "{count}");
     }
+}
+
+/// A vehicle with 64 quick texts of 23 units, and of 16 units so many status texts, group slots, group contacts and line slots.
+fn with_texts([status, groups, contacts, lines]: [usize; 4]) -> Set {
+    let mut set = Set::fresh(VEHICLE);
+    let text = vec![0x4E2D; 16];
+    let flags = GroupFlags { attribute: 2, ..GroupFlags::default() };
+    let group = |place: usize| flags.of(GroupAddress(0x10_0001 + place as u32), text.clone());
+    let line = Line { digits: vec![7], flags: LineFlags::default(), text: text.clone() };
+    set.tables.quick_texts.fill(Some(vec![0x4E2D; 23]));
+    set.tables.status_texts[..status].fill(Some(text.clone()));
+    (0..groups).for_each(|place| set.tables.groups[place] = Some(group(place)));
+    set.tables.group_contacts = (0..contacts).map(group).collect();
+    set.tables.line_slots[..lines].fill(Some(line));
+    set
+}
+
+/// Texts beyond 4,096 bytes stop at the first setting after which they are more, and the parts before it stay; lines and quick texts alone never do.
+#[test]
+fn texts_of_a_vehicle_to_a_handheld() {
+    for (held, stopped) in [
+        ([36, 0, 0, 0], None),
+        ([37, 0, 0, 0], Some((5, 2, 1))),
+        ([96, 0, 0, 0], Some((5, 2, 1))),
+        ([35, 1, 0, 0], None),
+        ([35, 2, 0, 0], Some((6, 2, 2))),
+        ([20, 16, 0, 0], None),
+        ([21, 16, 0, 0], Some((6, 2, 16))),
+        // A replace comes before the contacts.
+        ([30, 0, 7, 0], Some((8, 2, 8))),
+        ([30, 1, 6, 0], Some((8, 2, 7))),
+        ([30, 1, 5, 0], None),
+        ([30, 1, 5, 1], Some((10, 2, 1))),
+        ([30, 1, 0, 16], Some((10, 2, 6))),
+    ] {
+        let from = with_texts(held);
+        let (told, left) = stops(&from, HANDHELD);
+        assert_eq!(told, stopped, "{held:?}");
+        assert_eq!(left.tables == from.tables, from.tables.text_bytes() <= 4_096, "{held:?}");
+    }
+    let mut most = with_lines(VEHICLE, 32);
+    most.tables.quick_texts.fill(Some(vec![0x4E2D; 23]));
+    assert_eq!((most.tables.text_bytes(), stops(&most, HANDHELD).0), (3_968, None));
+    most.tables.status_texts[..4].fill(Some(vec![0x4E2D; 16]));
+    assert_eq!((most.tables.text_bytes(), stops(&most, HANDHELD).0), (4_096, None));
+    most.tables.status_texts[95] = Some(vec![0x4E2D]);
+    assert_eq!(stops(&most, HANDHELD).0, Some((5, 2, 1)));
+    // What is wrong first counts, and 12 comes before 2.
+    most.tables.lines = with_lines(VEHICLE, 33).tables.lines;
+    assert_eq!(stops(&most, HANDHELD).0, Some((1, 2, 34)));
+    most.tables.lines = with_lines(VEHICLE, 84).tables.lines;
+    assert_eq!(stops(&most, HANDHELD).0, Some((1, 12, 0)));
+    assert_eq!(stops(&most, VEHICLE), (None, most));
 }
 
 #[test]

@@ -6,7 +6,7 @@ use crate::programs::{put_writes, take_prints};
 use crate::records::push_record;
 use crate::reference::by_hand::{bytes, number, number_of, scratch, shown, stored, taken};
 use crate::reference::export::{export, part_bytes, Exported, PARTS};
-use crate::reference::limits::HANDHELD;
+use crate::reference::limits::{HANDHELD, VEHICLE};
 use crate::reference::message::request;
 use crate::reference::plan::{GroupAddress, IndividualAddress};
 use crate::reference::screen::{row_number, row_part, Row, Shown, SCRATCH_ROOM};
@@ -77,7 +77,7 @@ fn a_response_group() {
     assert_eq!(shown(&set, Row::GroupContact(1)), Shown::Nothing);
     let add = "C8 00 05 D0 00 00 C8 00 0C 60 00 01 10 00 01 00 41 00 00";
     assert_eq!(exported(8, &set), bytes(add));
-    assert_eq!(layout::bytes(&set)[8_118..8_128], bytes("00 01 80 10 00 01 00 41 00 00"));
+    assert_eq!(layout::bytes(&set)[774..782], bytes("00 01 80 10 00 01 01 00"));
 }
 
 #[test]
@@ -317,10 +317,10 @@ fn parts_of_contacts() {
     assert_eq!(exported(10, &set)[..29], bytes(slots));
 }
 
-/// A set with all three tables full, of texts and numbers of the greatest length.
-fn full() -> Set {
-    let mut set = Set::fresh(HANDHELD);
-    let text = "y".repeat(16);
+/// A set with all three tables full, of numbers of the greatest length and texts of so many units.
+fn full(limits: Limits, units: usize) -> Set {
+    let mut set = Set::fresh(limits);
+    let text = "y".repeat(units);
     let contacts: Vec<(u32, &str)> = (1..65).map(|place| (0x10_0000 + place, &text[..])).collect();
     let settings = [groups(Add, 1, &contacts), individuals(Add, &contacts)];
     for setting in settings {
@@ -333,20 +333,33 @@ fn full() -> Set {
     set
 }
 
+/// A vehicle has room for all texts of the greatest length; to a hand-held 144 of 14 units are 4,032 bytes.
 #[test]
 fn parts_of_a_full_set() {
-    let full = full();
+    let full = full(VEHICLE, 16);
     let lengths = [8, 9, 10].map(|of| part(of, &full).len());
     assert_eq!(lengths, [8 + 6 + 64 * 43, 8 + 5 + 64 * 42, 8 + 16 * 49]);
     assert!(lengths.iter().all(|&length| length <= HANDHELD.message));
     assert_eq!(part(8, &full)[7], 65);
     // Whatever the other set held.
-    for (from, mut into) in [(full.clone(), Set::fresh(HANDHELD)), (Set::fresh(HANDHELD), full)] {
-        for of in 1..=PARTS {
-            assert_eq!(number(&mut into, &part(of, &from)), (0, 0), "part {of}");
-        }
-        assert_eq!(into, from);
+    restored(&full, Set::fresh(VEHICLE));
+    restored(&Set::fresh(VEHICLE), full);
+}
+
+#[test]
+fn parts_of_a_full_handheld() {
+    let full = full(HANDHELD, 14);
+    assert_eq!(full.tables.text_bytes(), 4_032);
+    restored(&full, Set::fresh(HANDHELD));
+    restored(&Set::fresh(HANDHELD), full);
+}
+
+/// All parts of one set, taken by the other.
+fn restored(from: &Set, mut into: Set) {
+    for of in 1..=PARTS {
+        assert_eq!(number(&mut into, &part(of, from)), (0, 0), "part {of}");
     }
+    assert_eq!(into, *from);
 }
 
 #[test]

@@ -210,12 +210,12 @@ fn put_of_both_and_back() {
 fn both_lines_in_the_store() {
     let mut kept = layout::bytes(&after(&[EXTENSION, TELEPHONE]));
     assert!(layout::is_store(&kept, HANDHELD));
-    assert_eq!(kept[12_860..12_868], bytes("00 02 00 01 03 04 05 06"));
-    assert_eq!(kept[12_914..12_920], bytes("00 00 03 04 05 06"));
-    assert_eq!(kept[14_526..14_529], bytes("02 01 00"));
-    kept[12_863] = PSTN.into();
+    assert_eq!(kept[1_548..1_556], bytes("00 02 00 01 03 04 05 06"));
+    assert_eq!(kept[1_571..1_577], bytes("00 00 03 04 05 06"));
+    assert_eq!(kept[2_222..2_225], bytes("02 01 00"));
+    kept[1_551] = PSTN.into();
     assert!(!layout::is_store(&kept, HANDHELD), "two lines of one IDtype and number");
-    kept[12_915] = PABX.into();
-    kept[14_526..14_528].copy_from_slice(&[1, 2]);
+    kept[1_572] = PABX.into();
+    kept[2_222..2_224].copy_from_slice(&[1, 2]);
     assert!(kept == layout::bytes(&after(&[TELEPHONE, EXTENSION])));
 }

@@ -66,8 +66,9 @@ fn a_group_under_0100() {
     assert_eq!(request_as(Coding::Eight, &[written]), bytes(A1));
     let set = taken(&bytes(A1));
     assert_eq!(shown(&set, Row::Group(0)), Shown::Stored(vec![0x0041, 0x0031]));
-    let kept = &layout::bytes(&set)[6_134..6_144];
-    assert_eq!(kept, bytes("80 10 00 01 00 41 00 31 00 00"));
+    let kept = layout::bytes(&set);
+    assert_eq!(kept[278..284], bytes("80 10 00 01 02 00"));
+    assert_eq!(kept[2_254..2_260], bytes("00 41 00 31 00 00"));
     let exported = part_bytes(6, &set).expect("the part is one of the ten");
     assert_eq!(exported[..8], bytes("02 02 00 A8 08 07 08 10"));
     assert_eq!(exported[8..22], bytes("D1 00 0D 60 00 10 00 01 00 41 00 31 00 00"));

@@ -41,12 +41,12 @@ fn bits(byte: u8, from: u32, width: u32) -> u64 {
 /// The slot of a row, if it has one that is not all 0.
 fn slot(bytes: &[u8], table: u32, index: u32) -> Option<&[u8]> {
     let (at, width, places) = match table {
-        1 => (12_862, 52, 32),
-        4 => (6_134, 36, 16),
-        5 => (6_710, 36, 16),
-        6 => (8_120, 36, 64),
-        7 => (10_426, 36, 64),
-        8 => (7_286, 52, 16),
+        1 => (1_550, 21, 32),
+        4 => (278, 5, 16),
+        5 => (358, 5, 16),
+        6 => (776, 5, 64),
+        7 => (1_098, 5, 64),
+        8 => (438, 21, 16),
         _ => return None,
     };
     let slot = (index < places).then(|| &bytes[at + index as usize * width..][..width])?;
@@ -86,8 +86,8 @@ fn cut(value: Value, bytes: &[u8]) -> (u64, Vec<u8>) {
     let answer = match value {
         Value::Entry { table, index } => cut_entry(bytes, table, index),
         Value::EntryDigits { table, index, room } => return cut_digits(bytes, table, index, room),
-        Value::Channel { position } if u64::from(position) < number(&bytes[12_730..12_732]) => {
-            number(&bytes[12_732 + 2 * position as usize..][..2]) << 8
+        Value::Channel { position } if u64::from(position) < number(&bytes[1_418..1_420]) => {
+            number(&bytes[1_420 + 2 * position as usize..][..2]) << 8
         }
         Value::Channel { .. } => 17,
         Value::EmergencyKey => {

@@ -1,0 +1,16 @@
+pub mod AreaLaws
+pub mod CountLaws
+pub mod FormMoves
+pub mod LoadLaws
+pub mod LoadTables
+pub mod LoadedLaws
+pub mod RunTable
+pub mod SaveLaws
+pub mod SaveTables
+pub mod SavedLaws
+pub mod SeenLaws
+pub mod SlotLaws
+pub mod StepLaws
+pub mod SumLaws
+pub mod WalkLaws
+pub mod WholeLaws
