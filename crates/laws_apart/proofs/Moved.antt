@@ -81,7 +81,7 @@ module _ (lim : Limits) where
   -- ---- room on other tables
 
   -- why texts have room on the others: their sum is the same, or these settings have no texts and the others' had room, or no sum binds
-  data Spare (l : List Setting) (t t′ : Tables) : Type 0 where
+  pub data Spare (l : List Setting) (t t′ : Tables) : Type 0 where
     same-sum : text-sum t ≡ text-sum t′ → Spare l t t′
     no-texts : All (λ s. textless (kind s) ≡ true) l → TextRoom (lim .texts) (text-sum t′) → Spare l t t′
     no-sum : lim .texts ≡ Placed → Spare l t t′
