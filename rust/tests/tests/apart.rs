@@ -45,15 +45,15 @@ fn both_orders<K: Tried>(pair: &Pair<K>, one: &[u8], other: &[u8]) -> [Turns; 2]
     told
 }
 
-/// As many channels as there is room for, and a hash kept.
-fn with_channels<K: Tried>(count: usize) -> Vec<u8> {
+/// So many channels, and a hash to keep.
+fn with_channels(count: usize) -> Vec<u8> {
     request(&[channels(Replace, &vec![241; count]), bytes("FF 00 07 41 12 34 56 78")])
 }
 
 /// The two desks: what the one has no room for, before the other or after it, does not bind that one.
 fn channels_and_status_texts<K: Tried>() {
     let mut pair = full::<K>();
-    assert_eq!(pair.told(&with_channels::<K>(K::MOST_CHANNELS - 1)), (0, 0));
+    assert_eq!(pair.told(&with_channels(K::MOST_CHANNELS - 1)), (0, 0));
     let texts = request(&[status(Add, &[(32, 16)]), status(Delete, &[(33, 0)])]);
     let long = request(&[status(Delete, &[(33, 0)]), status(Add, &[(127, 16), (126, 1)])]);
     let one = request(&[channels(Add, &[640])]);
@@ -68,7 +68,7 @@ fn channels_and_status_texts<K: Tried>() {
 /// One export part, but three types: they share no table.
 fn key_home_and_system_are_three_tables<K: Tried>() {
     let mut pair = Pair::<K>::fresh();
-    assert_eq!(pair.told(&with_channels::<K>(1)), (0, 0));
+    assert_eq!(pair.told(&with_channels(1)), (0, 0));
     let settings = ["CB 00 06 68 10 00 01", "CD 00 05 07 E4 C0", "CF 00 05 00 18 A0"];
     for (place, one) in settings.iter().enumerate() {
         for other in &settings[place + 1..] {
