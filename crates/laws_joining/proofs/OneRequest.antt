@@ -170,7 +170,7 @@ module _ {lim : Limits} {store : List ℕ} {c : Coding} {l : List Setting} {bs m
 -- ---- a request of any settings that was taken
 
 -- such a request, as it counts them
-pub request-of : {c : Coding} {l : List Setting} {message : List ℕ} (r : Request c l message) → RequestOf c (length l) (r .written .settings) message
+abbrev pub request-of : {c : Coding} {l : List Setting} {message : List ℕ} (r : Request c l message) → RequestOf c (length l) (r .written .settings) message
 request-of r = record { data-bytes = r .data-bytes; carried = r .carried; counted = written-counted (r .written) }
 
 -- TAKEN IN TURN: answered 0, all its settings were taken in turn

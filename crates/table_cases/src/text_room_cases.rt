@@ -106,6 +106,22 @@ fn moved(store: &[u8]) {
     move_all(Set::Handheld, Set::Handheld, store, &mut other);
 }
 
+// Two requests that share no table, in either order: the text has room only behind the delete.
+fn two_desks(store: &mut [u8]) {
+    fill(Set::Handheld, store);
+    requests(
+        b"quick text 0 deleted: 01 CC 0006 81 00 0000\n\
+        then status code 126 with 16 units: 01 D0 0027 40 01 7E {10 x 0041} 0000\n",
+        store,
+    );
+    fill(Set::Handheld, store);
+    requests(
+        b"status code 126 with 16 units: 01 D0 0027 40 01 7E {10 x 0041} 0000\n\
+        then quick text 0 deleted: 01 CC 0006 81 00 0000\n",
+        store,
+    );
+}
+
 // A vehicle's texts have places of their own.
 fn of_a_vehicle() {
     let mut store = [0u8; VEHICLE_SIZE];
@@ -122,5 +138,6 @@ pub(crate) fn run(store: &mut [u8]) {
     freed(store);
     rows(store);
     orders(store);
+    two_desks(store);
     of_a_vehicle();
 }

@@ -1,5 +1,6 @@
 //! Messages to try an implementation with: seeded, of every kind, for one set as it grows.
 
+pub mod apart;
 pub mod callers;
 pub mod calls;
 pub mod carriers;

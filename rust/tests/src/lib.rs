@@ -7,6 +7,7 @@ pub mod pair;
 pub mod raw;
 pub mod reports;
 pub mod sets;
+pub mod texts;
 pub mod values;
 
 use otap_reference::reference::commit::{judge_and_commit, REPLY_ROOM};
@@ -118,4 +119,9 @@ pub fn settings_of(message: &[u8], coding: Coding) -> Vec<(Setting, &[u8])> {
         rest = behind;
     }
     settings
+}
+
+/// Their types.
+pub fn types_of(message: &[u8], coding: Coding) -> Vec<u8> {
+    settings_of(message, coding).iter().map(|(_, bytes)| bytes[0]).collect()
 }

@@ -2,17 +2,16 @@
 
 use otap::{Part, Set, Slice, Table, SCRATCH_ROOM};
 use otap_reference::inputs::random::Random;
-use otap_reference::inputs::requests::texts;
 use otap_reference::inputs::Inputs;
 use otap_reference::layout;
-use otap_reference::reference::settings::Operation::{self, Add, Delete, Replace};
-use otap_reference::reference::settings::{LineEntry, LineFlags, Setting, TextEntry};
+use otap_reference::reference::settings::Operation::{Add, Delete, Replace};
 use otap_reference::reference::texts::Coding;
 use otap_tests::fitting::foreseen;
 use otap_tests::for_both_sets;
 use otap_tests::pair::Pair;
 use otap_tests::sets::Tried;
-use otap_tests::{group_contacts, hex_request, individual_contacts, request, settings_of};
+use otap_tests::texts::{full, holding, lines, many_sets, no_room, quick, status};
+use otap_tests::{group_contacts, hex_request, individual_contacts, request, types_of};
 use std::collections::BTreeMap;
 
 for_both_sets!(
@@ -29,53 +28,6 @@ for_both_sets!(
     exports_of_full_sets,
     parts_in_any_order,
 );
-
-fn entries(of: &[(u8, usize)]) -> Vec<TextEntry> {
-    of.iter().map(|&(key, units)| TextEntry { key, text: vec![0x8B66; units] }).collect()
-}
-
-/// Each an index and how many units.
-fn quick(operation: Operation, of: &[(u8, usize)]) -> Vec<u8> {
-    Setting::QuickTexts { operation, entries: entries(of) }.write()
-}
-
-/// Each a code and how many units.
-fn status(operation: Operation, of: &[(u8, usize)]) -> Vec<u8> {
-    Setting::StatusTexts { operation, entries: entries(of) }.write()
-}
-
-/// Each a digit and how many units.
-fn lines(operation: Operation, of: &[(u8, usize)]) -> Vec<u8> {
-    let entry = |&(digit, units): &(u8, usize)| LineEntry {
-        digits: vec![digit],
-        text: vec![0x8B66; units],
-    };
-    let entries = of.iter().map(entry).collect();
-    Setting::Lines { operation, flags: LineFlags::default(), entries }.write()
-}
-
-/// 64 quick texts of 23 units, and so many status texts of 16: with 36 they are 4,096 bytes.
-fn holding<K: Tried>(status_texts: u8) -> Pair<K> {
-    let mut pair = Pair::<K>::fresh();
-    let indexes: Vec<_> = (0..63).map(|index| (index, 23)).collect();
-    let codes: Vec<_> = (32..32 + status_texts).map(|code| (code, 16)).collect();
-    assert_eq!(pair.told(&request(&[quick(Add, &indexes)])), (0, 0));
-    assert_eq!(pair.told(&request(&[quick(Add, &[(63, 23)]), status(Add, &codes)])), (0, 0));
-    pair
-}
-
-fn full<K: Tried>() -> Pair<K> {
-    holding(36)
-}
-
-/// What a hand-held says, by the failed ID, or what a vehicle does, which takes it.
-fn no_room<K: Tried>(failed: u8) -> (u8, u8) {
-    if K::TEXT_BYTES.is_some() {
-        (2, failed)
-    } else {
-        (0, 0)
-    }
-}
 
 /// Number and failed ID of these settings, to a full set of its own.
 fn told<K: Tried>(settings: &[Vec<u8>]) -> (u8, u8) {
@@ -200,32 +152,6 @@ fn the_same_tables_are_the_same_bytes<K: Tried>() {
     }
 }
 
-/// Sets as messages leave them, after a few of which long texts are put until the area is full, or as many as that would take.
-fn many_sets<K: Tried>(
-    seeds: std::ops::Range<u64>,
-    mut each: impl FnMut(&mut Random, &mut Pair<K>),
-) {
-    for seed in seeds {
-        let (mut inputs, mut random) = (Inputs::new(seed, K::LIMITS), Random::new(!seed));
-        let mut pair = Pair::<K>::fresh();
-        for turn in 0..60 {
-            pair.commit(&inputs.message());
-            if turn % 6 == 5 {
-                fill(&mut random, &mut pair);
-                each(&mut random, &mut pair);
-            }
-        }
-    }
-}
-
-/// At times not at all.
-fn fill<K: Tried>(random: &mut Random, pair: &mut Pair<K>) {
-    for _ in 0..random.pick(&[0, 2, 4, 8]) {
-        let message = texts::fill(random, &pair.set).bytes();
-        pair.commit(&message);
-    }
-}
-
 /// What the screen shows of every row: which slice, where, and the bytes.
 type Drawn = BTreeMap<(u32, u32), (Slice, usize, Vec<u8>)>;
 
@@ -301,11 +227,6 @@ fn rows_of_other_tables_stay<K: Tried>() {
     println!("{same} rows where they were, {moved} moved");
     assert!(same > 10_000 / K::SHARE);
     assert_eq!(moved > 5_000, K::TEXT_BYTES.is_some(), "texts in places do not move");
-}
-
-/// The types of the settings of a request.
-fn types_of(message: &[u8], coding: Coding) -> Vec<u8> {
-    settings_of(message, coding).iter().map(|(_, bytes)| bytes[0]).collect()
 }
 
 /// Whatever a set holds: all that is left has room, in a few status texts, and not one unit more.

@@ -81,7 +81,7 @@ fn any_pair(random: &mut Random, set: &Set, one_coding: bool) -> [Draft; 2] {
 }
 
 /// Reserved bits beside the coding type are mostly 0 and must not matter when they are not.
-fn with_reserved(random: &mut Random, mut draft: Draft) -> Draft {
+pub(super) fn with_reserved(random: &mut Random, mut draft: Draft) -> Draft {
     if random.percent(25) {
         draft.coding_byte |= (random.bits(4) as u8) << 4;
     }

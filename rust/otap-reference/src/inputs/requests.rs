@@ -31,7 +31,7 @@ pub fn maker<'a>(random: &'a mut Random, set: &'a Set, draft: &Draft) -> Maker<'
     Maker { random, set, coding: draft.coding, slip_after: None }
 }
 
-fn any_size(random: &mut Random) -> Size {
+pub fn any_size(random: &mut Random) -> Size {
     if random.percent(20) {
         Size::Large
     } else {

@@ -1,0 +1,1 @@
+// Requests that share no table: laws only.
