@@ -1,0 +1,5 @@
+pub mod BehindHash
+pub mod CheckLaws
+pub mod Parts
+pub mod ProposeLaws
+pub mod Theorems
