@@ -1,31 +1,32 @@
 -- What checking a proposed request says, test by test. Assumes nothing.
-use Rattle.lists.proofs.Kit.{ℕ, _≤_, _≡_, refl, sym, ap, _∙_, subst, _⊎_, inl, inr, _↔_, List, [], _∷_, Bool, true, length, drop, arith}
+use Rattle.lists.proofs.Kit.{ℕ, _-_, _≤_, _≡_, refl, sym, ap, ap₂, _∙_, subst, _⊎_, inl, inr, List, [], _∷_, _++_, Bool, true, length, take, drop, take-all, length-drop, midOf, eqb, eqb-true, eq-eqb, arith}
 use Rattle.lists.specs.Ladder.{Answers}
 use denote.Enum.Declared.{tagOf}
 use types.Run.{OneOf, miss}
+use Rattle.slots.specs.Slots.{same?}
+use Rattle.slots.proofs.Runs.{copy-whole, same-are, same-refl}
 use Rattle.writing.specs.declared.Coding.{Coding}
-use Rattle.writing.specs.Carrier.{RequestOf}
 use Rattle.read_carrier.specs.Message.{MessageIs}
 use Rattle.read_carrier.specs.declared.carrier.Message.{Message}
 use Rattle.read_carrier.specs.declared.carrier.Message.the-variants.{Size, Carrier, «Type» as AnotherType, Version, NoRequest, Request, NoQuery, Query as AQuery}
 use Rattle.read_carrier.proofs.carrier.Message.{the-type}
 use Rattle.read_carrier.proofs.KindLaws.{request-opens, other-type, other-version, opens-no-request, uncounted, not-both}
 use Rattle.tables.specs.declared.limits.Limits.{Limits}
-use Rattle.tables.specs.Allowed.{Allowed}
-use Rattle.tables.specs.Forms.{layout}
-use Rattle.tables.specs.Layout.{hash-size}
+use Rattle.tables.specs.Layout.{hash-size, used-size}
 use Rattle.tables.specs.Store.{StoreOf, Holds}
 use Rattle.tables.specs.Tables.{Tables}
 use Rattle.tables.proofs.AllowedLaws.{forget-allowed}
 use Rattle.requests.specs.Judge.{kept, refused, taken as all-taken}
 use Rattle.requests.specs.Requests.{Judged, forget}
-use Rattle.station.specs.Taking.{AfterTaking, settled, AsRequest, AsQuery, Handled, taken}
+use Rattle.station.specs.declared.answers.Answer.{Answer}
+use Rattle.station.specs.Answers.{said}
+use Rattle.station.specs.Taking.{AfterTaking, leaves, settled, AsRequest, AsQuery, taken}
 use Rattle.station.proofs.TakeLaws.{request-answers}
 use Rattle.laws_taking.proofs.Demand.{run-allowed}
 use Rattle.laws_taking.proofs.Determined.{outcome-determined}
 use Rattle.laws_taking.proofs.Theorems.{numbered, number-of, answered-0}
 use Rattle.updating.specs.declared.answers.Check.the-variants.{Yes, No, FirstNotAStore, SecondNotAStore}
-use Rattle.updating.specs.Updating.{Updates, checking, RequestIn, Took}
+use Rattle.updating.specs.Updating.{Updates, checking, RequestIn, Took, TailsSame}
 use Rattle.updating.proofs.BehindHash.{same-behind}
 
 -- ---- which messages are requests
@@ -90,6 +91,38 @@ module _ (lim : Limits) (first second message : List ℕ) where
           }
       by t held (inl (d, count, settings, q, refused number failed, j, e)) = absurd (omega (arith, z, number-of e, numbered d lim (forget t) j .0))
       by t held (inr (h, q, _)) = absurd (not-both r q)
+
+-- ---- the steps of the check
+
+-- bytes behind the hash that were compared
+pub tails-compared : (a b : List ℕ) (r : Bool) → r ≡ same? (midOf hash-size (length a - hash-size) a) (midOf hash-size (length b - hash-size) b) → TailsSame a b r
+tails-compared a b r e h k =
+    let d : r ≡ same? (drop hash-size a) (drop hash-size b) = e ∙ ap₂ same? (to-end a) (to-end b) in
+    (λ q. same-are (drop hash-size a) (drop hash-size b) (sym d ∙ q), λ q. d ∙ ap (same? (drop hash-size a)) (sym q) ∙ same-refl (drop hash-size a))
+  where
+    to-end : (l : List ℕ) → midOf hash-size (length l - hash-size) l ≡ drop hash-size l
+    to-end l = take-all (length l - hash-size) (drop hash-size l) (omega (arith, length-drop hash-size l))
+
+-- a message that was committed, with the number of its answer
+pub took : (lim : Limits) (message store reply after reply-after : List ℕ) (a : Answer) (n : ℕ) → 20 ≤ length reply → Answers (taken lim message store reply) (leaves a after reply-after)
+    → n ≡ said a .number → Took lim message store after (eqb n 0)
+took lim message store reply after reply-after a n long h e = record {
+  reply = reply;
+  long = long;
+  outcome = leaves a after reply-after;
+  allowed = h;
+  left = refl;
+  answered = (λ q. sym e ∙ eqb-true n 0 q, λ q. eq-eqb n 0 (e ∙ q));
+}
+
+-- a store has more bytes than a hash
+pub wide : (lim : Limits) (store : List ℕ) → StoreOf lim store → hash-size ≤ lim .size
+wide lim store s = let h : used-size lim ≤ lim .size = s .roomy .fits in omega arith
+
+-- a message that was committed to a copy of the first
+pub copied : (lim : Limits) (first message lent copy left : List ℕ) (r : Bool) → StoreOf lim first → length lent ≡ lim .size → copy ≡ take (length lent) first ++ drop (length first) lent
+    → Took lim message copy left r → Took lim message first left r
+copied lim first message lent copy left r s i e k = subst (λ (l : List ℕ). Took lim message l left r) (e ∙ copy-whole first lent (i ∙ sym (s .size))) k
 
 -- ---- what checking answers
 

@@ -1,5 +1,7 @@
 -- Exports compared part by part, and what proposing answers. Assumes nothing.
-use Rattle.lists.proofs.Kit.{ℕ, _-_, _≤_, _<_, _≡_, refl, sym, ap, ap₂, _∙_, _↔_, inl, inr, List, Bool, true, arith, midOf, length, take}
+use Rattle.lists.proofs.Kit.{ℕ, _+_, _-_, _≤_, _<_, _≡_, refl, sym, ap, ap₂, _∙_, subst⁻¹, inl, inr, List, [], _∷_, Bool, arith, midOf, length, getD, take}
+use denote.Enum.Declared.{tagOf}
+use types.Run.{OneOf, miss}
 use Rattle.lists.specs.Ladder.{Answers}
 use Rattle.slots.specs.Slots.{same?}
 use Rattle.slots.proofs.Runs.{same-are, same-refl}
@@ -11,18 +13,21 @@ use Rattle.tables.specs.Store.{StoreOf, Holds}
 use Rattle.tables.specs.Tables.{Tables}
 use Rattle.working.specs.Seen.{LendsIn, Lends}
 use Rattle.export.specs.declared.parts.Part.{Part}
+use Rattle.export.specs.declared.parts.Part.the-variants.{Lines}
 use Rattle.export.specs.declared.parts.Export.the-variants.{Written, Untouched}
 use Rattle.export.specs.declared.parts.NoExport.{NoExport}
 use Rattle.export.specs.declared.parts.NoExport.the-variants.{Buffer, NotAStore, NoPart}
 use Rattle.export.specs.Exportable.{Exportable}
-use Rattle.export.specs.Exported.{part-number, exported, request-bytes}
+use Rattle.export.specs.Exported.{ten, part-number, exported, request-bytes}
 use Rattle.export.specs.Exporting.{AfterExport, no-export, exporting, told as export-told}
+use Rattle.export.proofs.PartWriting.{ten-at}
 use Rattle.restore.proofs.ExportedBytes.{written-one, exported-bytes}
 use Rattle.updating.specs.declared.answers.Proposal.the-variants as P
 use Rattle.updating.specs.declared.proposing.Differing.{Differing}
 use Rattle.updating.specs.declared.proposing.Differing.the-variants.{Nothing, One, Several}
-use Rattle.updating.specs.Updating.{SamePart, Sole, AfterProposal, stays, proposing, Lent, Both, Compared, AllCompared}
-use Rattle.updating.proofs.Parts.{same-requests, known-sole, known-same, known-several}
+use Rattle.updating.specs.Updating.{Sole, AfterProposal, stays, proposing, Both, Compared, noted, Known, AllCompared}
+use Rattle.updating.proofs.proposing.Differing.{the-type}
+use Rattle.updating.proofs.Parts.{same-requests, known-next, known-sole, known-same, known-several}
 
 -- ---- what is lent
 
@@ -91,6 +96,17 @@ module _ (lim : Limits) (part : ℕ) (first second a b work : List ℕ) where
         let s = same-requests lim (h .able) t u (h .here .0) (h .there .0) p in
         (λ q. s .0 (same-are one other (sym z ∙ q)), λ q. z ∙ ap (same? one) (sym (s .1 q)) ∙ same-refl one)
 
+-- ---- one part after the other
+
+-- KNOWN TURN: a turn of the walk over all parts
+pub known-turn : (lim : Limits) (first second a b work a′ b′ work′ : List ℕ) (k : ℕ) (d e : Differing) (r : Bool) → k < length ten → length a′ ≡ length a → length b′ ≡ length b → length work′ ≡ length work
+    → Compared lim (k + 1) first second a′ b′ work′ r → e ≡ noted d (k + 1) r → ((t u : Tables) → Both lim first second a b work t u → Known t u k d)
+    → (t u : Tables) → Both lim first second a b work t u → Known t u (k + 1) e
+known-turn lim first second a b work a′ b′ work′ k d e r l i j w c is before t u h =
+    let p : Part = getD ten k Lines in
+    let n : part-number p ≡ k + 1 = ten-at k l in
+    subst⁻¹ (Known t u (k + 1)) is (known-next t u k p n d r (c p t u n (both-same lim first second a b work a′ b′ work′ t u i j w h)) (before t u h))
+
 -- ---- what proposing answers
 
 module _ (lim : Limits) (first second buffer : List ℕ) where
@@ -112,11 +128,17 @@ module _ (lim : Limits) (first second buffer : List ℕ) where
       both t u h k = record { able = x; roomy = s .roomy; here = h; there = k; lent = record { one = one; other = other; copy = copy } }
 
       -- "19, with nothing written, exactly when the tables of no export part, or of several, differ"
-      pub says-none : AllCompared lim first second a b work Nothing → Answers (proposing lim first second buffer) (stays lim first second buffer P.NoSinglePart)
+      says-none : AllCompared lim first second a b work Nothing → Answers (proposing lim first second buffer) (stays lim first second buffer P.NoSinglePart)
       says-none c = inr (λ k. k s, inr (λ k. k z, inr (λ k. omega (arith, k, size), inl (λ t u h k p o. o .0 (known-same t u (c t u (both t u h k)) p), refl))))
 
-      pub says-several : AllCompared lim first second a b work Several → Answers (proposing lim first second buffer) (stays lim first second buffer P.NoSinglePart)
+      says-several : AllCompared lim first second a b work Several → Answers (proposing lim first second buffer) (stays lim first second buffer P.NoSinglePart)
       says-several c = inr (λ k. k s, inr (λ k. k z, inr (λ k. omega (arith, k, size), inl (λ t u h k p o. known-several t u (c t u (both t u h k)) p o, refl))))
+
+      pub says-no-single : (d : Differing) → OneOf (0 ∷ 2 ∷ []) (tagOf the-type d) → AllCompared lim first second a b work d
+          → Answers (proposing lim first second buffer) (stays lim first second buffer P.NoSinglePart)
+      says-no-single Nothing k c = says-none c
+      says-no-single (One n) k c = absurd (miss (0 ∷ 2 ∷ []) 1 tt k)
+      says-no-single Several k c = says-several c
 
       module _ (n : ℕ) (c : AllCompared lim first second a b work (One n)) (work′ after : List ℕ) (same : length work′ ≡ length work) where
         abbrev t : Tables

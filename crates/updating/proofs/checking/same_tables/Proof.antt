@@ -1,18 +1,13 @@
-use borrow.Author.Needs.{needs}
-use Prim.Native.Nat.{ℕ, zero, suc, _≤_, _<_, _-_, _+_, _*_, _/_, _%_}
-use mathlib.Core.Path.{_≡_, refl, sym, ap, _∙_}
-use mathlib.Core.Bool.{Bool, true, false, cond}
-use mathlib.Core.List.{List, [], _∷_, _++_}
-use native.Mathlib.Omega.{arith}
-use lib.ListN.{length, getD, drop, take, set, replicate}
+use Rattle.lists.proofs.Kit.{needs, arith}
+use Rattle.updating.proofs.CheckLaws.{tails-compared}
 use Rattle.updating.proofs.checking.same_tables.Statement.{statement}
 use Rattle.updating.proofs.checking.same_tables.Tie as tie
 
 returns : tie.Need-returns
-returns c = ?
+returns c = λ h k. absurd (omega (arith, h, c .if1 .taken))
 
 returns-2 : tie.Need-returns-2
-returns-2 c = ?
+returns-2 c = λ h k. absurd (omega (arith, k, c .if2 .taken))
 
 sub-same : tie.Need-sub-same
 sub-same c = search needs
@@ -36,7 +31,9 @@ same-requires : tie.Need-same-requires
 same-requires c κs = search needs
 
 returns-3 : tie.Need-returns-3
-returns-3 c = ?
+returns-3 c =
+    let a = c .before .before .before .before .before .before .before .args in
+    tails-compared (a .a .now) (a .b .now) (c .same .result) (c .same .ensures)
 
 pub same-tables-spec : {M : Type 1} → statement M
 same-tables-spec =

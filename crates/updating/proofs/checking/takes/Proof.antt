@@ -1,10 +1,5 @@
-use borrow.Author.Needs.{needs}
-use Prim.Native.Nat.{ℕ, zero, suc, _≤_, _<_, _-_, _+_, _*_, _/_, _%_}
-use mathlib.Core.Path.{_≡_, refl, sym, ap, _∙_}
-use mathlib.Core.Bool.{Bool, true, false, cond}
-use mathlib.Core.List.{List, [], _∷_, _++_}
-use native.Mathlib.Omega.{arith}
-use lib.ListN.{length, getD, drop, take, set, replicate}
+use Rattle.lists.proofs.Kit.{needs}
+use Rattle.updating.proofs.CheckLaws.{took}
 use Rattle.updating.proofs.checking.takes.Statement.{statement}
 use Rattle.updating.proofs.checking.takes.Tie as tie
 
@@ -24,15 +19,10 @@ same-length-2 : tie.Need-same-length-2
 same-length-2 c = search needs
 
 returns : tie.Need-returns
-returns c = ?
+returns c =
+    let a = c .before .before .before .before .before .before .before .before .before .before .before .before .before .args in
+    let k = c .before .before .before .before .before .before .commit-for in
+    λ size. took (a .limits) (a .message .now) (a .store .now) _ _ _ (k .result) (c .number .result) (search needs) (k .ensures size) (c .number .ensures)
 
 pub takes-spec : {M : Type 1} → statement M
-takes-spec =
-    tie.close
-    (tie.spec
-    slice-aggregate-commit-for
-    commit-for-requires
-    number-requires
-    same-length
-    same-length-2
-    returns)
+takes-spec = tie.close (tie.spec slice-aggregate-commit-for commit-for-requires number-requires same-length same-length-2 returns)

@@ -1,10 +1,4 @@
-use borrow.Author.Needs.{needs}
-use Prim.Native.Nat.{ℕ, zero, suc, _≤_, _<_, _-_, _+_, _*_, _/_, _%_}
-use mathlib.Core.Path.{_≡_, refl, sym, ap, _∙_}
-use mathlib.Core.Bool.{Bool, true, false, cond}
-use mathlib.Core.List.{List, [], _∷_, _++_}
-use native.Mathlib.Omega.{arith}
-use lib.ListN.{length, getD, drop, take, set, replicate}
+use Rattle.lists.proofs.Kit.{needs}
 use Rattle.updating.proofs.handheld.check.Statement.{statement}
 use Rattle.updating.proofs.handheld.check.Tie as tie
 
@@ -18,9 +12,7 @@ check-in-requires : tie.Need-check-in-requires
 check-in-requires c κs = search needs
 
 returns : tie.Need-returns
-returns c = ?
+returns c = c .before .before .check-in .ensures (search needs) (search needs)
 
 pub check-spec : {M : Type 1} → statement M
-check-spec =
-    tie.close
-    (tie.spec slice-aggregate-check-in slice-aggregate-check-in-2 check-in-requires returns)
+check-spec = tie.close (tie.spec slice-aggregate-check-in slice-aggregate-check-in-2 check-in-requires returns)
