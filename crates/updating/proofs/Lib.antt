@@ -1,5 +1,6 @@
 pub mod BehindHash
 pub mod CheckLaws
+pub mod PartRoom
 pub mod Parts
 pub mod ProposeLaws
 pub mod Theorems

@@ -1,6 +1,8 @@
 -- PARTS: two sets have the same tables of a part exactly if its requests are the same bytes; and which parts differ. Assumes nothing.
-use Rattle.lists.proofs.Kit.{ℕ, suc, _+_, _≤_, _<_, _≡_, _≢_, refl, sym, ap, _∙_, subst, _↔_, _⊎_, inl, inr, Bool, true, false, cond, true≢false, List, [], _∷_, map, some, Option, Option·some-injective, arith, eqb, eqb-true, eqb-false}
+use Rattle.lists.proofs.Kit.{ℕ, zero, suc, _+_, _≤_, _<_, _≡_, _≢_, refl, sym, ap, _∙_, subst, _↔_, _⊎_, inl, inr, Bool, true, false, cond, true≢false, List, [], _∷_, map, some, Option, Option·some-injective, arith, getD, add-one, eqb, eqb-true, eqb-false}
 use native.Mathlib.Decide.{decLe}
+use Rattle.slots.specs.Slots.{same?}
+use Rattle.slots.proofs.Runs.{same-are, same-refl}
 use Rattle.writing.specs.declared.Kind.{Kind}
 use Rattle.writing.specs.declared.Kind.the-variants as K
 use Rattle.writing.specs.Carrier.{Request}
@@ -15,15 +17,16 @@ use Rattle.requests.specs.Requests.{forget}
 use Rattle.export.specs.declared.parts.Part.{Part}
 use Rattle.export.specs.declared.parts.Part.the-variants.{Lines, Fixed, QuickTexts, Channels, StatusTexts, Groups, Individuals, GroupContacts, IndividualContacts, LineSlots}
 use Rattle.export.specs.Exportable.{Exportable}
-use Rattle.export.specs.Exported.{part-number, exported, request-bytes}
+use Rattle.export.specs.Exported.{ten, part-number, exported, request-bytes}
 use Rattle.export.proofs.Determined.{one-part}
+use Rattle.export.proofs.PartWriting.{ten-at}
 use Rattle.restore.specs.Restored.{part-kinds, with-part, SameTables}
 use Rattle.restore.proofs.PartRuns.{part-turn}
 use Rattle.restore.proofs.Requests.{own-fits}
 use Rattle.restore.proofs.StandardRequests.{exported-request, exported-only}
 use Rattle.updating.specs.declared.proposing.Differing.{Differing}
 use Rattle.updating.specs.declared.proposing.Differing.the-variants.{Nothing, One, Several}
-use Rattle.updating.specs.Updating.{SamePart, Sole, noted, Known}
+use Rattle.updating.specs.Updating.{SamePart, Sole, NoneOrSeveral, noted, Known}
 
 -- ---- a part by its request
 
@@ -60,6 +63,13 @@ module _ (lim : Limits) (x : Exportable lim) (t u : Tables) (ok : Allowed lim t)
   -- SAME REQUESTS: and back
   pub same-requests : (request-bytes (exported p t) ≡ request-bytes (exported p u)) ↔ SamePart p t u
   same-requests = (part-one, λ h. ap request-bytes (same-exported p t u h))
+
+  -- SAME TOLD: so comparing the requests tells
+  pub same-told : (r : Bool) → r ≡ same? (request-bytes (exported p t)) (request-bytes (exported p u)) → (r ≡ true) ↔ SamePart p t u
+  same-told r e =
+      let one : List ℕ = request-bytes (exported p t) in
+      let other : List ℕ = request-bytes (exported p u) in
+      (λ q. same-requests .0 (same-are one other (sym e ∙ q)), λ q. e ∙ ap (same? one) (sym (same-requests .1 q)) ∙ same-refl one)
 
 -- ---- all parts
 
@@ -178,6 +188,7 @@ module _ (t u : Tables) where
   pub known-sole : (n : ℕ) → Known t u 10 (One n) → (p : Part) × (part-number p ≡ n) × Sole p t u
   known-sole n (p, e, l, differs, others) = (p, e, (differs, λ q f. others q (number-range q .1) f))
 
+  -- none differs, or two do
   pub known-same : Known t u 10 Nothing → (q : Part) → SamePart q t u
   known-same a q = a q (number-range q .1)
 
@@ -188,3 +199,30 @@ module _ (t u : Tables) where
       by (inr f) s = a (others q f)
       by (inl e) (inr f) = b (others r f)
       by (inl e) (inl d) = n (e ∙ sym d)
+
+-- ---- none or several
+
+module _ (lim : Limits) (x : Exportable lim) (t u : Tables) (ok : Allowed lim t) (fine : Allowed lim u) where
+  -- which parts differ can be told, by their requests
+  known-upto : (k : ℕ) → k ≤ 10 → (d : Differing) × Known t u k d
+  known-upto zero h = (Nothing, known-first t u)
+  known-upto (suc k) h =
+      let (d, a) = known-upto k (omega (arith, h)) in
+      let p : Part = getD ten k Lines in
+      let n : part-number p ≡ k + 1 = ten-at k (omega (arith, h)) in
+      let r : Bool = same? (request-bytes (exported p t)) (request-bytes (exported p u)) in
+      (noted d (k + 1) r, subst (λ (i : ℕ). Known t u i (noted d (k + 1) r)) (add-one k) (known-next t u k p n d r (same-told lim x t u ok fine p r refl) a))
+
+  -- SINGLE OR NOT: one part is the only one that differs, or none differs, or several do
+  pub single-or-not : ((p : Part) × Sole p t u) ⊎ NoneOrSeveral t u
+  single-or-not = let (d, a) = known-upto 10 (omega arith) in by d a
+    where
+      by : (d : Differing) → Known t u 10 d → ((p : Part) × Sole p t u) ⊎ NoneOrSeveral t u
+      by Nothing a = inr (inl (known-same t u a))
+      by (One n) a = let (p, _, o) = known-sole t u n a in inl (p, o)
+      by Several a = inr (inr a)
+
+-- NOT BOTH: and not both
+pub none-single : (t u : Tables) → NoneOrSeveral t u → (p : Part) → Sole p t u → ⊥
+none-single t u (inl a) p o = o .0 (a p)
+none-single t u (inr a) p o = known-several t u a p o

@@ -4,7 +4,6 @@ use denote.Enum.Declared.{tagOf}
 use types.Run.{OneOf, miss}
 use Rattle.lists.specs.Ladder.{Answers}
 use Rattle.slots.specs.Slots.{same?}
-use Rattle.slots.proofs.Runs.{same-are, same-refl}
 use Rattle.tables.specs.declared.limits.Limits.{Limits}
 use Rattle.tables.specs.declared.limits.Texts.{Texts}
 use Rattle.tables.specs.declared.limits.Texts.the-variants.{Placed, Shared}
@@ -27,7 +26,7 @@ use Rattle.updating.specs.declared.proposing.Differing.{Differing}
 use Rattle.updating.specs.declared.proposing.Differing.the-variants.{Nothing, One, Several}
 use Rattle.updating.specs.Updating.{Sole, AfterProposal, stays, proposing, Both, Compared, noted, Known, AllCompared}
 use Rattle.updating.proofs.proposing.Differing.{the-type}
-use Rattle.updating.proofs.Parts.{same-requests, known-next, known-sole, known-same, known-several}
+use Rattle.updating.proofs.Parts.{same-told, known-next, known-sole, known-same, known-several}
 
 -- ---- what is lent
 
@@ -87,14 +86,10 @@ module _ (lim : Limits) (part : ℕ) (first second a b work : List ℕ) where
         → (Exportable lim → Lends lim work′ → Answers (exporting lim part second b) (record { answer = export-told (Written n); buffer = b′ }))
         → r ≡ same? (midOf 0 (m - 0) a′) (midOf 0 (n - 0) b′) → Compared lim part first second a b work r
     compared a′ b′ m n r e d is p t u number h =
-        let one : List ℕ = request-bytes (exported p t) in
-        let other : List ℕ = request-bytes (exported p u) in
-        let x : midOf 0 (m - 0) a′ ≡ one = at-start lim part first a a′ t p (h .roomy) (h .here) number (h .lent .one) m (e (h .able) (h .lent .copy)) in
-        let y : midOf 0 (n - 0) b′ ≡ other
+        let x : midOf 0 (m - 0) a′ ≡ request-bytes (exported p t) = at-start lim part first a a′ t p (h .roomy) (h .here) number (h .lent .one) m (e (h .able) (h .lent .copy)) in
+        let y : midOf 0 (n - 0) b′ ≡ request-bytes (exported p u)
         = at-start lim part second b b′ u p (h .roomy) (h .there) number (h .lent .other) n (d (h .able) (lends-same lim work work′ same (h .lent .copy))) in
-        let z : r ≡ same? one other = is ∙ ap₂ same? x y in
-        let s = same-requests lim (h .able) t u (h .here .0) (h .there .0) p in
-        (λ q. s .0 (same-are one other (sym z ∙ q)), λ q. z ∙ ap (same? one) (sym (s .1 q)) ∙ same-refl one)
+        same-told lim (h .able) t u (h .here .0) (h .there .0) p r (is ∙ ap₂ same? x y)
 
 -- ---- one part after the other
 

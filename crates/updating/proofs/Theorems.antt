@@ -14,6 +14,7 @@ use Rattle.tables.specs.Apply.{apply, in-turn}
 use Rattle.tables.specs.Layout.{hash-size}
 use Rattle.tables.specs.Store.{StoreOf, Holds}
 use Rattle.tables.specs.Tables.{Tables}
+use Rattle.tables.specs.Texts.{WhereShared}
 use Rattle.tables.proofs.AllowedLaws.{forget-allowed}
 use Rattle.shared_texts.proofs.Forms.{layout-one}
 use Rattle.requests.specs.Requests.{forget}
@@ -21,7 +22,7 @@ use Rattle.station.specs.Taking.{AfterTaking, taken}
 use Rattle.laws_taking.specs.Demands.{InTurn}
 use Rattle.laws_taking.specs.Judging.{AllSettings, AsKept}
 use Rattle.laws_taking.proofs.Judging.{judged-committed}
-use Rattle.laws_taking.proofs.Theorems.{answered-0}
+use Rattle.laws_taking.proofs.Theorems.{number-of, answered-0}
 use Rattle.laws_joining.proofs.OneRequest.{in-turn-of}
 use Rattle.export.specs.declared.parts.Part.{Part}
 use Rattle.export.specs.Exportable.{Exportable}
@@ -29,15 +30,17 @@ use Rattle.export.specs.Exported.{exported, request-bytes}
 use Rattle.restore.specs.Restored.{with-part, SameTables}
 use Rattle.restore.proofs.FreshRuns.{taken-within}
 use Rattle.restore.proofs.Requests.{exported-is, exported-in-size, own-fits}
+use Rattle.restore.proofs.Restored.{part-taken}
 use Rattle.restore.proofs.StandardRequests.{exported-request, exported-only}
 use Rattle.updating.specs.declared.answers.Check.{Check}
 use Rattle.updating.specs.declared.answers.Check.the-variants.{Yes, No, FirstNotAStore, SecondNotAStore}
 use Rattle.updating.specs.declared.answers.Proposal.{Proposal}
 use Rattle.updating.specs.declared.answers.Proposal.the-variants as P
-use Rattle.updating.specs.Updating.{Updates, Says, checking, SamePart, Sole, AfterProposal, writes, Proposes, proposing, told}
+use Rattle.updating.specs.Updating.{Updates, Says, checking, Sole, NoneOrSeveral, never-between, AfterProposal, writes, Proposes, proposing, told}
 use Rattle.updating.proofs.BehindHash.{same-behind}
 use Rattle.updating.proofs.CheckLaws.{updates-taken, taken-updates}
-use Rattle.updating.proofs.Parts.{sole-mixed, sole-one}
+use Rattle.updating.proofs.Parts.{sole-mixed, sole-one, single-or-not, none-single}
+use Rattle.updating.proofs.PartRoom.{has-room}
 
 -- ---- the check
 
@@ -105,6 +108,32 @@ module _ (lim : Limits) (first second buffer : List ℕ) where
   proposing-determined a b s t x y =
       let e = one-answer (proposing lim first second buffer) one-proposal _ _ x y in
       (ap (λ (z : AfterProposal). z .answer) e, ap (λ (z : AfterProposal). z .buffer) e)
+
+  -- NINETEEN EXACTLY: of two stores, with a buffer of a message's size, it answers 19 "exactly when the tables of no export part, or of several, differ"
+  pub nineteen-exactly : Exportable lim → StoreOf lim first → StoreOf lim second → lim .message ≤ length buffer → (t u : Tables) → Holds lim t first → Holds lim u second
+      → (a : AfterProposal) → Answers (proposing lim first second buffer) a → (a .answer ≡ P.NoSinglePart) ↔ NoneOrSeveral t u
+  nineteen-exactly x s z size t u h k a answers = (λ e. single answers e (single-or-not lim x t u (h .0) (k .0)), none answers)
+    where
+      -- other tables are not held
+      held : (v w : Tables) → Holds lim v first → Holds lim w second → (p : Part) → Sole p v w → Sole p t u
+      held v w i j p o =
+          subst (λ (y : Tables). Sole p y u) (layout-one lim v t (i .0) (h .0) (sym (i .1) ∙ h .1)) (subst (Sole p v) (layout-one lim w u (j .0) (k .0) (sym (j .1) ∙ k .1)) o)
+
+      single : Answers (proposing lim first second buffer) a → a .answer ≡ P.NoSinglePart → ((p : Part) × Sole p t u) ⊎ NoneOrSeveral t u → NoneOrSeveral t u
+      single y e (inr n) = n
+      single (inl (n, _)) e (inl o) = absurd (n s)
+      single (inr (_, inl (n, _))) e (inl o) = absurd (n z)
+      single (inr (_, inr (_, inl (n, _)))) e (inl o) = absurd (omega (arith, n, size))
+      single (inr (_, inr (_, inr (_, inl (n, _))))) e (inl (p, o)) = absurd (n t u h k p o)
+      single (inr (_, inr (_, inr (_, inr (_, q))))) e (inl o) =
+          absurd (omega (arith, ap (λ (r : Proposal). told r .number) (sym (ap (λ (y : AfterProposal). y .answer) (q .outcome)) ∙ e)))
+
+      none : Answers (proposing lim first second buffer) a → NoneOrSeveral t u → a .answer ≡ P.NoSinglePart
+      none (inl (n, _)) o = absurd (n s)
+      none (inr (_, inl (n, _))) o = absurd (n z)
+      none (inr (_, inr (_, inl (n, _)))) o = absurd (omega (arith, n, size))
+      none (inr (_, inr (_, inr (_, inl (_, e))))) o = ap (λ (y : AfterProposal). y .answer) e
+      none (inr (_, inr (_, inr (_, inr (n, _))))) o = absurd (n (λ v w i j p y. none-single t u o p (held v w i j p y)))
 
 -- ---- what is proposed
 
@@ -182,3 +211,16 @@ module _ (lim : Limits) (first second buffer : List ℕ) (a : AfterProposal) (n 
       (subst⁻¹ (λ (m : List ℕ). Updates lim first second m) (b .is)
       (part-updates lim x first second (q .before) (q .wanted) (q .held) (q .asked) (q .which) (q .sole) reply y (subst (λ (m : List ℕ). Answers (taken lim m first reply) y) (b .is) took) z)) c
       (past-11 lim first second (take n (a .buffer)) (b .first-store) (b .second-store) c says)
+
+  -- PROPOSED TAKEN: the first store, with any reply buffer of 20 or more bytes, takes it where each text has a place of its own; and where texts share an area, it takes any part but those of slots
+  pub proposed-taken : Exportable lim → StoreOf lim first → (t u : Tables) → Holds lim t first → Holds lim u second → (p : Part) → Sole p t u → WhereShared (lim .texts) (never-between p ≡ true)
+      → (reply : List ℕ) → 20 ≤ length reply → (y : AfterTaking) → Answers (taken lim (take n (a .buffer)) first reply) y → y .answer .number ≡ 0
+  proposed-taken x s t u h k p sole sure reply long y took =
+      let b = was-proposed in
+      let q = b .proposes in
+      let e : q .before ≡ t = layout-one lim (q .before) t (q .held .0) (h .0) (sym (q .held .1) ∙ h .1) in
+      let d : q .wanted ≡ u = layout-one lim (q .wanted) u (q .asked .0) (k .0) (sym (q .asked .1) ∙ k .1) in
+      let which : q .which ≡ p = sole-one (q .which) p t u (subst (λ (v : Tables). Sole (q .which) v u) e (subst (Sole (q .which) (q .before)) d (q .sole))) sole in
+      let is : take n (a .buffer) ≡ request-bytes (exported p u) = b .is ∙ ap₂ (λ (r : Part) (v : Tables). request-bytes (exported r v)) which d in
+      number-of (part-taken lim lim x (s .roomy) u (k .0) t first h reply long p (own-fits lim x u (k .0) p .request) (has-room lim x t u (h .0) (k .0) p sole sure) y
+      (subst (λ (m : List ℕ). Answers (taken lim m first reply) y) is took))

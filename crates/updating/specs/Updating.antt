@@ -1,7 +1,7 @@
 -- What checking a proposed request and proposing one answer: document 02, "Short updates".
 use Prim.Native.Nat.{ℕ, _≤_, _<_}
 use mathlib.Core.Path.{_≡_}
-use mathlib.Core.Logic.{_≢_, _↔_}
+use mathlib.Core.Logic.{_≢_, _⊎_, _↔_}
 use mathlib.Core.Bool.{Bool, true, false}
 use mathlib.Core.List.{List}
 use lib.ListN.{length, drop}
@@ -21,6 +21,7 @@ use Rattle.requests.specs.Judge.{kept}
 use Rattle.requests.specs.Requests.{Judged, forget}
 use Rattle.station.specs.Taking.{AfterTaking, taken}
 use Rattle.export.specs.declared.parts.Part.{Part}
+use Rattle.export.specs.declared.parts.Part.the-variants.{Lines, Fixed, QuickTexts, Channels, StatusTexts, Groups, Individuals, GroupContacts, IndividualContacts, LineSlots}
 use Rattle.export.specs.Exportable.{Exportable}
 use Rattle.export.specs.Exported.{part-number, exported, request-bytes}
 use Rattle.export.specs.Exporting.{Told}
@@ -86,6 +87,23 @@ SamePart p t u = Agree (part-kinds p) t u
 abbrev pub Sole : Part → Tables → Tables → Type 0
 Sole p t u = (SamePart p t u → ⊥) × ((q : Part) → q ≢ p → SamePart q t u)
 
+-- "of no export part, or of several, differ"
+abbrev pub NoneOrSeveral : Tables → Tables → Type 0
+NoneOrSeveral t u = ((q : Part) → SamePart q t u) ⊎ ((p : Part) × (q : Part) × (p ≢ q) × (SamePart p t u → ⊥) × (SamePart q t u → ⊥))
+
+-- the parts whose request first empties its table, or has no texts: at none of their settings do texts take more room than at the end. A slot may grow before another shrinks
+abbrev pub never-between : Part → Bool
+never-between Lines = true
+never-between Fixed = true
+never-between QuickTexts = true
+never-between Channels = true
+never-between StatusTexts = true
+never-between Groups = false
+never-between Individuals = false
+never-between GroupContacts = true
+never-between IndividualContacts = true
+never-between LineSlots = false
+
 -- the answer, and the buffer afterwards
 pub record AfterProposal : Type 0 where
   pub answer : Proposal
@@ -100,7 +118,7 @@ module _ (lim : Limits) (first second buffer : List ℕ) where
   abbrev pub writes : List ℕ → AfterProposal
   writes bytes = record { answer = P.Written (length bytes); buffer = written-over bytes buffer }
 
-  -- "exactly when the tables of no export part, or of several, differ"
+  -- no part of the tables held is the only one that differs
   abbrev pub NoSingle : Type 0
   NoSingle = (t u : Tables) → Holds lim t first → Holds lim u second → (p : Part) → Sole p t u → ⊥
 
