@@ -1,5 +1,5 @@
 -- BEHIND THE HASH: two stores hold the same tables, the kept hash aside, exactly if the bytes behind the hash are the same in both. Assumes nothing.
-use Rattle.lists.proofs.Kit.{ℕ, _≡_, sym, ap, ap₂, _∙_, _↔_, List, _++_, length, drop, take-append-drop, drop-at}
+use Rattle.lists.proofs.Kit.{ℕ, _≡_, sym, ap, _∙_, _↔_, List, _++_, drop, take-append-drop, drop-at}
 use Rattle.writing.specs.Settings.{Hash}
 use Rattle.tables.specs.declared.limits.Limits.{Limits}
 use Rattle.tables.specs.declared.limits.Texts.{Texts}

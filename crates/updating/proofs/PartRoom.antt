@@ -1,5 +1,5 @@
 -- PART ROOM: the one part that differs has room in the first set, where texts have places of their own, or where its request empties its table first. Assumes nothing.
-use Rattle.lists.proofs.Kit.{ℕ, _+_, _*_, _≤_, _≡_, refl, sym, ap, _∙_, subst, subst⁻¹, true, true≢false, List, _∷_, Option, some, arith}
+use Rattle.lists.proofs.Kit.{_+_, _*_, _≤_, _≡_, refl, sym, ap, _∙_, subst, subst⁻¹, true, true≢false, List, _∷_, Option, some, arith}
 use Rattle.writing.specs.declared.Kind.{Kind}
 use Rattle.writing.specs.declared.Kind.the-variants as K
 use Rattle.writing.specs.Settings.{Setting, texts}

@@ -1,5 +1,5 @@
 -- PARTS: two sets have the same tables of a part exactly if its requests are the same bytes; and which parts differ. Assumes nothing.
-use Rattle.lists.proofs.Kit.{ℕ, zero, suc, _+_, _≤_, _<_, _≡_, _≢_, refl, sym, ap, _∙_, subst, _↔_, _⊎_, inl, inr, Bool, true, false, cond, true≢false, List, [], _∷_, map, some, Option, Option·some-injective, arith, getD, add-one, eqb, eqb-true, eqb-false}
+use Rattle.lists.proofs.Kit.{ℕ, zero, suc, _+_, _≤_, _≡_, _≢_, refl, sym, ap, _∙_, subst, _↔_, _⊎_, inl, inr, Bool, true, false, cond, true≢false, List, some, Option·some-injective, arith, getD, add-one, eqb, eqb-true, eqb-false}
 use native.Mathlib.Decide.{decLe}
 use Rattle.slots.specs.Slots.{same?}
 use Rattle.slots.proofs.Runs.{same-are, same-refl}

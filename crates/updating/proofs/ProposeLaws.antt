@@ -1,5 +1,5 @@
 -- Exports compared part by part, and what proposing answers. Assumes nothing.
-use Rattle.lists.proofs.Kit.{ℕ, _+_, _-_, _≤_, _<_, _≡_, refl, sym, ap, ap₂, _∙_, subst⁻¹, inl, inr, List, [], _∷_, Bool, arith, midOf, length, getD, take}
+use Rattle.lists.proofs.Kit.{ℕ, _+_, _-_, _≤_, _<_, _≡_, refl, ap, ap₂, _∙_, subst⁻¹, inl, inr, List, [], _∷_, Bool, arith, midOf, length, getD, take}
 use denote.Enum.Declared.{tagOf}
 use types.Run.{OneOf, miss}
 use Rattle.lists.specs.Ladder.{Answers}

@@ -1,5 +1,5 @@
 -- The laws of short updates, for every set, store and message: what the check and the proposer answer, and that a proposal that is taken is an update. Assumes nothing.
-use Rattle.lists.proofs.Kit.{ℕ, suc, zero, _+_, _≤_, _≡_, _≢_, refl, sym, ap, ap₂, _∙_, subst, subst⁻¹, _⊎_, inl, inr, _↔_, List, Bool, true, arith, length, take, drop, getD, some, take-append-seam, add-one}
+use Rattle.lists.proofs.Kit.{ℕ, _≤_, _≡_, _≢_, refl, sym, ap, ap₂, _∙_, subst, subst⁻¹, _⊎_, inl, inr, _↔_, List, true, arith, length, take, drop, some, take-append-seam}
 use Rattle.lists.specs.Ladder.{Answers}
 use Rattle.lists.proofs.Ladder.{one-answer}
 use Rattle.writing.specs.declared.Coding.{Coding}
@@ -11,13 +11,13 @@ use Rattle.read_carrier.proofs.KindLaws.{not-both}
 use Rattle.read_carrier.proofs.MessageOne.{coding-one}
 use Rattle.tables.specs.declared.limits.Limits.{Limits}
 use Rattle.tables.specs.Apply.{apply, in-turn}
-use Rattle.tables.specs.Layout.{hash-size}
 use Rattle.tables.specs.Store.{StoreOf, Holds}
 use Rattle.tables.specs.Tables.{Tables}
 use Rattle.tables.specs.Texts.{WhereShared}
 use Rattle.tables.proofs.AllowedLaws.{forget-allowed}
 use Rattle.shared_texts.proofs.Forms.{layout-one}
-use Rattle.requests.specs.Requests.{forget}
+use Rattle.requests.specs.Judge.{kept}
+use Rattle.requests.specs.Requests.{Judged, forget}
 use Rattle.station.specs.Taking.{AfterTaking, taken}
 use Rattle.laws_taking.specs.Demands.{InTurn}
 use Rattle.laws_taking.specs.Judging.{AllSettings, AsKept}
@@ -90,6 +90,35 @@ module _ (lim : Limits) (first second message : List ℕ) where
           updates-yes (taken-updates lim first second message (size, d, count, settings, r) w k reply x a n (same-behind lim v w (x .store) second h k .1 same)) c
           (past-11 (λ n. n s) (λ n. n z) c answers),
     )
+
+module _ (lim : Limits) (message : List ℕ) where
+  -- what updates one store to another does so whatever hashes the two keep
+  moved-aside : (first second first′ second′ : List ℕ) (t u t′ u′ : Tables) → Holds lim t first → Holds lim u second → Holds lim t′ first′ → Holds lim u′ second′ → SameTables t t′ → SameTables u u′
+      → Updates lim first second message → Updates lim first′ second′ message
+  moved-aside first second first′ second′ t u t′ u′ h k h′ k′ e d y =
+      let b : y .before ≡ t = layout-one lim (y .before) t (y .held .0) (h .0) (sym (y .held .1) ∙ h .1) in
+      let w : y .wanted ≡ u = layout-one lim (y .wanted) u (y .asked .0) (k .0) (sym (y .asked .1) ∙ k .1) in
+      record {
+        coding = y .coding;
+        count = y .count;
+        settings-bytes = y .settings-bytes;
+        request = y .request;
+        in-size = y .in-size;
+        before = t′;
+        held = h′;
+        settings = y .settings;
+        after = y .after;
+        judged = subst (λ (v : Tables). Judged (y .coding) lim (y .count) v (y .settings-bytes) (kept (y .settings) (y .after))) (ap forget b ∙ e) (y .judged);
+        wanted = u′;
+        asked = k′;
+        same = y .same ∙ ap forget w ∙ d;
+      }
+
+  -- HASH ASIDE: so a request updates one store to another exactly if it updates those of the same tables, whatever hashes they keep
+  pub hash-aside : (first second first′ second′ : List ℕ) (t u t′ u′ : Tables) → Holds lim t first → Holds lim u second → Holds lim t′ first′ → Holds lim u′ second′ → SameTables t t′ → SameTables u u′
+      → Updates lim first second message ↔ Updates lim first′ second′ message
+  hash-aside first second first′ second′ t u t′ u′ h k h′ k′ e d =
+      (moved-aside first second first′ second′ t u t′ u′ h k h′ k′ e d, moved-aside first′ second′ first second t′ u′ t u h′ k′ h k (sym e) (sym d))
 
 -- ---- the proposer
 

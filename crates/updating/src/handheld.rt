@@ -9,6 +9,9 @@ ghost use Rattle.lists.specs.Ladder.{Answers};
 ghost use Rattle.tables.specs.Limits.{handheld};
 ghost use Rattle.updating.specs.Updating.{checking, proposing};
 
+// How many bytes its longest message has.
+const MESSAGE: usize = 4096;
+
 // Whether the first store takes the message, a request, and then has the second's tables, the kept hash aside. Neither store changes.
 pub fn check(first: &[u8], second: &[u8], message: &[u8]) -> Check
     ensures { λ r. ⌜ Answers (checking handheld (now (first .entry)) (now (second .entry)) (now (message .entry))) r ⌝ }
@@ -22,8 +25,8 @@ pub fn check(first: &[u8], second: &[u8], message: &[u8]) -> Check
 pub fn propose(first: &[u8], second: &[u8], buffer: &mut [u8]) -> Proposal
     ensures { λ r. ⌜ Answers (proposing handheld (now (first .entry)) (now (second .entry)) (now (buffer .entry))) (record { answer = r; buffer = now (buffer .exit) }) ⌝ }
 {
-    let mut a = [0u8; 4096];
-    let mut b = [0u8; 4096];
+    let mut a = [0u8; MESSAGE];
+    let mut b = [0u8; MESSAGE];
     let mut work = [0u8; HANDHELD_SIZE];
     propose_in(first, second, buffer, HANDHELD, &mut a, &mut b, &mut work)
 }

@@ -9,6 +9,9 @@ ghost use Rattle.lists.specs.Ladder.{Answers};
 ghost use Rattle.tables.specs.Limits.{vehicle};
 ghost use Rattle.updating.specs.Updating.{checking, proposing};
 
+// How many bytes its longest message has.
+const MESSAGE: usize = 8192;
+
 // Whether the first store takes the message, a request, and then has the second's tables, the kept hash aside. Neither store changes.
 pub fn check(first: &[u8], second: &[u8], message: &[u8]) -> Check
     ensures { λ r. ⌜ Answers (checking vehicle (now (first .entry)) (now (second .entry)) (now (message .entry))) r ⌝ }
@@ -22,8 +25,8 @@ pub fn check(first: &[u8], second: &[u8], message: &[u8]) -> Check
 pub fn propose(first: &[u8], second: &[u8], buffer: &mut [u8]) -> Proposal
     ensures { λ r. ⌜ Answers (proposing vehicle (now (first .entry)) (now (second .entry)) (now (buffer .entry))) (record { answer = r; buffer = now (buffer .exit) }) ⌝ }
 {
-    let mut a = [0u8; 8192];
-    let mut b = [0u8; 8192];
+    let mut a = [0u8; MESSAGE];
+    let mut b = [0u8; MESSAGE];
     let mut none = [0u8; 0];
     propose_in(first, second, buffer, VEHICLE, &mut a, &mut b, &mut none)
 }

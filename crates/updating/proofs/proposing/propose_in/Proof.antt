@@ -5,7 +5,6 @@ use Rattle.working.specs.Seen.{Lends}
 use Rattle.export.specs.declared.parts.Export.{Export}
 use Rattle.export.specs.Exportable.{Exportable}
 use Rattle.export.specs.Exporting.{exporting, told}
-use Rattle.updating.specs.declared.proposing.Differing.{Differing}
 use Rattle.updating.specs.Updating.{AllCompared}
 use Rattle.updating.proofs.ProposeLaws.{says-first, says-second, says-15, says-no-single, says-written, says-nothing}
 use Rattle.updating.proofs.proposing.propose_in.Statement.{statement}
