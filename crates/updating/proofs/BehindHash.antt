@@ -31,6 +31,10 @@ forget-behind lim t = go (lim .texts)
     go (Shared a) = past-hash no-hash _ ∙ sym (past-hash (t .hash) _)
 
 module _ (lim : Limits) where
+  -- ONE HELD: a store holds one set of tables
+  pub one-held : (t u : Tables) (store : List ℕ) → Holds lim t store → Holds lim u store → t ≡ u
+  one-held t u store h k = layout-one lim t u (h .0) (k .0) (sym (h .1) ∙ k .1)
+
   -- a store is its hash and what stands behind it
   in-two : (t : Tables) → Allowed lim t → layout lim t ≡ hash-bytes (t .hash) ++ drop hash-size (layout lim t)
   in-two t ok = sym (take-append-drop hash-size (layout lim t)) ∙ ap (λ (h : List ℕ). h ++ drop hash-size (layout lim t)) (hash-stands lim t ok)

@@ -15,7 +15,6 @@ use Rattle.tables.specs.Store.{StoreOf, Holds}
 use Rattle.tables.specs.Tables.{Tables}
 use Rattle.tables.specs.Texts.{WhereShared}
 use Rattle.tables.proofs.AllowedLaws.{forget-allowed}
-use Rattle.shared_texts.proofs.Forms.{layout-one}
 use Rattle.requests.specs.Judge.{kept}
 use Rattle.requests.specs.Requests.{Judged, forget}
 use Rattle.station.specs.Taking.{AfterTaking, taken}
@@ -36,8 +35,8 @@ use Rattle.updating.specs.declared.answers.Check.{Check}
 use Rattle.updating.specs.declared.answers.Check.the-variants.{Yes, No, FirstNotAStore, SecondNotAStore}
 use Rattle.updating.specs.declared.answers.Proposal.{Proposal}
 use Rattle.updating.specs.declared.answers.Proposal.the-variants as P
-use Rattle.updating.specs.Updating.{Updates, Says, checking, Sole, NoneOrSeveral, never-between, AfterProposal, writes, Proposes, proposing, told}
-use Rattle.updating.proofs.BehindHash.{same-behind}
+use Rattle.updating.specs.Updating.{Updates, Says, checking, Sole, NoneOrSeveral, never-between, AfterProposal, stays, writes, Proposes, proposing, told}
+use Rattle.updating.proofs.BehindHash.{one-held, same-behind}
 use Rattle.updating.proofs.CheckLaws.{updates-taken, taken-updates}
 use Rattle.updating.proofs.Parts.{sole-mixed, sole-one, single-or-not, none-single}
 use Rattle.updating.proofs.PartRoom.{has-room}
@@ -96,8 +95,8 @@ module _ (lim : Limits) (message : List ℕ) where
   moved-aside : (first second first′ second′ : List ℕ) (t u t′ u′ : Tables) → Holds lim t first → Holds lim u second → Holds lim t′ first′ → Holds lim u′ second′ → SameTables t t′ → SameTables u u′
       → Updates lim first second message → Updates lim first′ second′ message
   moved-aside first second first′ second′ t u t′ u′ h k h′ k′ e d y =
-      let b : y .before ≡ t = layout-one lim (y .before) t (y .held .0) (h .0) (sym (y .held .1) ∙ h .1) in
-      let w : y .wanted ≡ u = layout-one lim (y .wanted) u (y .asked .0) (k .0) (sym (y .asked .1) ∙ k .1) in
+      let b : y .before ≡ t = one-held lim (y .before) t first (y .held) h in
+      let w : y .wanted ≡ u = one-held lim (y .wanted) u second (y .asked) k in
       record {
         coding = y .coding;
         count = y .count;
@@ -122,13 +121,17 @@ module _ (lim : Limits) (message : List ℕ) where
 
 -- ---- the proposer
 
+-- the one part that differs is that of any tables held
+sole-held : (lim : Limits) (first second : List ℕ) (t u v w : Tables) → Holds lim t first → Holds lim u second → Holds lim v first → Holds lim w second → (p : Part) → Sole p v w → Sole p t u
+sole-held lim first second t u v w h k i j p o = subst (λ (y : Tables). Sole p y u) (one-held lim v t first i h) (subst (Sole p v) (one-held lim w u second j k) o)
+
 module _ (lim : Limits) (first second buffer : List ℕ) where
   -- one answer, and one buffer
   one-proposal : (a b : AfterProposal) → Proposes lim first second buffer a → Proposes lim first second buffer b → a ≡ b
   one-proposal a b x y =
-      let t : x .before ≡ y .before = layout-one lim (x .before) (y .before) (x .held .0) (y .held .0) (sym (x .held .1) ∙ y .held .1) in
-      let u : x .wanted ≡ y .wanted = layout-one lim (x .wanted) (y .wanted) (x .asked .0) (y .asked .0) (sym (x .asked .1) ∙ y .asked .1) in
-      let p : x .which ≡ y .which = sole-one (x .which) (y .which) (y .before) (y .wanted) (subst (λ (v : Tables). Sole (x .which) v (y .wanted)) t (subst (Sole (x .which) (x .before)) u (x .sole))) (y .sole) in
+      let u : x .wanted ≡ y .wanted = one-held lim (x .wanted) (y .wanted) second (x .asked) (y .asked) in
+      let p : x .which ≡ y .which = sole-one (x .which) (y .which) (y .before) (y .wanted)
+      (sole-held lim first second (y .before) (y .wanted) (x .before) (x .wanted) (y .held) (y .asked) (x .held) (x .asked) (x .which) (x .sole)) (y .sole) in
       x .outcome ∙ ap₂ (λ (q : Part) (v : Tables). writes lim first second buffer (request-bytes (exported q v))) p u ∙ sym (y .outcome)
 
   -- PROPOSING DETERMINED: the contract of the proposer allows one answer of the code, and one buffer
@@ -143,11 +146,6 @@ module _ (lim : Limits) (first second buffer : List ℕ) where
       → (a : AfterProposal) → Answers (proposing lim first second buffer) a → (a .answer ≡ P.NoSinglePart) ↔ NoneOrSeveral t u
   nineteen-exactly x s z size t u h k a answers = (λ e. single answers e (single-or-not lim x t u (h .0) (k .0)), none answers)
     where
-      -- other tables are not held
-      held : (v w : Tables) → Holds lim v first → Holds lim w second → (p : Part) → Sole p v w → Sole p t u
-      held v w i j p o =
-          subst (λ (y : Tables). Sole p y u) (layout-one lim v t (i .0) (h .0) (sym (i .1) ∙ h .1)) (subst (Sole p v) (layout-one lim w u (j .0) (k .0) (sym (j .1) ∙ k .1)) o)
-
       single : Answers (proposing lim first second buffer) a → a .answer ≡ P.NoSinglePart → ((p : Part) × Sole p t u) ⊎ NoneOrSeveral t u → NoneOrSeveral t u
       single y e (inr n) = n
       single (inl (n, _)) e (inl o) = absurd (n s)
@@ -162,7 +160,7 @@ module _ (lim : Limits) (first second buffer : List ℕ) where
       none (inr (_, inl (n, _))) o = absurd (n z)
       none (inr (_, inr (_, inl (n, _)))) o = absurd (omega (arith, n, size))
       none (inr (_, inr (_, inr (_, inl (_, e))))) o = ap (λ (y : AfterProposal). y .answer) e
-      none (inr (_, inr (_, inr (_, inr (n, _))))) o = absurd (n (λ v w i j p y. none-single t u o p (held v w i j p y)))
+      none (inr (_, inr (_, inr (_, inr (n, _))))) o = absurd (n (λ v w i j p y. none-single t u o p (sole-held lim first second t u v w h k i j p y)))
 
 -- ---- what is proposed
 
@@ -179,7 +177,7 @@ module _ (lim : Limits) (x : Exportable lim) (first second : List ℕ) (t u : Ta
       let d : a .coding ≡ unicode16 = coding-one (a .coding) unicode16 (carries-one (a .request .carried) (exported-request lim x u (k .0) p .0 .carried) .0) in
       let e : a .settings ≡ exported p u
       = exported-only lim x u (k .0) p (a .settings) (subst (λ (c : Coding). Request c (a .settings) bytes) d (a .request)) in
-      let b : a .before ≡ t = layout-one lim (a .before) t (a .held .0) (h .0) (sym (a .held .1) ∙ h .1) in
+      let b : a .before ≡ t = one-held lim (a .before) t first (a .held) h in
       let turn : in-turn (apply lim) (exported p u) (forget t) ≡ some (a .tables)
       = in-turn-of lim (length (exported p u)) (forget t) (a .tables) (exported p u)
       (subst (λ (v : Tables). InTurn lim (length (exported p u)) (forget v) (exported p u) (a .tables)) b
@@ -212,14 +210,14 @@ module _ (lim : Limits) (first second buffer : List ℕ) (a : AfterProposal) (n 
   was-proposed = by answers
     where
       -- another case has another number
-      never : (q : Proposal) (z : AfterProposal) → z .answer ≡ q → a ≡ z → told q .number ≢ 0 → ⊥
-      never q z e d f = f (ap (λ (r : Proposal). told r .number) (sym e ∙ sym (ap (λ (y : AfterProposal). y .answer) d) ∙ w))
+      never : (q : Proposal) → a ≡ stays lim first second buffer q → told q .number ≢ 0 → ⊥
+      never q e f = f (ap (λ (r : Proposal). told r .number) (sym (ap (λ (y : AfterProposal). y .answer) e) ∙ w))
 
       by : Answers (proposing lim first second buffer) a → WasProposed
-      by (inl (_, e)) = absurd (never P.FirstNotAStore _ refl e (λ d. omega (arith, d)))
-      by (inr (_, inl (_, e))) = absurd (never P.SecondNotAStore _ refl e (λ d. omega (arith, d)))
-      by (inr (_, inr (_, inl (_, e)))) = absurd (never P.Buffer _ refl e (λ d. omega (arith, d)))
-      by (inr (_, inr (_, inr (_, inl (_, e))))) = absurd (never P.NoSinglePart _ refl e (λ d. omega (arith, d)))
+      by (inl (_, e)) = absurd (never P.FirstNotAStore e (λ d. omega (arith, d)))
+      by (inr (_, inl (_, e))) = absurd (never P.SecondNotAStore e (λ d. omega (arith, d)))
+      by (inr (_, inr (_, inl (_, e)))) = absurd (never P.Buffer e (λ d. omega (arith, d)))
+      by (inr (_, inr (_, inr (_, inl (_, e))))) = absurd (never P.NoSinglePart e (λ d. omega (arith, d)))
       by (inr (s, inr (z, inr (_, inr (_, q))))) =
           let bytes : List ℕ = request-bytes (exported (q .which) (q .wanted)) in
           let l : n ≡ length bytes = ap (λ (r : Proposal). told r .request-length) (sym w ∙ ap (λ (y : AfterProposal). y .answer) (q .outcome)) in
@@ -247,9 +245,8 @@ module _ (lim : Limits) (first second buffer : List ℕ) (a : AfterProposal) (n 
   proposed-taken x s t u h k p sole sure reply long y took =
       let b = was-proposed in
       let q = b .proposes in
-      let e : q .before ≡ t = layout-one lim (q .before) t (q .held .0) (h .0) (sym (q .held .1) ∙ h .1) in
-      let d : q .wanted ≡ u = layout-one lim (q .wanted) u (q .asked .0) (k .0) (sym (q .asked .1) ∙ k .1) in
-      let which : q .which ≡ p = sole-one (q .which) p t u (subst (λ (v : Tables). Sole (q .which) v u) e (subst (Sole (q .which) (q .before)) d (q .sole))) sole in
+      let d : q .wanted ≡ u = one-held lim (q .wanted) u second (q .asked) k in
+      let which : q .which ≡ p = sole-one (q .which) p t u (sole-held lim first second t u (q .before) (q .wanted) h k (q .held) (q .asked) (q .which) (q .sole)) sole in
       let is : take n (a .buffer) ≡ request-bytes (exported p u) = b .is ∙ ap₂ (λ (r : Part) (v : Tables). request-bytes (exported r v)) which d in
       number-of (part-taken lim lim x (s .roomy) u (k .0) t first h reply long p (own-fits lim x u (k .0) p .request) (has-room lim x t u (h .0) (k .0) p sole sure) y
       (subst (λ (m : List ℕ). Answers (taken lim m first reply) y) is took))
