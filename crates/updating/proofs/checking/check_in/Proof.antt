@@ -50,8 +50,8 @@ returns-4 c =
     let z = was-said (c .before .before .before .before .before .before .before .before .before .before .before .before .before .before .before .is-store2 .result) (c .before .before .before .before .before .before .before .before .before .before .before .before .before .before .before .is-store2 .ensures) (c .before .before .before .before .before .before .before .before .before .before .before .before .before .before .if2 .left) in
     let k = c .before .before .before .before .before .takes in
     λ i j. no-refused (a .limits) (a .first .now) (a .second .now) (a .message .now) s z (k .result) _
-        (copied (a .limits) (a .first .now) (a .message .now) (a .after .now) _ _ (k .result) s i (c .before .before .before .before .before .before .before .before .before .before .copy .ensures) (k .ensures j))
-        (λ e. true≢false (sym e ∙ not-true (k .result) (c .if4 .taken)))
+    (copied (a .limits) (a .first .now) (a .message .now) (a .after .now) _ _ (k .result) s i (c .before .before .before .before .before .before .before .before .before .before .copy .ensures) (k .ensures j))
+    (λ e. true≢false (sym e ∙ not-true (k .result) (c .if4 .taken)))
 
 same-tables-requires : tie.Need-same-tables-requires
 same-tables-requires c κs = search needs
@@ -71,8 +71,8 @@ returns-5 c =
     let t = c .before .same-tables in
     let l : length (k .last .1 .0) ≡ length (a .after .now) = search needs in
     λ i j. no-other (a .limits) (a .first .now) (a .second .now) (a .message .now) s z (k .result) _
-        (copied (a .limits) (a .first .now) (a .message .now) (a .after .now) _ _ (k .result) s i (c .before .before .before .before .before .before .before .before .before .before .before .before .before .copy .ensures) (k .ensures j))
-        (not-said (t .result) (t .ensures (omega (arith, wide (a .limits) (a .first .now) s, l, i)) (omega (arith, wide (a .limits) (a .first .now) s, z .size))) (c .if5 .taken))
+    (copied (a .limits) (a .first .now) (a .message .now) (a .after .now) _ _ (k .result) s i (c .before .before .before .before .before .before .before .before .before .before .before .before .before .copy .ensures) (k .ensures j))
+    (not-said (t .result) (t .ensures (omega (arith, wide (a .limits) (a .first .now) s, l, i)) (omega (arith, wide (a .limits) (a .first .now) s, z .size))) (c .if5 .taken))
 
 same-length-5 : tie.Need-same-length-5
 same-length-5 c = search needs
@@ -90,9 +90,9 @@ returns-6 c =
     let q = c .before .before .before .before .before .before .before .before .before .before .before .before .before .before .before .before .is-request in
     let l : length (k .last .1 .0) ≡ length (a .after .now) = search needs in
     λ i j. says-yes (a .limits) (a .first .now) (a .second .now) (a .message .now) s z (k .result) _
-        (copied (a .limits) (a .first .now) (a .message .now) (a .after .now) _ _ (k .result) s i (c .before .before .before .before .before .before .before .before .before .before .before .before .before .copy .ensures) (k .ensures j))
-        (was-said (q .result) (q .ensures) (c .before .before .before .before .before .before .before .before .before .before .before .before .before .before .before .if3 .left)) (not-false (k .result) (c .before .before .before .if4 .left))
-        (was-said (t .result) (t .ensures (omega (arith, wide (a .limits) (a .first .now) s, l, i)) (omega (arith, wide (a .limits) (a .first .now) s, z .size))) (c .if5 .left))
+    (copied (a .limits) (a .first .now) (a .message .now) (a .after .now) _ _ (k .result) s i (c .before .before .before .before .before .before .before .before .before .before .before .before .before .copy .ensures) (k .ensures j))
+    (was-said (q .result) (q .ensures) (c .before .before .before .before .before .before .before .before .before .before .before .before .before .before .before .if3 .left)) (not-false (k .result) (c .before .before .before .if4 .left))
+    (was-said (t .result) (t .ensures (omega (arith, wide (a .limits) (a .first .now) s, l, i)) (omega (arith, wide (a .limits) (a .first .now) s, z .size))) (c .if5 .left))
 
 pub check-in-spec : {M : Type 1} → statement M
 check-in-spec =

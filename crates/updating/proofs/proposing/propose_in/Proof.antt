@@ -89,8 +89,8 @@ returns-5 c =
     let g = c .enum-told .given in
     let lent : length (p .last .1 .1 .1 .1 .1 .0) ≡ length (a .work .now) = search needs in
     λ x i j k. says-nothing (a .limits) (a .first .now) (a .second .now) (a .buffer .now) s z (c .before .before .before .before .before .before .before .before .before .before .before .before .before .before .before .before .before .before .before .before .before .before .if3 .left) x (a .a .now) (a .b .now) (a .work .now) i j k (f .0 .0)
-        (subst (AllCompared (a .limits) (a .first .now) (a .second .now) (a .a .now) (a .b .now) (a .work .now)) (f .1) (p .ensures)) (p .last .1 .1 .1 .1 .1 .0) (e .last .1 .1 .0) lent (g .0 .0) _
-        (subst (λ (r : Export). Exportable (a .limits) → Lends (a .limits) (p .last .1 .1 .1 .1 .1 .0) → Answers (exporting (a .limits) (f .0 .0) (a .second .now) (a .buffer .now)) (record { answer = told r; buffer = e .last .1 .1 .0 })) (g .1) (e .ensures .1))
+    (subst (AllCompared (a .limits) (a .first .now) (a .second .now) (a .a .now) (a .b .now) (a .work .now)) (f .1) (p .ensures)) (p .last .1 .1 .1 .1 .1 .0) (e .last .1 .1 .0) lent (g .0 .0) _
+    (subst (λ (r : Export). Exportable (a .limits) → Lends (a .limits) (p .last .1 .1 .1 .1 .1 .0) → Answers (exporting (a .limits) (f .0 .0) (a .second .now) (a .buffer .now)) (record { answer = told r; buffer = e .last .1 .1 .0 })) (g .1) (e .ensures .1))
 
 same-length-8 : tie.Need-same-length-8
 same-length-8 c = search needs
@@ -115,8 +115,8 @@ returns-6 c =
     let g = c .before .written .given in
     let lent : length (p .last .1 .1 .1 .1 .1 .0) ≡ length (a .work .now) = search needs in
     λ x i j k. says-written (a .limits) (a .first .now) (a .second .now) (a .buffer .now) s z (c .before .before .before .before .before .before .before .before .before .before .before .before .before .before .before .before .before .before .before .before .before .before .before .if3 .left) x (a .a .now) (a .b .now) (a .work .now) i j k (f .0 .0)
-        (subst (AllCompared (a .limits) (a .first .now) (a .second .now) (a .a .now) (a .b .now) (a .work .now)) (f .1) (p .ensures)) (p .last .1 .1 .1 .1 .1 .0) (e .last .1 .1 .0) lent (g .0 .0)
-        (subst (λ (r : Export). Exportable (a .limits) → Lends (a .limits) (p .last .1 .1 .1 .1 .1 .0) → Answers (exporting (a .limits) (f .0 .0) (a .second .now) (a .buffer .now)) (record { answer = told r; buffer = e .last .1 .1 .0 })) (g .1) (e .ensures .1))
+    (subst (AllCompared (a .limits) (a .first .now) (a .second .now) (a .a .now) (a .b .now) (a .work .now)) (f .1) (p .ensures)) (p .last .1 .1 .1 .1 .1 .0) (e .last .1 .1 .0) lent (g .0 .0)
+    (subst (λ (r : Export). Exportable (a .limits) → Lends (a .limits) (p .last .1 .1 .1 .1 .1 .0) → Answers (exporting (a .limits) (f .0 .0) (a .second .now) (a .buffer .now)) (record { answer = told r; buffer = e .last .1 .1 .0 })) (g .1) (e .ensures .1))
 
 pub propose-in-spec : {M : Type 1} → statement M
 propose-in-spec =
