@@ -1,6 +1,7 @@
 /*
  * Short updates as they are checked (request A14): whether a request takes one store to the tables of another. Each case was worked out by hand from docs/RULES.md,
- * I1 to I4, and is held to what the set's own archive and a comparison of the stores say (updates.h). What is proposed is in proposing.c.
+ * I1 to I4, and is held to what the set's own archive and a comparison of the stores say (updates.h). What is proposed is in proposing.c, but that what is no store
+ * is refused before a buffer is here (I6).
  */
 #include "updates.h"
 
