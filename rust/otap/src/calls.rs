@@ -239,7 +239,7 @@ mod office {
     pub trait OfficeCalls {
         fn read_report(message: &[u8]) -> u64;
         fn join(first: &[u8], second: &[u8], buffer: &mut [u8]) -> u64;
-        fn check_update(first: &[u8], second: &[u8], request: &[u8]) -> u32;
+        fn check_update(first: &[u8], second: &[u8], request: &[u8]) -> u64;
         fn propose(first: &[u8], second: &[u8], buffer: &mut [u8]) -> u64;
     }
 
@@ -267,7 +267,7 @@ mod office {
                         second_length: u64,
                         request: *const u8,
                         request_length: u64,
-                    ) -> u32;
+                    ) -> u64;
                     #[link_name = concat!($begin, "propose")]
                     fn propose(
                         first: *const u8,
@@ -291,7 +291,7 @@ mod office {
                         unsafe { join(f, length(first), s, length(second), b, length(buffer)) }
                     }
 
-                    fn check_update(first: &[u8], second: &[u8], request: &[u8]) -> u32 {
+                    fn check_update(first: &[u8], second: &[u8], request: &[u8]) -> u64 {
                         let (f, s, r) = (first.as_ptr(), second.as_ptr(), request.as_ptr());
                         let (first, second, request) =
                             (length(first), length(second), length(request));

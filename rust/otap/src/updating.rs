@@ -51,7 +51,7 @@ fn updates_for<K: OfficeCalls>(
     second: &[u8],
     request: &[u8],
 ) -> Result<bool, Refusal> {
-    let packed = u64::from(K::check_update(first, second, request));
+    let packed = K::check_update(first, second, request);
     match byte(packed, 0) {
         0 => Ok(bit(packed, 8)),
         number => Err(Refusal::from_number(number)),

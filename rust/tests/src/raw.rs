@@ -19,7 +19,7 @@ pub trait Raw {
     fn otap_report(query: &[u8], index: u32, store: &[u8], buffer: &mut [u8]) -> u64;
     fn otap_read_report(message: &[u8]) -> u64;
     fn otap_join(first: &[u8], second: &[u8], buffer: &mut [u8]) -> u64;
-    fn otap_check_update(first: &[u8], second: &[u8], request: &[u8]) -> u32;
+    fn otap_check_update(first: &[u8], second: &[u8], request: &[u8]) -> u64;
     fn otap_propose(first: &[u8], second: &[u8], buffer: &mut [u8]) -> u64;
 }
 
@@ -112,7 +112,7 @@ macro_rules! raw {
                     second_length: u64,
                     request: *const u8,
                     length: u64,
-                ) -> u32;
+                ) -> u64;
                 #[link_name = concat!($begin, "propose")]
                 fn propose(
                     first: *const u8,
@@ -238,7 +238,7 @@ macro_rules! raw {
                     unsafe { join(first, first_length, second, second_length, buffer, length) }
                 }
 
-                fn otap_check_update(first: &[u8], second: &[u8], request: &[u8]) -> u32 {
+                fn otap_check_update(first: &[u8], second: &[u8], request: &[u8]) -> u64 {
                     let (first_length, second_length) = (first.len() as u64, second.len() as u64);
                     let (first, second, length) =
                         (first.as_ptr(), second.as_ptr(), request.len() as u64);

@@ -3,8 +3,8 @@
 use super::packed;
 
 /// The check, in 32 bits: yes 8.
-pub fn packed_check(answer: Result<bool, u8>) -> u32 {
-    packed(answer, |yes| vec![(yes.into(), 8)]) as u32
+pub fn packed_check(answer: Result<bool, u8>) -> u64 {
+    packed(answer, |yes| vec![(yes.into(), 8)])
 }
 
 /// The proposer, as an export: length 16 to 31.
