@@ -301,23 +301,6 @@ static void ask_counts(unsigned choice)
     must((store_length == OTAP_STORE_BYTES) == (answer != OTAP_NO_STORE), "a store is known as one, and of another size none is");
 }
 
-/* A key that is a line's or comes near it: a digit fewer or more, another digit, fewer digits, another IDtype. How many digits it has. */
-static size_t near_line(Input *input, unsigned row, uint32_t *id_type, uint8_t *digits)
-{
-    unsigned change = next_byte(input), choice = change / 8;
-    size_t length = digits_of(store, row, digits);
-    *id_type = key_at(store, row)[0];
-    switch (change % 8) {
-    case 2: return length - 1;
-    case 3: digits[length] = (uint8_t)(choice % 10); return length + 1;
-    case 4: *id_type ^= 1; return length;
-    case 5: *id_type += 1 + choice * 0x01010101u; return length;
-    case 6: digits[choice % length] = (uint8_t)(choice % 12); return length;
-    case 7: return choice % (length + 1);
-    default: return length;
-    }
-}
-
 /* Who is calling: like one of the lines, or any digits and now and then others. */
 static void ask_caller(Input *input, unsigned choice)
 {
@@ -327,7 +310,7 @@ static void ask_caller(Input *input, unsigned choice)
     size_t length, at, store_length = chosen_store(choice);
     uint64_t answer;
     if (like < 192 && store[LINES_HELD_AT] > 0) {
-        length = near_line(input, like % store[LINES_HELD_AT], &id_type, digits);
+        length = near_line(input, store, like % store[LINES_HELD_AT], &id_type, digits);
     } else {
         length = next_bytes(input, next_byte(input) % (sizeof digits + 1), digits);
         for (at = 0; at < length; at++) {
