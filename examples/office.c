@@ -1,13 +1,15 @@
 /*
  * A query and its report, from both ends: a bit of firmware over libotap_handheld.a asks its store for the messages of a report, from index 1 to the total,
- * and the office's software over libotap_office.a reads each and prints its entries, as the program `office` does. Every answer is checked; the first that
- * is not what it must be ends the program with 1. examples/office.out is what it prints.
+ * and the office's software over libotap_office.a reads each and prints its entries, as the program `office` does. Then a short update: the office knows what the
+ * set holds and what it should hold, checks a request that was found for it, gets one proposed, and sends it. Every answer is checked; the first that is not what
+ * it must be ends the program with 1. examples/office.out is what it prints.
  */
 #include "otap_office.h"
 #include "text.h"
 
 #include <stdio.h>
 #include <stdlib.h>
+#include <string.h>
 
 /* Settings of every kind; coding type 0100, eight-bit characters. */
 static const uint8_t adding[] = {
@@ -173,6 +175,32 @@ static void ask_for_many(void)
     set_reports(many, sizeof many, 1);
 }
 
+/* The office: whether a request takes the set to what it should hold. */
+static int office_checks(const char *what, const uint8_t *wanted, const uint8_t *request, size_t length)
+{
+    uint64_t answer = otap_check_update(store, sizeof store, wanted, OTAP_STORE_BYTES, request, length);
+    must_be("the number of a check", otap_answer_number(answer), OTAP_OK);
+    printf("  %s, %u bytes: %s\n", what, (unsigned)length, otap_check_yes(answer) ? "yes" : "no");
+    return otap_check_yes(answer);
+}
+
+/* One line more is wanted, PSTN 119: the office has a store of its own for that, and one for what the set holds, here the set's. */
+static void update(void)
+{
+    static const uint8_t found[] = {0x02, 0x02, 0x00, 0x10, 0x08, 0x04, 0x08, 0x01, 0xCA, 0x00, 0x0B, 0x40, 0x01, 0x11, 0x9F, 'F', 'i', 'r', 'e', 0x00};
+    static uint8_t wanted[OTAP_STORE_BYTES];
+    uint64_t answer;
+    memcpy(wanted, store, sizeof wanted);
+    must_be("what it should hold", otap_answer_number(otap_commit(found, sizeof found, wanted, sizeof wanted, reply, sizeof reply)), OTAP_OK);
+    must_be("the one that was found", (uint64_t)office_checks("found", wanted, found, sizeof found), 1);
+    must_be("another", (uint64_t)office_checks("another", wanted, adding, sizeof adding), 0);
+    answer = otap_propose(store, sizeof store, wanted, sizeof wanted, message, sizeof message);
+    must_be("the number of a proposal", otap_answer_number(answer), OTAP_OK);
+    must_be("the proposal", (uint64_t)office_checks("proposed", wanted, message, otap_proposal_length(answer)), 1);
+    must_be("sending it", otap_answer_number(otap_commit(message, otap_proposal_length(answer), store, sizeof store, reply, sizeof reply)), OTAP_OK);
+    must_be("then none differs", otap_propose(store, sizeof store, wanted, sizeof wanted, message, sizeof message), OTAP_NO_SINGLE_PART);
+}
+
 int main(void)
 {
     uint64_t answer;
@@ -189,5 +217,7 @@ int main(void)
     must_be("a request", otap_report(adding, sizeof adding, 1, store, sizeof store, message, sizeof message), OTAP_OTHER_MESSAGE);
     answer = otap_report(asking, sizeof asking, 1, store, sizeof store, message, sizeof message);
     must_be("a cut report", office_reads(otap_report_length(answer) - 1, 0), OTAP_BAD_CARRIER);
+    printf("one line more is wanted: is the request an update?\n");
+    update();
     return 0;
 }

@@ -2,6 +2,7 @@
 #ifndef CALLERS_H
 #define CALLERS_H
 
+#include "input.h"
 #include "orders.h"
 #include "rows.h"
 
@@ -74,6 +75,23 @@ static void check_callers(const uint8_t *store)
         ask_once(store, id_type + 2, digits, length);
         digits[length] = (uint8_t)(row % 10);
         ask_once(store, id_type, digits, length + 1);
+    }
+}
+
+/* A key that is a line's or comes near it: a digit fewer or more, another digit, fewer digits, another IDtype. How many digits it has. */
+static size_t near_line(Input *input, const uint8_t *store, unsigned row, uint32_t *id_type, uint8_t *digits)
+{
+    unsigned change = next_byte(input), choice = change / 8;
+    size_t length = digits_of(store, row, digits);
+    *id_type = key_at(store, row)[0];
+    switch (change % 8) {
+    case 2: return length - 1;
+    case 3: digits[length] = (uint8_t)(choice % 10); return length + 1;
+    case 4: *id_type ^= 1; return length;
+    case 5: *id_type += 1 + choice * 0x01010101u; return length;
+    case 6: digits[choice % length] = (uint8_t)(choice % 12); return length;
+    case 7: return choice % (length + 1);
+    default: return length;
     }
 }
 

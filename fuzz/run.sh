@@ -10,7 +10,7 @@ seconds=${1:-60}
 seed=${FUZZ_SEED:-1}
 folder=${OTAP_ARCHIVE_DIR:-target/archive/$(uname -m)-linux}
 sanitizers="-fsanitize=address,undefined -fno-sanitize-recover=all"
-calls="judge commit export row_number row_part counts line_of entry entry_digits channel emergency_key home_numbers system_code report read_report join"
+calls="judge commit export row_number row_part counts line_of entry entry_digits channel emergency_key home_numbers system_code report read_report join check_update propose"
 sources="fuzz/target.c fuzz/fitting.c"
 CC=${CC:-gcc}
 # There are many short-lived buffers: a large quarantine only slows it down.
@@ -25,8 +25,8 @@ done
 
 # of SET: the flags of its build, the numbers of its wrong libraries, and how they come before its calls and before the other set's.
 of() {
-    flags="-std=c11 -Wall -Wextra -Iinclude -Itests -g -O1" prefix=otap_ other=otap_vehicle_ wrongs="$(seq 101) $(seq 105 114)"
-    [ "$1" = hand-held ] || { flags="$flags -DVEHICLE" prefix=otap_vehicle_ other=otap_ wrongs="$(seq 107) 115"; }
+    flags="-std=c11 -Wall -Wextra -Iinclude -Itests -g -O1" prefix=otap_ other=otap_vehicle_ wrongs="$(seq 101) $(seq 105 114) $(seq 116 125)"
+    [ "$1" = hand-held ] || { flags="$flags -DVEHICLE" prefix=otap_vehicle_ other=otap_ wrongs="$(seq 107) $(seq 115 125)"; }
     wrapped="-Wl,--wrap=otap_report_entry -Wl,--wrap=otap_report_places -Wl,--wrap=${other}commit" named=
     for call in $calls; do
         wrapped="$wrapped -Wl,--wrap=$prefix$call"

@@ -1,14 +1,14 @@
 /*
  * The entry of a fuzzer over the C functions. An input is records, each a byte that chooses the call and the sizes, then what the call needs; one store
- * goes from record to record. Each message is judged and then committed, and the one before it once more after it; the two are joined too. After each the
- * store is still a store, and a hand-held lacked room only where its texts and entries do not fit. At the end it is written out into a fresh one that becomes
- * the same, into one that was used, and to the other set as far as it fits there.
+ * goes from record to record. Each message is judged and then committed, and the one before it once more after it; the two are joined too, and it is checked
+ * whether it is an update between the stores around it. After each the store is still a store, and a hand-held lacked room only where its texts and entries do
+ * not fit. At the end it is written out into a fresh one that becomes the same, into one that was used, and to the other set as far as it fits there.
  */
 #include "asking.h"
 #include "callers.h"
 #include "conversions.h"
 #include "editing.h"
-#include "restoring.h"
+#include "updating.h"
 
 enum { MOST_RECORDS = 64 };
 
@@ -56,6 +56,14 @@ static void join_message(const uint8_t *message, size_t length, unsigned choice)
     reached[OTHERS + 16 + otap_answer_number(answer) + 16 * otap_join_second_at_fault(answer)] = 1;
 }
 
+/* This message as an update, where the store becomes `then`: whether one was proposed for that. */
+static void update_message(const uint8_t *message, size_t length, unsigned choice, const uint8_t *then)
+{
+    Request request = {message, length};
+    uint64_t answer = update_around(&request, choice, earlier, store, then);
+    reached[OTHERS + 48 + (otap_answer_number(answer) == OTAP_OK)] = 1;
+}
+
 static void commit_message(const uint8_t *message, size_t length, unsigned choice)
 {
     size_t store_length = chosen_store(choice);
@@ -66,6 +74,7 @@ static void commit_message(const uint8_t *message, size_t length, unsigned choic
     }
     memcpy(waiting, message, length);
     waiting_length = length;
+    update_message(message, length, choice, otap_answer_number(answer) == OTAP_OK ? after : store);
     must(store_length != OTAP_STORE_BYTES || otap_answer_number(answer) != OTAP_NO_STORE, "a store is known as one");
     if (otap_answer_number(answer) <= OTAP_BAD_FIELD && (message[6] & 7) == 0) {
         check_room(store, message, answer);
@@ -137,6 +146,7 @@ static void ask_export(Input *input, unsigned choice)
 /* What holds of every store, at the end of an input. */
 static void check_whole(void)
 {
+    Request last = {waiting, waiting_length};
     check_texts(store);
     restore_fresh(store);
     restore_used(store, earlier);
@@ -145,6 +155,7 @@ static void check_whole(void)
     check_entries(store);
     check_reports(store);
     join_exports(store);
+    update_fresh(&last, store);
     hand_on(store);
 }
 
@@ -160,6 +171,7 @@ static int known_by_all(void)
     must(known == (line_of_twice(OTAP_PABX, query, 2, store, OTAP_STORE_BYTES) != OTAP_NO_STORE), "looking up knows a store");
     must(known_behind(store, known), "each call for a value knows a store");
     must(known == (ask_channels(store) != OTAP_NO_STORE), "a report knows a store");
+    update_changed(other, store);
     return known;
 }
 
@@ -301,23 +313,6 @@ static void ask_counts(unsigned choice)
     must((store_length == OTAP_STORE_BYTES) == (answer != OTAP_NO_STORE), "a store is known as one, and of another size none is");
 }
 
-/* A key that is a line's or comes near it: a digit fewer or more, another digit, fewer digits, another IDtype. How many digits it has. */
-static size_t near_line(Input *input, unsigned row, uint32_t *id_type, uint8_t *digits)
-{
-    unsigned change = next_byte(input), choice = change / 8;
-    size_t length = digits_of(store, row, digits);
-    *id_type = key_at(store, row)[0];
-    switch (change % 8) {
-    case 2: return length - 1;
-    case 3: digits[length] = (uint8_t)(choice % 10); return length + 1;
-    case 4: *id_type ^= 1; return length;
-    case 5: *id_type += 1 + choice * 0x01010101u; return length;
-    case 6: digits[choice % length] = (uint8_t)(choice % 12); return length;
-    case 7: return choice % (length + 1);
-    default: return length;
-    }
-}
-
 /* Who is calling: like one of the lines, or any digits and now and then others. */
 static void ask_caller(Input *input, unsigned choice)
 {
@@ -327,7 +322,7 @@ static void ask_caller(Input *input, unsigned choice)
     size_t length, at, store_length = chosen_store(choice);
     uint64_t answer;
     if (like < 192 && store[LINES_HELD_AT] > 0) {
-        length = near_line(input, like % store[LINES_HELD_AT], &id_type, digits);
+        length = near_line(input, store, like % store[LINES_HELD_AT], &id_type, digits);
     } else {
         length = next_bytes(input, next_byte(input) % (sizeof digits + 1), digits);
         for (at = 0; at < length; at++) {

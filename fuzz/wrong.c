@@ -385,3 +385,4 @@ uint64_t __wrap_otap_system_code(const uint8_t *store, uint64_t store_length)
 
 #include "wrong_reports.h"
 #include "wrong_joining.h"
+#include "wrong_updating.h"

@@ -98,11 +98,12 @@ enum {
     OTAP_MESSAGE_LENGTH = 12,  /* message under 7 or over 4,096 bytes */
     OTAP_BAD_CARRIER = 13,     /* carrier field or length wrong */
     OTAP_OTHER_MESSAGE = 14,   /* MsgType is neither request nor result query; of otap_report: is not query; of otap_join: is not request */
-    OTAP_SHORT_BUFFER = 15,    /* scratch under 36 bytes, export, report or join buffer under 4,096, or digits buffer under 18 */
+    OTAP_SHORT_BUFFER = 15,    /* scratch under 36 bytes, export, report, join or proposal buffer under 4,096, or digits buffer under 18 */
     OTAP_NO_PART = 16,         /* export part not 1 to 10 */
     OTAP_NO_MESSAGE = 16,      /* the same number, of otap_report: the report has no message of this index */
     OTAP_NO_ROW = 17,          /* the screen's row is absent, or a background group's */
     OTAP_NOTHING_THERE = 17,   /* the same number, of otap_entry, otap_entry_digits and otap_channel: nothing stands there */
+    OTAP_NO_SINGLE_PART = 19,  /* of otap_propose: the tables of no export part differ, or those of several */
     OTAP_OUTSIDE_PLAN = 20,    /* of a conversion: dialled number outside the plan */
     OTAP_BAD_NUMBER = 20,      /* of otap_line_of, the same number: not 1 to 18 digits, or a digit above 9; which of the two it is, the call says */
     OTAP_OUTSIDE_KIND = 21,    /* address outside its kind's plan */

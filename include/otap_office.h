@@ -1,10 +1,12 @@
 /*
  * otap_office.h: the C functions of libotap_office.a, for the software of the network office: it reads the reports of PDT sets, whose bytes are in
- * docs/REPORTS.md, and joins requests that wait to be sent. Firmware needs none of it: a set writes its reports with otap_report of libotap_handheld.a, a
- * vehicle set with otap_vehicle_report of libotap_vehicle.a. A report is read, and requests are joined, by the call of the set that it is from or they are to.
+ * docs/REPORTS.md, joins requests that wait to be sent, and checks and proposes short updates. Firmware needs none of it: a set writes its reports with
+ * otap_report of libotap_handheld.a, a vehicle set with otap_vehicle_report of libotap_vehicle.a. A report is read, requests are joined, and updates are checked
+ * and proposed, by the call of the set that it is from or they are to.
  *
  * otap.h is included for the numbers, the types asked, IDtypes and attributes; the functions that it declares are not in this archive. What it says of
- * pointers, lengths, overlap and memcpy holds here too. No call allocates or waits, only joining writes a byte, and anything may be lent as a message.
+ * pointers, lengths, overlap and memcpy holds here too. No call allocates or waits, only joining and proposing write a byte, of their buffer, and anything may
+ * be lent as a message, a store or a buffer. Checking and proposing have working copies on the stack: see OTAP_CHECK_STACK.
  *
  * A report has one or more messages, and each is read by itself:
  *
@@ -44,6 +46,21 @@ enum {
 enum {
     OTAP_JOIN_BYTES = 4096,
     OTAP_VEHICLE_JOIN_BYTES = 8192
+};
+
+/* A buffer for a proposed request has at least as many. */
+enum {
+    OTAP_PROPOSAL_BYTES = 4096,
+    OTAP_VEHICLE_PROPOSAL_BYTES = 8192
+};
+
+/* Stack in bytes, as in otap.h: a ceiling, which tests/office_stack.c holds each call to, and the most that it measured, on x86-64. */
+enum {
+    OTAP_CHECK_STACK = 54272,           /* measured 51,696: 49,152 of them are two working copies of the store */
+    OTAP_PROPOSE_STACK = 36864,         /* 34,416, with a working copy and two requests */
+    OTAP_VEHICLE_CHECK_STACK = 103424,  /* 100,880: 98,304 of them are two working copies */
+    OTAP_VEHICLE_PROPOSE_STACK = 20480, /* 18,064, with two requests */
+    OTAP_OFFICE_STACK = 2048            /* 808: every other call of this archive */
 };
 
 /*
@@ -124,6 +141,60 @@ uint64_t otap_join(const uint8_t *first, uint64_t first_length,
 uint64_t otap_vehicle_join(const uint8_t *first, uint64_t first_length,
                            const uint8_t *second, uint64_t second_length,
                            uint8_t *buffer, uint64_t buffer_length);
+
+/*
+ * Checks a short update: whether a request takes a set from what it holds, the first store, to what it should hold, the second. Both are of one kind of set.
+ *   0   otap_check_yes is 1 exactly where the first store would take the request, as otap_commit does with a reply buffer of OTAP_REPLY_BYTES bytes, and would
+ *       then have the second's tables, the kept hash aside
+ *   11  OTAP_NO_STORE: the first is not OTAP_STORE_BYTES bytes or not a store; then the same of the second; whatever the message
+ * All else is a no and no refusal: a request that would be refused, with whatever number, a message that is malformed or too long, and every result query, also
+ * one that matches, however equal the tables. Aside is every hash: what either store keeps, and what an FF item of the request would have the first keep. A
+ * request that changes no table is an update between equal ones. No byte is touched.
+ * A yes is of the first store as it is lent: where the set may have taken another message since, it promises nothing.
+ * In the answer, bits 0 to 7 are the number, bit 8 is set where the check says yes; all others are 0. Unpack with otap_answer_number, otap_check_yes.
+ */
+uint64_t otap_check_update(const uint8_t *first, uint64_t first_length,
+                           const uint8_t *second, uint64_t second_length,
+                           const uint8_t *request, uint64_t request_length);
+
+/* As otap_check_update, of a vehicle's stores and a request to it: 11 goes by 49,152 bytes. */
+uint64_t otap_vehicle_check_update(const uint8_t *first, uint64_t first_length,
+                                   const uint8_t *second, uint64_t second_length,
+                                   const uint8_t *request, uint64_t request_length);
+
+/*
+ * Proposes an update where the tables of one export part differ and those of the nine others are equal: the second's part, as otap_export writes it.
+ *   0   the request is written at the buffer's start; bytes of the buffer past it stay
+ *   11  OTAP_NO_STORE: the first is not OTAP_STORE_BYTES bytes or not a store; then the same of the second
+ *   15  OTAP_SHORT_BUFFER: buffer_length is under OTAP_PROPOSAL_BYTES
+ *   19  OTAP_NO_SINGLE_PART: the tables of no export part differ, or those of several
+ * The first that applies, in this order: 11 of the first store, 11 of the second, 15, 19. A refusal touches no byte and has length 0. The stores are only read,
+ * and the kept hashes are not compared. The emergency key, the home numbers and the system code are one part, OTAP_EXPORT_FIXED: any of them may differ.
+ * otap_check_update says yes to a proposal wherever the first store takes it. A hand-held takes those of all parts but OTAP_EXPORT_GROUPS,
+ * OTAP_EXPORT_INDIVIDUALS and OTAP_EXPORT_LINE_SLOTS, which it may refuse with OTAP_NO_ROOM: they go slot by slot, and a text may grow before another shrinks.
+ * So check it before it is sent; where that says no, send the slots in another order.
+ * In the answer, bits 0 to 7 are the number, 16 to 31 the length; all others are 0. Unpack with otap_answer_number, otap_proposal_length.
+ */
+uint64_t otap_propose(const uint8_t *first, uint64_t first_length,
+                      const uint8_t *second, uint64_t second_length,
+                      uint8_t *buffer, uint64_t buffer_length);
+
+/* As otap_propose, of a vehicle's stores: 11 goes by 49,152 bytes, and 15 by OTAP_VEHICLE_PROPOSAL_BYTES. A vehicle takes every proposal. */
+uint64_t otap_vehicle_propose(const uint8_t *first, uint64_t first_length,
+                              const uint8_t *second, uint64_t second_length,
+                              uint8_t *buffer, uint64_t buffer_length);
+
+/* Of an answer of otap_check_update: 1 if the check says yes; 0 if it says no, and of a refusal. */
+static inline int otap_check_yes(uint64_t answer)
+{
+    return (int)((answer >> 8) & 1u);
+}
+
+/* Of an answer of otap_propose: how many bytes of the buffer are the request; 0 of a refusal. */
+static inline size_t otap_proposal_length(uint64_t answer)
+{
+    return (size_t)((answer >> 16) & 0xFFFFu);
+}
 
 /* Of an answer of otap_join: how many bytes of the buffer are the joined request; 0 of a refusal. */
 static inline size_t otap_join_length(uint64_t answer)

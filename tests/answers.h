@@ -54,6 +54,12 @@ static inline void no_store(const char *what, uint8_t *bytes)
     same(what, 11, OTAP_NO_STORE, judge_and_commit(said.bytes, said.length, bytes, OTAP_STORE_BYTES, reply, sizeof reply));
 }
 
+static inline void write_bytes(Message *m, const uint8_t *bytes, size_t length)
+{
+    memcpy(m->bytes, bytes, length);
+    m->length = length;
+}
+
 /* What a message to a fresh store comes to; the store afterwards is left in `other`. */
 static inline void told(const char *what, const uint8_t *message, size_t length, uint64_t number, uint64_t failed, uint8_t *other)
 {

@@ -38,12 +38,6 @@ static inline uint64_t join(void)
     return join_with(OTAP_JOIN_BYTES);
 }
 
-static inline void write_bytes(Message *m, const uint8_t *bytes, size_t length)
-{
-    memcpy(m->bytes, bytes, length);
-    m->length = length;
-}
-
 /* A request of as many home numbers. */
 static inline void write_homes(Message *m, unsigned count)
 {

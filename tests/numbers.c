@@ -38,6 +38,7 @@ static void sizes(void)
     same("an export buffer", MESSAGE_SIZE, OTAP_EXPORT_BYTES, MESSAGE_SIZE);
     same("a report buffer", MESSAGE_SIZE, OTAP_REPORT_BYTES, MESSAGE_SIZE);
     same("a join buffer", MESSAGE_SIZE, OTAP_JOIN_BYTES, MESSAGE_SIZE);
+    same("a proposal buffer", MESSAGE_SIZE, OTAP_PROPOSAL_BYTES, MESSAGE_SIZE);
     same("room for lines", LINE_ROOM, OTAP_LINE_ROWS, LINE_ROOM);
     same("room for channels", CHANNEL_ROOM, OTAP_CHANNEL_PLACES, CHANNEL_ROOM);
     same("room for a hand-held's texts", 4096, OTAP_TEXT_BYTES, 4096);

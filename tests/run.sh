@@ -12,7 +12,7 @@ build_and_run() {
     build "$1" c c99 "$CC" "$2 $for_vehicle" "tests/$1.c" && run_built "$1"
 }
 
-# sees_outside TEST [BUFFER]: a test of the bounds sees a byte too many: it ends with 1, and says so.
+# sees_outside TEST [WORDS]: a test of the bounds sees a byte too many, of the buffer that the words name: it ends with 1, and says so.
 sees_outside() {
     run_built "$1" outside ${2-} > "$built/outside" 2>&1
     [ $? -eq 1 ] && grep -q "a byte too many, as asked" "$built/outside"
@@ -116,6 +116,8 @@ suites() {
     step "$1: reports read back" with "$office" build_and_run read_back "$sanitizers" && show
     step "$1: joining requests" with "$office" build_and_run joining "$sanitizers"
     step "$1: joined requests in a set" with "$office" build_and_run joined "$sanitizers" && show
+    step "$1: checking short updates" with "$office" build_and_run updating "$sanitizers"
+    step "$1: proposing short updates" with "$office" build_and_run proposing "$sanitizers" && show
     step "$1: bounds of the lent bytes" build_and_run bounds -O1 && show
     step "$1: bounds can fail" sees_outside bounds
     step "$1: bounds of the office's calls" with "$office" build_and_run office_bounds -O1 && show
@@ -123,7 +125,11 @@ suites() {
     for lent in first second buffer; do
         step "$1: its bounds can fail, of joining the $lent" sees_outside office_bounds $lent
     done
+    for lent in "check from" "check to" "check request" "propose from" "propose to" "propose buffer"; do
+        step "$1: its bounds can fail, of updating: $lent" sees_outside office_bounds "$lent"
+    done
     step "$1: stack" with "$handheld" build_and_run stack -O1 && show
+    step "$1: stack of the office's calls" with "$office" build_and_run office_stack -O1 && show
 }
 
 need_archive

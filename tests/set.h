@@ -17,12 +17,15 @@ enum { LINE_ROOM = 128, CHANNEL_ROOM = 256, TEXT_ROOM = 15744, MESSAGE_SIZE = 81
 #define OTAP_EXPORT_BYTES OTAP_VEHICLE_EXPORT_BYTES
 #define OTAP_REPORT_BYTES OTAP_VEHICLE_REPORT_BYTES
 #define OTAP_JOIN_BYTES OTAP_VEHICLE_JOIN_BYTES
+#define OTAP_PROPOSAL_BYTES OTAP_VEHICLE_PROPOSAL_BYTES
 #define OTAP_LINE_ROWS OTAP_VEHICLE_LINE_ROWS
 #define OTAP_CHANNEL_PLACES OTAP_VEHICLE_CHANNEL_PLACES
 #define OTAP_JUDGE_STACK OTAP_VEHICLE_JUDGE_STACK
 #define OTAP_COMMIT_STACK OTAP_VEHICLE_COMMIT_STACK
 #define OTAP_EXPORT_STACK OTAP_VEHICLE_EXPORT_STACK
 #define OTAP_REPORT_STACK OTAP_VEHICLE_REPORT_STACK
+#define OTAP_CHECK_STACK OTAP_VEHICLE_CHECK_STACK
+#define OTAP_PROPOSE_STACK OTAP_VEHICLE_PROPOSE_STACK
 
 #define otap_start otap_vehicle_start
 #define otap_judge otap_vehicle_judge
@@ -43,6 +46,8 @@ enum { LINE_ROOM = 128, CHANNEL_ROOM = 256, TEXT_ROOM = 15744, MESSAGE_SIZE = 81
 #define otap_system_code otap_vehicle_system_code
 #define otap_read_report otap_vehicle_read_report
 #define otap_join otap_vehicle_join
+#define otap_check_update otap_vehicle_check_update
+#define otap_propose otap_vehicle_propose
 #else
 #define PREFIX "otap_"
 enum { LINE_ROOM = 32, CHANNEL_ROOM = 64, TEXT_ROOM = 4096, MESSAGE_SIZE = 4096, STORE_SIZE = 24576, OTHER_STORE_SIZE = 49152 };

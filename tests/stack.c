@@ -8,13 +8,13 @@
 #include <stdlib.h>
 
 #ifdef __unix__
-#include <ucontext.h>
 enum { STACK = 256 * 1024 };
 #else
 enum { STACK = OTAP_COMMIT_STACK + 6 * 1024 };
 #endif
+#include "painted.h"
 
-enum { PAINT = 0xA5, CALLS = 16 };
+enum { CALLS = 16 };
 
 /* The header's ceiling for each; it has what was measured beside them, and docs/TESTING.md too. */
 static const unsigned long most[CALLS] = {OTAP_START_STACK, OTAP_JUDGE_STACK, OTAP_COMMIT_STACK, OTAP_EXPORT_STACK, OTAP_ROW_STACK, OTAP_ROW_STACK,
@@ -24,7 +24,7 @@ static const char *const names[CALLS] = {PREFIX "start", PREFIX "judge", PREFIX 
                                          PREFIX "counts", PREFIX "line_of", PREFIX "entry", PREFIX "entry_digits", PREFIX "channel",
                                          PREFIX "emergency_key", PREFIX "home_numbers", PREFIX "system_code", PREFIX "report", "a conversion"};
 
-static uint8_t stack[STACK], store[OTAP_STORE_BYTES], filled[OTAP_STORE_BYTES];
+static uint8_t store[OTAP_STORE_BYTES], filled[OTAP_STORE_BYTES];
 static uint8_t buffer[OTAP_EXPORT_BYTES];
 static Message message, query;
 static Key caller;
@@ -61,41 +61,6 @@ static void call(void)
     }
 }
 
-/* Calls on the painted stack, and comes back to this one. */
-#ifdef __unix__
-static void call_there(void)
-{
-    static ucontext_t here, there;
-    getcontext(&there);
-    there.uc_stack.ss_sp = stack;
-    there.uc_stack.ss_size = sizeof stack;
-    there.uc_link = &here;
-    makecontext(&there, call, 0);
-    swapcontext(&here, &there);
-}
-#else
-static void call_there(void)
-{
-    uintptr_t top = (uintptr_t)(stack + sizeof stack) & ~(uintptr_t)7;
-    __asm__ volatile("mov r4, sp\n\tmov sp, %0\n\tblx %1\n\tmov sp, r4"
-                     :
-                     : "r"(top), "r"(call)
-                     : "r0", "r1", "r2", "r3", "r4", "r12", "lr", "cc", "memory");
-}
-#endif
-
-static unsigned long depth(void)
-{
-    size_t untouched = 0;
-    memset(stack, PAINT, sizeof stack);
-    memcpy(store, filled, sizeof store);
-    call_there();
-    while (untouched < sizeof stack && stack[untouched] == PAINT) {
-        untouched++;
-    }
-    return sizeof stack - untouched;
-}
-
 static unsigned long deepest(void)
 {
     unsigned long deep = 0, now;
@@ -104,7 +69,8 @@ static unsigned long deepest(void)
         write_asking_all(&query, 1 + turn % 20, turn % 11);
         caller = key_of(filled, turn % OTAP_LINE_ROWS);
         caller.length -= turn / OTAP_LINE_ROWS % 2; /* a line's own number, or one digit fewer, which no line has */
-        now = depth();
+        memcpy(store, filled, sizeof store);
+        now = depth_of(call);
         deep = now > deep ? now : deep;
     }
     return deep;

@@ -1,6 +1,7 @@
 // tests/wasm.mjs: the modules for wasm32 in node: no imports; the stored inputs of the programs `take` and `put`, judged and committed, come to their
-// stored outputs; callers are found; what stands behind a row is answered; what a set reports, the office's module reads; and what it joins, the set takes. A
-// vehicle's module has its own sizes, its export is taken by the hand-held's as far as it fits, and no sum binds its texts, as it does a hand-held's.
+// stored outputs; callers are found; what stands behind a row is answered; what a set reports, the office's module reads; what it joins, the set takes; and what it
+// proposes between two stores of either set makes the one the other. A vehicle's module has its own sizes, its export is taken by the hand-held's as far as it
+// fits, and no sum binds its texts, as it does a hand-held's.
 import { readFileSync } from "node:fs";
 import { fileURLToPath } from "node:url";
 
@@ -24,7 +25,7 @@ function setOf(module, prefix, store, buffer) {
     exports.memory.grow(Math.max(0, Math.ceil((end - exports.memory.buffer.byteLength) / 65536)));
     const lent = (name, length = sizes[name]) => [at[name], BigInt(length)];
     const call = (name, ...words) => exports[prefix + name](...words);
-    return { call, lent, at, sizes, memory: new Uint8Array(exports.memory.buffer) };
+    return { call, lent, at, sizes, prefix, memory: new Uint8Array(exports.memory.buffer) };
 }
 const handheld = setOf("otap_handheld", "otap_", 24576, 4096);
 const vehicle = setOf("otap_vehicle", "otap_vehicle_", 49152, 8192);
@@ -100,23 +101,25 @@ function report(types, index) {
     return { answer, message: memory.slice(at.buffer, at.buffer + Number((answer >> 16n) & 0xffffn)) };
 }
 
-// The office's module with these messages in its memory: its functions, the places of the messages as they are lent, and a buffer of 4,096 bytes behind them.
-function officeWith(...messages) {
+// The office's module with these messages or stores in its memory: its functions, their places as they are lent, a buffer of so many bytes behind them, and what an
+// answer says was written there.
+function officeWith(size, ...messages) {
     const office = exportsOf("otap_office");
     let from = office.__heap_base.value;
-    office.memory.grow(1);
+    office.memory.grow(Math.ceil(messages.reduce((sum, message) => sum + message.length, size) / 65536));
     const bytes = new Uint8Array(office.memory.buffer);
     const places = messages.map((message) => {
         bytes.set(message, from);
         from += message.length;
         return [from - message.length, BigInt(message.length)];
     });
-    return { office, places, bytes, buffer: [from, 4096n] };
+    const written = (answer) => ({ answer, message: bytes.slice(from, from + Number((answer >> 16n) & 0xffffn)) });
+    return { office, places, buffer: [from, BigInt(size)], written };
 }
 
 // What the office reads of a message: the answer, then the entry and the places of each parameter.
 function officeReads(message) {
-    const { office, places } = officeWith(message);
+    const { office, places } = officeWith(0, message);
     const ask = (name, ...place) => office[name](...places[0], ...place);
     const read = [ask("otap_read_report")];
     for (let place = 10; place < message.length; place = Number(read[read.length - 1] & 0xffffn)) {
@@ -127,9 +130,29 @@ function officeReads(message) {
 
 // The two requests under one header; the answer without one is a refusal.
 function officeJoins(first, second) {
-    const { office, places, bytes, buffer } = officeWith(first, second);
-    const answer = office.otap_join(...places[0], ...places[1], ...buffer);
-    return { answer, message: bytes.slice(buffer[0], buffer[0] + Number((answer >> 16n) & 0xffffn)) };
+    const { office, places, buffer, written } = officeWith(4096, first, second);
+    return written(office.otap_join(...places[0], ...places[1], ...buffer));
+}
+
+// What the office says of a request between two stores of a set, and what it proposes.
+function officeUpdates(set, held, wanted, request) {
+    const { office, places, buffer, written } = officeWith(set.sizes.buffer, held, wanted, request);
+    const checked = office[`${set.prefix}check_update`](...places[0], ...places[1], ...places[2]);
+    return { checked, ...written(office[`${set.prefix}propose`](...places[0], ...places[1], ...buffer)) };
+}
+
+// A set's store without a line, and with it: the line is an update, its part is proposed, and makes the one the other; between equal stores nothing is proposed.
+function updates(set, line) {
+    const store = () => Buffer.from(set.memory.subarray(set.at.store, set.at.store + set.sizes.store));
+    const held = store();
+    take(line, set);
+    const wanted = store();
+    const [update, equal, back] = [[held, wanted], [wanted, wanted], [wanted, held]].map((pair) => officeUpdates(set, ...pair, line));
+    same("a proposal", Buffer.from(update.message), exported(1, set));
+    set.memory.set(held, set.at.store);
+    if ((take(update.message, set) & 0xffn) !== 0n) throw new Error("taking a proposal");
+    same("the tables behind the hash", store().subarray(11), wanted.subarray(11));
+    return [update.checked, equal.checked, equal.answer, back.checked, officeUpdates(set, held.subarray(1), wanted, line).checked].join();
 }
 
 function same(what, got, wanted) {
@@ -174,6 +197,11 @@ const unjoined = officeJoins(channels, [2, 2, 0, 0, 8, 7, 8, 1, 0xff, 0, 3, 0]).
 if (joined.answer !== 24n << 16n || unjoined !== (4n | 1n << 8n | 1n << 32n)) throw new Error(`joining: ${joined.answer}, ${unjoined}`);
 if ((take(joined.message) & 0xffn) !== 0n || lineOf(1, [4]) !== 0x20100n) throw new Error("taking the joined request");
 if (call("transmit", 640) !== 3560000n << 8n) throw new Error("transmit");
+// PABX 5: an update, also between equal stores, where nothing is proposed; none back; and no store.
+const fifth = [2, 2, 0, 0, 8, 7, 8, 1, 0xca, 0, 7, 0x42, 1, 0x5f, 0, 0];
+vehicle.call("start", ...vehicle.lent("store"));
+const updated = [handheld, vehicle].map((set) => updates(set, fifth));
+if (updated.some((answers) => answers !== "256,256,19,0,11")) throw new Error(`updates: ${updated}`);
 // 32 lines of a vehicle, all ten parts taken by a hand-held; then one more, with which the first part is refused: no room for setting 34.
 const linesOf = (first, count) => [2, 2, 0, 0, 8, 4, 8, 1, 0xca, 0, 4 + 3 * count, 0x40, count,
     ...Array.from({ length: count }, (_, each) => [Math.floor((first + each) / 10) * 16 + (first + each) % 10, 0xff, 0]).flat()];
@@ -198,5 +226,5 @@ const filled = [handheld, vehicle].map((set) => {
     return filling.map((message) => take(message, set) & 0xffffn);
 });
 if (filled.join() !== "0,0,0,0,258,0,0,0,0,0") throw new Error(`texts that fill a hand-held: ${filled}`);
-console.log("no imports; take and put, judged and committed, as stored; callers are found, what stands behind a row, what is reported and read, and joined;" +
+console.log("no imports; take and put, judged and committed, as stored; callers are found, what stands behind a row, what is reported and read, joined and proposed;" +
     " a hand-held takes a vehicle's export where it fits, and texts up to the last unit");

@@ -5,6 +5,7 @@ use crate::joining;
 use crate::messages;
 use crate::reports;
 use crate::sides::{Call, Checked, Plain, Rattle, Side};
+use crate::updating;
 use crate::values;
 use otap::{Handheld, Part, Table, Vehicle};
 use otap_reference::reference::limits::{Limits, HANDHELD, VEHICLE};
@@ -89,6 +90,9 @@ fn of_a_handheld() -> Vec<Case> {
     }
     for (name, pair, number) in joining::pairs() {
         cases.push(case(format!("join-{name}"), Call::Join(pair), number));
+    }
+    for (name, call, number) in updating::calls() {
+        cases.push(case(name.into(), call, number));
     }
     for (which, conversion) in conversions::ALL.iter().enumerate() {
         cases.push(case(format!("{}-x100", conversion.name), Call::Convert(which), 0));

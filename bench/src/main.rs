@@ -11,6 +11,7 @@ mod reports;
 mod sides;
 mod stack;
 mod timing;
+mod updating;
 mod values;
 
 fn main() -> std::process::ExitCode {

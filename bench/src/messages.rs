@@ -2,6 +2,8 @@
 //!
 //! Committed twice, each leaves what it left the first time, so that every repetition starts from the same store.
 
+use otap::REPLY_ROOM;
+use otap_reference::reference::commit::commit;
 use otap_reference::reference::limits::{Limits, Texts, HANDHELD};
 use otap_reference::reference::message::{query, request, request_as, Hash};
 use otap_reference::reference::plan::{GroupAddress, IndividualAddress};
@@ -10,6 +12,7 @@ use otap_reference::reference::settings::{
     IndividualSlot, LastItem, Line, LineEntry, LineFlags, Operation, Setting, SystemCode,
     TextEntry,
 };
+use otap_reference::reference::tables::Set;
 use otap_reference::reference::texts::{Coding, Text};
 
 const HASH: Hash = Hash::Stamped([1, 2, 3, 4, 5, 6, 7, 8, 9, 10]);
@@ -71,7 +74,8 @@ pub fn of_a_vehicle(limits: Limits) -> [(&'static str, Vec<u8>); 3] {
     [("lines", of_lines(limits)), ("channels", of_channels(limits)), ("last-item", of_last_item())]
 }
 
-fn of_lines(limits: Limits) -> Vec<u8> {
+/// A request full of lines.
+pub fn of_lines(limits: Limits) -> Vec<u8> {
     full_as(limits, Coding::Unicode, |count| lines(limits, count))
 }
 
@@ -126,6 +130,15 @@ pub fn filling(limits: Limits) -> Vec<Vec<u8>> {
         request(&[individual_contacts(limits, 64), vec![individual_contact]].concat()),
         request(&[channels(limits, 1), vec![key().write(), system().write(), last()]].concat()),
     ]
+}
+
+/// The tables of a full store.
+pub fn full_set(limits: Limits) -> Set {
+    let mut set = Set::fresh(limits);
+    for message in filling(limits) {
+        assert_eq!(commit(&message, &mut set, &mut [0; REPLY_ROOM]).number, 0);
+    }
+    set
 }
 
 /// What empties the list of lines.

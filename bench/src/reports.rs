@@ -1,9 +1,8 @@
 //! Queries to a full store, and messages for the office's reader: by the archives and by plain Rust.
 
-use crate::messages::filling;
+use crate::messages::full_set;
 use crate::sides::answered;
-use otap::{Kind, Refusal, REPLY_ROOM};
-use otap_reference::reference::commit::commit;
+use otap::{Kind, Refusal};
 use otap_reference::reference::limits::HANDHELD;
 use otap_reference::reference::queries::query;
 use otap_reference::reference::report_reading::read;
@@ -77,10 +76,7 @@ pub fn queries() -> Vec<(String, Asked)> {
 
 /// Messages of a full set's reports: one with the most bytes, and one with the most parameters.
 pub fn messages() -> [(&'static str, Vec<u8>); 2] {
-    let mut set = Set::fresh(HANDHELD);
-    for message in filling(HANDHELD) {
-        assert_eq!(commit(&message, &mut set, &mut [0; REPLY_ROOM]).number, 0);
-    }
+    let set = full_set(HANDHELD);
     let first = |types: &[u8]| {
         let messages = reports::messages(types, &set).expect("at most 255 messages");
         messages.into_iter().next().expect("a report has a message")

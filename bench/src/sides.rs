@@ -3,6 +3,7 @@
 use crate::conversions;
 use crate::joining::Pair;
 use crate::reports::{plain_reads, rattle_reads, Asked};
+use crate::updating::Update;
 use crate::values::Value;
 use otap::{Kind, Part, Table, PSTN, REPLY_ROOM, SCRATCH_ROOM};
 use otap_reference::layout;
@@ -34,6 +35,10 @@ pub enum Call {
     ReadReport(Vec<u8>),
     /// The office joins two requests.
     Join(Pair),
+    /// The office checks a request from this store to another.
+    CheckUpdate(Update),
+    /// The office proposes one.
+    Propose(Update),
     /// A hundred conversions, named by their place in `conversions::ALL`.
     Convert(usize),
 }
@@ -88,9 +93,14 @@ impl Checked {
 
 impl Side for Checked {
     fn call(&mut self, call: &Call) -> u8 {
-        // A conversion has no store, and the office has none.
-        let has_none = matches!(call, Call::Convert(_) | Call::ReadReport(_) | Call::Join(_));
-        if has_none || layout::is_store(black_box(&self.bytes), self.plain.set.limits) {
+        let own = || layout::is_store(black_box(&self.bytes), self.plain.set.limits);
+        let checked = match call {
+            // A conversion has no store, and the office has none that it reads reports or joins by.
+            Call::Convert(_) | Call::ReadReport(_) | Call::Join(_) => true,
+            Call::CheckUpdate(update) | Call::Propose(update) => own() && update.is_store(),
+            _ => own(),
+        };
+        if checked {
             self.plain.call(call)
         } else {
             11
@@ -128,6 +138,8 @@ impl<K: Kind> Side for Rattle<K> {
             Call::Report(asked) => asked.rattle(&store, &mut self.buffer),
             Call::ReadReport(message) => rattle_reads(message),
             Call::Join(pair) => pair.rattle(&mut self.buffer),
+            Call::CheckUpdate(update) => update.rattle_checks(&self.bytes),
+            Call::Propose(update) => update.rattle_proposes(&self.bytes, &mut self.buffer),
             Call::Convert(which) => {
                 conversions::ALL[*which].rattle();
                 0
@@ -161,6 +173,8 @@ impl Side for Plain {
             Call::Report(asked) => asked.plain(black_box(&self.set), &mut self.buffer),
             Call::ReadReport(message) => plain_reads(message),
             Call::Join(pair) => pair.plain(&mut self.buffer),
+            Call::CheckUpdate(update) => update.plain_checks(&self.set),
+            Call::Propose(update) => update.plain_proposes(&self.set, &mut self.buffer),
             Call::Convert(which) => {
                 conversions::ALL[*which].plain();
                 0

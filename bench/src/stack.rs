@@ -67,6 +67,8 @@ fn call_name(call: &Call) -> &'static str {
         Call::Report(_) => "report",
         Call::ReadReport(_) => "read-report",
         Call::Join(_) => "join",
+        Call::CheckUpdate(_) => "check-update",
+        Call::Propose(_) => "propose",
         Call::Convert(which) => conversions::ALL[*which].name,
     }
 }

@@ -19,7 +19,7 @@ pub fn table() {
     println!("Plain works on tables, not on bytes: it reads bit by bit, allocates each text, clones its tables for a request.");
     println!("The line numbers, 32 of a hand-held and 128 of a vehicle, differ only in their last two or three digits and the addresses of 64 contacts in their last byte, the worst for finding one.");
     println!("Plain writes every message of a report and gives one of them.");
-    println!("Of a join the message is both requests together.");
+    println!("Of a join the message is both requests together, of a check the request. Checked looks at both stores of a check and of a proposal.");
     println!("Plain finds a channel by search, and a caller too: in the lines from the first on, where Rattle halves their order.");
     println!();
     println!("| call | message | Rattle ns | plain ns | checked ns | to plain | to checked |");
@@ -41,6 +41,7 @@ fn message_length(case: &Case) -> Option<usize> {
         }
         Call::Report(asked) => Some(asked.query.len()),
         Call::Join(pair) => Some(pair.size()),
+        Call::CheckUpdate(update) => Some(update.request.len()),
         _ => None,
     }
 }

@@ -1,3 +1,4 @@
 pub mod JoinBits
 pub mod Packing
 pub mod Theorems
+pub mod UpdateBits

@@ -1,2 +1,3 @@
 pub mod PackedJoin
 pub mod PackedReading
+pub mod PackedUpdate

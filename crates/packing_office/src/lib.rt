@@ -3,3 +3,4 @@ pub mod join;
 pub mod message;
 pub mod parameter;
 pub mod places;
+pub mod update;

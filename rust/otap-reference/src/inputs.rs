@@ -13,6 +13,7 @@ pub mod random;
 pub mod reports;
 pub mod requests;
 pub mod sweep;
+pub mod updating;
 pub mod values;
 
 use crate::reference::commit::{judge_and_commit, REPLY_ROOM};

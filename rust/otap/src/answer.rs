@@ -22,7 +22,7 @@ pub enum Refusal {
     WrongCarrier,
     /// 14: the message is not of the type that the call takes: a request or a result query to commit, a query to report on, a report to read, a request to join.
     WrongMessageType,
-    /// 15: the scratch has fewer than 36 bytes, the export, report or join buffer fewer than the set's longest message, or the digits buffer fewer than 18.
+    /// 15: the scratch has fewer than 36 bytes, the export, report, join or proposal buffer fewer than the set's longest message, or the digits buffer fewer than 18.
     BufferShort,
     /// 16 of an export: there is no such part; a [`Part`](crate::Part) is always one.
     NoSuchPart,
@@ -32,6 +32,8 @@ pub enum Refusal {
     NoSuchRow,
     /// 17 of [`Store::entry`](crate::Store::entry), its digits and a channel: nothing stands there.
     NothingThere,
+    /// 19 of a proposal: the tables of no part of an export differ, or those of several.
+    NoSinglePart,
     /// 20 of a conversion: the dialled number is outside the plan.
     OutsidePlan,
     /// 20 of [`Store::line_of`](crate::Store::line_of): the caller's number has no digits, more than 18, or a digit above 9.
@@ -44,7 +46,7 @@ pub enum Refusal {
     Unlisted(u8),
 }
 
-const LISTED: [(u8, Refusal, &str); 17] = [
+const LISTED: [(u8, Refusal, &str); 18] = [
     (1, Refusal::WrongVersion, "OTAPVer is not 1"),
     (3, Refusal::UnknownType, "a setting's type is not known"),
     (4, Refusal::BadField, "a field, a length or a count is wrong"),
@@ -58,6 +60,7 @@ const LISTED: [(u8, Refusal, &str); 17] = [
     (16, Refusal::NoSuchMessage, "the report has no such message"),
     (17, Refusal::NoSuchRow, "there is no such row"),
     (17, Refusal::NothingThere, "nothing stands there"),
+    (19, Refusal::NoSinglePart, "the tables of no part differ, or those of several"),
     (20, Refusal::OutsidePlan, "the dialled number is outside the plan"),
     (20, Refusal::BadNumber, "the caller's number is not 1 to 18 digits"),
     (21, Refusal::OutsideKind, "the address is outside its kind's plan"),

@@ -239,6 +239,8 @@ mod office {
     pub trait OfficeCalls {
         fn read_report(message: &[u8]) -> u64;
         fn join(first: &[u8], second: &[u8], buffer: &mut [u8]) -> u64;
+        fn check_update(first: &[u8], second: &[u8], request: &[u8]) -> u64;
+        fn propose(first: &[u8], second: &[u8], buffer: &mut [u8]) -> u64;
     }
 
     /// Those of a kind, by how their names begin.
@@ -250,6 +252,24 @@ mod office {
                     fn read_report(message: *const u8, message_length: u64) -> u64;
                     #[link_name = concat!($begin, "join")]
                     fn join(
+                        first: *const u8,
+                        first_length: u64,
+                        second: *const u8,
+                        second_length: u64,
+                        buffer: *mut u8,
+                        buffer_length: u64,
+                    ) -> u64;
+                    #[link_name = concat!($begin, "check_update")]
+                    fn check_update(
+                        first: *const u8,
+                        first_length: u64,
+                        second: *const u8,
+                        second_length: u64,
+                        request: *const u8,
+                        request_length: u64,
+                    ) -> u64;
+                    #[link_name = concat!($begin, "propose")]
+                    fn propose(
                         first: *const u8,
                         first_length: u64,
                         second: *const u8,
@@ -269,6 +289,20 @@ mod office {
                         let (f, s, b) = (first.as_ptr(), second.as_ptr(), buffer.as_mut_ptr());
                         // SAFETY: the slices are live for the call, and the two requests, only read, do not overlap the buffer.
                         unsafe { join(f, length(first), s, length(second), b, length(buffer)) }
+                    }
+
+                    fn check_update(first: &[u8], second: &[u8], request: &[u8]) -> u64 {
+                        let (f, s, r) = (first.as_ptr(), second.as_ptr(), request.as_ptr());
+                        let (first, second, request) =
+                            (length(first), length(second), length(request));
+                        // SAFETY: the slices are live for the call, which only reads them.
+                        unsafe { check_update(f, first, s, second, r, request) }
+                    }
+
+                    fn propose(first: &[u8], second: &[u8], buffer: &mut [u8]) -> u64 {
+                        let (f, s, b) = (first.as_ptr(), second.as_ptr(), buffer.as_mut_ptr());
+                        // SAFETY: the slices are live for the call, and the two stores, only read, do not overlap the buffer.
+                        unsafe { propose(f, length(first), s, length(second), b, length(buffer)) }
                     }
                 }
             };

@@ -14,7 +14,7 @@ pub enum Vehicle {}
 pub trait Sizes {
     /// A store has exactly so many bytes.
     const STORE_SIZE: usize;
-    /// A message has at most so many bytes; a buffer for an export, a report or a joined request at least as many.
+    /// A message has at most so many bytes; a buffer for an export, a report, a joined request or a proposal at least as many.
     const LONGEST_MESSAGE: usize;
     /// A set has room for so many line contacts.
     const MOST_LINES: usize;

@@ -6,7 +6,7 @@
 //!
 //! Firmware of a hand-held links `libotap_handheld.a` alone, and two features, off by default, add the others. With `vehicle`, which links
 //! `libotap_vehicle.a` too, `VehicleStore` is the same over a vehicle's bytes: both are a [`Set`], and only the sizes differ. With `office`,
-//! which links `libotap_office.a` too, `report` and `join` are what the office needs, of either kind of set.
+//! which links `libotap_office.a` too, `report`, `join`, `updates` and `propose` are what the office needs, of either kind of set.
 //!
 //! ```
 //! # fn main() -> Result<(), otap::Refusal> {
@@ -39,6 +39,8 @@ mod reporting;
 mod row;
 mod settings;
 mod store;
+#[cfg(feature = "office")]
+mod updating;
 
 pub use answer::{Answer, Outcome, Refusal};
 pub use callers::{MOST_DIGITS, PABX, PSTN};
@@ -59,6 +61,10 @@ pub use settings::{Channels, EmergencyKey, HomeNumbers, KeyTarget, SystemCode};
 #[cfg(feature = "vehicle")]
 pub use store::VehicleStore;
 pub use store::{Set, Store, EXPORT_ROOM, LONGEST_MESSAGE, REPLY_ROOM, SCRATCH_ROOM, STORE_SIZE};
+#[cfg(feature = "office")]
+pub use updating::{
+    propose, propose_vehicle, updates, updates_vehicle, PROPOSAL_ROOM, VEHICLE_PROPOSAL_ROOM,
+};
 
 // The README's snippet is compiled and run with the doc examples.
 #[cfg(doctest)]

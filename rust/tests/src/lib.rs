@@ -8,6 +8,7 @@ pub mod raw;
 pub mod reports;
 pub mod sets;
 pub mod texts;
+pub mod updating;
 pub mod values;
 
 use otap_reference::reference::commit::{judge_and_commit, REPLY_ROOM};

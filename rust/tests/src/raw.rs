@@ -19,6 +19,8 @@ pub trait Raw {
     fn otap_report(query: &[u8], index: u32, store: &[u8], buffer: &mut [u8]) -> u64;
     fn otap_read_report(message: &[u8]) -> u64;
     fn otap_join(first: &[u8], second: &[u8], buffer: &mut [u8]) -> u64;
+    fn otap_check_update(first: &[u8], second: &[u8], request: &[u8]) -> u64;
+    fn otap_propose(first: &[u8], second: &[u8], buffer: &mut [u8]) -> u64;
 }
 
 /// Those of one kind, by how their names begin.
@@ -95,6 +97,24 @@ macro_rules! raw {
                 fn read_report(message: *const u8, length: u64) -> u64;
                 #[link_name = concat!($begin, "join")]
                 fn join(
+                    first: *const u8,
+                    first_length: u64,
+                    second: *const u8,
+                    second_length: u64,
+                    buffer: *mut u8,
+                    length: u64,
+                ) -> u64;
+                #[link_name = concat!($begin, "check_update")]
+                fn check_update(
+                    first: *const u8,
+                    first_length: u64,
+                    second: *const u8,
+                    second_length: u64,
+                    request: *const u8,
+                    length: u64,
+                ) -> u64;
+                #[link_name = concat!($begin, "propose")]
+                fn propose(
                     first: *const u8,
                     first_length: u64,
                     second: *const u8,
@@ -216,6 +236,26 @@ macro_rules! raw {
                     let buffer = buffer.as_mut_ptr();
                     // SAFETY: the slices are live for the call, and the buffer overlaps neither request.
                     unsafe { join(first, first_length, second, second_length, buffer, length) }
+                }
+
+                fn otap_check_update(first: &[u8], second: &[u8], request: &[u8]) -> u64 {
+                    let (first_length, second_length) = (first.len() as u64, second.len() as u64);
+                    let (first, second, length) =
+                        (first.as_ptr(), second.as_ptr(), request.len() as u64);
+                    let request = request.as_ptr();
+                    // SAFETY: the slices are live for the call, which only reads them.
+                    unsafe {
+                        check_update(first, first_length, second, second_length, request, length)
+                    }
+                }
+
+                fn otap_propose(first: &[u8], second: &[u8], buffer: &mut [u8]) -> u64 {
+                    let (first_length, second_length) = (first.len() as u64, second.len() as u64);
+                    let (first, second, length) =
+                        (first.as_ptr(), second.as_ptr(), buffer.len() as u64);
+                    let buffer = buffer.as_mut_ptr();
+                    // SAFETY: the slices are live for the call, and the buffer overlaps neither store.
+                    unsafe { propose(first, first_length, second, second_length, buffer, length) }
                 }
             }
         };

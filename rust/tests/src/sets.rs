@@ -22,10 +22,14 @@ pub trait Tried: Kind + Raw + Copy + Debug {
     fn read(message: &[u8]) -> Result<ReadReport<'_>, Refusal>;
 
     fn join<'b>(first: &[u8], second: &[u8], buffer: &'b mut [u8]) -> Result<&'b [u8], NotJoined>;
+
+    fn updates(first: &[u8], second: &[u8], request: &[u8]) -> Result<bool, Refusal>;
+
+    fn propose<'b>(first: &[u8], second: &[u8], buffer: &'b mut [u8]) -> Result<&'b [u8], Refusal>;
 }
 
 macro_rules! tried {
-    ($kind:ty, $limits:expr, $share:expr, $read:path, $join:path) => {
+    ($kind:ty, $limits:expr, $share:expr, $read:path, $join:path, $updates:path, $propose:path) => {
         impl Tried for $kind {
             const LIMITS: Limits = $limits;
             const SHARE: usize = $share;
@@ -41,12 +45,32 @@ macro_rules! tried {
             ) -> Result<&'b [u8], NotJoined> {
                 $join(first, second, buffer)
             }
+
+            fn updates(first: &[u8], second: &[u8], request: &[u8]) -> Result<bool, Refusal> {
+                $updates(first, second, request)
+            }
+
+            fn propose<'b>(
+                first: &[u8],
+                second: &[u8],
+                buffer: &'b mut [u8],
+            ) -> Result<&'b [u8], Refusal> {
+                $propose(first, second, buffer)
+            }
         }
     };
 }
 
-tried!(Handheld, HANDHELD, 1, report::read, otap::join);
-tried!(Vehicle, VEHICLE, 3, report::read_vehicle, otap::join_vehicle);
+tried!(Handheld, HANDHELD, 1, report::read, otap::join, otap::updates, otap::propose);
+tried!(
+    Vehicle,
+    VEHICLE,
+    3,
+    report::read_vehicle,
+    otap::join_vehicle,
+    otap::updates_vehicle,
+    otap::propose_vehicle
+);
 
 /// Makes two tests of each function, which is generic over the kind of set.
 #[macro_export]

@@ -14,6 +14,7 @@ for_both_sets!(
     refusals_of_stores_exports_and_rows,
     refusals_of_reports,
     refusals_of_joins,
+    refusals_of_updates,
     tables_and_parts,
 );
 
@@ -151,6 +152,20 @@ fn refusals_of_joins<K: Tried>() {
     assert_eq!(said(0, true), "3: a setting's type is not known, of the second request");
     let both = "3: a setting's type is not known, in setting 7, of the second request";
     assert_eq!(said(7, true), both);
+}
+
+fn refusals_of_updates<K: Tried>() {
+    let mut bytes = vec![0; K::STORE_SIZE];
+    Set::<K>::start(&mut bytes).expect("the size is right");
+    let mut buffer = vec![0; K::LONGEST_MESSAGE];
+    assert_eq!(refused(K::updates(&[0; 3], &bytes, &HOME)), (Refusal::NotAStore, 11));
+    assert_eq!(refused(K::updates(&bytes, &[0; 3], &HOME)), (Refusal::NotAStore, 11));
+    assert_eq!(refused(K::propose(&[0; 3], &bytes, &mut [])), (Refusal::NotAStore, 11));
+    assert_eq!(refused(K::propose(&bytes, &[0; 3], &mut [])), (Refusal::NotAStore, 11));
+    assert_eq!(refused(K::propose(&bytes, &bytes, &mut buffer[1..])), (Refusal::BufferShort, 15));
+    assert_eq!(refused(K::propose(&bytes, &bytes, &mut buffer)), (Refusal::NoSinglePart, 19));
+    let said = Refusal::NoSinglePart.to_string();
+    assert_eq!(said, "19: the tables of no part differ, or those of several");
 }
 
 #[test]

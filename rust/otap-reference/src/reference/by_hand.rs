@@ -2,7 +2,7 @@
 
 use super::commit::{commit, judge, REPLY_ROOM};
 use super::joining::{join, Refused};
-use super::limits::HANDHELD;
+use super::limits::{Limits, HANDHELD};
 use super::message::request;
 use super::queries::query;
 use super::reports::{report, REPORT_HEAD};
@@ -36,7 +36,12 @@ pub fn number_of(set: &mut Set, settings: &[&str]) -> (u8, u8) {
 
 /// A fresh hand-held after one such request, which must be taken.
 pub fn taken(settings: &[&str]) -> Set {
-    let mut set = Set::fresh(HANDHELD);
+    taken_by(HANDHELD, settings)
+}
+
+/// The same of a set with these limits.
+pub fn taken_by(limits: Limits, settings: &[&str]) -> Set {
+    let mut set = Set::fresh(limits);
     assert_eq!(number_of(&mut set, settings), (0, 0), "{settings:?}");
     set
 }

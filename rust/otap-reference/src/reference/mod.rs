@@ -20,5 +20,6 @@ pub mod screen;
 pub mod settings;
 pub mod tables;
 pub mod texts;
+pub mod updating;
 pub mod values;
 pub mod writing;

@@ -16,6 +16,8 @@ pub const BUFFER_SHORT: u8 = 15;
 pub const NO_SUCH_PART: u8 = 16;
 /// Also where nothing stands behind a row, or no channel at a position.
 pub const NO_SUCH_ROW: u8 = 17;
+/// Of a proposal: the tables of no part differ, or those of several (document 02, A14).
+pub const NO_SINGLE_PART: u8 = 19;
 /// Also of a caller's number that is none (document 02, A7).
 pub const OUTSIDE_PLAN: u8 = 20;
 pub const NOT_IN_KIND: u8 = 21;

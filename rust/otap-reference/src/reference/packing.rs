@@ -1,4 +1,5 @@
-//! The answers of `values`, of the report call, of the office's reader and of the join call in 64 bits, as the C functions give them.
+//! The answers of `values`, of the report call, of the office's reader, of the join call and of the calls for short updates in 64 bits or fewer, as the C
+//! functions give them.
 
 use super::numbers::TAKEN;
 use super::settings::{EmergencyKey, HomeNumbers, SystemCode};
@@ -12,9 +13,13 @@ mod report_tests;
 mod reports;
 #[cfg(test)]
 mod tests;
+#[cfg(test)]
+mod update_tests;
+mod updating;
 
 pub use joining::packed_join;
 pub use reports::{packed_read_report, packed_report, packed_report_entry, packed_report_places};
+pub use updating::{packed_check, packed_proposal};
 
 /// A value and its lowest bit.
 type Field = (u32, u32);
