@@ -1,0 +1,54 @@
+-- Events one after another, and events whose places are their own numbers. Assumes nothing.
+use Rattle.lists.proofs.Kit.{ℕ, suc, _≤_, _≡_, refl, ap, _∙_, Bool, true, false, cond, List, [], _∷_, _++_, Option, none, some, arith, eqb, ltb}
+use Rattle.slots.specs.Slots.{indexOf, putAt}
+use Rattle.tables.specs.Apply.{and-then, in-turn}
+use Rattle.events.specs.Events.{Event, clear, put, drop, born-at, Rising, numbered, has, step, after, look-step, look-on, rows}
+
+-- places that rise rise from an earlier one on
+rising-from : {A K : Type 0} (i j : ℕ) (es : List (Event A K)) → i ≤ j → Rising j es → Rising i es
+rising-from i j [] h r = tt
+rising-from i j (clear ∷ es) h r = rising-from i j es h r
+rising-from i j (put m a ∷ es) h r = (omega (arith, r .0), r .1)
+rising-from i j (drop k ∷ es) h r = rising-from i j es h r
+
+-- numbers rise
+pub numbered-rise : {A K : Type 0} (n : ℕ) (es : List (Event A K)) → Rising n (numbered n es)
+numbered-rise n [] = tt
+numbered-rise n (clear ∷ es) = rising-from n (suc n) (numbered (suc n) es) (omega arith) (numbered-rise (suc n) es)
+numbered-rise n (put m a ∷ es) = (omega arith, numbered-rise (suc n) es)
+numbered-rise n (drop k ∷ es) = rising-from n (suc n) (numbered (suc n) es) (omega arith) (numbered-rise (suc n) es)
+
+module _ {A K : Type 0} (key : A → K) (same : K → K → Bool) where
+  -- the table does not depend on the places
+  pub numbered-after : (room n : ℕ) (es : List (Event A K)) (l : List A) → after key same room (numbered n es) l ≡ after key same room es l
+  numbered-after room n [] l = refl
+  numbered-after room n (clear ∷ es) l = numbered-after room (suc n) es []
+  numbered-after room n (put m a ∷ es) l = go (ltb (indexOf (has key same (key a)) l) room) (numbered-after room (suc n) es)
+    where
+      go : (b : Bool) → ((k : List A) → after key same room (numbered (suc n) es) k ≡ after key same room es k)
+          → and-then (cond b (some (putAt (indexOf (has key same (key a)) l) a l)) none) (in-turn (step key same room) (numbered (suc n) es))
+          ≡ and-then (cond b (some (putAt (indexOf (has key same (key a)) l) a l)) none) (in-turn (step key same room) es)
+      go true r = r (putAt (indexOf (has key same (key a)) l) a l)
+      go false r = refl
+  numbered-after room n (drop k ∷ es) l = numbered-after room (suc n) es _
+
+  -- looking goes on behind what was read
+  pub look-append : (κ : K) (es more : List (Event A K)) (o : Option (ℕ × A)) → look-on key same κ (es ++ more) o ≡ look-on key same κ more (look-on key same κ es o)
+  look-append κ [] more o = refl
+  look-append κ (e ∷ es) more o = look-append κ es more (look-step key same κ e o)
+
+  -- and so do the rows
+  pub rows-append : (f : K → Option (ℕ × A)) (es more : List (Event A K)) → rows key same f (es ++ more) ≡ rows key same f es ++ rows key same f more
+  rows-append f [] more = refl
+  rows-append f (clear ∷ es) more = rows-append f es more
+  rows-append f (put n a ∷ es) more = ap (born-at n (f (key a))) (rows-append f es more) ∙ go (f (key a))
+    where
+      go : (o : Option (ℕ × A)) → born-at n o (rows key same f es ++ rows key same f more) ≡ born-at n o (rows key same f es) ++ rows key same f more
+      go none = refl
+      go (some e) = by (eqb (e .0) n)
+        where
+          by : (b : Bool) → cond b (e ∷ (rows key same f es ++ rows key same f more)) (rows key same f es ++ rows key same f more)
+              ≡ cond b (e ∷ rows key same f es) (rows key same f es) ++ rows key same f more
+          by true = refl
+          by false = refl
+  rows-append f (drop k ∷ es) more = rows-append f es more
