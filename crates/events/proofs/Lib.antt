@@ -6,3 +6,5 @@ pub mod Numbering
 pub mod PlaceLaws
 pub mod ChannelLaws
 pub mod RowLaws
+pub mod SettingLaws
+pub mod LogLaws

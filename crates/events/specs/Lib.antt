@@ -1,3 +1,5 @@
 pub mod Events
 pub mod Places
 pub mod Channels
+pub mod Settings
+pub mod Logs
