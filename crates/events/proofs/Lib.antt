@@ -8,3 +8,6 @@ pub mod ChannelLaws
 pub mod RowLaws
 pub mod SettingLaws
 pub mod LogLaws
+pub mod CountLaws
+pub mod SumLaws
+pub mod InsideLaws

@@ -3,3 +3,4 @@ pub mod Places
 pub mod Channels
 pub mod Settings
 pub mod Logs
+pub mod Sums
