@@ -4,6 +4,7 @@ use Rattle.lists.specs.Every.{All}
 use Rattle.slots.specs.Slots.{unless, indexOf, putAt}
 use Rattle.slots.proofs.Changes.{index-end}
 use Rattle.tables.specs.Apply.{and-then, in-turn}
+use Rattle.events.specs.Reading.{reading}
 use Rattle.events.specs.Events.{Event, clear, put, drop, Decides, find, found, entry, birth, has, step, after, look-step, look-on, look}
 use Rattle.events.proofs.Finding.{clash, either-way, find-absent, find-at, find-entry, find-index}
 
@@ -28,8 +29,7 @@ module _ {A K : Type 0} (key : A → K) (same : K → K → Bool) where
   keep-step (drop k) l = unless (holds k) l
 
   abbrev pub keep-on : List (Event A K) → List (ℕ × A) → List (ℕ × A)
-  keep-on [] l = l
-  keep-on (e ∷ es) l = keep-on es (keep-step e l)
+  keep-on es l = reading keep-step es l
 
   -- ---- without the births it is the table
 

@@ -1,3 +1,4 @@
+pub mod ReadingLaws
 pub mod Finding
 pub mod Keeping
 pub mod Orders
@@ -11,3 +12,4 @@ pub mod LogLaws
 pub mod CountLaws
 pub mod SumLaws
 pub mod InsideLaws
+pub mod GoingOn

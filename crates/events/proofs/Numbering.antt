@@ -2,7 +2,8 @@
 use Rattle.lists.proofs.Kit.{ℕ, suc, _≤_, _≡_, refl, ap, _∙_, Bool, true, false, cond, List, [], _∷_, _++_, Option, none, some, arith, eqb, ltb}
 use Rattle.slots.specs.Slots.{indexOf, putAt}
 use Rattle.tables.specs.Apply.{and-then, in-turn}
-use Rattle.events.specs.Events.{Event, clear, put, drop, born-at, Rising, numbered, has, step, after, look-step, look-on, rows}
+use Rattle.events.specs.Events.{Event, clear, put, drop, born-at, Rising, Before, numbered, has, step, after, look-step, look-on, rows}
+use Rattle.events.proofs.ReadingLaws.{reading-append}
 
 -- places that rise rise from an earlier one on
 rising-from : {A K : Type 0} (i j : ℕ) (es : List (Event A K)) → i ≤ j → Rising j es → Rising i es
@@ -34,8 +35,7 @@ module _ {A K : Type 0} (key : A → K) (same : K → K → Bool) where
 
   -- looking goes on behind what was read
   pub look-append : (κ : K) (es more : List (Event A K)) (o : Option (ℕ × A)) → look-on key same κ (es ++ more) o ≡ look-on key same κ more (look-on key same κ es o)
-  look-append κ [] more o = refl
-  look-append κ (e ∷ es) more o = look-append κ es more (look-step key same κ e o)
+  look-append κ es more o = reading-append (look-step key same κ) es more o
 
   -- and so do the rows
   pub rows-append : (f : K → Option (ℕ × A)) (es more : List (Event A K)) → rows key same f (es ++ more) ≡ rows key same f es ++ rows key same f more
@@ -52,3 +52,19 @@ module _ {A K : Type 0} (key : A → K) (same : K → K → Bool) where
           by true = refl
           by false = refl
   rows-append f (drop k ∷ es) more = rows-append f es more
+
+-- ---- places that rise
+
+-- RISING-APPEND: places rise on behind those that were read
+pub rising-append : {A K : Type 0} (n m : ℕ) (es more : List (Event A K)) → n ≤ m → Rising n es → Before m es → Rising m more → Rising n (es ++ more)
+rising-append n m [] more h r b q = rising-from n m more h q
+rising-append n m (clear ∷ es) more h r b q = rising-append n m es more h r b q
+rising-append n m (put j a ∷ es) more h r b q = (r .0, rising-append (suc j) m es more (b .0) (r .1) (b .1) q)
+rising-append n m (drop k ∷ es) more h r b q = rising-append n m es more h r b q
+
+-- and end where the last ends
+pub before-append : {A K : Type 0} (m : ℕ) (es more : List (Event A K)) → Before m es → Before m more → Before m (es ++ more)
+before-append m [] more b q = q
+before-append m (clear ∷ es) more b q = before-append m es more b q
+before-append m (put j a ∷ es) more b q = (b .0, before-append m es more (b .1) q)
+before-append m (drop k ∷ es) more b q = before-append m es more b q

@@ -3,6 +3,7 @@ use Rattle.lists.proofs.Kit.{ℕ, zero, suc, _+_, _-_, _≤_, _<_, _≡_, refl,
 use lib.Seq.{ext-getD}
 use Rattle.events.specs.Events.{Event, clear, put, drop, weight, total}
 use Rattle.events.specs.Places.{from-place, Inside, place-step, places-after, spot-step, spot-on, spot, spots-total-step, spots-total-on}
+use Rattle.events.proofs.ReadingLaws.{reading-append}
 
 -- ---- places
 
@@ -90,11 +91,6 @@ module _ {A B : Type 0} (place : A → ℕ) (change : Option B → A → Option 
   inside-first (put n a) es x = ((x .0, tt), x .1)
   inside-first (drop k) es x = ((x .0, tt), x .1)
 
-  -- the events that were read, and one more
-  places-more : (read more : List (Event A ℕ)) (os : List (Option B)) → places-after place change many (read ++ more) os ≡ places-after place change many more (places-after place change many read os)
-  places-more [] more os = refl
-  places-more (v ∷ read) more os = places-more read more (place-step place change many v os)
-
   -- the events that were read left os
   module _ (size : B → ℕ) (read : List (Event A ℕ)) (os : List (Option B)) (left : places-after place change many read (replicate many none) ≡ os) where
     -- it has all places
@@ -122,4 +118,4 @@ module _ {A B : Type 0} (place : A → ℕ) (change : Option B → A → Option 
   spots-total-is size (v ∷ es) read os x e =
       let (p, q) = inside-first v es x in
       ap (spots-total-on place change size (read ++ (v ∷ [])) es) (spots-total-next size read os e v p)
-      ∙ spots-total-is size es (read ++ (v ∷ [])) (place-step place change many v os) q (places-more read (v ∷ []) (replicate many none) ∙ ap (place-step place change many v) e)
+      ∙ spots-total-is size es (read ++ (v ∷ [])) (place-step place change many v os) q (reading-append (place-step place change many) read (v ∷ []) (replicate many none) ∙ ap (place-step place change many v) e)

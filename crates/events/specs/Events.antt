@@ -1,14 +1,15 @@
 -- What is done to a table of entries with keys, and what a reader finds in it who keeps no table. Each entry has the place where it was read.
-use Prim.Native.Nat.{ℕ, suc, _+_, _-_, _≤_}
+use Prim.Native.Nat.{ℕ, suc, _+_, _-_, _≤_, _<_}
 use mathlib.Core.Path.{_≡_}
 use mathlib.Core.Bool.{Bool, true, false, cond}
-use mathlib.Core.List.{List, [], _∷_, _++_, map}
+use mathlib.Core.List.{List, [], _∷_, map}
 use mathlib.Core.Option.{Option, none, some}
 use lib.Dec.{eqb, ltb}
 use lib.ListN.{getD}
 use Rattle.slots.specs.Slots.{unless}
 use Rattle.counted_lists.specs.Counted.{put-keyed}
-use Rattle.tables.specs.Apply.{and-then, in-turn}
+use Rattle.tables.specs.Apply.{in-turn}
+use Rattle.events.specs.Reading.{reading, reading-on, while-room}
 
 -- all entries go; an entry is put, which was read at a place; the entries with a key go
 pub data Event (A K : Type 0) : Type 0 where
@@ -63,6 +64,13 @@ module _ {A K : Type 0} where
   Rising n (put m a ∷ es) = (n ≤ m) × Rising (suc m) es
   Rising n (drop k ∷ es) = Rising n es
 
+  -- and are before m
+  abbrev pub Before : ℕ → List (Event A K) → Type 0
+  Before m [] = Unit {0}
+  Before m (clear ∷ es) = Before m es
+  Before m (put n a ∷ es) = (n < m) × Before m es
+  Before m (drop k ∷ es) = Before m es
+
   -- the place of each entry is the number of its event, from n on
   abbrev pub numbered : ℕ → List (Event A K) → List (Event A K)
   numbered n [] = []
@@ -101,8 +109,7 @@ module _ {A K : Type 0} (key : A → K) (same : K → K → Bool) where
   look-step κ (drop k) o = cond (same κ k) none o
 
   abbrev pub look-on : K → List (Event A K) → Option (ℕ × A) → Option (ℕ × A)
-  look-on κ [] o = o
-  look-on κ (e ∷ es) o = look-on κ es (look-step κ e o)
+  look-on κ es o = reading (look-step κ) es o
 
   -- the events are read from the first for one key
   abbrev pub look : K → List (Event A K) → Option (ℕ × A)
@@ -126,8 +133,7 @@ module _ {A K : Type 0} (key : A → K) (same : K → K → Bool) where
   count-step room read (drop k) c = some (cond (found (look k read)) (c - 1) c)
 
   abbrev pub count-on : ℕ → List (Event A K) → List (Event A K) → ℕ → Option ℕ
-  count-on room read [] c = some c
-  count-on room read (e ∷ es) c = and-then (count-step room read e c) (count-on room (read ++ (e ∷ [])) es)
+  count-on room read es c = while-room (count-step room) read es c
 
   -- how much all entries take, by the same reading
   abbrev pub total-step : (A → ℕ) → List (Event A K) → Event A K → ℕ → ℕ
@@ -136,5 +142,4 @@ module _ {A K : Type 0} (key : A → K) (same : K → K → Bool) where
   total-step size read (drop k) s = s - weight size (entry (look k read))
 
   abbrev pub total-on : (A → ℕ) → List (Event A K) → List (Event A K) → ℕ → ℕ
-  total-on size read [] s = s
-  total-on size read (e ∷ es) s = total-on size (read ++ (e ∷ [])) es (total-step size read e s)
+  total-on size read es s = reading-on (total-step size) read es s
