@@ -1,5 +1,5 @@
 -- Whether a setting has room, by numbers that are read from the events: for each list, and for any setting. Assumes nothing.
-use Rattle.lists.proofs.Kit.{ℕ, _≡_, refl, sym, ap, _∙_, _↔_, List, [], _∷_, Option, none, some, Option·some-ne-none, length, eqb}
+use Rattle.lists.proofs.Kit.{ℕ, _≡_, refl, sym, ap, _∙_, _↔_, List, [], Option, none, some, Option·some-ne-none, length, eqb}
 use mathlib.Core.Option.{Option·map}
 use Rattle.writing.specs.declared.Kind.{Kind}
 use Rattle.writing.specs.declared.Kind.the-variants.{GroupContacts, IndividualContacts, Lines, Key, QuickTexts, Home, Channels, System, StatusTexts, Group, Individual, LineSlot, Last}
@@ -19,6 +19,7 @@ use Rattle.events.specs.Places.{place-step}
 use Rattle.events.specs.Channels.{channels-left, channel-count-on}
 use Rattle.events.specs.Settings.{bare, line-events, contact-events, channel-events, quick-place, quick-change, status-place, status-change, slot-place, slot-change, latest, Does, run, Its}
 use Rattle.events.specs.Sums.{many, counted}
+use Rattle.events.proofs.ReadingLaws.{always-room}
 use Rattle.events.proofs.Counting.{count-is}
 use Rattle.events.proofs.ChannelLaws.{channel-count-is}
 use Rattle.events.proofs.SettingLaws.{nat-decides, key-decides, lines-are, contacts-are, channels-are, settings-are}
@@ -46,8 +47,7 @@ channels-count room before cs o ns e = channel-count-is room (channel-events o n
 
 -- what always has room is not counted
 no-count : {A T : Type 0} (c : ℕ) (f : A → T → T) (es : List A) (t : T) → some c ≡ Option·map (λ x. c) (in-turn (λ v u. some (f v u)) es t)
-no-count c f [] t = refl
-no-count c f (v ∷ es) t = no-count c f es (f v t)
+no-count c f es t = sym (ap (Option·map (λ x. c)) (always-room f es t))
 
 -- COUNTED-IS: the count says how many entries events leave in the table of a kind, or that there is no room
 pub counted-is : (lim : Limits) (k : Kind) (read es : List (Does k)) (x : Own k) → in-turn (run lim k) read (own k fresh) ≡ some x → counted lim k read es (many k x) ≡ Option·map (many k) (in-turn (run lim k) es x)

@@ -13,3 +13,4 @@ pub mod CountLaws
 pub mod SumLaws
 pub mod InsideLaws
 pub mod GoingOn
+pub mod ToldRows

@@ -1,6 +1,6 @@
 -- Reading goes on behind what was read, so that a log and what follows it are read by one reader. Assumes nothing.
 use Rattle.lists.proofs.Kit.{_≡_, refl, sym, ap, _∙_, List, [], _∷_, _++_, append-nil, append-snoc, Option, none, some}
-use Rattle.tables.specs.Apply.{and-then}
+use Rattle.tables.specs.Apply.{and-then, in-turn}
 use Rattle.events.specs.Reading.{reading, reading-on, while-room}
 
 -- with what is known
@@ -25,3 +25,8 @@ while-append {E = E} {S = S} f read (e ∷ a) b s = go (f read e s) (while-appen
         → and-then o (while-room f (read ++ (e ∷ [])) (a ++ b)) ≡ and-then (and-then o (while-room f (read ++ (e ∷ [])) a)) (while-room f (read ++ (e ∷ a)) b)
     go none r = refl
     go (some u) r = r u ∙ ap (λ (l : List E). and-then (while-room f (read ++ (e ∷ [])) a u) (while-room f l b)) (append-snoc read e a)
+
+-- steps that always have room
+pub always-room : {E S : Type 0} (f : E → S → S) (es : List E) (s : S) → in-turn (λ e u. some (f e u)) es s ≡ some (reading f es s)
+always-room f [] s = refl
+always-room f (e ∷ es) s = always-room f es (f e s)

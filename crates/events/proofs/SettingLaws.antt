@@ -17,6 +17,7 @@ use Rattle.events.specs.Events.{Event, clear, put, drop, Decides, step, 
 use Rattle.events.specs.Places.{place-step, places-after}
 use Rattle.events.specs.Channels.{channel-do, channels-left}
 use Rattle.events.specs.Settings.{bare, events-by, line-events, contact-events, channel-events, quick-events, status-events, slot-events, quick-place, quick-change, status-place, status-change, slot-place, slot-change, member-at, line-at, Does, run, Its, its-group-contacts, its-individual-contacts, its-lines, its-key, its-quick-texts, its-home, its-channels, its-system, its-status-texts, its-group, its-individual, its-line-slot, its-last}
+use Rattle.events.proofs.ReadingLaws.{always-room}
 
 -- ---- keys
 
@@ -80,13 +81,7 @@ channels-are room o ns cs =
     turned (channel-step room) (channel-do room) (λ c. c) (λ c. c) []
     (record { adds = λ n e t. refl; drops = λ e t. refl; replaces = λ n e t. refl; clears = λ t. refl }) o ns cs
 
--- ---- places
-
--- they always have room
-pub places-turn : {A B : Type 0} (place : A → ℕ) (change : Option B → A → Option B) (many : ℕ) (es : List (Event A ℕ)) (os : List (Option B))
-    → in-turn (λ v t. some (place-step place change many v t)) es os ≡ some (places-after place change many es os)
-places-turn place change many [] os = refl
-places-turn place change many (v ∷ es) os = places-turn place change many es (place-step place change many v os)
+-- ---- places, which always have room
 
 -- quick texts
 quick-turn : (o : Operation) (es : List (ℕ × Entry)) (qs : List (Option Text)) → quick-after o (bare es) qs ≡ in-turn (λ v t. some (place-step quick-place quick-change quick-places v t)) (quick-events o es) qs
@@ -95,7 +90,7 @@ quick-turn o es qs =
     (record { adds = λ n e t. refl; drops = λ e t. refl; replaces = λ n e t. refl; clears = λ t. refl }) o es qs
 
 pub quick-are : (o : Operation) (es : List (ℕ × Entry)) (qs : List (Option Text)) → quick-after o (bare es) qs ≡ some (places-after quick-place quick-change quick-places (quick-events o es) qs)
-quick-are o es qs = quick-turn o es qs ∙ places-turn quick-place quick-change quick-places (quick-events o es) qs
+quick-are o es qs = quick-turn o es qs ∙ always-room (place-step quick-place quick-change quick-places) (quick-events o es) qs
 
 -- status texts
 status-turn : (o : Operation) (es : List (ℕ × Entry)) (ss : List (Option Text)) → status-after o (bare es) ss ≡ in-turn (λ v t. some (place-step status-place status-change status-places v t)) (status-events o es) ss
@@ -104,7 +99,7 @@ status-turn o es ss =
     (record { adds = λ n e t. refl; drops = λ e t. refl; replaces = λ n e t. refl; clears = λ t. refl }) o es ss
 
 pub status-are : (o : Operation) (es : List (ℕ × Entry)) (ss : List (Option Text)) → status-after o (bare es) ss ≡ some (places-after status-place status-change status-places (status-events o es) ss)
-status-are o es ss = status-turn o es ss ∙ places-turn status-place status-change status-places (status-events o es) ss
+status-are o es ss = status-turn o es ss ∙ always-room (place-step status-place status-change status-places) (status-events o es) ss
 
 -- slots
 pub slots-are : {A : Type 0} (many : ℕ) (o : Operation) (n : ℕ) (a : ℕ × A) (os : List (Option A)) → set os (a .0) (slot-after o (a .1)) ≡ places-after slot-place slot-change many (slot-events o n a) os
@@ -119,7 +114,7 @@ line-slots-are o f s n os = slots-are slot-places o n (line-at f s) os
 
 slots-turn : {A : Type 0} (many : ℕ) (o : Operation) (n : ℕ) (a : ℕ × A) (os : List (Option A))
     → some (set os (a .0) (slot-after o (a .1))) ≡ in-turn (λ v t. some (place-step slot-place slot-change many v t)) (slot-events o n a) os
-slots-turn many o n a os = ap some (slots-are many o n a os) ∙ sym (places-turn slot-place slot-change many (slot-events o n a) os)
+slots-turn many o n a os = ap some (slots-are many o n a os) ∙ sym (always-room (place-step slot-place slot-change many) (slot-events o n a) os)
 
 -- ---- a setting
 

@@ -20,9 +20,10 @@ use Rattle.events.specs.Places.{Inside, place-step, spots-total-on}
 use Rattle.events.specs.Settings.{quick-place, quick-change, status-place, status-change, slot-place, slot-change, Does, run, Its}
 use Rattle.events.specs.Logs.{Told, its-own, not-its, History, Tells, behind, Adds}
 use Rattle.events.specs.Sums.{many, counted, text-bytes, size-on, size-read, sum-read, InPlaces}
+use Rattle.events.proofs.ReadingLaws.{always-room}
 use Rattle.events.proofs.Counting.{total-is}
 use Rattle.events.proofs.PlaceLaws.{spots-total-is}
-use Rattle.events.proofs.SettingLaws.{nat-decides, key-decides, places-turn}
+use Rattle.events.proofs.SettingLaws.{nat-decides, key-decides}
 use Rattle.events.proofs.LogLaws.{told-run, tells-more}
 use Rattle.events.proofs.CountLaws.{full-exactly}
 
@@ -59,8 +60,8 @@ places-read : {A B : Type 0} (place : A → ℕ) (change : Option B → A → Op
     → spots-total-on place change (λ b. text-bytes (text b)) read es (table-sum (rows text x)) ≡ table-sum (rows text y)
 places-read place change n text read es x y p h e =
     ap (spots-total-on place change (λ b. text-bytes (text b)) read es) (places-size text x)
-    ∙ spots-total-is place change n (λ b. text-bytes (text b)) es read x p (Option·some-injective _ x (sym (places-turn place change n read (replicate n none)) ∙ h))
-    ∙ ap (total (weight (λ b. text-bytes (text b)))) (Option·some-injective _ y (sym (places-turn place change n es x) ∙ e))
+    ∙ spots-total-is place change n (λ b. text-bytes (text b)) es read x p (Option·some-injective _ x (sym (always-room (place-step place change n) read (replicate n none)) ∙ h))
+    ∙ ap (total (weight (λ b. text-bytes (text b)))) (Option·some-injective _ y (sym (always-room (place-step place change n) es x) ∙ e))
     ∙ sym (places-size text y)
 
 -- SIZE-IS: what the texts of a table take after events is read from them

@@ -5,3 +5,4 @@ pub mod Channels
 pub mod Settings
 pub mod Logs
 pub mod Sums
+pub mod Rows
