@@ -14,3 +14,4 @@ pub mod SumLaws
 pub mod InsideLaws
 pub mod GoingOn
 pub mod ToldRows
+pub mod Alone

@@ -71,6 +71,10 @@ module _ {A K : Type 0} where
   Before m (put n a ∷ es) = (n < m) × Before m es
   Before m (drop k ∷ es) = Before m es
 
+  -- both
+  abbrev pub Spans : ℕ → ℕ → List (Event A K) → Type 0
+  Spans n m es = Rising n es × Before m es
+
   -- the place of each entry is the number of its event, from n on
   abbrev pub numbered : ℕ → List (Event A K) → List (Event A K)
   numbered n [] = []

@@ -1,5 +1,5 @@
 -- The events of a setting, whose entries were read at places, by kind; and what events make of the table of a kind.
-use Prim.Native.Nat.{ℕ, _-_, _<_}
+use Prim.Native.Nat.{ℕ, suc, _-_, _≤_, _<_}
 use mathlib.Core.List.{List, [], _∷_, map}
 use mathlib.Core.Option.{Option, some}
 use lib.Dec.{eqb}
@@ -41,6 +41,11 @@ abbrev pub events-by : {E A K : Type 0} → (E → A) → (E → K) → Operatio
 events-by made named Add es = map (λ e. put (e .0) (made (e .1))) es
 events-by made named Delete es = map (λ e. drop (named (e .1))) es
 events-by made named Replace es = clear ∷ map (λ e. put (e .0) (made (e .1))) es
+
+-- the places of entries rise from n on, and are before m
+abbrev pub Stands : {E : Type 0} → ℕ → ℕ → List (ℕ × E) → Type 0
+Stands n m [] = n ≤ m
+Stands n m (e ∷ es) = (n ≤ e .0) × Stands (suc (e .0)) m es
 
 -- ---- by kind
 
