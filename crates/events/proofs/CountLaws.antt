@@ -83,8 +83,7 @@ full-exactly lim s t read es h i =
     let k : Kind = kind s in
     let q : own-after lim s (own k t) ≡ in-turn (run lim k) es (own k t) = settings-are lim s es (own k t) i in
     let c : counted lim k read es (many k (own k t)) ≡ Option·map (many k) (in-turn (run lim k) es (own k t)) = counted-is lim k read es (own k t) h in
-    let r : change lim s t ≡ Option·map (put-own k t) (own-after lim s (own k t)) = room-map (put-own k t) (own-after lim s (own k t)) in
-    (
+    let r : change lim s t ≡ Option·map (put-own k t) (own-after lim s (own k t)) = room-map (put-own k t) (own-after lim s (own k t)) in (
       λ e. c ∙ map-none (many k) (in-turn (run lim k) es (own k t)) .1 (sym q ∙ map-none (put-own k t) (own-after lim s (own k t)) .0 (sym r ∙ e)),
       λ e. r ∙ map-none (put-own k t) (own-after lim s (own k t)) .1 (q ∙ map-none (many k) (in-turn (run lim k) es (own k t)) .0 (sym c ∙ e)),
     )

@@ -134,7 +134,7 @@ adds-told s more a k = go (only (kind s) k) refl
 -- JUDGED: a setting has no room exactly if the count says so, or else if the sum that is read from all events and then its own passes the area
 pub judged : (lim : Limits) (s : Setting) (es more : History) (t : Tables) → Tells lim es t → Adds s more → ((k : Kind) → InPlaces k (es k ++ more k))
     → (apply lim s t ≡ none) ↔ ((counted lim (kind s) (es (kind s)) (more (kind s)) (many (kind s) (own (kind s) t)) ≡ none)
-        ⊎ ((counted lim (kind s) (es (kind s)) (more (kind s)) (many (kind s) (own (kind s) t)) ≡ none → ⊥) × Passes (lim .texts) (sum-read (behind es more))))
+    ⊎ ((counted lim (kind s) (es (kind s)) (more (kind s)) (many (kind s) (own (kind s) t)) ≡ none → ⊥) × Passes (lim .texts) (sum-read (behind es more))))
 judged lim s es more t h a p = (λ e. there (no-room-exactly lim s t .0 e), λ e. no-room-exactly lim s t .1 (back e))
   where
     Full : Type 0
