@@ -1,0 +1,17 @@
+pub mod ReadingLaws
+pub mod Finding
+pub mod Keeping
+pub mod Orders
+pub mod Counting
+pub mod Numbering
+pub mod PlaceLaws
+pub mod ChannelLaws
+pub mod RowLaws
+pub mod SettingLaws
+pub mod LogLaws
+pub mod CountLaws
+pub mod SumLaws
+pub mod InsideLaws
+pub mod GoingOn
+pub mod ToldRows
+pub mod Alone
