@@ -5,7 +5,7 @@ use Rattle.slots.specs.Slots.{unless}
 use Rattle.slots.proofs.Changes.{unless-append}
 use Rattle.tables.specs.Apply.{and-then, in-turn, drop-channel}
 use Rattle.tables.proofs.RoomSentences.{turn-append}
-use Rattle.events.specs.Events.{Event, clear, put, drop}
+use Rattle.events.specs.Events.{Event, clear, put, remove}
 use Rattle.events.specs.Channels.{channel-do, channels-left, often, often-step, often-on, channel-count-step, channel-count-on, stays, living}
 use Rattle.events.proofs.Finding.{clash, either-way}
 
@@ -94,7 +94,7 @@ module _ (room : ℕ) where
       go : (b : Bool) → cond b (some (cs ++ (c ∷ []))) none ≡ some ds → cond (eqb c n) (suc (often n cs)) (often n cs) ≡ often n ds
       go true e = sym (often-more n c cs) ∙ ap (often n) (Option·some-injective (cs ++ (c ∷ [])) ds e)
       go false e = absurd (Option·none-ne-some ds e)
-  often-next n (drop k) cs ds e = sym (often-drop n k cs) ∙ ap (often n) (Option·some-injective (drop-channel k cs) ds e)
+  often-next n (remove k) cs ds e = sym (often-drop n k cs) ∙ ap (often n) (Option·some-injective (drop-channel k cs) ds e)
 
   -- after any events that had room, a channel is there as often as reading the events says
   pub often-is : (n : ℕ) (es : List (Event ℕ ℕ)) (cs ds : List ℕ) → channels-left room es cs ≡ some ds → often-on n es (often n cs) ≡ often n ds
@@ -118,7 +118,7 @@ module _ (room : ℕ) where
         go : (b : Bool) → cond b (some (suc (length cs))) none ≡ Option·map length (cond b (some (cs ++ (c ∷ []))) none)
         go true = ap some (omega (arith, length-append cs (c ∷ [])))
         go false = refl
-    count-next (drop k) = ap some (ap (λ (i : ℕ). length cs - i) (often-is k read [] cs left) ∙ sym (channel-fewer k cs))
+    count-next (remove k) = ap some (ap (λ (i : ℕ). length cs - i) (often-is k read [] cs left) ∙ sym (channel-fewer k cs))
 
     -- and one more
     read-on : (v : Event ℕ ℕ) (ds : List ℕ) → channel-do room v cs ≡ some ds → channels-left room (read ++ (v ∷ [])) [] ≡ some ds
@@ -161,4 +161,4 @@ module _ (room : ℕ) where
       go true e r =
           r e ∙ ap (λ (l : List ℕ). l ++ living es) (unless-append p cs (c ∷ [])) ∙ append-assoc (unless p cs) (unless p (c ∷ [])) (living es) ∙ ap (λ (l : List ℕ). unless p cs ++ l) (by (stays c es))
       go false e r = absurd (Option·none-ne-some ds e)
-  channels-living (drop k ∷ es) cs ds e = channels-living es (drop-channel k cs) ds e ∙ ap (λ (l : List ℕ). l ++ living es) (two-ways k (λ c. stays c es) cs)
+  channels-living (remove k ∷ es) cs ds e = channels-living es (drop-channel k cs) ds e ∙ ap (λ (l : List ℕ). l ++ living es) (two-ways k (λ c. stays c es) cs)

@@ -6,7 +6,7 @@ use Rattle.slots.specs.Slots.{unless, indexOf, putAt}
 use Rattle.slots.proofs.Tables.{put-short, unless-short}
 use Rattle.tables.specs.Apply.{and-then, in-turn}
 use Rattle.tables.proofs.RoomSentences.{turn-append}
-use Rattle.events.specs.Events.{Event, clear, put, drop, Decides, find, found, entry, weight, total, has, step, after, look, count-step, count-on, total-step, total-on}
+use Rattle.events.specs.Events.{Event, clear, put, remove, Decides, find, found, entry, weight, total, has, step, after, look, count-step, count-on, total-step, total-on}
 use Rattle.events.proofs.Finding.{find-index, find-inside, find-weight, Lone, total-put, total-drop, total-ones}
 use Rattle.events.proofs.Keeping.{holds, keep-on, after-entries, look-is}
 use Rattle.events.proofs.Orders.{Apart, apart-on}
@@ -32,7 +32,7 @@ module _ {A K : Type 0} (key : A → K) (same : K → K → Bool) (d : Decides s
       go : (b : Bool) → ltb (indexOf (has key same (key a)) l) room ≡ b → cond b (some (putAt (indexOf (has key same (key a)) l) a l)) none ≡ some m → length m ≤ room
       go true t e = subst (λ (k : List A). length k ≤ room) (Option·some-injective _ m e) (put-short (indexOf (has key same (key a)) l) room a l (ltb-true _ room t) h)
       go false t e = absurd (Option·none-ne-some m e)
-  step-short (drop k) l m e h = subst (λ (k : List A). length k ≤ room) (Option·some-injective _ m e) (omega (arith, unless-short (has key same k) l))
+  step-short (remove k) l m e h = subst (λ (k : List A). length k ≤ room) (Option·some-injective _ m e) (omega (arith, unless-short (has key same k) l))
 
   -- all events
   pub after-short : (es : List (Event A K)) (l m : List A) → after key same room es l ≡ some m → length l ≤ room → length m ≤ room
@@ -84,7 +84,7 @@ module _ {A K : Type 0} (key : A → K) (same : K → K → Bool) (d : Decides s
     put-total : (size : A → ℕ) (a : A) → total size (putAt (indexOf (has key same (key a)) l) a l) ≡ total size l + size a - weight size (entry (look key same (key a) read))
     put-total size a = rw (look-is key same d room read l (key a) left) (omega (arith, total-put (has key same (key a)) size a l))
 
-    -- a drop gives back what the one takes that goes
+    -- a remove gives back what the one takes that goes
     drop-total : (size : A → ℕ) (k : K) → total size (unless (has key same k) l) ≡ total size l - weight size (entry (look key same k read))
     drop-total size k = rw (look-is key same d room read l k left) (omega (arith, total-drop (has key same k) size l (lone k)))
 
@@ -96,7 +96,7 @@ module _ {A K : Type 0} (key : A → K) (same : K → K → Bool) (d : Decides s
         go : (b : Bool) → cond b (some (putAt (indexOf (has key same (key a)) l) a l)) none ≡ some m → total-step key same size read (put n a) (total size l) ≡ total size m
         go true e = sym (put-total size a) ∙ ap (total size) (Option·some-injective _ m e)
         go false e = absurd (Option·none-ne-some m e)
-    total-next size (drop k) m e = sym (drop-total size k) ∙ ap (total size) (Option·some-injective _ m e)
+    total-next size (remove k) m e = sym (drop-total size k) ∙ ap (total size) (Option·some-injective _ m e)
 
     -- ---- how many there are after one event more, or that there is no room
 
@@ -108,7 +108,7 @@ module _ {A K : Type 0} (key : A → K) (same : K → K → Bool) (d : Decides s
         by true w = omega (arith, put-total (λ x. 1) a, total-ones l, total-ones (putAt (indexOf (has key same (key a)) l) a l))
         by false w = omega (arith, put-total (λ x. 1) a, total-ones l, total-ones (putAt (indexOf (has key same (key a)) l) a l))
 
-    -- a drop takes one away where its key is found
+    -- a remove takes one away where its key is found
     drop-length : (k : K) (b : Bool) → found (look key same k read) ≡ b → length (unless (has key same k) l) ≡ cond b (length l - 1) (length l)
     drop-length k b h = by b (weight-found (look key same k read) ∙ ap (λ t. cond t 1 0) h)
       where
@@ -132,7 +132,7 @@ module _ {A K : Type 0} (key : A → K) (same : K → K → Bool) (d : Decides s
             → cond b (some (length l)) (cond (ltb (length l) room) (some (suc (length l))) none) ≡ Option·map length (cond (ltb (indexOf (has key same (key a)) l) room) (some more) none)
         go true h = rw (room-test a, h) (ap some (sym (put-length a true h)))
         go false h = rw (room-test a, h) (by (ltb (length l) room) (put-length a false h))
-    count-next (drop k) = ap some (sym (drop-length k (found (look key same k read)) refl))
+    count-next (remove k) = ap some (sym (drop-length k (found (look key same k read)) refl))
 
     -- the events that were read, and one more
     read-on : (v : Event A K) (m : List A) → step key same room v l ≡ some m → after key same room (read ++ (v ∷ [])) [] ≡ some m
@@ -140,7 +140,7 @@ module _ {A K : Type 0} (key : A → K) (same : K → K → Bool) (d : Decides s
 
   -- ---- all events
 
-  -- "the list's length changes by one exactly at a put of a key not found and at a drop of one that is": the count is kept, and says when there is no room
+  -- "the list's length changes by one exactly at a put of a key not found and at a remove of one that is": the count is kept, and says when there is no room
   pub count-is : (es read : List (Event A K)) (l : List A) → after key same room read [] ≡ some l → count-on key same room read es (length l) ≡ Option·map length (after key same room es l)
   count-is [] read l left = refl
   count-is (v ∷ es) read l left = ap (λ o. and-then o (count-on key same room (read ++ (v ∷ [])) es)) (count-next read l left v) ∙ go (step key same room v l) refl (λ k e. count-is es (read ++ (v ∷ [])) k (read-on read l left v k e))

@@ -13,7 +13,7 @@ use Rattle.writing.specs.Settings.{Setting, kind, group-contacts, individual-co
 use Rattle.writing.specs.Writing.{quick-text}
 use Rattle.writing.proofs.TextUnits.{fits-each}
 use Rattle.tables.specs.Limits.{quick-places, status-places, slot-places}
-use Rattle.events.specs.Events.{Event, clear, put, drop}
+use Rattle.events.specs.Events.{Event, clear, put, remove}
 use Rattle.events.specs.Places.{Inside}
 use Rattle.events.specs.Settings.{bare, events-by, slot-events, quick-place, status-place, slot-place, member-at, line-at, Does, Its, its-group-contacts, its-individual-contacts, its-lines, its-key, its-quick-texts, its-home, its-channels, its-system, its-status-texts, its-group, its-individual, its-line-slot, its-last, Indexed}
 use Rattle.events.specs.Logs.{Told, its-own, not-its, Log, no-setting, then-setting}
@@ -26,7 +26,7 @@ puts-inside : {E : Type 0} (place : E → ℕ) (n : ℕ) (es : List (ℕ × E)) 
 puts-inside place n [] h = tt
 puts-inside place n (e ∷ es) h = (h .0, puts-inside place n es (h .1))
 
-drops-inside : {E : Type 0} (place : E → ℕ) (n : ℕ) (es : List (ℕ × E)) → All (λ e. place e < n) (bare es) → Inside place n (map (λ e. drop (place (e .1))) es)
+drops-inside : {E : Type 0} (place : E → ℕ) (n : ℕ) (es : List (ℕ × E)) → All (λ e. place e < n) (bare es) → Inside place n (map (λ e. remove (place (e .1))) es)
 drops-inside place n [] h = tt
 drops-inside place n (e ∷ es) h = (h .0, drops-inside place n es (h .1))
 
@@ -80,7 +80,7 @@ inside-append : {A : Type 0} (place : A → ℕ) (n : ℕ) (es more : List (Even
 inside-append place n [] more h m = m
 inside-append place n (clear ∷ es) more h m = inside-append place n es more h m
 inside-append place n (put j a ∷ es) more h m = (h .0, inside-append place n es more (h .1) m)
-inside-append place n (drop k ∷ es) more h m = (h .0, inside-append place n es more (h .1) m)
+inside-append place n (remove k ∷ es) more h m = (h .0, inside-append place n es more (h .1) m)
 
 pub places-append : (k : Kind) (es more : List (Does k)) → InPlaces k es → InPlaces k more → InPlaces k (es ++ more)
 places-append GroupContacts es more h m = tt

@@ -5,7 +5,7 @@ use Rattle.slots.specs.Slots.{unless, indexOf, putAt}
 use Rattle.slots.proofs.Changes.{index-end}
 use Rattle.tables.specs.Apply.{and-then, in-turn}
 use Rattle.events.specs.Reading.{reading}
-use Rattle.events.specs.Events.{Event, clear, put, drop, Decides, find, found, entry, birth, has, step, after, look-step, look-on, look}
+use Rattle.events.specs.Events.{Event, clear, put, remove, Decides, find, found, entry, birth, has, step, after, look-step, look-on, look}
 use Rattle.events.proofs.Finding.{clash, either-way, find-absent, find-at, find-entry, find-index}
 
 -- what has no entry is nothing
@@ -26,7 +26,7 @@ module _ {A K : Type 0} (key : A → K) (same : K → K → Bool) where
   abbrev pub keep-step : Event A K → List (ℕ × A) → List (ℕ × A)
   keep-step clear l = []
   keep-step (put n a) l = keep n a l
-  keep-step (drop k) l = unless (holds k) l
+  keep-step (remove k) l = unless (holds k) l
 
   abbrev pub keep-on : List (Event A K) → List (ℕ × A) → List (ℕ × A)
   keep-on es l = reading keep-step es l
@@ -64,7 +64,7 @@ module _ {A K : Type 0} (key : A → K) (same : K → K → Bool) where
       go : (b : Bool) → cond b (some (putAt (indexOf (has key same (key a)) (map (λ x. x .1) l)) a (map (λ x. x .1) l))) none ≡ some m → m ≡ map (λ x. x .1) (keep n a l)
       go true e = sym (Option·some-injective _ m e) ∙ sym (keep-entries n a l)
       go false e = absurd (Option·none-ne-some m e)
-  step-entries room (drop k) l m e = sym (Option·some-injective _ m e) ∙ sym (drop-entries k l)
+  step-entries room (remove k) l m e = sym (Option·some-injective _ m e) ∙ sym (drop-entries k l)
 
   -- what all events leave, where they had room
   pub after-entries : (room : ℕ) (es : List (Event A K)) (l : List (ℕ × A)) (m : List A) → after key same room es (map (λ e. e .1) l) ≡ some m → m ≡ map (λ e. e .1) (keep-on es l)
@@ -126,7 +126,7 @@ module _ {A K : Type 0} (key : A → K) (same : K → K → Bool) where
     look-keep : (κ : K) (v : Event A K) (l : List (ℕ × A)) → look-step key same κ v (find (holds κ) l) ≡ find (holds κ) (keep-step v l)
     look-keep κ clear l = refl
     look-keep κ (put n a) l = sym (find-keep κ n a l)
-    look-keep κ (drop k) l = sym (find-drop κ k l)
+    look-keep κ (remove k) l = sym (find-drop κ k l)
 
     -- all events: what looking finds is what stands in the table with that key
     pub look-kept : (κ : K) (es : List (Event A K)) (l : List (ℕ × A)) → look-on key same κ es (find (holds κ) l) ≡ find (holds κ) (keep-on es l)

@@ -4,7 +4,7 @@ use Rattle.slots.specs.Slots.{indexOf, putAt}
 use Rattle.writing.specs.declared.Operation.{Operation}
 use Rattle.writing.specs.declared.Operation.the-variants.{Add, Delete, Replace}
 use Rattle.tables.specs.Apply.{and-then, in-turn}
-use Rattle.events.specs.Events.{Event, clear, put, drop, born-at, Rising, Before, Spans, numbered, has, step, after, look-step, look-on, rows}
+use Rattle.events.specs.Events.{Event, clear, put, remove, born-at, Rising, Before, Spans, numbered, has, step, after, look-step, look-on, rows}
 use Rattle.events.specs.Settings.{events-by, Stands}
 use Rattle.events.proofs.ReadingLaws.{reading-append}
 
@@ -13,14 +13,14 @@ rising-from : {A K : Type 0} (i j : ℕ) (es : List (Event A K)) → i ≤ j →
 rising-from i j [] h r = tt
 rising-from i j (clear ∷ es) h r = rising-from i j es h r
 rising-from i j (put m a ∷ es) h r = (omega (arith, r .0), r .1)
-rising-from i j (drop k ∷ es) h r = rising-from i j es h r
+rising-from i j (remove k ∷ es) h r = rising-from i j es h r
 
 -- numbers rise
 pub numbered-rise : {A K : Type 0} (n : ℕ) (es : List (Event A K)) → Rising n (numbered n es)
 numbered-rise n [] = tt
 numbered-rise n (clear ∷ es) = rising-from n (suc n) (numbered (suc n) es) (omega arith) (numbered-rise (suc n) es)
 numbered-rise n (put m a ∷ es) = (omega arith, numbered-rise (suc n) es)
-numbered-rise n (drop k ∷ es) = rising-from n (suc n) (numbered (suc n) es) (omega arith) (numbered-rise (suc n) es)
+numbered-rise n (remove k ∷ es) = rising-from n (suc n) (numbered (suc n) es) (omega arith) (numbered-rise (suc n) es)
 
 module _ {A K : Type 0} (key : A → K) (same : K → K → Bool) where
   -- the table does not depend on the places
@@ -34,7 +34,7 @@ module _ {A K : Type 0} (key : A → K) (same : K → K → Bool) where
           ≡ and-then (cond b (some (putAt (indexOf (has key same (key a)) l) a l)) none) (in-turn (step key same room) es)
       go true r = r (putAt (indexOf (has key same (key a)) l) a l)
       go false r = refl
-  numbered-after room n (drop k ∷ es) l = numbered-after room (suc n) es _
+  numbered-after room n (remove k ∷ es) l = numbered-after room (suc n) es _
 
   -- looking goes on behind what was read
   pub look-append : (κ : K) (es more : List (Event A K)) (o : Option (ℕ × A)) → look-on key same κ (es ++ more) o ≡ look-on key same κ more (look-on key same κ es o)
@@ -54,7 +54,7 @@ module _ {A K : Type 0} (key : A → K) (same : K → K → Bool) where
               ≡ cond b (e ∷ rows key same f es) (rows key same f es) ++ rows key same f more
           by true = refl
           by false = refl
-  rows-append f (drop k ∷ es) more = rows-append f es more
+  rows-append f (remove k ∷ es) more = rows-append f es more
 
 -- ---- places that rise
 
@@ -63,14 +63,14 @@ rising-append : {A K : Type 0} (n m : ℕ) (es more : List (Event A K)) → n �
 rising-append n m [] more h r b q = rising-from n m more h q
 rising-append n m (clear ∷ es) more h r b q = rising-append n m es more h r b q
 rising-append n m (put j a ∷ es) more h r b q = (r .0, rising-append (suc j) m es more (b .0) (r .1) (b .1) q)
-rising-append n m (drop k ∷ es) more h r b q = rising-append n m es more h r b q
+rising-append n m (remove k ∷ es) more h r b q = rising-append n m es more h r b q
 
 -- and end where the last end
 before-append : {A K : Type 0} (m p : ℕ) (es more : List (Event A K)) → m ≤ p → Before m es → Before p more → Before p (es ++ more)
 before-append m p [] more h b q = q
 before-append m p (clear ∷ es) more h b q = before-append m p es more h b q
 before-append m p (put j a ∷ es) more h b q = (omega (arith, b .0), before-append m p es more h (b .1) q)
-before-append m p (drop k ∷ es) more h b q = before-append m p es more h b q
+before-append m p (remove k ∷ es) more h b q = before-append m p es more h b q
 
 -- SPANS-APPEND: events, and then others at later places
 pub spans-append : {A K : Type 0} (n m p : ℕ) (es more : List (Event A K)) → n ≤ m → m ≤ p → Spans n m es → Spans m p more → Spans n p (es ++ more)
@@ -89,7 +89,7 @@ puts-span {A = A} {K = K} made named n m (e ∷ es) h =
     ((h .0, q .0), (stands-forward (suc (e .0)) m es (h .1), q .1))
 
 -- entries that go have no place
-drops-span : {E A K : Type 0} (made : E → A) (named : E → K) (n m : ℕ) (es : List (ℕ × E)) → Spans {A = A} {K = K} n m (map (λ e. drop (named (e .1))) es)
+drops-span : {E A K : Type 0} (made : E → A) (named : E → K) (n m : ℕ) (es : List (ℕ × E)) → Spans {A = A} {K = K} n m (map (λ e. remove (named (e .1))) es)
 drops-span made named n m [] = (tt, tt)
 drops-span made named n m (e ∷ es) = drops-span made named n m es
 

@@ -5,7 +5,7 @@ use Rattle.lists.specs.Every.{All}
 use Rattle.lists.proofs.Every.{all-turn, all-both}
 use Rattle.slots.specs.Slots.{unless}
 use Rattle.slots.proofs.Tables.{unless-all}
-use Rattle.events.specs.Events.{Event, clear, put, drop, Decides, find, born-at, Rising, Climbs, after, look, rows}
+use Rattle.events.specs.Events.{Event, clear, put, remove, Decides, find, born-at, Rising, Climbs, after, look, rows}
 use Rattle.events.proofs.Finding.{clash, find-all}
 use Rattle.events.proofs.Keeping.{holds, keep, keep-on, look-kept, after-entries}
 
@@ -58,7 +58,7 @@ module _ {A K : Type 0} (key : A → K) (same : K → K → Bool) (d : Decides s
   Born [] e = ⊥
   Born (clear ∷ es) e = Born es e
   Born (put n a ∷ es) e = ((e .0 ≡ n) × (key a ≡ key (e .1))) ⊎ Born es e
-  Born (drop k ∷ es) e = Born es e
+  Born (remove k ∷ es) e = Born es e
 
   -- what the events that were read have left, the last of them before place n
   record Kept (read : List (Event A K)) (n : ℕ) (l : List (ℕ × A)) : Type 0 where
@@ -110,7 +110,7 @@ module _ {A K : Type 0} (key : A → K) (same : K → K → Bool) (d : Decides s
   apart-on [] l h = h
   apart-on (clear ∷ es) l h = apart-on es [] tt
   apart-on (put n a ∷ es) l h = apart-on es (keep key same n a l) (apart-keep n a l h)
-  apart-on (drop k ∷ es) l h = apart-on es (unless (holds key same k) l) (apart-unless (holds key same k) l h)
+  apart-on (remove k ∷ es) l h = apart-on es (unless (holds key same k) l) (apart-unless (holds key same k) l h)
 
   -- an entry of the same key was born there too
   born-like : (es : List (Event A K)) (e : ℕ × A) (a : A) → key (e .1) ≡ key a → Born es e → Born es (e .0, a)
@@ -118,7 +118,7 @@ module _ {A K : Type 0} (key : A → K) (same : K → K → Bool) (d : Decides s
   born-like (clear ∷ es) e a h b = born-like es e a h b
   born-like (put n x ∷ es) e a h (inl q) = inl (q .0, q .1 ∙ h)
   born-like (put n x ∷ es) e a h (inr b) = inr (born-like es e a h b)
-  born-like (drop k ∷ es) e a h b = born-like es e a h b
+  born-like (remove k ∷ es) e a h b = born-like es e a h b
 
   -- and is, whatever follows
   born-more : (es more : List (Event A K)) (e : ℕ × A) → Born es e → Born (es ++ more) e
@@ -126,14 +126,14 @@ module _ {A K : Type 0} (key : A → K) (same : K → K → Bool) (d : Decides s
   born-more (clear ∷ es) more e b = born-more es more e b
   born-more (put n x ∷ es) more e (inl q) = inl q
   born-more (put n x ∷ es) more e (inr b) = inr (born-more es more e b)
-  born-more (drop k ∷ es) more e b = born-more es more e b
+  born-more (remove k ∷ es) more e b = born-more es more e b
 
   -- the last event is one of them
   born-last : (es : List (Event A K)) (n : ℕ) (a : A) → Born (es ++ (put n a ∷ [])) (n, a)
   born-last [] n a = inl (refl, refl)
   born-last (clear ∷ es) n a = born-last es n a
   born-last (put m x ∷ es) n a = inr (born-last es n a)
-  born-last (drop k ∷ es) n a = born-last es n a
+  born-last (remove k ∷ es) n a = born-last es n a
 
   -- one event more: an entry is put, entries are taken out, or all go
   kept-put : (read : List (Event A K)) (n m : ℕ) (a : A) (l : List (ℕ × A)) → n ≤ m → Kept read n l → Kept (read ++ (put m a ∷ [])) (suc m) (keep key same m a l)
@@ -146,12 +146,12 @@ module _ {A K : Type 0} (key : A → K) (same : K → K → Bool) (d : Decides s
             (all-turn (Born read) (Born (read ++ (put m a ∷ []))) (born-more read (put m a ∷ [])) l (c .born));
       }
 
-  kept-drop : (read : List (Event A K)) (n : ℕ) (k : K) (l : List (ℕ × A)) → Kept read n l → Kept (read ++ (drop k ∷ [])) n (unless (holds key same k) l)
+  kept-drop : (read : List (Event A K)) (n : ℕ) (k : K) (l : List (ℕ × A)) → Kept read n l → Kept (read ++ (remove k ∷ [])) n (unless (holds key same k) l)
   kept-drop read n k l c =
       record {
         climbs = climbs-unless (holds key same k) 0 l (c .climbs);
         below = unless-all (λ e. e .0 < n) (holds key same k) l (c .below);
-        born = unless-all (Born (read ++ (drop k ∷ []))) (holds key same k) l (all-turn (Born read) (Born (read ++ (drop k ∷ []))) (born-more read (drop k ∷ [])) l (c .born));
+        born = unless-all (Born (read ++ (remove k ∷ []))) (holds key same k) l (all-turn (Born read) (Born (read ++ (remove k ∷ []))) (born-more read (remove k ∷ [])) l (c .born));
       }
 
   kept-none : (read : List (Event A K)) (n : ℕ) → Kept read n []
@@ -166,8 +166,8 @@ module _ {A K : Type 0} (key : A → K) (same : K → K → Bool) (d : Decides s
   kept-on (put j a ∷ es) read n l r c =
       let (m, k) = kept-on es (read ++ (put j a ∷ [])) (suc j) (keep key same j a l) (r .1) (kept-put read n j a l (r .0) c) in
       (m, rw append-snoc at k)
-  kept-on (drop x ∷ es) read n l r c =
-      let (m, k) = kept-on es (read ++ (drop x ∷ [])) n (unless (holds key same x) l) r (kept-drop read n x l c) in
+  kept-on (remove x ∷ es) read n l r c =
+      let (m, k) = kept-on es (read ++ (remove x ∷ [])) n (unless (holds key same x) l) r (kept-drop read n x l c) in
       (m, rw append-snoc at k)
 
   -- ---- the rows
@@ -191,7 +191,7 @@ module _ {A K : Type 0} (key : A → K) (same : K → K → Bool) (d : Decides s
   born-from n (clear ∷ es) e r b = born-from n es e r b
   born-from n (put m a ∷ es) e r (inl q) = omega (arith, r .0, q .0)
   born-from n (put m a ∷ es) e r (inr b) = omega (arith, r .0, born-from (suc m) es e (r .1) b)
-  born-from n (drop k ∷ es) e r b = born-from n es e r b
+  born-from n (remove k ∷ es) e r b = born-from n es e r b
 
   -- one event: the first entry to come is born there, or all are born later
   row-next : (f : K → Option (ℕ × A)) (m : ℕ) (a : A) (es : List (Event A K)) (n : ℕ) (l : List (ℕ × A)) → Rising n (put m a ∷ es) → Ready f (put m a ∷ es) n l
@@ -230,7 +230,7 @@ module _ {A K : Type 0} (key : A → K) (same : K → K → Bool) (d : Decides s
   rows-are f [] n (e ∷ l) r g = absurd (g .born .0)
   rows-are f (clear ∷ es) n l r g = rows-are f es n l r (record { climbs = g .climbs; born = g .born; finds = g .finds; only = g .only })
   rows-are f (put m a ∷ es) n l r g = row-next f m a es n l r g (λ k. rows-are f es (suc m) k (r .1))
-  rows-are f (drop k ∷ es) n l r g = rows-are f es n l r (record { climbs = g .climbs; born = g .born; finds = g .finds; only = g .only })
+  rows-are f (remove k ∷ es) n l r g = rows-are f es n l r (record { climbs = g .climbs; born = g .born; finds = g .finds; only = g .only })
 
   -- each entry is what its own key is found with
   apart-find : (l : List (ℕ × A)) → Apart l → All (λ e. find (holds key same (key (e .1))) l ≡ some e) l

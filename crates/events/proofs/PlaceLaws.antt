@@ -1,7 +1,7 @@
 -- Tables of places with no table: what stands in a place, and how much all entries take. Assumes nothing.
 use Rattle.lists.proofs.Kit.{ℕ, zero, suc, _+_, _-_, _≤_, _<_, _≡_, refl, sym, ap, _∙_, subst, Bool, true, false, cond, List, [], _∷_, _++_, Option, none, add-zero, zero-add, add-suc, suc-add, not-suc-le-zero, le-of-suc-le-suc, arith, eqb-true, eqb-false, eqb, length, getD, set, replicate, length-set, length-replicate, getD-replicate, getD-set-same, getD-set-other}
 use lib.Seq.{ext-getD}
-use Rattle.events.specs.Events.{Event, clear, put, drop, weight, total}
+use Rattle.events.specs.Events.{Event, clear, put, remove, weight, total}
 use Rattle.events.specs.Places.{from-place, Inside, place-step, places-after, spot-step, spot-on, spot, spots-total-step, spots-total-on}
 use Rattle.events.proofs.ReadingLaws.{reading-append}
 
@@ -50,7 +50,7 @@ module _ {A B : Type 0} (place : A → ℕ) (change : Option B → A → Option 
   step-many : (v : Event A ℕ) (os : List (Option B)) → length os ≡ many → length (place-step place change many v os) ≡ many
   step-many clear os h = length-replicate many none
   step-many (put n a) os h = length-set os (place a) (change (getD os (place a) none) a) ∙ h
-  step-many (drop k) os h = length-set os k none ∙ h
+  step-many (remove k) os h = length-set os k none ∙ h
 
   -- and makes of a place what reading makes of it
   step-spot : (i : ℕ) (v : Event A ℕ) (os : List (Option B)) → i < many → length os ≡ many → getD (place-step place change many v os) i none ≡ spot-step place change i v (getD os i none)
@@ -60,7 +60,7 @@ module _ {A B : Type 0} (place : A → ℕ) (change : Option B → A → Option 
       go : (b : Bool) → eqb (place a) i ≡ b → cond b (change (getD os (place a) none) a) (getD os i none) ≡ cond b (change (getD os i none) a) (getD os i none)
       go true e = ap (λ (j : ℕ). change (getD os j none) a) (eqb-true (place a) i e)
       go false e = refl
-  step-spot i (drop k) os h l = set-look os k i none (omega arith)
+  step-spot i (remove k) os h l = set-look os k i none (omega arith)
 
   -- a table keeps its number of places
   pub places-many : (es : List (Event A ℕ)) (os : List (Option B)) → length os ≡ many → length (places-after place change many es os) ≡ many
@@ -89,7 +89,7 @@ module _ {A B : Type 0} (place : A → ℕ) (change : Option B → A → Option 
   inside-first : (v : Event A ℕ) (es : List (Event A ℕ)) → Inside place many (v ∷ es) → Inside place many (v ∷ []) × Inside place many es
   inside-first clear es x = (tt, x)
   inside-first (put n a) es x = ((x .0, tt), x .1)
-  inside-first (drop k) es x = ((x .0, tt), x .1)
+  inside-first (remove k) es x = ((x .0, tt), x .1)
 
   -- the events that were read left os
   module _ (size : B → ℕ) (read : List (Event A ℕ)) (os : List (Option B)) (left : places-after place change many read (replicate many none) ≡ os) where
@@ -109,7 +109,7 @@ module _ {A B : Type 0} (place : A → ℕ) (change : Option B → A → Option 
     spots-total-next : (v : Event A ℕ) → Inside place many (v ∷ []) → spots-total-step place change size read v (total (weight size) os) ≡ total (weight size) (place-step place change many v os)
     spots-total-next clear x = sym (total-empty size many)
     spots-total-next (put n a) x = rw (left-spot (place a) (x .0)) (set-total (place a) (change (getD os (place a) none) a) (x .0))
-    spots-total-next (drop k) x = rw (left-spot k (x .0)) (omega (arith, set-total k none (x .0)))
+    spots-total-next (remove k) x = rw (left-spot k (x .0)) (omega (arith, set-total k none (x .0)))
 
   -- the sum is kept
   pub spots-total-is : (size : B → ℕ) (es read : List (Event A ℕ)) (os : List (Option B)) → Inside place many es → places-after place change many read (replicate many none) ≡ os

@@ -13,7 +13,7 @@ use Rattle.tables.specs.MemberKinds.{FlagsIn, AddressIn, MemberIn, number-of, c
 use Rattle.tables.specs.Owns.{Own}
 use Rattle.tables.specs.Tables.{Line, LineKey, line-key}
 use Rattle.tables.proofs.Sentences.{key-is-both}
-use Rattle.events.specs.Events.{Event, clear, put, drop, Decides, step, after}
+use Rattle.events.specs.Events.{Event, clear, put, remove, Decides, step, after}
 use Rattle.events.specs.Places.{place-step, places-after}
 use Rattle.events.specs.Channels.{channel-do, channels-left}
 use Rattle.events.specs.Settings.{bare, events-by, line-events, contact-events, channel-events, quick-events, status-events, slot-events, quick-place, quick-change, status-place, status-change, slot-place, slot-change, member-at, line-at, Does, run, Its, its-group-contacts, its-individual-contacts, its-lines, its-key, its-quick-texts, its-home, its-channels, its-system, its-status-texts, its-group, its-individual, its-line-slot, its-last}
@@ -47,7 +47,7 @@ turn-map {T = T} f g v h (e ∷ es) t = ap (λ o. and-then o (in-turn f (bare es
 -- what an operation does with an entry is what its event does
 record Alike {E A K T : Type 0} (does : Operation → E → T → Option T) (act : Event A K → T → Option T) (made : E → A) (named : E → K) (empty : T) : Type 0 where
   adds : (n : ℕ) (e : E) (t : T) → does Add e t ≡ act (put n (made e)) t
-  drops : (e : E) (t : T) → does Delete e t ≡ act (drop (named e)) t
+  drops : (e : E) (t : T) → does Delete e t ≡ act (remove (named e)) t
   replaces : (n : ℕ) (e : E) (t : T) → does Replace e t ≡ act (put n (made e)) t
   clears : (t : T) → act clear t ≡ some empty
 
@@ -55,7 +55,7 @@ record Alike {E A K T : Type 0} (does : Operation → E → T → Option T) (act
 turned : {E A K T : Type 0} (does : Operation → E → T → Option T) (act : Event A K → T → Option T) (made : E → A) (named : E → K) (empty : T) → Alike does act made named empty
     → (o : Operation) (es : List (ℕ × E)) (t : T) → in-turn (does o) (bare es) (start-from o empty t) ≡ in-turn act (events-by made named o es) t
 turned does act made named empty h Add es t = turn-map (does Add) act (λ e. put (e .0) (made (e .1))) (λ e u. h .adds (e .0) (e .1) u) es t
-turned does act made named empty h Delete es t = turn-map (does Delete) act (λ e. drop (named (e .1))) (λ e u. h .drops (e .1) u) es t
+turned does act made named empty h Delete es t = turn-map (does Delete) act (λ e. remove (named (e .1))) (λ e u. h .drops (e .1) u) es t
 turned does act made named empty h Replace es t =
     turn-map (does Replace) act (λ e. put (e .0) (made (e .1))) (λ e u. h .replaces (e .0) (e .1) u) es empty
     ∙ sym (ap (λ o. and-then o (in-turn act (map (λ e. put (e .0) (made (e .1))) es))) (h .clears t))

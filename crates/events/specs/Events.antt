@@ -15,7 +15,7 @@ use Rattle.events.specs.Reading.{reading, reading-on, while-room}
 pub data Event (A K : Type 0) : Type 0 where
   clear : Event A K
   put : ℕ → A → Event A K
-  drop : K → Event A K
+  remove : K → Event A K
 
 -- a test of keys that says yes of equal ones and of no others
 pub record Decides {K : Type 0} (same : K → K → Bool) : Type 0 where
@@ -62,14 +62,14 @@ module _ {A K : Type 0} where
   Rising n [] = Unit {0}
   Rising n (clear ∷ es) = Rising n es
   Rising n (put m a ∷ es) = (n ≤ m) × Rising (suc m) es
-  Rising n (drop k ∷ es) = Rising n es
+  Rising n (remove k ∷ es) = Rising n es
 
   -- and are before m
   abbrev pub Before : ℕ → List (Event A K) → Type 0
   Before m [] = Unit {0}
   Before m (clear ∷ es) = Before m es
   Before m (put n a ∷ es) = (n < m) × Before m es
-  Before m (drop k ∷ es) = Before m es
+  Before m (remove k ∷ es) = Before m es
 
   -- both
   abbrev pub Spans : ℕ → ℕ → List (Event A K) → Type 0
@@ -80,7 +80,7 @@ module _ {A K : Type 0} where
   numbered n [] = []
   numbered n (clear ∷ es) = clear ∷ numbered (suc n) es
   numbered n (put m a ∷ es) = put n a ∷ numbered (suc n) es
-  numbered n (drop k ∷ es) = drop k ∷ numbered (suc n) es
+  numbered n (remove k ∷ es) = remove k ∷ numbered (suc n) es
 
 -- entries were born at places that rise, from n on
 abbrev pub Climbs : {A : Type 0} → ℕ → List (ℕ × A) → Type 0
@@ -98,7 +98,7 @@ module _ {A K : Type 0} (key : A → K) (same : K → K → Bool) where
   abbrev pub step : ℕ → Event A K → List A → Option (List A)
   step room clear l = some []
   step room (put n a) l = put-keyed (has (key a)) room a l
-  step room (drop k) l = some (unless (has k) l)
+  step room (remove k) l = some (unless (has k) l)
 
   -- and what all make of it in turn
   abbrev pub after : ℕ → List (Event A K) → List A → Option (List A)
@@ -110,7 +110,7 @@ module _ {A K : Type 0} (key : A → K) (same : K → K → Bool) where
   abbrev pub look-step : K → Event A K → Option (ℕ × A) → Option (ℕ × A)
   look-step κ clear o = none
   look-step κ (put n a) o = cond (has κ a) (some (birth n o, a)) o
-  look-step κ (drop k) o = cond (same κ k) none o
+  look-step κ (remove k) o = cond (same κ k) none o
 
   abbrev pub look-on : K → List (Event A K) → Option (ℕ × A) → Option (ℕ × A)
   look-on κ es o = reading (look-step κ) es o
@@ -124,7 +124,7 @@ module _ {A K : Type 0} (key : A → K) (same : K → K → Bool) where
   rows f [] = []
   rows f (clear ∷ es) = rows f es
   rows f (put n a ∷ es) = born-at n (f (key a)) (rows f es)
-  rows f (drop k ∷ es) = rows f es
+  rows f (remove k ∷ es) = rows f es
 
   -- row i of them, if there is one
   abbrev pub row : (K → Option (ℕ × A)) → List (Event A K) → ℕ → Option (ℕ × A)
@@ -134,7 +134,7 @@ module _ {A K : Type 0} (key : A → K) (same : K → K → Bool) where
   abbrev pub count-step : ℕ → List (Event A K) → Event A K → ℕ → Option ℕ
   count-step room read clear c = some 0
   count-step room read (put n a) c = cond (found (look (key a) read)) (some c) (cond (ltb c room) (some (suc c)) none)
-  count-step room read (drop k) c = some (cond (found (look k read)) (c - 1) c)
+  count-step room read (remove k) c = some (cond (found (look k read)) (c - 1) c)
 
   abbrev pub count-on : ℕ → List (Event A K) → List (Event A K) → ℕ → Option ℕ
   count-on room read es c = while-room (count-step room) read es c
@@ -143,7 +143,7 @@ module _ {A K : Type 0} (key : A → K) (same : K → K → Bool) where
   abbrev pub total-step : (A → ℕ) → List (Event A K) → Event A K → ℕ → ℕ
   total-step size read clear s = 0
   total-step size read (put n a) s = s + size a - weight size (entry (look (key a) read))
-  total-step size read (drop k) s = s - weight size (entry (look k read))
+  total-step size read (remove k) s = s - weight size (entry (look k read))
 
   abbrev pub total-on : (A → ℕ) → List (Event A K) → List (Event A K) → ℕ → ℕ
   total-on size read es s = reading-on (total-step size) read es s

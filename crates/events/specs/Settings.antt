@@ -28,7 +28,7 @@ use Rattle.tables.specs.MemberKinds.{FlagsIn, AddressIn, MemberIn, number-of, c
 use Rattle.tables.specs.Owns.{Own}
 use Rattle.tables.specs.Tables as T
 use Rattle.tables.specs.Tables.{Line, LineKey, line-key, Member, GroupMember, IndividualMember}
-use Rattle.events.specs.Events.{Event, clear, put, drop, step}
+use Rattle.events.specs.Events.{Event, clear, put, remove, step}
 use Rattle.events.specs.Places.{place-step}
 use Rattle.events.specs.Channels.{channel-do}
 
@@ -39,7 +39,7 @@ bare es = map (λ e. e .1) es
 -- "Replace empties the table, then adds each entry in order"
 abbrev pub events-by : {E A K : Type 0} → (E → A) → (E → K) → Operation → List (ℕ × E) → List (Event A K)
 events-by made named Add es = map (λ e. put (e .0) (made (e .1))) es
-events-by made named Delete es = map (λ e. drop (named (e .1))) es
+events-by made named Delete es = map (λ e. remove (named (e .1))) es
 events-by made named Replace es = clear ∷ map (λ e. put (e .0) (made (e .1))) es
 
 -- the places of entries rise from n on, and are before m
@@ -67,7 +67,7 @@ status-events o es = events-by (λ e. e) (λ e. e .index - 32) o es
 -- a slot is set or emptied, and the others stand, whatever the operation: a member by its slot
 abbrev pub slot-events : {A : Type 0} → Operation → ℕ → ℕ × A → List (Event (ℕ × A) ℕ)
 slot-events Add n a = put n a ∷ []
-slot-events Delete n a = drop (a .0) ∷ []
+slot-events Delete n a = remove (a .0) ∷ []
 slot-events Replace n a = put n a ∷ []
 
 -- ---- where an entry goes, and what it makes of what stands there
@@ -138,7 +138,7 @@ Does k = Event (Puts k) (Names k)
 abbrev pub latest : {A K : Type 0} → Event A K → A → A
 latest clear x = x
 latest (put n a) x = a
-latest (drop k) x = x
+latest (remove k) x = x
 
 -- what one event makes of the table: none where there is no room
 abbrev pub run : Limits → (k : Kind) → Does k → Own k → Option (Own k)
