@@ -1,22 +1,11 @@
 -- A pair of requests with texts whose order matters, at a full area, computed. Assumes nothing.
-use Rattle.lists.proofs.Kit.{ℕ, _≡_, refl, List, [], _∷_, _++_, Option, none, some, replicate}
-use Rattle.writing.specs.declared.Kind.the-variants.{QuickTexts, StatusTexts}
+use Rattle.lists.proofs.Kit.{ℕ, _≡_, refl, List, [], _∷_, Option, none, some}
 use Rattle.writing.specs.declared.Operation.the-variants.{Add, Delete}
-use Rattle.writing.specs.Settings.{Text, Setting, quick-texts, status-texts}
+use Rattle.writing.specs.Settings.{Setting, quick-texts, status-texts}
 use Rattle.tables.specs.Apply.{and-then, in-turn, apply}
 use Rattle.tables.specs.Limits.{handheld}
-use Rattle.tables.specs.Owns.{put-own}
-use Rattle.tables.specs.Tables.{Tables, fresh}
 use Rattle.tables.specs.Texts.{text-sum}
-
--- a text of n units
-units : ℕ → Text
-units n = replicate n 65
-
--- 64 quick texts of 23 units and 36 status texts of 16 take 4,096 bytes
-full : Tables
-unfolding units
-full = put-own StatusTexts (put-own QuickTexts fresh (replicate 64 (some (units 23)))) (replicate 36 (some (units 16)) ++ replicate 60 none)
+use Rattle.shared_texts.proofs.Examples.{units, full}
 
 -- one desk deletes quick text 0, the other gives status code 126 a text of 16 units
 deletes : List Setting

@@ -10,11 +10,11 @@ use Rattle.tables.specs.Tables.{Tables, fresh}
 use Rattle.tables.specs.Texts.{text-sum}
 
 -- a text of n units
-units : ℕ → Text
+unfoldable pub units : ℕ → Text
 units n = replicate n 65
 
 -- the tables
-full : Tables
+unfoldable pub full : Tables
 unfolding units
 full = put-own StatusTexts (put-own QuickTexts fresh (replicate 64 (some (units 23)))) (replicate 36 (some (units 16)) ++ replicate 60 none)
 
