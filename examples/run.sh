@@ -33,12 +33,14 @@ for standard in c99 c11; do
     step "header as $standard" header_as c $standard "$CC" otap
     step "vehicle's header as $standard" header_as c $standard "$CC" otap_vehicle
     step "office's header as $standard" header_as c $standard "$CC" otap_office
-    step "all headers as $standard" header_as c $standard "$CC" otap otap_office otap_vehicle otap
+    step "desk's header as $standard" header_as c $standard "$CC" otap_desk
+    step "all headers as $standard" header_as c $standard "$CC" otap otap_office otap_vehicle otap_desk otap
 done
 for standard in c++98 c++11 c++17; do
     step "header as $standard" header_as c++ $standard "$CXX" otap
     step "vehicle's header as $standard" header_as c++ $standard "$CXX" otap_vehicle otap
     step "office's header as $standard" header_as c++ $standard "$CXX" otap_office otap
+    step "desk's header as $standard" header_as c++ $standard "$CXX" otap_desk otap
 done
 step "snippet as C" $CC -std=c99 $warnings -c examples/snippet.c -o "$built/snippet.o"
 step "snippet as C++" $CXX -x c++ -std=c++98 $warnings -c examples/snippet.c -o "$built/snippet.o"
@@ -51,5 +53,7 @@ step "two sets as C" with "$vehicle" build_and_print two_sets c c99 "$CC" "$sani
 step "two sets as C++" with "$vehicle" build_and_print two_sets c++ c++11 "$CXX" "$sanitizers"
 step "office as C" with "$office" build_and_print office c c99 "$CC" "$sanitizers"
 step "office as C++" with "$office" build_and_print office c++ c++11 "$CXX" "$sanitizers"
+step "desk as C" with "$desk" build_and_print desk c c99 "$CC" "$sanitizers"
+step "desk as C++" with "$desk" build_and_print desk c++ c++11 "$CXX" "$sanitizers"
 step "PTT with two tasks" build_and_print ptt c c99 "$CC" "-pthread $sanitizers"
 exit $failed

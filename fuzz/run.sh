@@ -1,6 +1,6 @@
 #!/bin/sh
 # shellcheck disable=SC2086,SC2317,SC2329 # flags are several words, and engines are called by their names
-# fuzz/run.sh [SECONDS]: fuzzes the C functions of each set for as long (60), with libFuzzer, else AFL++, else a driver of our own, and says which.
+# fuzz/run.sh [SECONDS]: fuzzes the C functions of each set and of the desk for as long (60), with libFuzzer, else AFL++, else a driver of our own, and says which.
 # Ends with 1 on a finding, or if a check cannot fail.
 # FUZZ_WITH=libfuzzer, afl or driver asks for one; FUZZ_SEED (1) is the driver's and libFuzzer's seed. Findings are kept in target/fuzz/.
 # It links the archives of $OTAP_ARCHIVE_DIR, or of this machine's target/archive/TARGET, which ./archive writes.
@@ -11,20 +11,22 @@ seed=${FUZZ_SEED:-1}
 folder=${OTAP_ARCHIVE_DIR:-target/archive/$(uname -m)-linux}
 sanitizers="-fsanitize=address,undefined -fno-sanitize-recover=all"
 calls="judge commit export row_number row_part counts line_of entry entry_digits channel emergency_key home_numbers system_code report read_report join check_update propose"
-sources="fuzz/target.c fuzz/fitting.c"
+plain_calls="start take row_number row_part"
 CC=${CC:-gcc}
 # There are many short-lived buffers: a large quarantine only slows it down.
 export ASAN_OPTIONS=quarantine_size_mb=1
 
-archives="$folder/libotap_handheld.a $folder/libotap_vehicle.a $folder/libotap_office.a"
+archives="$folder/libotap_handheld.a $folder/libotap_vehicle.a $folder/libotap_office.a $folder/libotap_desk.a"
 for archive in $archives; do
     [ -f "$archive" ] && continue
     echo "FAILED  no $archive: ./archive writes it"
     exit 1
 done
 
-# of SET: the flags of its build, the numbers of its wrong libraries, and how they come before its calls and before the other set's.
+# of SET: its sources, the flags of their build, its wrong libraries by their numbers, and how they come before its calls and before the other set's.
 of() {
+    [ "$1" != desk ] || { of_desk && return; }
+    sources="fuzz/target.c fuzz/fitting.c" wrong_sources="fuzz/wrong.c fuzz/wrong_other.c" found_on="$seeds/*"
     flags="-std=c11 -Wall -Wextra -Iinclude -Itests -g -O1" prefix=otap_ other=otap_vehicle_ wrongs="$(seq 101) $(seq 105 114) $(seq 116 125)"
     [ "$1" = hand-held ] || { flags="$flags -DVEHICLE" prefix=otap_vehicle_ other=otap_ wrongs="$(seq 107) $(seq 115 125)"; }
     wrapped="-Wl,--wrap=otap_report_entry -Wl,--wrap=otap_report_places -Wl,--wrap=${other}commit" named=
@@ -34,22 +36,40 @@ of() {
     done
 }
 
+# The desk is a hand-held's, which is beside it. It is slow, so that its own seeds have to do for its wrong libraries.
+of_desk() {
+    found_on="$seeds/desk*" sources=fuzz/desk.c wrong_sources=fuzz/wrong_desk.c flags="-std=c11 -Wall -Wextra -Iinclude -Itests -g -O1" wrongs=$(seq 32) wrapped='' named=''
+    for call in $plain_calls; do
+        wrapped="$wrapped -Wl,--wrap=otap_plain_$call"
+    done
+}
+
 work=$(mktemp -d) || exit 1
 trap 'rm -rf "$work"' EXIT
 mkdir -p target/fuzz "$work/new"
 found=$(pwd)/target/fuzz
 seeds=$(pwd)/fuzz/corpus
 
-# Every wrong library of wrong.c and wrong_other.c has to be found on the seeds alone; number 0 is the right one and has to pass.
+# object SOURCE FLAGS: compiled, where all that is linked stands.
+object() {
+    name=${1##*/}
+    $CC $2 -c "$1" -o "$work/${name%.c}.o"
+}
+
+# Every wrong library of the wrong sources has to be found on the seeds alone; number 0 is the right one and has to pass.
 checks_can_fail() {
-    for file in target fitting driver; do
-        $CC $flags $sanitizers -c "fuzz/$file.c" -o "$work/$file.o" || return 1
+    rm -f "$work"/*.o
+    for source in $sources fuzz/driver.c; do
+        object "$source" "$flags $sanitizers" || return 1
     done
     for wrong in 0 $wrongs; do
-        $CC $flags $named -DWRONG=$wrong -c fuzz/wrong.c -o "$work/wrong.o" || return 1
-        $CC $flags -DWRONG=$wrong -c fuzz/wrong_other.c -o "$work/wrong_other.o" || return 1
+        for source in $wrong_sources; do
+            # The other set's calls have their own names.
+            case $source in *wrong_other.c) renamed='' ;; *) renamed=$named ;; esac
+            object "$source" "$flags $renamed -DWRONG=$wrong" || return 1
+        done
         $CC $sanitizers "$work"/*.o $archives $wrapped -o "$work/wrong" || return 1
-        (cd "$work" && ./wrong 0 1 "$seeds"/*) > "$work/log" 2>&1
+        (cd "$work" && ./wrong 0 1 $found_on) > "$work/log" 2>&1
         ended=$?
         if [ $((ended == 0)) -ne $((wrong == 0)) ]; then
             [ $wrong -eq 0 ] && echo "FAILED  on the seeds" || echo "FAILED  the checks do not find wrong library $wrong"
@@ -87,7 +107,7 @@ with_driver() {
     (cd "$work" && ./driver "$seconds" "$seed" "$seeds"/*) || { cp "$work/last-input" "$found/"; return 1; }
 }
 
-for each in hand-held vehicle; do
+for each in hand-held vehicle desk; do
     of $each
     checks_can_fail $each || exit 1
     ended=2

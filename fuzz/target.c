@@ -5,6 +5,7 @@
  * not fit. At the end it is written out into a fresh one that becomes the same, into one that was used, and to the other set as far as it fits there.
  */
 #include "asking.h"
+#include "built.h"
 #include "callers.h"
 #include "conversions.h"
 #include "editing.h"
@@ -92,35 +93,14 @@ static void commit_message(const uint8_t *message, size_t length, unsigned choic
 static void commit_raw(Input *input, unsigned choice)
 {
     static uint8_t message[OTAP_MESSAGE_BYTES + 64];
-    size_t length = next_byte(input);
-    length = (length + 256 * next_byte(input)) % (OTAP_MESSAGE_BYTES + 2);
-    commit_message(message, next_bytes(input, length, message), choice);
-}
-
-/* One setting with a true DataLength, so that inputs get past it to the fields. */
-static size_t build_setting(Input *input, uint8_t *to)
-{
-    static const uint8_t types[] = {0xCA, 0xCB, 0xCC, 0xCD, 0xCE, 0xCF, 0xD0, 0xD1, 0xD2, 0xFF, 0xC8, 0xC9, 0xD3};
-    unsigned type = next_byte(input);
-    size_t length = next_bytes(input, next_byte(input), to + 3);
-    to[0] = type < 0xC0 ? types[type % sizeof types] : (uint8_t)type;
-    to[1] = (uint8_t)((length + 2) >> 8);
-    to[2] = (uint8_t)(length + 2);
-    return length + 3;
+    size_t length = raw_message(input, message);
+    commit_message(message, length, choice);
 }
 
 static void commit_built(Input *input, unsigned choice)
 {
-    static uint8_t message[OTAP_MESSAGE_BYTES + 64] = {2, 2, 0, 0, 8, 7, 8};
-    unsigned chosen = next_byte(input), settings = 1 + chosen % 12, each;
-    size_t length = 8;
-    message[5] = chosen < 128 ? 7 : 4; /* coding type 0111 or 0100 */
-    message[7] = (uint8_t)settings;
-    for (each = 0; each < settings; each++) {
-        length += build_setting(input, message + length);
-    }
-    message[2] = (uint8_t)((length - 4) >> 8);
-    message[3] = (uint8_t)(length - 4);
+    static uint8_t message[OTAP_MESSAGE_BYTES + 64];
+    size_t length = built_message(input, message);
     commit_message(message, length, choice);
 }
 

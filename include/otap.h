@@ -103,6 +103,7 @@ enum {
     OTAP_NO_MESSAGE = 16,      /* the same number, of otap_report: the report has no message of this index */
     OTAP_NO_ROW = 17,          /* the screen's row is absent, or a background group's */
     OTAP_NOTHING_THERE = 17,   /* the same number, of otap_entry, otap_entry_digits and otap_channel: nothing stands there */
+    /* 18 is the desk emulator's: OTAP_AREA_FULL of otap_desk.h */
     OTAP_NO_SINGLE_PART = 19,  /* of otap_propose: the tables of no export part differ, or those of several */
     OTAP_OUTSIDE_PLAN = 20,    /* of a conversion: dialled number outside the plan */
     OTAP_BAD_NUMBER = 20,      /* of otap_line_of, the same number: not 1 to 18 digits, or a digit above 9; which of the two it is, the call says */

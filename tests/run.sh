@@ -40,10 +40,10 @@ declared() {
     sed -n 's/^uint[0-9]*_t \(otap_[a-z_]*\)(.*/\1/p' "$1" | sort -u
 }
 
-# Each archive has the functions of its header, and no other: firmware does not carry the office's. So no name is in two, and any of them link together.
+# Each archive has the functions of its header, and no other: firmware does not carry the office's or the desk's. So no name is in two, and any of them link together.
 own_functions() {
     : > "$built/all"
-    for pair in "$handheld include/otap.h" "$vehicle include/otap_vehicle.h" "$office include/otap_office.h"; do
+    for pair in "$handheld include/otap.h" "$vehicle include/otap_vehicle.h" "$office include/otap_office.h" "$desk include/otap_desk.h"; do
         names "${pair% *}" > "$built/has"
         declared "${pair#* }" > "$built/declares"
         [ -s "$built/declares" ] || return 1
@@ -132,6 +132,17 @@ suites() {
     step "$1: stack of the office's calls" with "$office" build_and_run office_stack -O1 && show
 }
 
+# The desk emulator, of which there is one: by itself, and beside a hand-held.
+of_the_desk() {
+    step "desk: by hand" with "$desk" build_and_run desk "$sanitizers"
+    step "desk: beside a hand-held" with "$desk" build_and_run desk_rows "-O2 $sanitizers" && show
+    step "desk: bounds of the lent bytes" with "$desk" build_and_run desk_bounds -O1 && show
+    for lent in message area reply scratch; do
+        step "desk: bounds can fail, of the $lent" sees_outside desk_bounds $lent
+    done
+    step "desk: stack" with "$desk" build_and_run desk_stack -O1 && show
+}
+
 need_archive
 step "two banks, cut at every byte" build_and_run_banks && show
 step "banks can fail" banks_can_fail && show
@@ -139,13 +150,14 @@ suites hand-held
 archive=$vehicle for_vehicle=-DVEHICLE before="-include tests/set.h"
 suites vehicle
 archive=$handheld for_vehicle='' before=''
+of_the_desk
 step "two sets in one program" with "$vehicle" build_and_run two_sets "$sanitizers"
-for file in "$handheld" "$vehicle" "$office"; do
+for file in "$handheld" "$vehicle" "$office" "$desk"; do
     step "constants of ${file##*/}" few_constants "$file" && show
 done
 step "what each archive has" own_functions
 [ -z "$emulator" ] || exit $failed
-for module in handheld vehicle office; do
+for module in handheld vehicle office desk; do
     [ ! -f target/archive/wasm32/otap_$module.wasm ] || continue
     echo "left out  wasm32: ./archive wasm32 was not run"
     exit $failed

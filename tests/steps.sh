@@ -7,6 +7,7 @@ archives=${OTAP_ARCHIVE_DIR:-target/archive/$target}
 handheld=$archives/libotap_handheld.a
 vehicle=$archives/libotap_vehicle.a
 office=$archives/libotap_office.a
+desk=$archives/libotap_desk.a
 CC=${CC:-gcc}
 CXX=${CXX:-g++}
 warnings="-Wall -Wextra -Wpedantic -Wconversion -Wshadow -Werror -Iinclude -Iexamples -Itests"
@@ -71,7 +72,7 @@ need_archive() {
             exit $failed
         done
     fi
-    for file in "$handheld" "$vehicle" "$office"; do
+    for file in "$handheld" "$vehicle" "$office" "$desk"; do
         [ -f "$file" ] && continue
         echo "FAILED  no $file: ./archive $target writes it"
         exit 1

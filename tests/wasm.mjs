@@ -1,7 +1,7 @@
 // tests/wasm.mjs: the modules for wasm32 in node: no imports; the stored inputs of the programs `take` and `put`, judged and committed, come to their
 // stored outputs; callers are found; what stands behind a row is answered; what a set reports, the office's module reads; what it joins, the set takes; and what it
 // proposes between two stores of either set makes the one the other. A vehicle's module has its own sizes, its export is taken by the hand-held's as far as it
-// fits, and no sum binds its texts, as it does a hand-held's.
+// fits, and no sum binds its texts, as it does a hand-held's. The desk's answers and shows what the hand-held's does, until its area is full.
 import { readFileSync } from "node:fs";
 import { fileURLToPath } from "node:url";
 
@@ -226,5 +226,32 @@ const filled = [handheld, vehicle].map((set) => {
     return filling.map((message) => take(message, set) & 0xffffn);
 });
 if (filled.join() !== "0,0,0,0,258,0,0,0,0,0") throw new Error(`texts that fill a hand-held: ${filled}`);
+// A desk and a hand-held that are sent the same: the same answers and rows, and at last 18, where the hand-held goes on.
+const desk = setOf("otap_desk", "otap_plain_", 32768, 64);
+const deskTakes = (message) => {
+    desk.memory.set(message, desk.at.message);
+    return desk.call("take", ...desk.lent("message", message.length), ...desk.lent("store"), ...desk.lent("reply"));
+};
+const shown = (set, scratch, table, row) => {
+    const part = set.call("row_part", table, row, ...set.lent("store"), ...set.lent("buffer", scratch));
+    const from = set.at[(part & 1n) === 1n ? "buffer" : "store"] + Number((part >> 16n) & 0xffffn);
+    return part === 0n ? "none" : Buffer.from(set.memory.subarray(from, from + Number((part >> 32n) & 0xffffn))).toString("hex");
+};
+const started = [32768, 32767].map((length) => desk.call("start", ...desk.lent("store", length)));
+if (started.join() !== "0,11") throw new Error(`a desk's start: ${started}`);
+start();
+for (const message of [line, channels, linesOf(10, 31), linesOf(42, 2), ...filling, fifth.slice(1)]) {
+    const [one, other] = [deskTakes(message), take(message)];
+    if (one !== other) throw new Error(`a desk's answer ${one}, a hand-held's ${other}`);
+}
+for (const [table, row] of [[1, 0], [1, 31], [1, 32], [2, 0], [2, 63], [2, 64], [3, 32], [3, 68], [3, 69], [6, 0], [9, 0]]) {
+    const [one, other] = [shown(desk, 64, table, row), shown(handheld, 36, table, row)];
+    if (one !== other) throw new Error(`row ${row} of table ${table}: a desk's ${one}, a hand-held's ${other}`);
+}
+if (desk.call("row_number", 1, 0, ...desk.lent("store"), ...desk.lent("buffer", 63)) !== 15) throw new Error("a desk's short scratch");
+let last = 0n;
+while ((last & 0xffn) === 0n) last = deskTakes(textsOf(0xcc, 0, 63, 23));
+if (last !== 18n || (take(textsOf(0xcc, 0, 63, 23)) & 0xffn) !== 0n) throw new Error(`a full area: ${last}`);
 console.log("no imports; take and put, judged and committed, as stored; callers are found, what stands behind a row, what is reported and read, joined and proposed;" +
-    " a hand-held takes a vehicle's export where it fits, and texts up to the last unit");
+    " a hand-held takes a vehicle's export where it fits, and texts up to the last unit;" +
+    " a desk answers and shows the same until its area is full");

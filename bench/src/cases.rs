@@ -1,6 +1,7 @@
 //! What is measured: a name, a call, and the number that it must answer.
 
 use crate::conversions;
+use crate::desk;
 use crate::joining;
 use crate::messages;
 use crate::reports;
@@ -93,6 +94,9 @@ fn of_a_handheld() -> Vec<Case> {
     }
     for (name, call, number) in updating::calls() {
         cases.push(case(name.into(), call, number));
+    }
+    for (name, call, number) in desk::calls() {
+        cases.push(case(name, call, number));
     }
     for (which, conversion) in conversions::ALL.iter().enumerate() {
         cases.push(case(format!("{}-x100", conversion.name), Call::Convert(which), 0));

@@ -4,6 +4,7 @@
 mod cases;
 mod check;
 mod conversions;
+mod desk;
 mod joining;
 mod messages;
 mod program;

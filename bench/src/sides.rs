@@ -1,6 +1,7 @@
 //! The same calls to the archive and to plain Rust.
 
 use crate::conversions;
+use crate::desk::Kept;
 use crate::joining::Pair;
 use crate::reports::{plain_reads, rattle_reads, Asked};
 use crate::updating::Update;
@@ -39,6 +40,10 @@ pub enum Call {
     CheckUpdate(Update),
     /// The office proposes one.
     Propose(Update),
+    /// The desk emulator is sent a query.
+    PlainTake(Kept),
+    /// It is asked for a row.
+    PlainRow(Kept),
     /// A hundred conversions, named by their place in `conversions::ALL`.
     Convert(usize),
 }
@@ -95,8 +100,9 @@ impl Side for Checked {
     fn call(&mut self, call: &Call) -> u8 {
         let own = || layout::is_store(black_box(&self.bytes), self.plain.set.limits);
         let checked = match call {
-            // A conversion has no store, and the office has none that it reads reports or joins by.
+            // A conversion has no store, the office has none that it reads reports or joins by, and a desk has an area, which the reference judges too.
             Call::Convert(_) | Call::ReadReport(_) | Call::Join(_) => true,
+            Call::PlainTake(_) | Call::PlainRow(_) => true,
             Call::CheckUpdate(update) | Call::Propose(update) => own() && update.is_store(),
             _ => own(),
         };
@@ -140,6 +146,8 @@ impl<K: Kind> Side for Rattle<K> {
             Call::Join(pair) => pair.rattle(&mut self.buffer),
             Call::CheckUpdate(update) => update.rattle_checks(&self.bytes),
             Call::Propose(update) => update.rattle_proposes(&self.bytes, &mut self.buffer),
+            Call::PlainTake(kept) => kept.rattle_takes(),
+            Call::PlainRow(kept) => kept.rattle_shows(),
             Call::Convert(which) => {
                 conversions::ALL[*which].rattle();
                 0
@@ -175,6 +183,8 @@ impl Side for Plain {
             Call::Join(pair) => pair.plain(&mut self.buffer),
             Call::CheckUpdate(update) => update.plain_checks(&self.set),
             Call::Propose(update) => update.plain_proposes(&self.set, &mut self.buffer),
+            Call::PlainTake(kept) => kept.plain_takes(),
+            Call::PlainRow(kept) => kept.plain_shows(),
             Call::Convert(which) => {
                 conversions::ALL[*which].plain();
                 0

@@ -69,6 +69,8 @@ fn call_name(call: &Call) -> &'static str {
         Call::Join(_) => "join",
         Call::CheckUpdate(_) => "check-update",
         Call::Propose(_) => "propose",
+        Call::PlainTake(_) => "plain-take",
+        Call::PlainRow(_) => "plain-row",
         Call::Convert(which) => conversions::ALL[*which].name,
     }
 }

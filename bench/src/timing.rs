@@ -42,6 +42,7 @@ fn message_length(case: &Case) -> Option<usize> {
         Call::Report(asked) => Some(asked.query.len()),
         Call::Join(pair) => Some(pair.size()),
         Call::CheckUpdate(update) => Some(update.request.len()),
+        Call::PlainTake(kept) => Some(kept.query.len()),
         _ => None,
     }
 }

@@ -1,4 +1,4 @@
-//! Finds the verified archives of the target and links them: the hand-held's, and with the features `vehicle` and `office` theirs too.
+//! Finds the verified archives of the target and links them: the hand-held's, and with the features `vehicle`, `office` and `desk` theirs too.
 
 use std::env;
 use std::path::{Path, PathBuf};
@@ -40,7 +40,8 @@ fn link(directory: &Path, advice: &str) {
     let asked = |feature: &str, name| env::var_os(feature).map(|_| name);
     let vehicle = asked("CARGO_FEATURE_VEHICLE", "otap_vehicle");
     let office = asked("CARGO_FEATURE_OFFICE", "otap_office");
-    for name in ["otap_handheld"].into_iter().chain(vehicle).chain(office) {
+    let desk = asked("CARGO_FEATURE_DESK", "otap_desk");
+    for name in ["otap_handheld"].into_iter().chain(vehicle).chain(office).chain(desk) {
         let archive = directory.join(format!("lib{name}.a"));
         println!("cargo::rerun-if-changed={}", archive.display());
         if archive.is_file() {

@@ -14,7 +14,7 @@ use Rattle.events.proofs.Finding.{clash}
 -- ---- kinds
 
 -- a kind is itself
-only-itself : (k : Kind) → only k k ≡ true
+pub only-itself : (k : Kind) → only k k ≡ true
 only-itself k = eq-eqb (type-byte k) (type-byte k) refl
 
 -- two kinds are equal or not, so that they are equal in one way

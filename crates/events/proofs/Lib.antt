@@ -15,3 +15,10 @@ pub mod InsideLaws
 pub mod GoingOn
 pub mod ToldRows
 pub mod Alone
+pub mod DeedLaws
+pub mod CodeLaws
+pub mod Mapping
+pub mod TellingLaws
+pub mod SeenRows
+pub mod EventWeights
+pub mod WeighLaws

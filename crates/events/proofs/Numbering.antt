@@ -9,7 +9,7 @@ use Rattle.events.specs.Settings.{events-by, Stands}
 use Rattle.events.proofs.ReadingLaws.{reading-append}
 
 -- places that rise rise from an earlier one on
-rising-from : {A K : Type 0} (i j : ℕ) (es : List (Event A K)) → i ≤ j → Rising j es → Rising i es
+pub rising-from : {A K : Type 0} (i j : ℕ) (es : List (Event A K)) → i ≤ j → Rising j es → Rising i es
 rising-from i j [] h r = tt
 rising-from i j (clear ∷ es) h r = rising-from i j es h r
 rising-from i j (put m a ∷ es) h r = (omega (arith, r .0), r .1)

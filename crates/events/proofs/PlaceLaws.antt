@@ -86,7 +86,7 @@ module _ {A B : Type 0} (place : A → ℕ) (change : Option B → A → Option 
   -- ---- how much all entries take
 
   -- the first event, and the others
-  inside-first : (v : Event A ℕ) (es : List (Event A ℕ)) → Inside place many (v ∷ es) → Inside place many (v ∷ []) × Inside place many es
+  pub inside-first : (v : Event A ℕ) (es : List (Event A ℕ)) → Inside place many (v ∷ es) → Inside place many (v ∷ []) × Inside place many es
   inside-first clear es x = (tt, x)
   inside-first (put n a) es x = ((x .0, tt), x .1)
   inside-first (remove k) es x = ((x .0, tt), x .1)

@@ -6,3 +6,5 @@ pub mod Settings
 pub mod Logs
 pub mod Sums
 pub mod Rows
+pub mod Deeds
+pub mod Knowing

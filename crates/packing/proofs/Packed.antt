@@ -2,16 +2,10 @@
 use Rattle.lists.proofs.Kit.{ℕ, _+_, _*_, _<_, _≡_, sym, subst, List, arith}
 use Rattle.lists.specs.Ladder.{Answers}
 use Rattle.plan.specs.Answers.{Said, answer, refused}
-use Rattle.writing.specs.Carrier.{result-number}
-use Rattle.writing.specs.Writing.{bit}
 use Rattle.tables.specs.declared.start.Started.{Started}
 use Rattle.tables.specs.declared.limits.Limits.{Limits}
 use Rattle.tables.specs.Store.{started, begins, starting}
-use Rattle.station.specs.declared.answers.Answer.{Answer as Station}
-use Rattle.station.specs.declared.answers.Answer.the-variants.{Untouched, Replied}
-use Rattle.station.specs.declared.answers.Refusal.{Refusal}
-use Rattle.station.specs.declared.answers.Reply.{Reply}
-use Rattle.station.specs.Answers.{refusal-number, said}
+use Rattle.station.specs.Answers.{Said as Told, refused-with}
 use Rattle.menu.specs.declared.counting.Counts.{Counts as Menu}
 use Rattle.menu.specs.declared.counting.Counts.the-variants.{Held, NotAStore}
 use Rattle.menu.specs.Menu.{told}
@@ -35,21 +29,13 @@ starts-packed lim before after a r e x = subst (λ (n : ℕ). Starts lim before 
 
 -- ---- judging and committing
 
--- the number alone, where nothing was touched
-pub packed-refusal : (a : Station) (x : Refusal) (r : ℕ) → a ≡ Untouched x → r ≡ refusal-number x → r < 256 → Packs (said a) r
-packed-refusal a x r e p h = subst (λ y. Packs (said y) r) (sym e) (record { number = omega (arith, p); failed = omega arith; reply-length = omega arith; bits = omega (arith, p) })
+-- a number that packs one case packs the answer that is that case
+pub said-case : {A : Type 0} (say : A → Told) (a b : A) (r : ℕ) → a ≡ b → Packs (say b) r → Packs (say a) r
+said-case say a b r e p = subst (λ x. Packs (say x) r) (sym e) p
 
--- all of a reply's values
-pub packed-reply : (a : Station) (x : Reply) (number send reboot : ℕ) → a ≡ Replied x → number ≡ result-number (x .result) → send ≡ bit (x .send) → reboot ≡ bit (x .reboot)
-    → number < 256 → x .failed < 256 → x .length < 256
-    → Packs (said a) (number + x .failed * 256 + send * 65536 + reboot * 131072 + x .length * 16777216)
-packed-reply a x number send reboot e k p q hr hf hl =
-    subst (λ y. Packs (said y) (number + x .failed * 256 + send * 65536 + reboot * 131072 + x .length * 16777216)) (sym e) (record {
-      number = subst (λ (i : ℕ). i < 256) k hr;
-      failed = hf;
-      reply-length = hl;
-      bits = λ t. k t + x .failed * 256 + p t * 65536 + q t * 131072 + x .length * 16777216;
-    })
+-- the number alone, where nothing was touched
+pub packed-refusal : (n r : ℕ) → r ≡ n → r < 256 → Packs (refused-with n) r
+packed-refusal n r e h = record { number = omega arith; failed = omega arith; reply-length = omega arith; bits = omega arith }
 
 -- ---- the menu's counts
 

@@ -21,7 +21,7 @@ use Rattle.requests.specs.declared.trying.Held.the-variants.{Bytes, NoRo
 use Rattle.requests.specs.Trying.{read-kind, SumIs, HeldAfter, TryIs}
 
 -- a setting that was read is of the kind that it was read as
-meant-kind : (m : List ℕ) (r : Read) (s : Setting) → Meant m r s → kind s ≡ read-kind r
+pub meant-kind : (m : List ℕ) (r : Read) (s : Setting) → Meant m r s → kind s ≡ read-kind r
 meant-kind m (GroupContacts o f p) s (es, e, _) = ap kind e
 meant-kind m (IndividualContacts o f p) s (es, e, _) = ap kind e
 meant-kind m (Lines o f p) s (es, e, _) = ap kind e

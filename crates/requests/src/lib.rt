@@ -1,3 +1,3 @@
 // Takes the settings of a request in turn.
 pub mod run;
-mod trying;
+pub mod trying;

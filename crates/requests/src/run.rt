@@ -24,7 +24,7 @@ pub enum Run {
 }
 
 // FF's bits, no and no for another setting.
-fn flags_of(setting: Setting) -> LastFlags
+pub fn flags_of(setting: Setting) -> LastFlags
     ensures { λ r. ⌜ FlagsAre setting r ⌝ }
 {
     match setting {

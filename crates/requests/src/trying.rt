@@ -14,13 +14,13 @@ ghost use Rattle.tables.specs.declared.limits.Texts.the-variants.{Shared};
 ghost use Rattle.requests.specs.Trying.{read-kind, HeldAfter, TryIs};
 
 // The bytes that all texts take after a setting, which are not counted where each has a place of its own; or it has no room.
-pub(crate) enum Held {
+pub enum Held {
     Bytes(usize),
     NoRoom,
 }
 
 // The kind of a setting.
-fn kind_of(setting: Setting) -> Kind
+pub fn kind_of(setting: Setting) -> Kind
     ensures { λ r. ⌜ r ≡ read-kind setting ⌝ }
 {
     match setting {
@@ -88,7 +88,7 @@ fn sum_within(area: usize, sum: usize, before: usize, after: usize) -> Held
 }
 
 // The same however texts are kept: where each has a place of its own, no sum binds them.
-fn sum_after(texts: Texts, sum: usize, before: usize, after: usize) -> Held
+pub fn sum_after(texts: Texts, sum: usize, before: usize, after: usize) -> Held
     ensures { λ r. ⌜ HeldAfter texts (sum - before + after) r ⌝ }
 {
     match texts {

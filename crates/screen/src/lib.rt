@@ -3,7 +3,7 @@ pub mod answers;
 mod areas;
 pub mod handheld;
 pub mod names;
-mod numbers;
+pub mod numbers;
 pub mod rows;
 pub mod show;
 mod spots;

@@ -30,7 +30,7 @@ fn put_digit(scratch: &mut [u8], i: usize, digit: u8)
 }
 
 // The n lowest digits of x in this base; answers how many bytes they take.
-fn write_digits(scratch: &mut [u8], x: u32, base: u32, n: usize) -> usize
+fn write_digits(scratch: &mut [u8], x: u64, base: u64, n: usize) -> usize
     requires { ⌜ (2 * n ≤ length (now scratch)) × (1 < base) × (base ≤ 16) ⌝ }
     ensures { λ r. ⌜ Written (map ascii (digits base n x)) (now (scratch .entry)) (now (scratch .exit)) r ⌝ }
 {
@@ -67,7 +67,27 @@ pub(crate) fn write_address(scratch: &mut [u8], dialled: DialledAnswer, address:
     ensures { λ r. ⌜ Written (map ascii (dialled-digits dialled address)) (now (scratch .entry)) (now (scratch .exit)) r ⌝ }
 {
     match dialled {
-        DialledAnswer::Dialled(d) => write_digits(scratch, d, 10, 8),
-        DialledAnswer::OutsideKind => write_digits(scratch, address, 16, 6),
+        DialledAnswer::Dialled(d) => write_digits(scratch, d as u64, 10, 8),
+        DialledAnswer::OutsideKind => write_digits(scratch, address as u64, 16, 6),
     }
+}
+
+// The same for any other crate: nothing is written where the scratch has no room for the longest number.
+pub fn write_dialled(scratch: &mut [u8], dialled: DialledAnswer, address: u32) -> usize
+    ensures { λ r. ⌜ (36 ≤ length (now (scratch .entry)) → Written (map ascii (dialled-digits dialled address)) (now (scratch .entry)) (now (scratch .exit)) r) ⌝ }
+{
+    if scratch.len() < 36 {
+        return 0;
+    }
+    write_address(scratch, dialled, address)
+}
+
+// The n lowest decimal digits of a number; nothing where the scratch has no room for them.
+pub fn write_decimal(scratch: &mut [u8], x: u64, n: usize) -> usize
+    ensures { λ r. ⌜ (2 * n ≤ length (now (scratch .entry)) → Written (map ascii (digits 10 n x)) (now (scratch .entry)) (now (scratch .exit)) r) ⌝ }
+{
+    if scratch.len() / 2 < n {
+        return 0;
+    }
+    write_digits(scratch, x, 10, n)
 }

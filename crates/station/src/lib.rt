@@ -3,6 +3,6 @@ pub mod answers;
 pub mod commit;
 pub mod handheld;
 mod judge;
-mod queries;
+pub mod queries;
 pub mod replies;
 pub mod vehicle;

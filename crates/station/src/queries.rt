@@ -5,7 +5,7 @@ use slots::bytes::same;
 ghost use Rattle.station.specs.Queries.{HashSame};
 
 // Whether the hash at a place of the message is the one kept in these 11 bytes, and not of code 0; no where they are not 11.
-pub(crate) fn same_hash(m: &[u8], place: HashPlace, hash: &[u8]) -> bool
+pub fn same_hash(m: &[u8], place: HashPlace, hash: &[u8]) -> bool
     ensures { λ r. ⌜ HashSame (now (m .entry)) place (now (hash .entry)) r ⌝ }
 {
     if hash.len() != 11 {

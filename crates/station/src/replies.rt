@@ -24,7 +24,7 @@ pub fn result_number(result: Result) -> u8
 }
 
 // The reply with this result and failed ID that carries the hash kept in these 11 bytes; its length, or 0 where a buffer is too short for it.
-pub(crate) fn write_reply(reply: &mut [u8], result: u8, failed: u8, hash: &[u8]) -> u8
+pub fn write_reply(reply: &mut [u8], result: u8, failed: u8, hash: &[u8]) -> u8
     ensures { λ r. ⌜ (20 ≤ length (now (reply .entry)) → ReplyWritten result failed (now (hash .entry)) (now (reply .entry)) (now (reply .exit)) r) ⌝ }
 {
     if reply.len() < 20 {

@@ -14,7 +14,7 @@ pub enum Refusal {
     BadField,
     /// 10: the reply buffer has fewer than 20 bytes.
     ReplyShort,
-    /// 11: the bytes lent are not as many as the set's store has, or not a store.
+    /// 11: the bytes lent are not as many as the set's store has, or not a store; of a desk, not an area.
     NotAStore,
     /// 12: the message has fewer than 7 bytes or more than the set takes, 4,096 of a hand-held and 8,192 of a vehicle, or two would have more when joined.
     MessageLength,
@@ -22,7 +22,7 @@ pub enum Refusal {
     WrongCarrier,
     /// 14: the message is not of the type that the call takes: a request or a result query to commit, a query to report on, a report to read, a request to join.
     WrongMessageType,
-    /// 15: the scratch has fewer than 36 bytes, the export, report, join or proposal buffer fewer than the set's longest message, or the digits buffer fewer than 18.
+    /// 15: the scratch has fewer than 36 bytes, of a desk 64, the export, report, join or proposal buffer fewer than the set's longest message, or the digits buffer fewer than 18.
     BufferShort,
     /// 16 of an export: there is no such part; a [`Part`](crate::Part) is always one.
     NoSuchPart,
@@ -32,6 +32,8 @@ pub enum Refusal {
     NoSuchRow,
     /// 17 of [`Store::entry`](crate::Store::entry), its digits and a channel: nothing stands there.
     NothingThere,
+    /// 18 of a desk: the request would be taken, but passes the area's end.
+    AreaFull,
     /// 19 of a proposal: the tables of no part of an export differ, or those of several.
     NoSinglePart,
     /// 20 of a conversion: the dialled number is outside the plan.
@@ -46,7 +48,7 @@ pub enum Refusal {
     Unlisted(u8),
 }
 
-const LISTED: [(u8, Refusal, &str); 18] = [
+const LISTED: [(u8, Refusal, &str); 19] = [
     (1, Refusal::WrongVersion, "OTAPVer is not 1"),
     (3, Refusal::UnknownType, "a setting's type is not known"),
     (4, Refusal::BadField, "a field, a length or a count is wrong"),
@@ -60,6 +62,7 @@ const LISTED: [(u8, Refusal, &str); 18] = [
     (16, Refusal::NoSuchMessage, "the report has no such message"),
     (17, Refusal::NoSuchRow, "there is no such row"),
     (17, Refusal::NothingThere, "nothing stands there"),
+    (18, Refusal::AreaFull, "the request passes the area's end"),
     (19, Refusal::NoSinglePart, "the tables of no part differ, or those of several"),
     (20, Refusal::OutsidePlan, "the dialled number is outside the plan"),
     (20, Refusal::BadNumber, "the caller's number is not 1 to 18 digits"),
@@ -111,7 +114,7 @@ pub enum Outcome {
     BadField,
     /// 5: the query asks for no hash, or not for the one kept.
     NoMatch,
-    /// 10 to 14: nothing was touched and there is no reply.
+    /// 10 to 14, and 18 of a desk: nothing was touched and there is no reply.
     Refused(Refusal),
 }
 

@@ -1,6 +1,6 @@
 //! The C functions of the verified archives, and all of this crate's unsafe code.
 //!
-//! What each bit of an answer means is said in crate `packing`; the contracts of `otap_handheld` and `otap_vehicle` determine
+//! What each bit of an answer means is said in crate `packing`; the contracts of `otap_handheld`, `otap_vehicle` and `otap_desk` determine
 //! every byte that a call writes. Every call takes slices of any length and content.
 #![allow(unsafe_code)]
 
@@ -325,5 +325,62 @@ mod office {
     pub fn report_places(message: &[u8], at: u32) -> u64 {
         // SAFETY: as above.
         unsafe { otap_report_places(message.as_ptr(), length(message), at) }
+    }
+}
+
+#[cfg(feature = "desk")]
+pub mod desk {
+    //! The functions of the desk's archive.
+    use super::length;
+
+    unsafe extern "C" {
+        fn otap_plain_start(area: *mut u8, area_length: u64) -> u32;
+        fn otap_plain_take(
+            message: *const u8,
+            message_length: u64,
+            area: *mut u8,
+            area_length: u64,
+            reply: *mut u8,
+            reply_length: u64,
+        ) -> u64;
+        fn otap_plain_row_number(
+            table: u32,
+            row: u32,
+            area: *const u8,
+            area_length: u64,
+            scratch: *const u8,
+            scratch_length: u64,
+        ) -> u32;
+        fn otap_plain_row_part(
+            table: u32,
+            row: u32,
+            area: *const u8,
+            area_length: u64,
+            scratch: *mut u8,
+            scratch_length: u64,
+        ) -> u64;
+    }
+
+    pub fn start(area: &mut [u8]) -> u32 {
+        // SAFETY: the slice is live and ours alone for the call, which stays within its length.
+        unsafe { otap_plain_start(area.as_mut_ptr(), length(area)) }
+    }
+
+    pub fn take(message: &[u8], area: &mut [u8], reply: &mut [u8]) -> u64 {
+        let (m, a, r) = (message.as_ptr(), area.as_mut_ptr(), reply.as_mut_ptr());
+        // SAFETY: the slices are live for the call, and no borrow overlaps one that may be written.
+        unsafe { otap_plain_take(m, length(message), a, length(area), r, length(reply)) }
+    }
+
+    pub fn row_number(table: u32, row: u32, area: &[u8], scratch: &[u8]) -> u32 {
+        let (a, w) = (area.as_ptr(), scratch.as_ptr());
+        // SAFETY: the slices are live for the call, which only reads them.
+        unsafe { otap_plain_row_number(table, row, a, length(area), w, length(scratch)) }
+    }
+
+    pub fn row_part(table: u32, row: u32, area: &[u8], scratch: &mut [u8]) -> u64 {
+        let (a, w) = (area.as_ptr(), scratch.as_mut_ptr());
+        // SAFETY: the slices are live for the call, and the area, only read, does not overlap the scratch.
+        unsafe { otap_plain_row_part(table, row, a, length(area), w, length(scratch)) }
     }
 }

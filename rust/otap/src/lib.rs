@@ -4,9 +4,10 @@
 //! addresses and channels need none. No std, no allocation, no panic. `build.rs` finds the archive of the
 //! target where `./archive` writes it, or in the folder that `OTAP_ARCHIVE_DIR` names.
 //!
-//! Firmware of a hand-held links `libotap_handheld.a` alone, and two features, off by default, add the others. With `vehicle`, which links
+//! Firmware of a hand-held links `libotap_handheld.a` alone, and three features, off by default, add the others. With `vehicle`, which links
 //! `libotap_vehicle.a` too, `VehicleStore` is the same over a vehicle's bytes: both are a [`Set`], and only the sizes differ. With `office`,
-//! which links `libotap_office.a` too, `report`, `join`, `updates` and `propose` are what the office needs, of either kind of set.
+//! which links `libotap_office.a` too, `report`, `join`, `updates` and `propose` are what the office needs, of either kind of set. With `desk`, which
+//! links `libotap_desk.a` too, `Desk` is a desk emulator of a hand-held: it keeps the requests that were taken, and no tables.
 //!
 //! ```
 //! # fn main() -> Result<(), otap::Refusal> {
@@ -27,6 +28,8 @@ mod callers;
 mod calls;
 mod conversions;
 mod counts;
+#[cfg(feature = "desk")]
+mod desk;
 mod drawn;
 mod entries;
 #[cfg(feature = "office")]
@@ -49,6 +52,8 @@ pub use conversions::{
     individual_of_dialled, receive, transmit, GroupAddress, IndividualAddress,
 };
 pub use counts::{Counts, MOST_CHANNELS, MOST_LINES};
+#[cfg(feature = "desk")]
+pub use desk::{Desk, AREA_SIZE, DESK_SCRATCH_ROOM};
 pub use drawn::{DrawnRow, Rows};
 pub use entries::{Attribute, CallFlags, Entries, Entry};
 #[cfg(feature = "office")]

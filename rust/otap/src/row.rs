@@ -111,7 +111,7 @@ impl Table {
 pub enum Slice {
     /// The text itself, where the store keeps it.
     Store,
-    /// The number, written because the row has no text.
+    /// The number, written because the row has no text; of a desk, text or number.
     Scratch,
 }
 

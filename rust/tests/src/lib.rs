@@ -1,6 +1,7 @@
 //! Small helpers shared by the tests.
 #![deny(unsafe_code)]
 
+pub mod desk;
 pub mod fitting;
 pub mod joining;
 pub mod pair;

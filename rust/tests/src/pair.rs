@@ -215,7 +215,7 @@ pub fn commit_judged<'r, K: Tried>(
 }
 
 /// What the face answered, as the reference has it.
-fn said(answer: &otap::Answer) -> Answer {
+pub(crate) fn said(answer: &otap::Answer) -> Answer {
     Answer {
         number: answer.number(),
         failed: answer.failed_id,

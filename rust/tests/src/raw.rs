@@ -279,3 +279,58 @@ pub fn report_places(message: &[u8], at: u32) -> u64 {
     // SAFETY: as above.
     unsafe { otap_report_places(message.as_ptr(), message.len() as u64, at) }
 }
+
+unsafe extern "C" {
+    fn otap_plain_start(area: *mut u8, length: u64) -> u32;
+    fn otap_plain_take(
+        message: *const u8,
+        message_length: u64,
+        area: *mut u8,
+        area_length: u64,
+        reply: *mut u8,
+        length: u64,
+    ) -> u64;
+    fn otap_plain_row_number(
+        table: u32,
+        row: u32,
+        area: *const u8,
+        area_length: u64,
+        scratch: *const u8,
+        length: u64,
+    ) -> u32;
+    fn otap_plain_row_part(
+        table: u32,
+        row: u32,
+        area: *const u8,
+        area_length: u64,
+        scratch: *mut u8,
+        length: u64,
+    ) -> u64;
+}
+
+pub fn plain_start(area: &mut [u8]) -> u32 {
+    // SAFETY: the slice is live for the call, and its own.
+    unsafe { otap_plain_start(area.as_mut_ptr(), area.len() as u64) }
+}
+
+pub fn plain_take(message: &[u8], area: &mut [u8], reply: &mut [u8]) -> u64 {
+    let (message_length, area_length) = (message.len() as u64, area.len() as u64);
+    let (message, area, length) = (message.as_ptr(), area.as_mut_ptr(), reply.len() as u64);
+    let reply = reply.as_mut_ptr();
+    // SAFETY: the slices are live for the call and do not overlap.
+    unsafe { otap_plain_take(message, message_length, area, area_length, reply, length) }
+}
+
+pub fn plain_row_number(table: u32, row: u32, area: &[u8], scratch: &[u8]) -> u32 {
+    let (area_length, length) = (area.len() as u64, scratch.len() as u64);
+    let (area, scratch) = (area.as_ptr(), scratch.as_ptr());
+    // SAFETY: the slices are live for the call, which only reads them.
+    unsafe { otap_plain_row_number(table, row, area, area_length, scratch, length) }
+}
+
+pub fn plain_row_part(table: u32, row: u32, area: &[u8], scratch: &mut [u8]) -> u64 {
+    let (area_length, length) = (area.len() as u64, scratch.len() as u64);
+    let (area, scratch) = (area.as_ptr(), scratch.as_mut_ptr());
+    // SAFETY: the slices are live for the call and do not overlap.
+    unsafe { otap_plain_row_part(table, row, area, area_length, scratch, length) }
+}

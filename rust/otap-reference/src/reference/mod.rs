@@ -12,6 +12,7 @@ pub mod menu;
 pub mod message;
 pub mod numbers;
 pub mod packing;
+pub mod plain;
 pub mod plan;
 pub mod queries;
 pub mod report_reading;

@@ -76,7 +76,11 @@ fn row_units(row: Row, set: &Set) -> Option<Shown> {
 }
 
 fn line(line: &Line) -> Shown {
-    text_or(&line.text, || line.digits.iter().map(|digit| u16::from(b'0' + digit)).collect())
+    text_or(&line.text, || digits_shown(&line.digits))
+}
+
+pub(super) fn digits_shown(digits: &[u8]) -> Vec<u16> {
+    digits.iter().map(|digit| u16::from(b'0' + digit)).collect()
 }
 
 /// Nothing of a background group, wherever it stands; the rows behind it keep their places.
@@ -102,7 +106,7 @@ fn text_or(text: &[u16], number: impl FnOnce() -> Vec<u16>) -> Shown {
 }
 
 /// Eight dialled digits, or six hex digits for an address outside the plan.
-fn number(dialled: Result<u32, u8>, address: u32) -> Vec<u16> {
+pub(super) fn number(dialled: Result<u32, u8>, address: u32) -> Vec<u16> {
     let written = match dialled {
         Ok(dialled) => format!("{dialled:08}"),
         Err(_) => format!("{address:06X}"),

@@ -7,6 +7,9 @@ use Rattle.screen.proofs.numbers.write_address.Tie as tie
 enum-known-dialled : tie.Need-enum-known-dialled
 enum-known-dialled c = search needs
 
+cast-write-digits : tie.Need-cast-write-digits
+cast-write-digits c = search needs
+
 write-digits-requires : tie.Need-write-digits-requires
 write-digits-requires c κs = search needs
 
@@ -39,6 +42,7 @@ write-address-spec =
     tie.close
     (tie.spec
     enum-known-dialled
+    cast-write-digits
     write-digits-requires
     enum-told
     write-digits-requires-2

@@ -1,0 +1,4 @@
+pub mod Matching
+pub mod Outcomes
+pub mod Rows
+pub mod Theorems

@@ -1,0 +1,2 @@
+pub mod DeskBits
+pub mod DeskLaws

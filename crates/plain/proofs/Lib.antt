@@ -1,0 +1,4 @@
+pub mod ReplyLaws
+pub mod AskedLaws
+pub mod LadderLaws
+pub mod Theorems

@@ -1,0 +1,5 @@
+pub mod JudgeLaws
+pub mod SettingDeeds
+pub mod Standings
+pub mod TryLaws
+pub mod WeightLaws

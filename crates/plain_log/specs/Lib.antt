@@ -1,0 +1,3 @@
+pub mod Area
+pub mod Frames
+pub mod Checking

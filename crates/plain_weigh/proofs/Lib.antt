@@ -1,0 +1,3 @@
+pub mod TurnLaws
+pub mod WeighingLaws
+pub mod WeightLaws

@@ -1,0 +1,4 @@
+pub mod BeginLaws
+pub mod CodeLaws
+pub mod CursorLaws
+pub mod EntryLaws

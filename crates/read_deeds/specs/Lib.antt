@@ -1,0 +1,2 @@
+pub mod ReadDeeds
+pub mod Cursors
