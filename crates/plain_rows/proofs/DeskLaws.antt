@@ -24,8 +24,8 @@ use Rattle.screen.proofs.answers.Place.{the-type as place-type}
 use Rattle.plain_rows.specs.declared.names.Name.{Name}
 use Rattle.plain_rows.specs.declared.names.Name.the-variants.{Refused, Text as TextAt, Line as LineNumber, Group as GroupNumber, Individual as IndividualNumber}
 use Rattle.plain_rows.proofs.names.Name.{the-type}
-use Rattle.plain_rows.specs.Naming.{Named, plain-naming, LineWritten, TextWritten, bytes-in, PlainPlaced, ScratchPicked}
-use Rattle.plain_rows.specs.PlainRows.{PlainShown, plain-showing, plain-numbering, part-bytes, PlainPart}
+use Rattle.plain_rows.specs.Naming.{Named, plain-naming, LineWritten, TextWritten, ScratchPicked}
+use Rattle.plain_rows.specs.PlainRows.{PlainShown, plain-showing, plain-numbering, part-bytes, PlainPart, bytes-in, PlainPlaced}
 use Rattle.plain_rows.proofs.AreaTables.{area-tables}
 
 -- the plan's answer is the number that is shown

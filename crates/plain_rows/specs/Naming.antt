@@ -6,7 +6,7 @@ use mathlib.Core.List.{List, [], _++_, map}
 use mathlib.Core.Option.{none, some}
 use denote.Ref.{RefT}
 use lib.ListN.{length, take}
-use Rattle.lists.specs.Ladder.{Ladder, Answers}
+use Rattle.lists.specs.Ladder.{Ladder}
 use Rattle.writing.specs.declared.Kind.{Kind}
 use Rattle.writing.specs.declared.Kind.the-variants as kinds
 use Rattle.writing.specs.Ranges.{InNumber}
@@ -23,19 +23,17 @@ use Rattle.plain_look.specs.declared.known.Looked.{Looked}
 use Rattle.plain_look.specs.Looking.{SeenIs}
 use Rattle.plain_weigh.specs.Weighing.{log-start}
 use Rattle.screen.specs.declared.answers.Place.{Place}
-use Rattle.screen.specs.declared.answers.Place.the-variants.{Store, Scratch, Refused as NoPlace}
 use Rattle.screen.specs.declared.rows.Refusal.the-variants.{ScratchSize, NotAStore, Absent}
 use Rattle.screen.specs.declared.rows.Row.{Row}
 use Rattle.screen.specs.declared.rows.Row.the-variants.{Line, QuickText, StatusText, Group, Individual, GroupContact, IndividualContact, LineSlot, NoTable}
 use Rattle.screen.specs.Rows.{Caption, line, group, individual, caption, text-of, Displays, stored, ascii}
-use Rattle.screen.specs.Screen.{leaves}
 use Rattle.screen.specs.Steps.{Written}
 use Rattle.plain_log.specs.Area.{AreaOf}
 use Rattle.plain_rows.specs.declared.names.Name.{Name}
 use Rattle.plain_rows.specs.declared.names.Name.the-variants.{Refused, Text as TextAt, Line as LineNumber, Group as GroupNumber, Individual as IndividualNumber}
 use Rattle.plain_rows.specs.declared.spots.Spot.{Spot}
 use Rattle.plain_rows.specs.declared.spots.Spot.the-variants.{At, Nowhere}
-use Rattle.plain_rows.specs.PlainRows.{plain-judged, plain-showing}
+use Rattle.plain_rows.specs.PlainRows.{plain-judged, bytes-in}
 
 -- ---- which row of which table
 
@@ -98,17 +96,6 @@ LineWritten n s t r = (ds : Number) → InNumber ds → n ≡ number-code ds →
 
 abbrev pub TextWritten : List ℕ → TextPlace → List ℕ → List ℕ → ℕ → Type 0
 TextWritten area p s t r = (us : Text) → TextSeen area p us → length us ≤ 23 → 64 ≤ length s → Written us s t r
-
--- how many bytes of the scratch a place has
-abbrev pub bytes-in : Place → ℕ
-bytes-in (Store at n) = 0
-bytes-in (Scratch n) = n
-bytes-in (NoPlace r) = 0
-
--- the answer with a place, and the scratch afterwards
-pub record PlainPlaced (area scratch after : List ℕ) (row : Row) (r : Place) : Type 0 where
-  pub allowed : Answers (plain-showing area scratch row) (leaves r after)
-  pub fits : bytes-in r ≤ length after
 
 -- the part of a place of the scratch
 pub record ScratchPicked (scratch : RefT (List ℕ)) (place : Place) (r : RefT (List ℕ)) : Type 0 where

@@ -1,5 +1,5 @@
 -- What the screen's calls answer with no table, for every area, scratch and row: document 02, A12, "answers each row by reading them from the first".
-use Prim.Native.Nat.{ℕ, _*_, _<_}
+use Prim.Native.Nat.{ℕ, _*_, _≤_, _<_}
 use mathlib.Core.Path.{_≡_}
 use mathlib.Core.List.{List, _++_}
 use mathlib.Core.Option.{none, some}
@@ -8,11 +8,13 @@ use lib.ListN.{length, take, drop}
 use Rattle.lists.specs.Ladder.{Ladder, rung, foot, Answers}
 use Rattle.writing.specs.Settings.{Text}
 use Rattle.tables.specs.Tables.{Tables}
+use Rattle.screen.specs.declared.answers.Place.{Place}
+use Rattle.screen.specs.declared.answers.Place.the-variants.{Store, Scratch, Refused as NoPlace}
 use Rattle.screen.specs.declared.rows.Refusal.{Refusal}
 use Rattle.screen.specs.declared.rows.Refusal.the-variants.{ScratchSize, NotAStore, Absent}
 use Rattle.screen.specs.declared.rows.Row.{Row}
 use Rattle.screen.specs.Rows.{Caption, caption, Displays, Display, units, unit-bytes}
-use Rattle.screen.specs.Screen.{RowPart, of-store, of-scratch, AfterRow, refusal, refused}
+use Rattle.screen.specs.Screen.{RowPart, of-store, of-scratch, AfterRow, refusal, refused, leaves}
 use Rattle.plain_log.specs.Area.{AreaOf, IsArea}
 
 -- no tables that the requests of this area leave have the row
@@ -61,3 +63,14 @@ pub record PlainPart (area : List ℕ) (scratch : RefT (List ℕ)) (row : Row) (
   pub allowed : Answers (plain-showing area (scratch .now) row) after
   pub place : r .ptr ≡ scratch .ptr
   pub bytes : r .now ≡ take (part-bytes (after .part)) (after .scratch)
+
+-- how many bytes of the scratch a place has
+abbrev pub bytes-in : Place → ℕ
+bytes-in (Store at n) = 0
+bytes-in (Scratch n) = n
+bytes-in (NoPlace r) = 0
+
+-- the call that says where: its place, which lies in the scratch, and what is left of the scratch
+pub record PlainPlaced (area scratch after : List ℕ) (row : Row) (r : Place) : Type 0 where
+  pub allowed : Answers (plain-showing area scratch row) (leaves r after)
+  pub fits : bytes-in r ≤ length after

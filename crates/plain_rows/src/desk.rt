@@ -11,8 +11,8 @@ use screen::numbers::write_dialled;
 use screen::rows::Row;
 ghost use Rattle.lists.specs.Ladder.{Answers};
 ghost use Rattle.screen.specs.Screen.{number, leaves};
-ghost use Rattle.plain_rows.specs.PlainRows.{plain-numbering, plain-showing, PlainPart};
-ghost use Rattle.plain_rows.specs.Naming.{PlainPlaced, ScratchPicked};
+ghost use Rattle.plain_rows.specs.PlainRows.{plain-numbering, plain-showing, PlainPart, PlainPlaced};
+ghost use Rattle.plain_rows.specs.Naming.{ScratchPicked};
 
 // Whether the row is shown, or why not.
 pub fn row_number(area: &[u8], scratch: &[u8], row: Row) -> Answer

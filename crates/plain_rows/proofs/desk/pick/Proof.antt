@@ -1,6 +1,6 @@
 -- `plain_rows::desk::pick` meets its contract. Assumes nothing.
 use Rattle.lists.proofs.Kit.{ℕ, _-_, _≡_, sym, ap, needs, zero-add, arith, take}
-use Rattle.plain_rows.specs.Naming.{bytes-in}
+use Rattle.plain_rows.specs.PlainRows.{bytes-in}
 use Rattle.plain_rows.proofs.DeskLaws.{no-bytes}
 use Rattle.plain_rows.proofs.desk.pick.Statement.{statement}
 use Rattle.plain_rows.proofs.desk.pick.Tie as tie
