@@ -14,7 +14,7 @@ use tables::limits::Limits;
 use tables::list_places::{line_slot, line_slots, lines_at};
 use tables::places::{COUNT, KEY_BYTES, LINE_KEY};
 
-#[derive(Drop)]
+#[derive(Clone, Copy)]
 pub enum Caller {
     Row(usize),
     NoRow,

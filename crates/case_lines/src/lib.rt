@@ -1,4 +1,6 @@
 // Cases as lines of text: what a case is, a colon, and its message in digits. The programs of cases take them and print what they come to.
+#![tactic(auto)]
+
 pub mod building;
 pub mod printing;
 pub mod sets;

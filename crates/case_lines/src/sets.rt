@@ -2,7 +2,7 @@
 use station::answers::Answer;
 use tables::start::Started;
 
-#[derive(Drop)]
+#[derive(Clone, Copy)]
 pub enum Set {
     Handheld,
     Vehicle,

@@ -10,7 +10,7 @@ use tables::limits::VEHICLE_SIZE;
 const MOST: usize = 8193;
 
 // What is done with a message: one of the calls, or both.
-#[derive(Drop)]
+#[derive(Clone, Copy)]
 pub enum Call {
     Judge,
     Commit,

@@ -1,4 +1,6 @@
 // Runs cases that were worked out by hand, of numbers, buffers, messages and settings: a line each, with the number answered and what was left behind.
+#![tactic(auto)]
+
 use tables::limits::HANDHELD_SIZE;
 
 mod carrier_cases;

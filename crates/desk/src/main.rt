@@ -1,4 +1,6 @@
 // Takes the messages of the records on standard input by the plain engine, from a fresh area, and prints kind, number and failed ID of each, as `take` does.
+#![tactic(auto)]
+
 use plain::answers::{failed_id, number};
 use plain::desk::{start, take};
 use plain_log::areas::AREA;

@@ -1,6 +1,8 @@
 // Gives the messages of the records on standard input to a hand-held and to the plain engine, each from a fresh start.
 // It prints a line for each: kind, number and failed ID of the hand-held, then `same`, or number and failed ID of the plain engine. The rows of both are compared while
 // little is kept, and the first that differs has a line. A record of kind 65534 is an instruction to this program.
+#![tactic(auto)]
+
 mod answers;
 mod instructions;
 mod rows;

@@ -46,7 +46,7 @@ const IN_ORDER: [Part; 10] = [
 ];
 
 // A part by its number.
-#[derive(Drop)]
+#[derive(Clone, Copy)]
 pub(crate) enum FoundPart {
     Is(Part),
     NoneSuch,
@@ -67,7 +67,7 @@ fn part_of(number: u32) -> FoundPart
 }
 
 // Where a part's slots stand in a working copy whose lines' region and whose order of the lines start here, behind a list's count: from this byte up to that one. docs/STORE.md.
-#[derive(Drop)]
+#[derive(Clone, Copy)]
 pub(crate) struct Span(usize, usize);
 
 fn span_of(part: Part, lines: usize, order: usize) -> Span

@@ -1,5 +1,5 @@
 // What is exported, part by part.
-#[derive(Drop)]
+#[derive(Clone, Copy)]
 pub enum Part {
     Lines,
     Fixed,
@@ -17,7 +17,7 @@ pub enum Part {
 pub const PARTS: u32 = 10;
 
 // Why nothing was exported.
-#[derive(Drop)]
+#[derive(Clone, Copy)]
 pub enum NoExport {
     Buffer,
     NotAStore,
@@ -25,7 +25,7 @@ pub enum NoExport {
 }
 
 // The length of the request that was written, or why none was.
-#[derive(Drop)]
+#[derive(Clone, Copy)]
 pub enum Export {
     Written(usize),
     Untouched(NoExport),

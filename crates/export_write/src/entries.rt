@@ -7,7 +7,7 @@ use super::writers::write_bytes;
 use slots::bytes::is_zeros;
 
 // A table of texts: its slots, where the text starts in one, the index or code of the first, and how many entries one setting takes.
-#[derive(Drop)]
+#[derive(Clone, Copy)]
 pub(crate) struct TextTable {
     pub width: usize,
     pub skip: usize,
@@ -17,7 +17,7 @@ pub(crate) struct TextTable {
 }
 
 // Entries that were written: the place after them, how many they are, and the first place of the table that was not looked at.
-#[derive(Drop)]
+#[derive(Clone, Copy)]
 pub(crate) struct Entries {
     pub end: usize,
     pub count: usize,

@@ -1,4 +1,6 @@
 // Writes what a set holds as settings, table by table.
+#![tactic(auto)]
+
 pub mod channels;
 pub mod contacts;
 mod entries;

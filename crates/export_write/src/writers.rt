@@ -7,7 +7,7 @@ ghost use Rattle.export_write.specs.Writers.{Wrote, Started};
 use slots::bytes::copy;
 
 // Settings that were written: the place after them, and how many they are.
-#[derive(Drop)]
+#[derive(Clone, Copy)]
 pub struct Settings {
     pub end: usize,
     pub count: u8,

@@ -1,7 +1,7 @@
 // What the call that joins answers.
 
 // What is wrong with a request; the last three say the number of the setting at fault.
-#[derive(Drop)]
+#[derive(Clone, Copy)]
 pub enum Fault {
     Size,
     Carrier,
@@ -15,7 +15,7 @@ pub enum Fault {
 }
 
 // The length of the request that was written, or why none was: the buffer, one of the requests, or both together.
-#[derive(Drop)]
+#[derive(Clone, Copy)]
 pub enum Join {
     Written(usize),
     Buffer,

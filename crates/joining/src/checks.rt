@@ -8,14 +8,14 @@ use settings::settings::Setting;
 use writing::Coding;
 
 // What the head of a request says of its settings.
-#[derive(Drop)]
+#[derive(Clone, Copy)]
 pub(crate) struct Head {
     pub count: u8,
     pub coding: Coding,
 }
 
 // The place after a setting and whether it is an FF item, or its fault: its type, or anything else.
-#[derive(Drop)]
+#[derive(Clone, Copy)]
 pub(crate) enum Step {
     Next(usize, bool),
     Unknown,
@@ -23,7 +23,7 @@ pub(crate) enum Step {
 }
 
 // A request that may be joined, or what is wrong with it.
-#[derive(Drop)]
+#[derive(Clone, Copy)]
 pub(crate) enum Request {
     Good(Head),
     Wrong(Fault),

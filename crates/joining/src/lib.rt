@@ -1,4 +1,6 @@
 // Joins two requests under one header, for dispatch software.
+#![tactic(auto)]
+
 pub mod answers;
 mod checks;
 pub mod handheld;

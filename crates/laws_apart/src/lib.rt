@@ -1,1 +1,3 @@
+#![tactic(auto)]
+
 // Requests that share no table: laws only.

@@ -1,1 +1,3 @@
+#![tactic(auto)]
+
 // Queries, reports and taking together: laws only.

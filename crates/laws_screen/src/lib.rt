@@ -1,1 +1,3 @@
+#![tactic(auto)]
+
 // Taking and the screen together: laws only.

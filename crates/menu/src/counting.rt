@@ -10,7 +10,7 @@ use tables::limits::Limits;
 use tables::list_places::{channels_at, line_slots, lines_at};
 use tables::places::COUNT;
 
-#[derive(Drop)]
+#[derive(Clone, Copy)]
 pub enum Counts {
     Held(u16, u16),
     NotAStore,

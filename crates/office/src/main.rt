@@ -1,4 +1,6 @@
 // The office's program: reads the messages of reports in the records on standard input, and prints a line for each and for each of its parameters.
+#![tactic(auto)]
+
 mod contacts;
 mod fields;
 mod messages;

@@ -1,4 +1,6 @@
 // Runs cases that were worked out by hand, of what an office asks a set and sends it: reports, each read back, joined requests, and updates.
+#![tactic(auto)]
+
 use tables::limits::HANDHELD_SIZE;
 
 mod join_cases;

@@ -1,4 +1,6 @@
 // The functions that the firmware of a vehicle set calls, in C or Rust. Crate packing says which bits of an answer are what.
+#![tactic(auto)]
+
 mod caller;
 mod counts;
 mod entries;

@@ -8,7 +8,7 @@ use super::bits::bit_of;
 use values::answers::{Entry, Target};
 
 // All that an entry of any kind has, 0 where its kind has none.
-#[derive(Drop)]
+#[derive(Clone, Copy)]
 pub struct EntryValues {
     pub address: u32,
     pub idtype: bool,

@@ -9,7 +9,7 @@ use values::answers::{EmergencyKey, Home, Key, System};
 use writing::{HomeNumbers, KeyTarget, SystemCode};
 
 // All that the key has, whatever it calls; no address with the current place.
-#[derive(Drop)]
+#[derive(Clone, Copy)]
 pub struct KeyValues {
     pub address: u32,
     pub current: bool,

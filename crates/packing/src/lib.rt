@@ -1,4 +1,6 @@
 // What C answers are packed as, for sets of any limits.
+#![tactic(auto)]
+
 pub mod bits;
 pub mod caller;
 pub mod conversions;

@@ -1,4 +1,6 @@
 // What the office's C answers are packed as.
+#![tactic(auto)]
+
 pub mod join;
 pub mod message;
 pub mod parameter;

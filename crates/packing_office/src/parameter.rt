@@ -13,7 +13,7 @@ use writing::{
 };
 
 // All that a parameter of any type has, 0 where its type has none.
-#[derive(Drop)]
+#[derive(Clone, Copy)]
 pub struct Parameter {
     pub asked: u64,
     pub flags: u64,

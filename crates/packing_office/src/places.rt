@@ -8,7 +8,7 @@ use read_fields::texts::TextPlace;
 use report_reading::items::{Item, ItemRead};
 
 // The byte behind it, its text and how many units that has, its number or hash value, and how many digits or which HashCode; 0 of what it has none of.
-#[derive(Drop)]
+#[derive(Clone, Copy)]
 pub struct Places {
     pub next: usize,
     pub text: usize,

@@ -6,7 +6,7 @@ use station::answers::Reply;
 use station::replies::result_number;
 
 // A refusal that touches no byte.
-#[derive(Drop)]
+#[derive(Clone, Copy)]
 pub enum Refusal {
     ReplyBuffer,
     NotAnArea,
@@ -16,7 +16,7 @@ pub enum Refusal {
     AreaFull,
 }
 
-#[derive(Drop)]
+#[derive(Clone, Copy)]
 pub enum Answer {
     Untouched(Refusal),
     Replied(Reply),

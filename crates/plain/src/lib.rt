@@ -1,4 +1,6 @@
 // The plain engine: takes messages as the hand-held does, keeps the requests that it took, and no table.
+#![tactic(auto)]
+
 pub mod answers;
 mod asked;
 pub mod desk;

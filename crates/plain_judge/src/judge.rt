@@ -12,28 +12,28 @@ use settings::settings::Setting;
 use writing::{Coding, LastFlags, Result};
 
 // FF's bits and where its hash stands, no and no and a hash of code 0 for another setting.
-#[derive(Drop)]
+#[derive(Clone, Copy)]
 pub struct Item {
     pub flags: LastFlags,
     pub hash: HashPlace,
 }
 
 // The place after a setting that was taken, what it says as the last, and how many deeds of the request were read; or its fault.
-#[derive(Drop)]
+#[derive(Clone, Copy)]
 pub(crate) enum Step {
     Next(usize, Item, usize),
     Fault(Result),
 }
 
 // What the last setting says and how many deeds there are where all settings were taken, or the first fault and the failed ID.
-#[derive(Drop)]
+#[derive(Clone, Copy)]
 pub enum Judged {
     Good(Item, usize),
     Fault(Result, u8),
 }
 
 // A request's settings: where they start, how many they are, and their coding.
-#[derive(Drop)]
+#[derive(Clone, Copy)]
 pub struct Request {
     pub at: usize,
     pub count: u8,

@@ -11,7 +11,7 @@ use settings::settings::Setting;
 use tables::limits::{HANDHELD, Limits};
 
 // How many deeds of the request were read then, or that there was no room.
-#[derive(Drop)]
+#[derive(Clone, Copy)]
 pub(crate) enum Deeds {
     Passed(usize),
     NoRoom,

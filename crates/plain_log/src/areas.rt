@@ -11,7 +11,7 @@ pub const AREA: usize = 32768;
 // How many of them say how long the requests are.
 pub const USED: usize = 4;
 
-#[derive(Drop)]
+#[derive(Clone, Copy)]
 pub enum Started {
     Fresh,
     WrongSize,

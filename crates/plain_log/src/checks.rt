@@ -11,21 +11,21 @@ use slots::bytes::is_clear;
 use tables::limits::{HANDHELD, Limits};
 
 // How long the requests of an area are, how many deeds they have, and where the hash of the last stands.
-#[derive(Drop)]
+#[derive(Clone, Copy)]
 pub struct Area {
     pub used: usize,
     pub deeds: usize,
     pub hash: HashPlace,
 }
 
-#[derive(Drop)]
+#[derive(Clone, Copy)]
 pub enum AreaRead {
     Is(Area),
     NotOne,
 }
 
 // The place after a request that is taken in its turn, how many deeds it has, and where its hash stands; or it is not.
-#[derive(Drop)]
+#[derive(Clone, Copy)]
 pub(crate) enum RecordRead {
     Taken(usize, usize, HashPlace),
     Not,

@@ -4,7 +4,7 @@ ghost use Rattle.plain_log.specs.Frames.{PutNumber, KeepIs};
 use super::areas::{AREA, USED};
 use slots::bytes::copy;
 
-#[derive(Drop)]
+#[derive(Clone, Copy)]
 pub enum Kept {
     Kept,
     PastEnd,

@@ -6,7 +6,7 @@ use read_fields::texts::TextPlace;
 use writing::{Coding, Kind};
 
 // Whether an entry has the key, the number of the deed that it was born at, how often it was put since it last was not there, and the entry.
-#[derive(Drop)]
+#[derive(Clone, Copy)]
 pub struct Looked {
     pub there: bool,
     pub birth: usize,

@@ -13,7 +13,7 @@ use screen::rows::{Refusal, Row};
 use writing::Coding;
 
 // A text in the area, a line's number behind a 1, or an address whose number is to be written.
-#[derive(Drop)]
+#[derive(Clone, Copy)]
 pub enum Name {
     Refused(Refusal),
     Text(TextPlace),

@@ -4,7 +4,7 @@ ghost use Rattle.plain_rows.specs.Naming.{PlacedIn, SpotIs};
 use screen::rows::Row;
 use writing::Kind;
 
-#[derive(Drop)]
+#[derive(Clone, Copy)]
 pub enum Spot {
     At(Kind, usize),
     Nowhere,

@@ -10,7 +10,7 @@ use read_deeds::entries::next_entry;
 use writing::{Coding, Kind};
 
 // The deeds that were read before: so many of the log, and so many of the request from its first setting on.
-#[derive(Drop)]
+#[derive(Clone, Copy)]
 pub struct Before {
     pub logged: usize,
     pub first: Cursor,
@@ -18,7 +18,7 @@ pub struct Before {
 }
 
 // What the table weighs then and how many deeds of the request were read, or that there was no room.
-#[derive(Drop)]
+#[derive(Clone, Copy)]
 pub enum Tried {
     Room(Weight, usize),
     Full,

@@ -7,27 +7,27 @@ use read_deeds::deeds::{Deed, Put};
 use tables::limits::{HANDHELD, Limits};
 use writing::Kind;
 
-#[derive(Drop)]
+#[derive(Clone, Copy)]
 pub struct Weight {
     pub entries: usize,
     pub bytes: usize,
 }
 
-#[derive(Drop)]
+#[derive(Clone, Copy)]
 pub(crate) enum Weighed {
     Room(Weight),
     Full,
 }
 
 // How many entries a table has room for; Any where it always has room.
-#[derive(Drop)]
+#[derive(Clone, Copy)]
 pub(crate) enum Room {
     Of(usize),
     Any,
 }
 
 // How many entries there are then, or that there is no room.
-#[derive(Drop)]
+#[derive(Clone, Copy)]
 pub(crate) enum Entries {
     Are(usize),
     Full,

@@ -1,11 +1,11 @@
 // What a conversion of channels answers, in units of 100 Hz.
-#[derive(Drop)]
+#[derive(Clone, Copy)]
 pub enum FrequencyAnswer {
     Frequency(u32),
     NoChannel,
 }
 
-#[derive(Drop)]
+#[derive(Clone, Copy)]
 pub enum ChannelAnswer {
     Channel(u32),
     NoChannel,

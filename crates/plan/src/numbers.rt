@@ -4,40 +4,40 @@ ghost use Rattle.plan.specs.Numbers.{IndividualShort, GroupShort, Individual, Gr
 ghost use Rattle.plan.specs.Inner.{ShortIs, MemberIs, ShortFits, MemberFits, AddressOf, DialledOf};
 
 // The 24 bits of a group's address.
-#[derive(Drop)]
+#[derive(Clone, Copy)]
 pub struct GroupAddress(pub u32);
 
 // The 24 bits of an individual's address.
-#[derive(Drop)]
+#[derive(Clone, Copy)]
 pub struct IndividualAddress(pub u32);
 
-#[derive(Drop)]
+#[derive(Clone, Copy)]
 pub enum IndividualAnswer {
     Address(IndividualAddress),
     OutsidePlan,
 }
 
-#[derive(Drop)]
+#[derive(Clone, Copy)]
 pub enum GroupAnswer {
     Address(GroupAddress),
     OutsidePlan,
 }
 
-#[derive(Drop)]
+#[derive(Clone, Copy)]
 pub enum DialledAnswer {
     Dialled(u32),
     OutsideKind,
 }
 
 // The short address of a fleet's member, where the plan has one.
-#[derive(Drop)]
+#[derive(Clone, Copy)]
 enum Short {
     Is(u32),
     Nothing,
 }
 
 // The fleet and the member of a short address, where the plan has them.
-#[derive(Drop)]
+#[derive(Clone, Copy)]
 enum Member {
     Of(u32, u32),
     Nobody,

@@ -5,14 +5,14 @@ ghost use Rattle.printing.specs.Utf8 as utf;
 use super::output::text;
 
 // A character, and the place behind it.
-#[derive(Drop)]
+#[derive(Clone, Copy)]
 struct Character {
     code: u32,
     next: usize,
 }
 
 // The bytes of a character: the first ones, as many as the length says.
-#[derive(Drop)]
+#[derive(Clone, Copy)]
 struct Utf8 {
     bytes: [u8; 4],
     length: usize,

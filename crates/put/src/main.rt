@@ -1,4 +1,6 @@
 // Takes the messages of the records on standard input, from a fresh store, and writes the ten records that the store is exported as.
+#![tactic(auto)]
+
 use export::handheld::export;
 use export::parts::{Export, PARTS};
 use libc::STDOUT_FILENO;

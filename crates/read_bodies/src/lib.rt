@@ -1,4 +1,6 @@
 // Reads the fields after DataLength, by the type of the setting.
+#![tactic(auto)]
+
 pub mod contact_bodies;
 pub mod fixed_bodies;
 mod flags;

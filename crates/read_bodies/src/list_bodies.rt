@@ -14,7 +14,7 @@ use settings::type_table::{OperationRead, operation_of};
 use writing::{Coding, Operation};
 
 // The operation of a list, where its entries start and their count, or that no such head stands there.
-#[derive(Drop)]
+#[derive(Clone, Copy)]
 enum ListHead {
     Is(Operation, usize, usize),
     NoHead,

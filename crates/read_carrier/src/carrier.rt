@@ -23,7 +23,7 @@ pub const EIGHT_BIT: u8 = 0b0100;
 pub const VERSION: u8 = 1;
 
 // A message is out of size, not carried, or opens with a version, a type and a coding type.
-#[derive(Drop)]
+#[derive(Clone, Copy)]
 pub enum Opened {
     Size,
     Carrier,
@@ -32,7 +32,7 @@ pub enum Opened {
 
 // A message is out of size, not carried, of another type or version, or a request or a result query, well formed or not.
 // A request has the count of its settings, the place where they start and how their texts are coded, a query the place of its hash.
-#[derive(Drop)]
+#[derive(Clone, Copy)]
 pub enum Message {
     Size,
     Carrier,
@@ -45,7 +45,7 @@ pub enum Message {
 }
 
 // The coding type under which data bytes are carried.
-#[derive(Drop)]
+#[derive(Clone, Copy)]
 enum CarrierRead {
     Carried(u8),
     NotCarried,

@@ -9,7 +9,7 @@ use read_setting::reader::{SettingRead, read_setting};
 use writing::Coding;
 
 // The entries left of a setting; where the next setting stands, or the next request where none is left, with how many are still counted and their coding.
-#[derive(Drop)]
+#[derive(Clone, Copy)]
 pub struct Cursor {
     pub left: Left,
     pub at: usize,
@@ -18,7 +18,7 @@ pub struct Cursor {
 }
 
 // A deed, and where the next is.
-#[derive(Drop)]
+#[derive(Clone, Copy)]
 pub struct Moved {
     pub deed: Deed,
     pub cursor: Cursor,

@@ -5,7 +5,7 @@ use read_fields::texts::TextPlace;
 use writing::{Coding, Kind, Operation};
 
 // An entry that is put: its key, the number that it is named by, whether it has no row, and where its text stands.
-#[derive(Drop)]
+#[derive(Clone, Copy)]
 pub struct Put {
     pub key: u64,
     pub name: u64,
@@ -13,7 +13,7 @@ pub struct Put {
     pub text: TextPlace,
 }
 
-#[derive(Drop)]
+#[derive(Clone, Copy)]
 pub enum Deed {
     Nothing,
     Clears(Kind),
@@ -22,7 +22,7 @@ pub enum Deed {
 }
 
 // Of so many entries of a setting in all, so many are still to be read, from start on; of channels, which share bytes, all stand from start on.
-#[derive(Drop)]
+#[derive(Clone, Copy)]
 pub struct Left {
     pub kind: Kind,
     pub operation: Operation,
@@ -35,7 +35,7 @@ pub struct Left {
 }
 
 // A deed, and the entries that are left after it.
-#[derive(Drop)]
+#[derive(Clone, Copy)]
 pub struct Turn {
     pub deed: Deed,
     pub left: Left,

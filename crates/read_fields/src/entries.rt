@@ -8,46 +8,46 @@ use super::numbers::{NumberPlace, NumberRead, read_number};
 use super::texts::{TextPlace, TextRead, read_text};
 use writing::Coding;
 
-#[derive(Drop)]
+#[derive(Clone, Copy)]
 pub struct ContactPlace {
     pub number: NumberPlace,
     pub text: TextPlace,
 }
 
 // A group or individual contact: its address by number.
-#[derive(Drop)]
+#[derive(Clone, Copy)]
 pub struct AddressedPlace {
     pub address: u32,
     pub text: TextPlace,
 }
 
 // A quick text by its index, a status text by its code.
-#[derive(Drop)]
+#[derive(Clone, Copy)]
 pub struct EntryPlace {
     pub index: u8,
     pub text: TextPlace,
 }
 
-#[derive(Drop)]
+#[derive(Clone, Copy)]
 pub enum ContactRead {
     Contact(ContactPlace, usize),
     NoContact,
 }
 
-#[derive(Drop)]
+#[derive(Clone, Copy)]
 pub enum AddressedRead {
     Contact(AddressedPlace, usize),
     NoContact,
 }
 
-#[derive(Drop)]
+#[derive(Clone, Copy)]
 pub enum EntryRead {
     Entry(EntryPlace, usize),
     NoEntry,
 }
 
 // Which entries a list has: line contacts, contacts with an address, quick texts of at least so many units, or status texts.
-#[derive(Drop)]
+#[derive(Clone, Copy)]
 pub enum Listed {
     Contacts,
     Addressed,
@@ -56,7 +56,7 @@ pub enum Listed {
 }
 
 // As many entries as were counted, and the place after them.
-#[derive(Drop)]
+#[derive(Clone, Copy)]
 pub enum Walk {
     To(usize),
     Stopped,

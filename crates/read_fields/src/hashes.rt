@@ -4,13 +4,13 @@ ghost use Rattle.read_fields.specs.Hashes.{HashAt, SizeOf};
 use super::bytes::remaining;
 
 // The value's bytes start there; the code says how many they are.
-#[derive(Drop)]
+#[derive(Clone, Copy)]
 pub struct HashPlace {
     pub code: u8,
     pub start: usize,
 }
 
-#[derive(Drop)]
+#[derive(Clone, Copy)]
 pub enum HashRead {
     Hash(HashPlace, usize),
     NoHash,

@@ -4,20 +4,20 @@ ghost use Rattle.read_fields.specs.TextsAndNumbers.{NumberAt, DigitsAre, EndedAt
 use super::bytes::{number, remaining};
 
 // The digits before the end mark.
-#[derive(Drop)]
+#[derive(Clone, Copy)]
 pub struct NumberPlace {
     pub start: usize,
     pub digits: usize,
 }
 
-#[derive(Drop)]
+#[derive(Clone, Copy)]
 pub enum NumberRead {
     Number(NumberPlace, usize),
     NoNumber,
 }
 
 // What a byte of a number holds: two digits, a last digit and the end mark, the end mark twice, or none of these.
-#[derive(Drop)]
+#[derive(Clone, Copy)]
 enum Digits {
     Two,
     One,

@@ -5,14 +5,14 @@ use super::bytes::{number, remaining};
 use writing::Coding;
 
 // The units before the end unit, and the coding that they were read under.
-#[derive(Drop)]
+#[derive(Clone, Copy)]
 pub struct TextPlace {
     pub start: usize,
     pub units: usize,
     pub coding: Coding,
 }
 
-#[derive(Drop)]
+#[derive(Clone, Copy)]
 pub enum TextRead {
     Text(TextPlace, usize),
     NoText,

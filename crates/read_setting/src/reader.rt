@@ -14,7 +14,7 @@ use settings::type_table::{Bounds, BoundsRead, bounds_of};
 use writing::Coding;
 
 // The setting with the place after it; no type byte (4); a type not among the thirteen (3); a bad field or length (4).
-#[derive(Drop)]
+#[derive(Clone, Copy)]
 pub enum SettingRead {
     Taken(Setting, usize),
     Missing,

@@ -1,11 +1,13 @@
 // The records that the programs read from standard input: length and kind, each two bytes little-endian, then a message.
+#![tactic(auto)]
+
 ghost use Rattle.std.specs.Prelude.{length};
 ghost use Rattle.records.specs.Records.{Within};
 
 use libc::STDIN_FILENO;
 
 // What stands next in the input: a message of so many bytes, one too long for the buffer, a record cut short, or nothing.
-#[derive(Drop)]
+#[derive(Clone, Copy)]
 pub enum Record {
     Whole(u16, usize),
     TooLong(u16),

@@ -10,7 +10,7 @@ use read_fields::bytes::{flag, number, remaining};
 use read_fields::hashes::{HashRead, read_hash};
 use writing::{HomeNumbers, KeyFlags, KeyTarget, SystemCode};
 
-#[derive(Drop)]
+#[derive(Clone, Copy)]
 pub enum TargetRead {
     Target(KeyTarget),
     NoTarget,

@@ -5,7 +5,7 @@ ghost use Rattle.report_reading.specs.Readers.{HeadIs, GroupFlagsAre, Individual
 use read_fields::bytes::{flag, number, remaining};
 use writing::{GroupFlags, IndividualFlags, LineFlags};
 
-#[derive(Drop)]
+#[derive(Clone, Copy)]
 pub enum HeadRead {
     Head(u64),
     NoHead,

@@ -8,7 +8,7 @@ use writing::{
 };
 
 // Contacts and lines have their index first, a channel its number, a status text its code and then its index.
-#[derive(Drop)]
+#[derive(Clone, Copy)]
 pub enum Item {
     Group(u8, GroupFlags, GroupAddress, TextPlace),
     Individual(u8, IndividualFlags, IndividualAddress, TextPlace),
@@ -25,7 +25,7 @@ pub enum Item {
 }
 
 // A parameter and the place behind it, or that none in range stands there.
-#[derive(Drop)]
+#[derive(Clone, Copy)]
 pub enum ItemRead {
     Item(Item, usize),
     NoItem,

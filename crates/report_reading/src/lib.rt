@@ -1,4 +1,6 @@
 // Reads reports for the office: a message's head, and its parameters one at a time.
+#![tactic(auto)]
+
 mod contacts;
 mod fixed;
 pub mod handheld;

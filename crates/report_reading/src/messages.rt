@@ -10,7 +10,7 @@ use read_carrier::carrier::{Opened, UNICODE16, VERSION, open_message};
 use read_fields::bytes::{number, remaining};
 
 // Why no report was read, or its total, its index and how many parameters it has.
-#[derive(Drop)]
+#[derive(Clone, Copy)]
 pub enum ReportRead {
     Size,
     Carrier,

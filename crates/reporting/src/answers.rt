@@ -1,7 +1,7 @@
 // What the call answers.
 
 // Why nothing was reported; a bad query has no types or a false count, or its report would have over 255 messages.
-#[derive(Drop)]
+#[derive(Clone, Copy)]
 pub enum NoReport {
     Buffer,
     NotAStore,
@@ -14,7 +14,7 @@ pub enum NoReport {
 }
 
 // How many messages the report has and the length of the one that was written, or why none was.
-#[derive(Drop)]
+#[derive(Clone, Copy)]
 pub enum Report {
     Written(u8, usize),
     Untouched(NoReport),

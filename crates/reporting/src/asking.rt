@@ -15,14 +15,14 @@ const QUERY: u8 = 2;
 pub(crate) const TYPES: usize = 8;
 
 // The type that a byte asks for.
-#[derive(Drop)]
+#[derive(Clone, Copy)]
 pub(crate) enum Asks {
     Known(Asked),
     Unknown,
 }
 
 // The message asks for the types that stand from byte 8 on, or it is refused.
-#[derive(Drop)]
+#[derive(Clone, Copy)]
 pub(crate) enum Query {
     Types,
     Refused(NoReport),

@@ -1,4 +1,6 @@
 // Answers queries: writes the message of a report that is asked for.
+#![tactic(auto)]
+
 pub mod answers;
 mod asking;
 pub mod handheld;

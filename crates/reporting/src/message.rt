@@ -25,7 +25,7 @@ const NOT_SUPPORTED: u8 = 0x83;
 pub(crate) const FIRST: usize = 10;
 
 // The byte behind what was written, a place of a table, before which so many entries stand, and how many parameters are left to write.
-#[derive(Drop)]
+#[derive(Clone, Copy)]
 pub(crate) struct Spot {
     pub end: usize,
     pub place: usize,

@@ -15,7 +15,7 @@ const PARAMETERS: usize = 255;
 const ERROR: usize = 2;
 
 // Of the type at ask among the query's: a place of its table, before which so many entries stand.
-#[derive(Drop)]
+#[derive(Clone, Copy)]
 pub(crate) struct Cursor {
     pub ask: usize,
     pub place: usize,
@@ -23,7 +23,7 @@ pub(crate) struct Cursor {
 }
 
 // So many messages are closed, and the open one has used bytes and count parameters. The wanted one has own parameters so far, from this cursor on.
-#[derive(Drop)]
+#[derive(Clone, Copy)]
 pub(crate) struct Walk {
     pub closed: usize,
     pub used: usize,

@@ -8,14 +8,14 @@ use tables::limits::Limits;
 use writing::{Coding, LastFlags, Result};
 
 // The place after a setting that was taken, with FF's bits and the bytes that texts take then, or its fault.
-#[derive(Drop)]
+#[derive(Clone, Copy)]
 pub(crate) enum Step {
     Next(usize, LastFlags, usize),
     Fault(Result),
 }
 
 // FF's bits where all settings were taken, or the first fault and the failed ID.
-#[derive(Drop)]
+#[derive(Clone, Copy)]
 pub enum Run {
     Good(LastFlags),
     Fault(Result, u8),

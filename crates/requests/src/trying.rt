@@ -12,7 +12,7 @@ use working::sums::{table_bytes, work_bytes};
 use writing::Kind;
 
 // The bytes that all texts take after a setting, which are not counted where each has a place of its own; or it has no room.
-#[derive(Drop)]
+#[derive(Clone, Copy)]
 pub enum Held {
     Bytes(usize),
     NoRoom,

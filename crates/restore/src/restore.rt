@@ -11,7 +11,7 @@ use store_check::checks::is_store;
 use tables::limits::Limits;
 use tables::start::start;
 
-#[derive(Drop)]
+#[derive(Clone, Copy)]
 pub enum Restored {
     Same,
     ReplyBuffer,

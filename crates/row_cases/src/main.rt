@@ -1,4 +1,6 @@
 // Runs cases that were worked out by hand, of callers, of the screen's rows, and of what stands behind a row: a line each.
+#![tactic(auto)]
+
 use tables::limits::HANDHELD_SIZE;
 
 mod caller_cases;

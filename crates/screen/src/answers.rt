@@ -4,14 +4,14 @@ ghost use Rattle.screen.specs.Screen.{number};
 
 use super::rows::Refusal;
 
-#[derive(Drop)]
+#[derive(Clone, Copy)]
 pub enum Answer {
     Shown,
     Refused(Refusal),
 }
 
 // Where the row's text is: its start and length in the store, or the length of the number at the start of the scratch.
-#[derive(Drop)]
+#[derive(Clone, Copy)]
 pub enum Place {
     Store(usize, usize),
     Scratch(usize),

@@ -8,7 +8,7 @@ use tables::limits::Limits;
 use working::areas::{area_at, units_before};
 
 // A text in the store: where it starts, and how many bytes it has.
-#[derive(Drop)]
+#[derive(Clone, Copy)]
 pub struct Span {
     pub start: usize,
     pub bytes: usize,

@@ -1,4 +1,6 @@
 // The rows of the screen: a row's own name, or its number.
+#![tactic(auto)]
+
 pub mod answers;
 mod areas;
 pub mod handheld;

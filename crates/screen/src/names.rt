@@ -21,21 +21,21 @@ use working::areas::table_run;
 use working::runs::TEXT_TABLES;
 
 // A row's slot in the store, and where its own bytes end: there stands its text, or how many units that has.
-#[derive(Drop)]
+#[derive(Clone, Copy)]
 pub struct Slot {
     pub start: usize,
     pub text: usize,
     pub end: usize,
 }
 
-#[derive(Drop)]
+#[derive(Clone, Copy)]
 pub enum SlotPlace {
     At(Slot),
     Beyond,
 }
 
 // A text in the store, digits in the store, or an address whose number is to be written.
-#[derive(Drop)]
+#[derive(Clone, Copy)]
 pub enum Name {
     Refused(Refusal),
     Text(usize, usize),

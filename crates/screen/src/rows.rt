@@ -3,7 +3,7 @@ ghost use Rattle.std.specs.Prelude.{◌≡◌};
 ghost use Rattle.screen.specs.Rows.{row_named};
 
 // A table and a place in it: a line's or a contact's position from 0, a quick text's index, a status text's code, a slot's index.
-#[derive(Drop)]
+#[derive(Clone, Copy)]
 pub enum Row {
     Line(usize),
     QuickText(usize),
@@ -17,7 +17,7 @@ pub enum Row {
 }
 
 // Why no row is shown.
-#[derive(Drop)]
+#[derive(Clone, Copy)]
 pub enum Refusal {
     ScratchSize,
     NotAStore,

@@ -6,7 +6,7 @@ use super::rows::Row;
 use working::runs::TEXT_TABLES;
 
 // A row of one of these tables.
-#[derive(Drop)]
+#[derive(Clone, Copy)]
 pub struct Spot {
     pub table: usize,
     pub place: usize,

@@ -9,7 +9,7 @@ use writing::{
 };
 
 // So many entries, from start up to next, and the coding that they were read under.
-#[derive(Drop)]
+#[derive(Clone, Copy)]
 pub struct Entries {
     pub start: usize,
     pub count: usize,
@@ -17,27 +17,27 @@ pub struct Entries {
     pub coding: Coding,
 }
 
-#[derive(Drop)]
+#[derive(Clone, Copy)]
 pub struct GroupPlace {
     pub index: u8,
     pub address: GroupAddress,
     pub text: TextPlace,
 }
 
-#[derive(Drop)]
+#[derive(Clone, Copy)]
 pub struct IndividualPlace {
     pub index: u8,
     pub address: IndividualAddress,
     pub text: TextPlace,
 }
 
-#[derive(Drop)]
+#[derive(Clone, Copy)]
 pub struct LinePlace {
     pub index: u8,
     pub contact: ContactPlace,
 }
 
-#[derive(Drop)]
+#[derive(Clone, Copy)]
 pub enum Setting {
     GroupContacts(Operation, GroupFlags, Entries),
     IndividualContacts(Operation, IndividualFlags, Entries),
@@ -55,7 +55,7 @@ pub enum Setting {
 }
 
 // The fields after DataLength, and the place after them.
-#[derive(Drop)]
+#[derive(Clone, Copy)]
 pub enum BodyRead {
     Body(Setting, usize),
     NoBody,

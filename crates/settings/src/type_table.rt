@@ -6,7 +6,7 @@ ghost use Rattle.settings.specs.TypeTable.{PlaceIs, row_of, BoundsAre, BoundsAt,
 use writing::{Coding, Operation};
 
 // The least and the most of DataLength, 65535 where the type has no most; operations is the largest code allowed, 0 where it has none.
-#[derive(Drop)]
+#[derive(Clone, Copy)]
 pub struct Bounds {
     pub type_byte: u8,
     pub least: u16,
@@ -14,20 +14,20 @@ pub struct Bounds {
     pub operations: u8,
 }
 
-#[derive(Drop)]
+#[derive(Clone, Copy)]
 pub enum BoundsRead {
     Found(Bounds),
     Unknown,
 }
 
-#[derive(Drop)]
+#[derive(Clone, Copy)]
 pub enum OperationRead {
     Is(Operation),
     NoSuch,
 }
 
 // Columns: the type; least and most under 0111; least and most under 0100; operations.
-#[derive(Drop)]
+#[derive(Clone, Copy)]
 struct TypeRow(u8, u16, u16, u16, u16, u8);
 
 const ROWS: [TypeRow; 13] = [

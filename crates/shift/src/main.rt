@@ -1,4 +1,6 @@
 // A shift: takes the messages of the records on standard input, from a fresh store, and prints what each comes to and what the set shows after it.
+#![tactic(auto)]
+
 mod behind;
 mod call;
 mod messages;

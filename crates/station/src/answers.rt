@@ -6,7 +6,7 @@ use super::replies::result_number;
 use writing::Result;
 
 // A refusal that touches no byte.
-#[derive(Drop)]
+#[derive(Clone, Copy)]
 pub enum Refusal {
     ReplyBuffer,
     NotAStore,
@@ -16,7 +16,7 @@ pub enum Refusal {
 }
 
 // A reply that was written: its result, the number of the first setting at fault, whether to send it and to restart, and its length.
-#[derive(Drop)]
+#[derive(Clone, Copy)]
 pub struct Reply {
     pub result: Result,
     pub failed: u8,
@@ -25,7 +25,7 @@ pub struct Reply {
     pub length: u8,
 }
 
-#[derive(Drop)]
+#[derive(Clone, Copy)]
 pub enum Answer {
     Untouched(Refusal),
     Replied(Reply),

@@ -22,7 +22,7 @@ use working::copies::{Copy, copy_bytes, load_copy};
 use writing::{Coding, LastFlags, Result};
 
 // What a message comes to: nothing is touched, a reply is written and the store stays, or the working copy of these tables has what the store becomes.
-#[derive(Drop)]
+#[derive(Clone, Copy)]
 pub(crate) enum Verdict {
     Untouched(Refusal),
     Answered(Reply),

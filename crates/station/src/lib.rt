@@ -1,4 +1,6 @@
 // Judges and commits messages: takes requests, answers result queries and writes the replies.
+#![tactic(auto)]
+
 pub mod answers;
 pub mod commit;
 pub mod handheld;

@@ -12,7 +12,7 @@ use tables::members::Members;
 use tables::places::{CHANNEL_SLOT, LINE_TEXT, MEMBER_TEXT, STATUS_TEXT};
 
 // The tables that are made of slots.
-#[derive(Drop)]
+#[derive(Clone, Copy)]
 pub(crate) enum Table {
     QuickTexts,
     StatusTexts,

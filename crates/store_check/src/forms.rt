@@ -11,7 +11,7 @@ use tables::places::{
     CHANNELS, GROUP_CONTACTS, GROUPS, INDIVIDUAL_CONTACTS, INDIVIDUALS, LINE_SLOTS, STATUS,
 };
 
-#[derive(Drop)]
+#[derive(Clone, Copy)]
 pub(crate) enum Form {
     Placed,
     Shared,
@@ -33,7 +33,7 @@ pub(crate) fn text_width(form: Form, most: u8) -> usize
 }
 
 // Where the tables behind the quick texts start; the lines start where the channels end.
-#[derive(Drop)]
+#[derive(Clone, Copy)]
 pub(crate) struct Starts {
     pub(crate) status: usize,
     pub(crate) groups: usize,

@@ -1,4 +1,6 @@
 // Whether lent bytes are a store of the limits, region by region.
+#![tactic(auto)]
+
 pub mod checks;
 pub mod checks_entries;
 mod checks_fixed;

@@ -10,7 +10,7 @@ use tables::replacing::empty_to_replace;
 use writing::{Coding, Operation};
 
 // Which of the two tables.
-#[derive(Drop)]
+#[derive(Clone, Copy)]
 pub enum TextTable {
     Quick,
     Status,

@@ -1,4 +1,6 @@
 // The tables of a set in lent bytes: their limits, a fresh store, and how a head and a text are kept.
+#![tactic(auto)]
+
 pub mod filling;
 pub mod forms;
 pub mod head_places;

@@ -8,13 +8,13 @@ use super::head_places::{LINE_HEAD, SHARED_CHANNELS};
 use super::places::{CHANNEL_SLOT, CHANNELS, COUNT, COUNTED, LINE_SLOT, ORDERED};
 
 // How a store keeps texts: each in a place of its own, or all in one area of so many bytes.
-#[derive(Drop)]
+#[derive(Clone, Copy)]
 pub enum Texts {
     Placed,
     Shared(usize),
 }
 
-#[derive(Drop)]
+#[derive(Clone, Copy)]
 pub struct Limits {
     pub lines: usize,
     pub channels: usize,

@@ -6,7 +6,7 @@ use super::limits::{Limits, roomy};
 use super::places::KEY;
 use slots::bytes::wipe;
 
-#[derive(Drop)]
+#[derive(Clone, Copy)]
 pub enum Started {
     Fresh,
     WrongSize,

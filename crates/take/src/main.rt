@@ -1,4 +1,6 @@
 // Takes the messages of the records on standard input, from a fresh store, and prints kind, number and failed ID of each.
+#![tactic(auto)]
+
 use libc::STDOUT_FILENO;
 use records::{Record, read_record};
 use station::answers::{Answer, failed_id, number};

@@ -1,6 +1,8 @@
 // Checks proposed updates. The first ten records on standard input are taken by a hand-held, from a fresh store, and the next ten by another: what a set holds, and what it should hold.
 // It prints what is proposed for the two, and for each record behind them whether its request makes the first's tables the second's: yes, no, or the number of a refusal.
 // One of the twenty that is refused has a line and leaves its set as it was; a record that is cut short, or missing among the twenty, is a line `cut`, and the program stops.
+#![tactic(auto)]
+
 use export::parts::PARTS;
 use printing::output::{decimal, hex, text};
 use records::{Record, read_record};

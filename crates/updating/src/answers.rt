@@ -1,7 +1,7 @@
 // What the two calls answer.
 
 // Whether the first store takes a request and then has the second's tables, or which of the two is no store.
-#[derive(Drop)]
+#[derive(Clone, Copy)]
 pub enum Check {
     Yes,
     No,
@@ -10,7 +10,7 @@ pub enum Check {
 }
 
 // The length of the request that was written, or why none was.
-#[derive(Drop)]
+#[derive(Clone, Copy)]
 pub enum Proposal {
     Written(usize),
     FirstNotAStore,

@@ -13,7 +13,7 @@ use store_check::checks::is_store;
 use tables::limits::Limits;
 
 // Which parts differ: none so far, the one with this number, or several.
-#[derive(Drop)]
+#[derive(Clone, Copy)]
 pub(crate) enum Differing {
     Nothing,
     One(u32),

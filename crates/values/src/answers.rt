@@ -5,14 +5,14 @@ use writing::{
 };
 
 // What stands behind a row, by kind; a line's digits are asked for apart.
-#[derive(Drop)]
+#[derive(Clone, Copy)]
 pub enum Target {
     Line(LineFlags),
     Group(GroupFlags, GroupAddress),
     Individual(IndividualFlags, IndividualAddress),
 }
 
-#[derive(Drop)]
+#[derive(Clone, Copy)]
 pub enum Entry {
     There(Target),
     Absent,
@@ -20,7 +20,7 @@ pub enum Entry {
 }
 
 // How many digits were written.
-#[derive(Drop)]
+#[derive(Clone, Copy)]
 pub enum Digits {
     Written(usize),
     Absent,
@@ -28,32 +28,32 @@ pub enum Digits {
     BufferSize,
 }
 
-#[derive(Drop)]
+#[derive(Clone, Copy)]
 pub enum Channel {
     Tuned(u16),
     Absent,
     NotAStore,
 }
 
-#[derive(Drop)]
+#[derive(Clone, Copy)]
 pub struct EmergencyKey {
     pub target: KeyTarget,
     pub flags: KeyFlags,
 }
 
-#[derive(Drop)]
+#[derive(Clone, Copy)]
 pub enum Key {
     Armed(EmergencyKey),
     NotAStore,
 }
 
-#[derive(Drop)]
+#[derive(Clone, Copy)]
 pub enum Home {
     Numbers(HomeNumbers),
     NotAStore,
 }
 
-#[derive(Drop)]
+#[derive(Clone, Copy)]
 pub enum System {
     Code(SystemCode),
     NotAStore,

@@ -1,4 +1,6 @@
 // Runs cases that were worked out by hand, of the vehicle set: its room and its sizes, its exports taken by a hand-held, and its longest reports; a line each.
+#![tactic(auto)]
+
 use tables::limits::{HANDHELD_SIZE, VEHICLE_SIZE};
 
 mod asking_cases;

@@ -9,7 +9,7 @@ use tables::limits::{Limits, Texts};
 use writing::Kind;
 
 // All of them, or hash, key, home, system and the table of one kind more.
-#[derive(Drop)]
+#[derive(Clone, Copy)]
 pub enum Copy {
     Whole,
     Part(Kind),

@@ -1,4 +1,6 @@
 // Working copies of a store whose texts share one area: in a working copy every text has a place of its own, as the settings that are tried on it need.
+#![tactic(auto)]
+
 pub mod areas;
 pub mod copies;
 mod heads;

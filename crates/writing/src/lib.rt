@@ -1,8 +1,10 @@
 // What the thirteen settings and a reply say, as code and definitions share it: operations, flags, fixed contents, results. No code reads or writes here.
+#![tactic(auto)]
+
 use plan::numbers::{GroupAddress, IndividualAddress};
 
 // The thirteen types of setting, in the order of their type bytes.
-#[derive(Drop)]
+#[derive(Clone, Copy)]
 pub enum Kind {
     GroupContacts,
     IndividualContacts,
@@ -19,7 +21,7 @@ pub enum Kind {
     Last,
 }
 
-#[derive(Drop)]
+#[derive(Clone, Copy)]
 pub enum Operation {
     Add,
     Delete,
@@ -27,7 +29,7 @@ pub enum Operation {
 }
 
 // Which operations a type of setting has.
-#[derive(Drop)]
+#[derive(Clone, Copy)]
 pub enum Operations {
     NoOperation,
     AnyOperation,
@@ -35,7 +37,7 @@ pub enum Operations {
 }
 
 // What a reply says of its message: CfgResult.
-#[derive(Drop)]
+#[derive(Clone, Copy)]
 pub enum Result {
     Taken,
     OtherVersion,
@@ -46,14 +48,14 @@ pub enum Result {
 }
 
 // How texts are coded, by the carrier's coding type: 0111 or 0100.
-#[derive(Drop)]
+#[derive(Clone, Copy)]
 pub enum Coding {
     Unicode16,
     EightBit,
 }
 
 // Of all line contacts of one setting, or of a line slot.
-#[derive(Drop)]
+#[derive(Clone, Copy)]
 pub struct LineFlags {
     pub encryption: bool,
     pub emergency: bool,
@@ -62,27 +64,27 @@ pub struct LineFlags {
 }
 
 // Where the emergency key calls: the current place, with its group bit, or an address of the kind that the group bit says.
-#[derive(Drop)]
+#[derive(Clone, Copy)]
 pub enum KeyTarget {
     Current(bool),
     ToGroup(GroupAddress),
     ToIndividual(IndividualAddress),
 }
 
-#[derive(Drop)]
+#[derive(Clone, Copy)]
 pub struct KeyFlags {
     pub voice: bool,
     pub status: bool,
     pub siren: bool,
 }
 
-#[derive(Drop)]
+#[derive(Clone, Copy)]
 pub struct HomeNumbers {
     pub nzi: u16,
     pub np: u16,
 }
 
-#[derive(Drop)]
+#[derive(Clone, Copy)]
 pub struct SystemCode {
     pub lai: u16,
     pub la: u8,
@@ -90,7 +92,7 @@ pub struct SystemCode {
     pub par: bool,
 }
 
-#[derive(Drop)]
+#[derive(Clone, Copy)]
 pub struct GroupFlags {
     pub attribute: u8,
     pub broadcast: bool,
@@ -100,14 +102,14 @@ pub struct GroupFlags {
     pub priority: u8,
 }
 
-#[derive(Drop)]
+#[derive(Clone, Copy)]
 pub struct IndividualFlags {
     pub encryption: bool,
     pub emergency: bool,
     pub priority: u8,
 }
 
-#[derive(Drop)]
+#[derive(Clone, Copy)]
 pub struct LastFlags {
     pub reboot: bool,
     pub reply: bool,
