@@ -1,0 +1,11 @@
+use Rattle.lists.proofs.Kit.{rules, arith}
+use Rattle.export_write.proofs.fields.put_text.Goals as goal
+
+pub returns-then-buffer-at : goal.returns-then-buffer-at
+returns-then-buffer-at c = λ h. absurd (omega (arith, h))
+
+pub returns-then-buffer-at-lt2 : goal.returns-then-buffer-at-lt2
+returns-then-buffer-at-lt2 c = λ h. absurd (omega (arith, h))
+
+pub returns-then-buffer-at-2 : goal.returns-then-buffer-at-2
+returns-then-buffer-at-2 c = λ h. absurd (omega (arith, h))

@@ -1,0 +1,8 @@
+use Rattle.lists.proofs.Kit.{rules, refl, arith}
+use Rattle.export_write.proofs.members.flag_bits.Goals as goal
+
+pub returns-in-OfGroups : goal.returns-in-OfGroups
+returns-in-OfGroups c = rw c.in-OfGroups.is (refl, omega arith)
+
+pub returns-in-OfIndividuals : goal.returns-in-OfIndividuals
+returns-in-OfIndividuals c = rw c.in-OfIndividuals.is (refl, omega arith)

@@ -1,0 +1,26 @@
+use borrow.Author.Rules.{rules}
+use Prim.Native.Nat.{◌≤◌, ◌-◌}
+use mathlib.Core.Path.{◌≡◌, refl, ◌∙◌}
+use mathlib.Core.List.{◌∷◌, ◌++◌}
+use native.Mathlib.Omega.{arith}
+use lib.ListN.{length, drop, take, length-set}
+use Rattle.orders.proofs.Steps.{put_more, put_end}
+use Rattle.orders.proofs.entries.put_in.Goals as goal
+
+pub loop-i-init : goal.loop-i-init
+loop-i-init c = (refl, λ h. (h, refl))
+
+pub loop-i-smaller : goal.loop-i-smaller
+loop-i-smaller c = omega arith
+
+pub loop-i-preserved : goal.loop-i-preserved
+loop-i-preserved c =
+    let l = c.loop-i in
+    let a = c.args in
+    (length-set l.d l.i l.next ∙ l.invariant.0, λ h. (omega arith, put_more l.d l.next l.i (omega arith) ∙ (l.invariant.1 h).1))
+
+pub returns : goal.returns
+returns c =
+    let l = c.loop-i in
+    let a = c.args in
+    λ h. put_end l.d l.next l.i (length a.d.now) _ l.invariant.0 (l.invariant.1 h).0 (omega arith) (l.invariant.1 h).1

@@ -1,0 +1,29 @@
+use borrow.Author.Rules.{rules}
+use Prim.Native.Nat.{ℕ}
+use mathlib.Core.Path.{ap, ◌∙◌}
+use mathlib.Core.List.{List}
+use native.Mathlib.Omega.{arith}
+use lib.ListN.{length}
+use Rattle.orders.specs.OrderParts.{InSlot}
+use Rattle.orders.proofs.Steps.{fits_yes, fits_no, part_key}
+use Rattle.slots.specs.Slots.{same?}
+use Rattle.orders.specs.Orders.{before}
+use Rattle.orders.proofs.keys.slot_has.Goals as goal
+
+pub returns-then-not-slot_fits : goal.returns-then-not-slot_fits
+returns-then-not-slot_fits c = λ s. absurd (fits_no _ _ _ _ _ c.slot_fits.result c.slot_fits.ensures c.if-not-slot_fits.true-raw s)
+
+pub overflow_mul-a : goal.overflow_mul-a
+overflow_mul-a c = let a = c.args in let s : InSlot a.w a.o a.k a.p (length a.s.now) = fits_yes _ _ _ _ _ c.slot_fits.result c.slot_fits.ensures c.if-not-slot_fits.false-raw in omega arith
+
+pub overflow_add-a : goal.overflow_add-a
+overflow_add-a c = let a = c.args in let s : InSlot a.w a.o a.k a.p (length a.s.now) = fits_yes _ _ _ _ _ c.slot_fits.result c.slot_fits.ensures c.if-not-slot_fits.false-raw in omega arith
+
+pub overflow_add-e : goal.overflow_add-e
+overflow_add-e c = let a = c.args in let s : InSlot a.w a.o a.k a.p (length a.s.now) = fits_yes _ _ _ _ _ c.slot_fits.result c.slot_fits.ensures c.if-not-slot_fits.false-raw in omega arith
+
+pub slice_bounds-same-end : goal.slice_bounds-same-end
+slice_bounds-same-end c = let a = c.args in let s : InSlot a.w a.o a.k a.p (length a.s.now) = fits_yes _ _ _ _ _ c.slot_fits.result c.slot_fits.ensures c.if-not-slot_fits.false-raw in omega arith
+
+pub returns : goal.returns
+returns c = let a = c.args in λ s. c.same.ensures ∙ ap (λ (x : List ℕ). same? x a.key.now) (part_key a.w a.o a.k a.p a.s.now)

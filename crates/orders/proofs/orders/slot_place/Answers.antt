@@ -1,0 +1,32 @@
+use borrow.Author.Rules.{rules}
+use Prim.Native.Nat.{ℕ}
+use mathlib.Core.List.{List}
+use native.Mathlib.Omega.{arith}
+use lib.ListN.{length}
+use mathlib.Core.Path.{subst}
+use Rattle.orders.specs.OrderParts.{InSlot, Parts, key_at}
+use Rattle.orders.proofs.Steps.{fits_yes, fits_no, part_key}
+use Rattle.orders.proofs.orders.slot_place.Goals as goal
+
+pub returns-then-not-slot_fits : goal.returns-then-not-slot_fits
+returns-then-not-slot_fits c = record { within = omega arith; parts = λ ps s g. absurd (fits_no _ _ _ _ _ c.slot_fits.result c.slot_fits.ensures c.if-not-slot_fits.true-raw s) }
+
+pub overflow_mul-a : goal.overflow_mul-a
+overflow_mul-a c = let a = c.args in let s : InSlot a.w a.o a.k a.p (length a.s.now) = fits_yes _ _ _ _ _ c.slot_fits.result c.slot_fits.ensures c.if-not-slot_fits.false-raw in omega arith
+
+pub overflow_add-a : goal.overflow_add-a
+overflow_add-a c = let a = c.args in let s : InSlot a.w a.o a.k a.p (length a.s.now) = fits_yes _ _ _ _ _ c.slot_fits.result c.slot_fits.ensures c.if-not-slot_fits.false-raw in omega arith
+
+pub overflow_add-e : goal.overflow_add-e
+overflow_add-e c = let a = c.args in let s : InSlot a.w a.o a.k a.p (length a.s.now) = fits_yes _ _ _ _ _ c.slot_fits.result c.slot_fits.ensures c.if-not-slot_fits.false-raw in omega arith
+
+pub slice_bounds-place-end : goal.slice_bounds-place-end
+slice_bounds-place-end c = let a = c.args in let s : InSlot a.w a.o a.k a.p (length a.s.now) = fits_yes _ _ _ _ _ c.slot_fits.result c.slot_fits.ensures c.if-not-slot_fits.false-raw in omega arith
+
+pub returns : goal.returns
+returns c =
+    let a = c.args in
+    record {
+      within = c.place.ensures.within;
+      parts = λ ps s g. subst (λ (x : List ℕ). Parts (key_at a.w a.o a.k a.s.now) ps x c.place.result c.place.result) (part_key a.w a.o a.k a.p a.s.now) (c.place.ensures.parts ps g);
+    }

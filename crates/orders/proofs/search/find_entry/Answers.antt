@@ -1,0 +1,16 @@
+use Rattle.lists.proofs.Kit.{rules, arith, refl}
+use Rattle.orders.proofs.ListLaws.{unfound, entry_found}
+use Rattle.orders.proofs.search.find_entry.Goals as goal
+
+-- `orders::search::find_entry` meets its contract. Assumes nothing.
+pub returns-then-part-n : goal.returns-then-part-n
+returns-then-part-n c = let a = c.args in unfound a.w a.o a.n a.key.now a.part.now (omega arith)
+
+pub returns-then-base-lt2 : goal.returns-then-base-lt2
+returns-then-base-lt2 c = let a = c.args in unfound a.w a.o a.n a.key.now a.part.now (omega arith)
+
+pub returns : goal.returns
+returns c =
+    let a = c.args in
+    let h = c.count-held in
+    entry_found a.w a.o a.n a.key.now a.part.now _ h.result refl h.ensures c.find.result c.find.ensures

@@ -1,0 +1,117 @@
+use Rattle.lists.proofs.Kit.{rules, arith, ◌+◌, ◌-◌, ◌≡◌, refl, ap, subst, length, not-true, not-false}
+use Rattle.lists.specs.Bytes.{Bytes}
+use Rattle.plain_log.specs.Checking.{RecordIs}
+use Rattle.plain_log.proofs.AreaLaws.{Turn, frame_here, frame_not, used_not, turn_start, turn_end, turn_many, turn_none, turn_stuck, turn_much, turn_more}
+use Rattle.plain_log.proofs.checks.check_area.Goals as goal
+
+pub returns-then-weights-ne-WEIGHTS : goal.returns-then-weights-ne-WEIGHTS
+returns-then-weights-ne-WEIGHTS c = λ z a. c.if-weights-ne-WEIGHTS.true (ap length z)
+
+pub returns-then-used : goal.returns-then-used
+returns-then-used c =
+    let f = c in
+    let a = c.args in
+    used_not a.area.now a.weights.now a.weights.now c.used_of-used.result c.used_of-used.ensures c.if-used.true
+
+pub slice_bounds-is_clear-count : goal.slice_bounds-is_clear-count
+slice_bounds-is_clear-count c =
+    let u = c.used_of-used.ensures in
+    let long : length c.args.area.now ≡ 32768 = u.size (omega (arith, c.if-used.false)) in
+    omega (arith, long, c.if-used.false)
+
+pub slice_bounds-is_clear-start : goal.slice_bounds-is_clear-start
+slice_bounds-is_clear-start c =
+    let u = c.used_of-used.ensures in
+    let long : length c.args.area.now ≡ 32768 = u.size (omega (arith, c.if-used.false)) in
+    omega (arith, long, c.if-used.false)
+
+pub returns-then-not-is_clear : goal.returns-then-not-is_clear
+returns-then-not-is_clear c =
+    let z = c.is_clear in
+    let f = c in
+    let a = c.args in
+    frame_not a.area.now a.weights.now a.weights.now c.used_of-used.result z.result c.used_of-used.ensures z.ensures (not-true _ c.if-not-is_clear.true-raw)
+
+pub loop-at-init : goal.loop-at-init
+loop-at-init c =
+    let z = c.is_clear in
+    let f = c in
+    let a = c.args in
+    let bytes : Bytes a.area.now = λ i. (c.shared_slice_known-1.given i).fits in
+    (refl, turn_start a.area.now a.weights.now c.used_of-used.result (frame_here a.area.now c.used_of-used.result z.result c.used_of-used.ensures c.if-used.false bytes z.ensures (not-false _ c.if-not-is_clear.false-raw)))
+
+pub shape_of-weights-then-deeds-ge-DEEDS : goal.shape_of-weights-then-deeds-ge-DEEDS
+shape_of-weights-then-deeds-ge-DEEDS c = search (rules, c.loop-at.invariant.0)
+
+pub returns-then-deeds-ge-DEEDS : goal.returns-then-deeds-ge-DEEDS
+returns-then-deeds-ge-DEEDS c =
+    let d = c in
+    let l = c.loop-at in
+    let f = c in
+    let a = c.args in
+    let used = c.used_of-used.result in
+    turn_many a.area.now a.weights.now used (4 + used) l.at l.deeds l.hash l.weights l.invariant.1 l.weights c.if-deeds-ge-DEEDS.true
+
+pub shape_of-weights-in_default : goal.shape_of-weights-in_default
+shape_of-weights-in_default c = search (rules, c.loop-at.invariant.0)
+
+pub returns-in_default : goal.returns-in_default
+returns-in_default c =
+    let d = c in
+    let l = c.loop-at in
+    let f = c in
+    let a = c.args in
+    let used = c.used_of-used.result in
+    let r = subst (RecordIs a.area.now l.at (4 + used) l.deeds l.weights _) c.in_default.is c.check_record-record.ensures in
+    turn_none a.area.now a.weights.now used (4 + used) l.at l.deeds l.hash l.weights l.invariant.1 c.loop-at-test.true l.weights r
+
+pub shape_of-weights-then-next-at : goal.shape_of-weights-then-next-at
+shape_of-weights-then-next-at c = search (rules, c.loop-at.invariant.0)
+
+pub returns-then-next-at : goal.returns-then-next-at
+returns-then-next-at c =
+    let d = c in
+    let l = c.loop-at in
+    let f = c in
+    let a = c.args in
+    let used = c.used_of-used.result in
+    let g = c.«record».given in
+    let r = subst (RecordIs a.area.now l.at (4 + used) l.deeds l.weights _) g.1 c.check_record-record.ensures in
+    turn_stuck a.area.now a.weights.now used (4 + used) l.at l.deeds l.hash l.weights l.invariant.1 c.loop-at-test.true _ g.0.0 g.0.1.0 g.0.1.1.0 r c.if-next-at.true
+
+pub shape_of-weights-then-passed-ge-DEEDS : goal.shape_of-weights-then-passed-ge-DEEDS
+shape_of-weights-then-passed-ge-DEEDS c = search (rules, c.loop-at.invariant.0)
+
+pub returns-then-passed-ge-DEEDS : goal.returns-then-passed-ge-DEEDS
+returns-then-passed-ge-DEEDS c =
+    let d = c in
+    let l = c.loop-at in
+    let f = c in
+    let a = c.args in
+    let used = c.used_of-used.result in
+    let g = c.«record».given in
+    let r = subst (RecordIs a.area.now l.at (4 + used) l.deeds l.weights _) g.1 c.check_record-record.ensures in
+    turn_much a.area.now a.weights.now used (4 + used) l.at l.deeds l.hash l.weights l.invariant.1 c.loop-at-test.true _ g.0.0 g.0.1.0 g.0.1.1.0 r c.if-passed-ge-DEEDS.true
+
+pub loop-at-preserved : goal.loop-at-preserved
+loop-at-preserved c =
+    let d = c in
+    let l = c.loop-at in
+    let f = c in
+    let a = c.args in
+    let used = c.used_of-used.result in
+    let g = c.«record».given in
+    let r = subst (RecordIs a.area.now l.at (4 + used) l.deeds l.weights _) g.1 c.check_record-record.ensures in
+    (search (rules, l.invariant.0), turn_more a.area.now a.weights.now used (4 + used) l.at l.deeds l.hash l.weights l.invariant.1 c.loop-at-test.true _ g.0.0 g.0.1.0 g.0.1.1.0 r)
+
+pub shape_of-weights : goal.shape_of-weights
+shape_of-weights c = search (rules, c.loop-at.invariant.0)
+
+pub returns : goal.returns
+returns c =
+    let d = c in
+    let l = c.loop-at in
+    let f = c in
+    let a = c.args in
+    let used = c.used_of-used.result in
+    turn_end a.area.now a.weights.now used (4 + used) l.at l.deeds l.hash l.weights l.invariant.1 c.loop-at-test.false

@@ -1,0 +1,5 @@
+use Rattle.lists.proofs.Kit.{rules, arith}
+use Rattle.report_write.proofs.heads.put_bits.Goals as goal
+
+pub returns : goal.returns
+returns c = c.put_bytes.ensures (omega arith)

@@ -1,0 +1,9 @@
+use Rattle.lists.proofs.Kit.{rules}
+use Rattle.reporting.proofs.AskLaws.{asks_nothing}
+use Rattle.lists.proofs.Kit.{arith}
+use Rattle.reporting.proofs.asking.asked_by.Goals as goal
+
+pub returns-in_default : goal.returns-in_default
+returns-in_default c =
+    let r = (λ u. omega arith) in
+    asks_nothing c.args.byte r.0.0.0.0.0.0.0.0.0.1 r.0.0.0.0.0.0.0.0.1 r.0.0.0.0.0.0.0.1 r.0.0.0.0.0.0.1 r.0.0.0.0.0.1 r.0.0.0.0.1 r.0.0.0.1 r.0.0.1 r.0.1 r.1

@@ -1,0 +1,12 @@
+use borrow.Author.Rules.{rules}
+use Prim.Native.Nat.{◌≤◌, ◌-◌, ◌+◌}
+use mathlib.Core.Path.{◌≡◌}
+use native.Mathlib.Omega.{arith}
+use Rattle.shift.proofs.rows.rows.Given as goal
+
+-- `shift::rows::rows` meets its contract. Assumes nothing.
+abbrev pub invariant-loop-places : goal.invariant-loop-places
+invariant-loop-places l = (l.places ≤ 8) × (l.table ≡ l.places + 1)
+
+abbrev pub decreases-loop-places : goal.decreases-loop-places
+decreases-loop-places l = 8 - l.places

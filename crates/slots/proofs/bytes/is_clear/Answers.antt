@@ -1,0 +1,22 @@
+use Rattle.lists.proofs.Kit.{rules, arith, ◌+◌, ◌-◌, ◌≤◌, ◌≡◌, refl, sym, ap, ◌∙◌, ◌&&◌, length, drop, drop_of_length-le}
+use Rattle.slots.specs.Slots.{zeros?}
+use Rattle.slots.proofs.Runs.{zeros_step, still_more, still_all}
+use Rattle.slots.proofs.bytes.is_clear.Goals as goal
+
+pub loop-i-init : goal.loop-i-init
+loop-i-init c = (omega arith, refl)
+
+pub loop-i-preserved : goal.loop-i-preserved
+loop-i-preserved c =
+    let l = c.loop-i in
+    let s = c.args.s.now in (
+      omega arith,
+      l.invariant.1 ∙ ap (λ x. l.clear && x) (zeros_step s l.i (omega arith)) ∙ still_more l.clear _ _
+          ∙ ap (λ x. x && zeros? (drop (l.i + 1) s)) (sym c.still-clear.ensures),
+    )
+
+pub returns : goal.returns
+returns c =
+    let l = c.loop-i in
+    let s = c.args.s.now in
+    sym (l.invariant.1 ∙ ap (λ x. l.clear && zeros? x) (drop_of_length-le s {i = l.i} (omega arith)) ∙ still_all l.clear)

@@ -1,0 +1,10 @@
+use Rattle.lists.proofs.Kit.{rules, arith, ◌+◌, ◌-◌, ◌≤◌, ◌≡◌, refl, sym, ap, ◌∙◌, ◌&&◌, length, drop, drop_of_length-le}
+use Rattle.slots.specs.Slots.{zeros?}
+use Rattle.slots.proofs.Runs.{zeros_step, still_more, still_all}
+use Rattle.slots.proofs.bytes.is_clear.Given as goal
+
+abbrev pub invariant-loop-i : goal.invariant-loop-i
+invariant-loop-i l = (l.i ≤ length l.s) × (zeros? l.s ≡ (l.clear && zeros? (drop l.i l.s)))
+
+abbrev pub decreases-loop-i : goal.decreases-loop-i
+decreases-loop-i l = length l.s - l.i

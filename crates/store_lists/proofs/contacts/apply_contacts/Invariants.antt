@@ -1,0 +1,16 @@
+use Rattle.lists.proofs.Kit.{rules, arith, ◌-◌, ◌≡◌, refl, length, true, false, not-true, not-false}
+use Rattle.tables.specs.declared.members.Members.{Members}
+use Rattle.tables.specs.MemberKinds.{FlagsIn}
+use Rattle.tables.specs.Members.{flags_of}
+use Rattle.store_lists.specs.Lists.{FlagsOk}
+use Rattle.store_lists.proofs.KeyedLaws.{KeyedLeft, keyed_start, keyed_end, keyed_stuck, keyed_on, keyed_full}
+use Rattle.store_lists.proofs.ContactLaws.{by_address, no_contact, next_contact, contacts_applied}
+use Rattle.store_lists.proofs.contacts.apply_contacts.Given as goal
+
+abbrev pub invariant-loop-i : goal.invariant-loop-i
+invariant-loop-i l =
+    (length l.list ≡ length l.initial.list)
+    × ((w : Members) (f : FlagsIn w) → l.flags ≡ flags_of w f → FlagsOk w f → KeyedLeft (by_address w f l.entries.coding) l.operation l.m l.entries l.initial.list l.p l.i l.list)
+
+abbrev pub decreases-loop-i : goal.decreases-loop-i
+decreases-loop-i l = l.entries.count - l.i
