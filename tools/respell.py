@@ -36,17 +36,16 @@ def respelled(t):
 def code(line, rt):
     """The line's parts: (text, whether it is code)."""
     mark = "//" if rt else "--"
-    parts = re.split(r'("(?:[^"\\]|\\.)*")', line)
-    for p in parts:
-        if p.startswith('"'):
-            yield p, False
-            continue
-        m = re.search(r"(?:^|\s)" + mark, p)
-        if m:
-            yield p[: m.start()], True
-            yield p[m.start():], False
-            return
-        yield p, True
+    at = 0
+    for p in re.split(r'("(?:[^"\\]|\\.)*")', line):
+        if not p.startswith('"'):
+            m = re.search(r"(?:^|\s)" + mark, p)
+            if m:
+                yield p[: m.start()], True
+                yield line[at + m.start():], False
+                return
+        yield p, not p.startswith('"')
+        at += len(p)
 
 
 def main():

@@ -21,7 +21,7 @@ pub record Told : Type 0 where
   pub number : ℕ
   pub row : Option ℕ
 
--- 
+-- "a refusal carries no row"; that no row has the number is no refusal
 abbrev pub told : Caller → Told
 told (Row r) = record { number = 0; row = some r }
 told NoRow = record { number = 0; row = none }
@@ -32,12 +32,12 @@ told NotANumber = record { number = 20; row = none }
 abbrev pub Calls : ℕ → Number → Line → Type 0
 Calls idtype digits l = (bit l.flags.pabx ≡ idtype) × (l.number ≡ digits)
 
--- 
+-- "The lookup answers with the row, or that no row has that number": rows are the positions of the line contacts
 abbrev pub ByNumber : Tables → ℕ → Number → Option ℕ → Type 0
 ByNumber t idtype digits (some r) = (l : Line) × (get_or (map some t.lines) r none ≡ some l) × Calls idtype digits l
 ByNumber t idtype digits none = All (λ l. Calls idtype digits l → ⊥) t.lines
 
--- 
+-- "11 for a store whose order is false; then 20 for a number of 0 or more than 18 digits or with a digit above 9"; then the row, or none
 abbrev pub looking_up : Limits → ℕ → List ℕ → List ℕ → Ladder Told
 looking_up lim idtype digits store =
     rung (StoreOf lim store → ⊥) (record { number = 11; row = none })

@@ -125,7 +125,7 @@ module _ {ms : List (List ℕ)} {store area : List ℕ} (p : Both ms store area)
       by log t (both_take l u g fits (e, d)) = replied 0 0 u.hash _ _ e d refl refl refl refl
       by log t (past_end l u g _ e d) = absurd (lasts (number_of d))
 
-  -- SAME ANSWER: 
+  -- SAME ANSWER: "the same numbers, replies": with one reply buffer, the same is said and written
   pub same_answer : (reply : List ℕ) (x y : AfterTaking) → Answers (taken handheld message store reply) x → Answers (plain_taken message area reply) y → y.answer.number ≢ 18
       → (x.answer ≡ y.answer) × (x.reply ≡ y.reply)
   same_answer reply x y a b lasts = let s = alike reply reply iff_rfl x y a b lasts in (s.answer, s.here ∙ sym s.there)
@@ -145,7 +145,7 @@ module _ {ms : List (List ℕ)} {store area : List ℕ} (p : Both ms store area)
 
   -- ---- as long as the area lasts
 
-  -- FULL EXACTLY: 
+  -- FULL EXACTLY: "18 .. exactly when a request that would be taken passes the area's end": the hand-held takes it
   pub full_exactly : (reply : List ℕ) (x y : AfterTaking) → Answers (taken handheld message store reply) x → Answers (plain_taken message area reply) y
       → (y.answer.number ≡ 18) ↔ ((x.answer.number ≡ 0) × PassesEnd message area)
   full_exactly reply x y a b =
@@ -169,7 +169,7 @@ module _ {ms : List (List ℕ)} {store area : List ℕ} (p : Both ms store area)
           absurd (omega (arith, fits, long, w.passes))
       full log t i (past_end l u g passes e d) q w = number_of d
 
--- HAND-HELD NEVER: 
+-- HAND-HELD NEVER: "the handheld never gives it"
 pub hand_held_never : (message store reply : List ℕ) (x : AfterTaking) → Answers (taken handheld message store reply) x → x.answer.number ≢ 18
 hand_held_never message store reply x a = each all x a
   where
@@ -201,7 +201,7 @@ hand_held_never message store reply x a = each all x a
 
 -- ---- the same rows
 
--- SAME ROWS: 
+-- SAME ROWS: "the same numbers .. and row texts, unit for unit"
 pub same_rows : {ms : List (List ℕ)} {store area : List ℕ} → Both ms store area → (row : Row) (scratch wide : List ℕ) → 36 ≤ length scratch → 64 ≤ length wide
     → (x y : AfterRow) → Answers (showing handheld store scratch row) x → Answers (plain_showing area wide row) y
     → (x.number ≡ y.number) × (bytes_of x.part store x.scratch ≡ bytes_of y.part area y.scratch)

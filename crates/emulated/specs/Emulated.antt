@@ -11,15 +11,15 @@ use Rattle.station.specs.Taking.{AfterTaking, taken}
 use Rattle.plain_log.specs.Area.{area_size, log_bytes, area_bytes, AreaOf}
 use Rattle.plain.specs.Plain.{plain_taken}
 
--- 
--- each has a reply buffer of its own, of which both or neither are under 20 bytes; 
+-- "any sequence of messages from a fresh start": both engines were given these messages, in order, and now have this store and this area;
+-- each has a reply buffer of its own, of which both or neither are under 20 bytes; "as long as its area lasts": none was answered with 18
 pub data Both : List (List ℕ) → (store area : List ℕ) → Type 0 where
   started : {store area : List ℕ} → store ≡ layout handheld fresh → area ≡ area_bytes [] → Both [] store area
   then_given : {ms : List (List ℕ)} {store area message reply reply' : List ℕ} {x y : AfterTaking} → Both ms store area → (length reply < 20) ↔ (length reply' < 20)
       → Answers (taken handheld message store reply) x → Answers (plain_taken message area reply') y → y.answer.number ≢ 18
       → Both (ms ++ (message ∷ [])) x.store y.store
 
--- 
+-- "a request .. passes the area's end": behind those that the area keeps it has no room
 pub record PassesEnd (message area : List ℕ) : Type 0 where
   pub coding : Coding
   pub count : ℕ

@@ -61,7 +61,7 @@ module _ {A K : Type 0} (key : A → K) (same : K → K → Bool) (d : Decides s
     pub look_found : (k : K) → found (look key same k read) ≡ found (find (has key same k) l)
     look_found k = found_entry (look key same k read) ∙ ap found (look_is key same d room read l k left)
 
-    -- 
+    -- "full" is judged from the number of entries and whether the key is found
     pub room_test : (a : A) → ltb (index_of (has key same (key a)) l) room ≡ cond (found (look key same (key a) read)) true (ltb (length l) room)
     room_test a = go (found (look key same (key a) read)) refl
       where
@@ -139,7 +139,7 @@ module _ {A K : Type 0} (key : A → K) (same : K → K → Bool) (d : Decides s
 
   -- ---- all events
 
-  -- 
+  -- "the list's length changes by one exactly at a put of a key not found and at a remove of one that is": the count is kept, and says when there is no room
   pub count_is : (es read : List (Event A K)) (l : List A) → after key same room read [] ≡ some l → count_on key same room read es (length l) ≡ mathlib.Core.Option.map length (after key same room es l)
   count_is [] read l left = refl
   count_is (v ∷ es) read l left = ap (λ o. and_then o (count_on key same room (read ++ (v ∷ [])) es)) (count_next read l left v) ∙ go (step key same room v l) refl (λ k e. count_is es (read ++ (v ∷ [])) k (read_on read l left v k e))

@@ -133,7 +133,7 @@ module _ {A K : Type 0} (key : A → K) (same : K → K → Bool) where
     look_kept κ [] l = refl
     look_kept κ (v ∷ es) l = ap (look_on key same κ es) (look_keep κ v l) ∙ look_kept κ es (keep_step v l)
 
-    -- 
+    -- "after any events that had room, what is found of a key is the entry with that key, or none"
     pub look_is : (room : ℕ) (es : List (Event A K)) (l : List A) (κ : K) → after key same room es [] ≡ some l → entry (look key same κ es) ≡ find (has key same κ) l
     look_is room es l κ e =
         ap entry (look_kept κ es [])

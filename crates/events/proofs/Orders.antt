@@ -255,7 +255,7 @@ module _ {A K : Type 0} (key : A → K) (same : K → K → Bool) (d : Decides s
         only = λ m κ e h t p. find_all (holds key same κ) (λ x. x.0 ≢ m) l e t (sym (look_kept key same d κ es []) ∙ p);
       })
 
-  -- 
+  -- "the entries stand in the order of their births": the table is the rows
   pub look_order : (room : ℕ) (es : List (Event A K)) (l : List A) → Rising 0 es → after key same room es [] ≡ some l → l ≡ map (λ e. e.1) (rows key same (λ κ. look key same κ es) es)
   look_order room es l r e = after_entries key same room es [] l e ∙ ap (map (λ x. x.1)) (sym (rows_kept es r))
 

@@ -11,7 +11,7 @@ row_entry (e ∷ l) zero = refl
 row_entry (e ∷ l) (suc i) = row_entry l i
 
 module _ {A K : Type 0} (key : A → K) (same : K → K → Bool) where
-  -- 
+  -- "the entry at position i is that of the i-th event whose own key is found with its own place"
   pub row_is : Decides same → (room : ℕ) (es : List (Event A K)) (l : List A) (i : ℕ) → Rising 0 es → after key same room es [] ≡ some l → get_or (map some l) i none ≡ entry (row key same (λ κ. look key same κ es) es i)
   row_is d room es l i r e = ap (λ (k : List A). get_or (map some k) i none) (look_order key same d room es l r e) ∙ row_entry (rows key same (λ κ. look key same κ es) es) i
 

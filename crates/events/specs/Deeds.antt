@@ -30,11 +30,11 @@ digits_behind n (d ∷ ds) = digits_behind (n * 10 + d) ds
 abbrev pub number_code : Number → ℕ
 number_code ds = digits_behind 1 ds
 
--- 
+-- "The identity of a line is its IDtype together with its digits"
 abbrev pub line_code : LineKey → ℕ
 line_code k = 2 * number_code k.number + bit k.pabx
 
--- 
+-- "A background group gets no row on the screen"
 abbrev pub background : GroupMember → Bool
 background g = eqb g.flags.attribute 1
 
@@ -107,7 +107,7 @@ doing k Add a = puts k a
 doing k Delete a = removes k a.key
 doing k Replace a = puts k a
 
--- 
+-- "Replace empties the table, then adds each entry in order": what it does before its entries
 abbrev pub opening : Kind → Operation → Deed
 opening k Add = nothing
 opening k Delete = nothing

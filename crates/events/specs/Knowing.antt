@@ -28,7 +28,7 @@ pub record Known : Type 0 where
 abbrev pub unknown : Known
 unknown = record { found_at = none; often = 0 }
 
--- 
+-- "Quick texts: add to an index that has a text does nothing": of these the first entry stays, of others the latest
 abbrev pub first_stays : Kind → Bool
 first_stays k = only k QuickTexts
 
@@ -78,7 +78,7 @@ room_of lim Individual = none
 room_of lim LineSlot = none
 room_of lim Last = none
 
--- whether an entry takes the place of one with its key: 
+-- whether an entry takes the place of one with its key: "Channels: add always appends, so repeats are kept"
 abbrev pub takes_place : Kind → Known → Bool
 takes_place k o = cond (only k Channels) false (found o.found_at)
 

@@ -34,7 +34,7 @@ use Rattle.events.specs.Channels.{channel_do}
 abbrev pub bare : {A : Type 0} → List (ℕ × A) → List A
 bare es = map (λ e. e.1) es
 
--- 
+-- "Replace empties the table, then adds each entry in order"
 abbrev pub events_by : {E A K : Type 0} → (E → A) → (E → K) → Operation → List (ℕ × E) → List (Event A K)
 events_by made named Add es = map (λ e. put e.0 (made e.1)) es
 events_by made named Delete es = map (λ e. remove (named e.1)) es
@@ -132,7 +132,7 @@ Names Last = ⊥
 abbrev pub Does : Kind → Type 0
 Does k = Event (Puts k) (Names k)
 
--- 
+-- "CB, CD and CF overwrite": what was put last stands
 abbrev pub latest : {A K : Type 0} → Event A K → A → A
 latest clear x = x
 latest (put n a) x = a

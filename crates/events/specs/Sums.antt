@@ -55,7 +55,7 @@ counted lim Last read es c = some 0
 
 -- ---- how many bytes of texts
 
--- 
+-- "two bytes a unit, without ends"
 abbrev pub text_bytes : Text → ℕ
 text_bytes us = 2 * length us
 

@@ -18,15 +18,15 @@ use Rattle.export_write.proofs.WroteLaws.{wrote_length}
 use Rattle.export.proofs.PartWriting.{numbered, not_numbered}
 
 module _ (lim : Limits) (part : ℕ) (store buffer : List ℕ) where
-  -- 
+  -- "15"
   pub says_15 : length buffer < lim.message → Answers (exporting lim part store buffer) (stays lim part store buffer 15)
   says_15 h = inl (h, refl)
 
-  -- 
+  -- "11"
   pub says_11 : lim.message ≤ length buffer → (StoreOf lim store → ⊥) → Answers (exporting lim part store buffer) (stays lim part store buffer 11)
   says_11 h n = inr (λ l. omega arith, inl (n, refl))
 
-  -- 
+  -- "16"
   pub says_16 : lim.message ≤ length buffer → StoreOf lim store → part_at part ≡ none → Answers (exporting lim part store buffer) (stays lim part store buffer 16)
   says_16 h s n = inr (λ l. omega arith, inr (λ k. k s, inl (not_numbered part n, refl)))
 

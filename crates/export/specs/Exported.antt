@@ -1,4 +1,4 @@
--- Which settings each part exports, and their request's bytes: document 01, 
+-- Which settings each part exports, and their request's bytes: document 01, "Export parts", and since A4 parts 8 to 10.
 use Rattle.std.specs.Prelude.{ℕ, ◌+◌, List, [], ◌∷◌, ◌++◌, map, length, take, drop}
 use Rattle.writing.specs.declared.Operation.TheVariants.{Replace}
 use Rattle.writing.specs.Canonical.{plain, canonical_all}
@@ -33,7 +33,7 @@ part_number LineSlots = 10
 
 -- "1 lines (a replace with flags and Count 0, then one add per contact in order), 2 CB, CD, CF, 3 quick texts (replace with the first 63
 -- by index, and one add if there are 64), 4 channels in order, 5 status texts by code (each part a single replace with all entries), 6 groups, 7 individuals";
--- 
+-- "Export grows by parts 8, 9 and 10 .. C8 and C9 are cleared and then added in order, as lines are"
 abbrev pub exported : Part → Tables → List Setting
 exported Lines t = lines Replace no_line_flags [] ∷ map line_add t.lines
 exported Fixed t = key t.key.target t.key.flags ∷ home t.home ∷ system t.system ∷ []
@@ -46,7 +46,7 @@ exported GroupContacts t = contact_settings OfGroups t.group_contacts
 exported IndividualContacts t = contact_settings OfIndividuals t.individual_contacts
 exported LineSlots t = slots line_slot_setting 0 t.line_slots
 
--- a request of these settings, without FF, of their canonical writing: 
+-- a request of these settings, without FF, of their canonical writing: "No FF; true lengths"
 abbrev pub data_bytes : List Setting → List ℕ
 data_bytes ss = plain (request_head (length ss)) ++ canonical_all unicode16 ss
 

@@ -1,4 +1,4 @@
--- What exporting a part answers and leaves in the buffer: document 01, 
+-- What exporting a part answers and leaves in the buffer: document 01, "Export: 15, 11, 16".
 use Rattle.std.specs.Prelude.{ℕ, ◌<◌, ◌≡◌, List, length}
 use Rattle.lists.specs.Ladder.{Ladder, rung, foot}
 use Rattle.tables.specs.declared.limits.Limits.{Limits}
@@ -22,7 +22,7 @@ no_export Buffer = 15
 no_export NotAStore = 11
 no_export NoPart = 16
 
--- each case's number and length; 
+-- each case's number and length; "11 and 15 to 17 from export or screen return length 0"
 abbrev pub told : Export → Told
 told (Written n) = record { number = 0; request_length = n }
 told (Untouched r) = record { number = no_export r; request_length = 0 }
@@ -33,11 +33,11 @@ pub record AfterExport : Type 0 where
   pub buffer : List ℕ
 
 module _ (lim : Limits) (part : ℕ) (store buffer : List ℕ) where
-  -- 
+  -- "10 to 17 touch no byte of any buffer"
   abbrev pub stays : ℕ → AfterExport
   stays n = record { answer = record { number = n; request_length = 0 }; buffer = buffer }
 
-  -- 
+  -- "Bytes past the request's length stay"
   abbrev pub writes : List ℕ → AfterExport
   writes bytes = record { answer = record { number = 0; request_length = length bytes }; buffer = written_over bytes buffer }
 
@@ -49,7 +49,7 @@ module _ (lim : Limits) (part : ℕ) (store buffer : List ℕ) where
     pub numbered : part_number which ≡ part
     pub after : a ≡ writes (request_bytes (exported which tables))
 
-  -- 
+  -- "15, 11, 16"
   abbrev pub exporting : Ladder AfterExport
   exporting =
       rung (length buffer < lim.message) (stays 15)

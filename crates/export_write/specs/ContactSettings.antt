@@ -1,4 +1,4 @@
--- The settings that export group and individual contacts: 
+-- The settings that export group and individual contacts: "C8 and C9 are cleared and then added in order, as lines are".
 use Rattle.std.specs.Prelude.{false, List, [], ◌∷◌, map}
 use Rattle.writing.specs.declared.Operation.{Operation}
 use Rattle.writing.specs.declared.Operation.TheVariants.{Add, Replace}

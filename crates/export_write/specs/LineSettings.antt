@@ -1,4 +1,4 @@
--- The settings that export lines and line slots: document 01, 
+-- The settings that export lines and line slots: document 01, "Export parts", and since A4 part 10.
 use Rattle.std.specs.Prelude.{ℕ, false, [], ◌∷◌}
 use Rattle.std.proofs.Math.Option.{Option, none, some}
 use Rattle.writing.specs.declared.LineFlags.{LineFlags}
@@ -9,7 +9,7 @@ use Rattle.tables.specs.Tables.{Line}
 abbrev pub no_line_flags : LineFlags
 no_line_flags = record { encryption = false; emergency = false; priority = 0; pabx = false }
 
--- 
+-- "one add per contact"
 abbrev pub line_add : Line → Setting
 line_add l = lines Add l.flags (record { number = l.number; text = l.text } ∷ [])
 

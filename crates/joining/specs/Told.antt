@@ -6,7 +6,7 @@ use Rattle.joining.specs.declared.answers.Join.{Join}
 use Rattle.joining.specs.declared.answers.Join.TheVariants.{Written, Buffer, First, Second, Codings, TooMany, TooLong}
 use Rattle.joining.specs.Joins.{Told}
 
--- 
+-- "12, 13, 14 for all but MsgType 0, 1, 4 .."
 abbrev pub fault_number : Fault → ℕ
 fault_number Size = 12
 fault_number Carrier = 13
@@ -18,7 +18,7 @@ fault_number (Unknown id) = 3
 fault_number (Field id) = 4
 fault_number (LastItem id) = 4
 
--- 
+-- ".. with the failed ID"
 abbrev pub fault_id : Fault → ℕ
 fault_id Size = 0
 fault_id Carrier = 0
@@ -30,7 +30,7 @@ fault_id (Unknown id) = id
 fault_id (Field id) = id
 fault_id (LastItem id) = id
 
--- 
+-- "A refusal .. has length 0, and says which request is at fault"
 abbrev pub refuses : Bool → (number failed : ℕ) → Told
 refuses in_second number failed = record { number = number; failed = failed; in_second = in_second; request_length = 0 }
 
@@ -44,6 +44,6 @@ told Codings = refuses false 4 0
 told TooMany = refuses false 4 0
 told TooLong = refuses false 12 0
 
--- the message sizes that are meant: 
+-- the message sizes that are meant: "the true length" has 16 bits, and counts all but the first four bytes
 pub record CanJoin (most : ℕ) : Type 0 where
   pub stated : most < 65540

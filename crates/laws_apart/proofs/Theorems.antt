@@ -1,4 +1,4 @@
--- Requests that share no table, in either order: docs/RULES.md, 
+-- Requests that share no table, in either order: docs/RULES.md, "Requests that share no table", for every set, store and pair of requests as received. Assumes nothing.
 use Rattle.lists.proofs.Kit.{ℕ, suc, zero, ◌≡◌, refl, sym, ap, ◌∙◌, subst, subst⁻¹, ◌⊎◌, inl, inr, ◌↔◌, Bool, true, false, List, [], ◌∷◌, some, option_some_injective, length, eqb, eqb-true, eqb-false}
 use Rattle.writing.specs.declared.Coding.{Coding}
 use Rattle.writing.specs.declared.Kind.TheVariants.{Last}
@@ -58,7 +58,7 @@ same_number lim {message} {store} {x} {y} s s' =
 -- ---- two requests
 
 module _ (lim : Limits) {c c' : Coding} {a b : List Setting} {one two : List ℕ} (f : Request c a one) (g : Request c' b two) (plain : WithoutLast a) (plain' : WithoutLast b) (apart : Apart a b) {store : List ℕ} where
-  -- EITHER ORDER: 
+  -- EITHER ORDER: "where both orders are taken, they end in the same store"; no hash is kept either way
   pub either_order : {x y x' y' : AfterTaking} → Sent lim one store x → Sent lim two x.store y → Sent lim two store x' → Sent lim one x'.store y'
       → x.answer.number ≡ 0 → y.answer.number ≡ 0 → x'.answer.number ≡ 0 → y'.answer.number ≡ 0
       → (y.store ≡ y'.store) × (v : Tables) × Holds lim v y.store × (v.hash ≡ no_hash)
@@ -143,7 +143,7 @@ module _ (lim : Limits) {c c' : Coding} {a b : List Setting} {one two : List ℕ
           let same : x.answer.number ≡ z.answer.number = same_number lim s (subst (λ (i : List ℕ). Sent lim one i z) stays r) in
           (λ h. sym same ∙ h, λ h. same ∙ h)
 
--- TAKEN BEFORE, AFTER: 
+-- TAKEN BEFORE, AFTER: "either is taken after the other exactly if it is taken before it": both of tables without texts, or one of them, or, where no sum binds, any; x and y are what the
 -- requests come to on the store, z what the first comes to after the second, and w the second after the first
 pub taken_before_after : (lim : Limits) {c c' : Coding} {a b : List Setting} {one two : List ℕ} → Request c a one → Request c' b two → WithoutLast a → WithoutLast b → Apart a b → SumAside lim a b
     → {store : List ℕ} → StoreOf lim store → {x y z w : AfterTaking} → Sent lim one store x → Sent lim two store y → Sent lim one y.store z → Sent lim two x.store w

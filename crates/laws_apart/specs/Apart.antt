@@ -7,15 +7,15 @@ use Rattle.tables.specs.declared.limits.Limits.{Limits}
 use Rattle.tables.specs.declared.limits.Texts.TheVariants.{Placed}
 use Rattle.tables.specs.Owns.{touches}
 
--- 
+-- "whose settings share no table": each type of setting has a table of its own, so CB, CD and CF have three
 abbrev pub Apart : List Setting → List Setting → Type 0
 Apart a b = (k : Kind) → touches a k ≡ true → touches b k ≡ false
 
--- 
+-- "requests without FF"
 abbrev pub WithoutLast : List Setting → Type 0
 WithoutLast l = touches l Last ≡ false
 
--- 
+-- "tables without texts": the emergency key, the home numbers, the channels, the system code, and the kept hash
 abbrev pub textless : Kind → Bool
 textless GroupContacts = false
 textless IndividualContacts = false

@@ -28,7 +28,7 @@ use Rattle.laws_fitting.proofs.Refusing.{taken_turn, part_refused, surely_refuse
 
 -- ---- the tables
 
--- ALLOWED IN: tables that one set may hold, another may whose room their lines, their channels and their texts fit: 
+-- ALLOWED IN: tables that one set may hold, another may whose room their lines, their channels and their texts fit: "All other rules are equal"
 pub allowed_in : (from to : Limits) (t : Tables) → Allowed from t → length t.lines ≤ to.lines → length t.channels ≤ to.channels → TextRoom to.texts (text_sum t) → Allowed to t
 allowed_in from to t ok l c room = record {
   hash = ok.hash;
@@ -120,7 +120,7 @@ module _ (from to : Limits) (x : Exportable from) (room : Roomy to) (t : Tables)
     left_taken : (ps : List Part) → All (PartFits to t) ps → ComesTo from to x room t ok ps u → TakenInTurn to (requests t ps) store (left_by ps)
     left_taken ps fits c = parts_takable from to x room t ok (replicate 20 0) (omega arith) ps fits u store holds c
 
-    -- TAKEN EXACTLY WHEN: 
+    -- TAKEN EXACTLY WHEN: "Say exactly when it is taken: when its lines and channels fit the handheld's room and no written request passes 4,096 bytes", and the texts have room; of any two sets, the other fresh, or whatever it held where each text has a place of its own
     pub taken_exactly_when : ((after : List ℕ) × AllTaken to (requests t ten) store after) ↔ FitsIn to t
     taken_exactly_when = (
       λ (after, h). taken_then_fits u store holds after h,
@@ -132,7 +132,7 @@ module _ (from to : Limits) (x : Exportable from) (room : Roomy to) (t : Tables)
     pub taken_whatever : (after : List ℕ) → FitsIn to t → TakenInTurn to (requests t ten) store after → AllTaken to (requests t ten) store after
     taken_whatever after f h = surely_taken ten (all_any (PartFits to t) (fits_each to t f) ten) u store after holds comes h
 
-    -- REFUSED WITH: 
+    -- REFUSED WITH: "A vehicle's export may be refused by a handheld with 2 or 12": one that does not fit is taken up to its first part that does not, and that is refused
     pub refused_with : (FitsIn to t → ⊥) → (p : Part) × StopsAt to t p store
     refused_with n = by (first_misfit to t)
       where

@@ -14,7 +14,7 @@ use Rattle.export.specs.declared.parts.Part.TheVariants.{Lines, Fixed, QuickText
 use Rattle.export.specs.Exported.{ten, exported, request_bytes}
 use Rattle.restore.specs.Restored.{requests, texts_before, PartFits, first_past}
 
--- 
+-- "when its lines and channels fit the handheld's room and no written request passes 4,096 bytes", of any set that is to take them; "demand 3's 'has room' and A10's condition include the sum"
 pub record FitsIn (to : Limits) (t : Tables) : Type 0 where
   pub lines : length t.lines ≤ to.lines
   pub channels : length t.channels ≤ to.channels
@@ -27,7 +27,7 @@ AllTaken lim [] store after = after ≡ store
 AllTaken lim (message ∷ messages) store after =
     (reply : List ℕ) × (a : AfterTaking) × (20 ≤ length reply) × Answers (taken lim message store reply) a × (a.answer.number ≡ 0) × AllTaken lim messages a.store after
 
--- ---- 
+-- ---- "may be refused by a handheld with 2 or 12": at which part
 
 -- the settings of a part before the first that lacks a place: of lines a replace and an add for each place, of channels none, and no other part lacks places
 abbrev pub with_places : Limits → Tables → Part → List Setting

@@ -1,4 +1,4 @@
--- A channel add sent twice: docs/RULES.md, D6, 
+-- A channel add sent twice: docs/RULES.md, D6, "A channel add does not", in the handheld's fresh store. Assumes nothing.
 use Rattle.lists.proofs.Kit.{ℕ, ◌≡◌, refl, sym, ap, ◌∙◌, ◌≢◌, List, [], ◌∷◌, arith, length, lit≤}
 use Rattle.writing.specs.declared.Coding.TheVariants.{Unicode16}
 use Rattle.writing.specs.declared.Kind.TheVariants.{Channels}

@@ -53,7 +53,7 @@ held s = (s.store.allowed, s.store.bytes_are)
 
 module _ {lim : Limits} {store : List ℕ} {c : Coding} {l : List Setting} {bs message : List ℕ} {x : AfterTaking} (is_Is_store : StoreOf lim store)
     (j : Joinable lim.message c l bs message) (sent : Sent lim message store x) where
-  -- JOINED OTHERWISE: D5, 
+  -- JOINED OTHERWISE: D5, "There is no other case: such a request is taken or lacks room"
   pub joined_otherwise : (x.answer.number ≡ 0) ⊎ (x.answer.number ≡ 2)
   joined_otherwise = by (came is_Is_store j sent (tables_of is_Is_store) (held is_Is_store))
     where
@@ -106,7 +106,7 @@ module _ {lim : Limits} {store : List ℕ} {c : Coding} {a b : List Setting} {x 
     abbrev h : Holds lim t store
     h = held is_Is_store
 
-    -- JOINED TAKEN: D3, 
+    -- JOINED TAKEN: D3, "Where the first is taken, and then the second is, the joined one is taken, and leaves the same store"
     pub joined_taken : p.answer.number ≡ 0 → q.answer.number ≡ 0 → TakenWith q.store r
     joined_taken m n =
         let (u, k) = was_full is_Is_store f sent_first t h m in
@@ -117,14 +117,14 @@ module _ {lim : Limits} {store : List ℕ} {c : Coding} {a b : List Setting} {x 
         let z = all_full is_Is_store both sent_joined t h v e in
         (z.number, z.holds.1 ∙ sym i.holds.1)
 
-    -- FIRST LACKS ROOM: D4, 
+    -- FIRST LACKS ROOM: D4, "the joined one is refused with 2 and the first's failed ID"
     pub first_lacks_room : p.answer.number ≡ 2 → LacksRoom store p.answer.failed r
     first_lacks_room m =
         let (s, k) = was_stuck is_Is_store f sent_first t h m in
         let z = one_lacks is_Is_store both sent_joined t h (in_first (apply lim) a b (forget t) s) in
         (z.0, z.1 ∙ sym k.1, z.2)
 
-    -- SECOND LACKS ROOM: D4, 
+    -- SECOND LACKS ROOM: D4, "the failed ID is the second's counted through: with the first's settings before it. The store stays"
     pub second_lacks_room : p.answer.number ≡ 0 → q.answer.number ≡ 2 → LacksRoom store (counted_through a q.answer.failed) r
     second_lacks_room m n =
         let (u, k) = was_full is_Is_store f sent_first t h m in

@@ -99,7 +99,7 @@ module _ (lim : Limits) {c : Coding} (l : List Setting) {bs message : List ℕ} 
   abbrev request : Request c l message
   request = record { data_bytes = r.data_bytes; carried = r.carried; written = counted_written r.counted refl refl w }
 
-  -- REPLACE TWICE: D6, 
+  -- REPLACE TWICE: D6, "A request whose settings all replace .. leaves the same store when it is sent twice as when it is sent once"
   pub replace_twice : All Replaces l → {store : List ℕ} {x y : AfterTaking} → Sent lim message store x → Sent lim message x.store y → x.answer.number ≡ 0 → y.store ≡ x.store
   replace_twice replaces {store} {x} {y} once again n = by (eqb y.answer.number 0) refl
     where

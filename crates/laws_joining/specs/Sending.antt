@@ -13,15 +13,15 @@ pub record Sent (lim : Limits) (message store : List ℕ) (x : AfterTaking) : Ty
   pub long : 20 ≤ length reply
   pub comes_to : Answers (taken lim message store reply) x
 
--- 
+-- "is taken", and leaves this store
 abbrev pub TakenWith : List ℕ → AfterTaking → Type 0
 TakenWith store x = (x.answer.number ≡ 0) × (x.store ≡ store)
 
--- 
+-- "is refused with 2", with this failed ID, and the store stays
 abbrev pub LacksRoom : List ℕ → ℕ → AfterTaking → Type 0
 LacksRoom store failed x = (x.answer.number ≡ 2) × (x.answer.failed ≡ failed) × (x.store ≡ store)
 
--- 
+-- "the second's counted through: with the first's settings before it"
 abbrev pub counted_through : List Setting → ℕ → ℕ
 counted_through before failed = length before + failed
 

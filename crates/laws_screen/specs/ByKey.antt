@@ -1,4 +1,4 @@
--- What was sent for a key of a list: group and individual contacts, which are 
+-- What was sent for a key of a list: group and individual contacts, which are "keyed by address", and line contacts, by IDtype and digits.
 use Rattle.std.specs.Prelude.{ℕ, Bool, cond, List, [], ◌∷◌, map}
 use Rattle.std.proofs.Math.Option.{Option, none, some}
 use Rattle.plan.specs.declared.numbers.GroupAddress.{GroupAddress}
@@ -64,7 +64,7 @@ to_individual_contact a (individual o f s) = none
 to_individual_contact a (line_slot o f s) = none
 to_individual_contact a (last f h) = none
 
--- and of the line with the key k: 
+-- and of the line with the key k: "The identity of a line is its IDtype together with its digits"
 abbrev pub to_line : LineKey → Setting → Option (Option Line)
 to_line k (group_contacts o f es) = none
 to_line k (individual_contacts o f es) = none
@@ -85,7 +85,7 @@ abbrev pub to_contact : (w : Members) → AddressIn w → Setting → Option (Op
 to_contact OfGroups = to_group_contact
 to_contact OfIndividuals = to_individual_contact
 
--- 
+-- "Rows go by position": a contact's row, and what stands in it
 abbrev pub contact_row : Members → ℕ → Row
 contact_row OfGroups n = GroupContact n
 contact_row OfIndividuals n = IndividualContact n

@@ -33,13 +33,13 @@ pub data Adds (lim : Limits) (message store reply : List ℕ) : List (List Setti
   its_settings : {l : List Setting} → Takes lim message store reply l → Adds lim message store reply (l ∷ [])
   nothing : ((l : List Setting) → Takes lim message store reply l → ⊥) → Adds lim message store reply []
 
--- 
+-- "any sequence of messages from a start" took these lists of settings and left this store
 pub data Reached (lim : Limits) : List (List Setting) → List ℕ → Type 0 where
   from_start : (before : List ℕ) {store : List ℕ} → Answers (starting lim before) (begins Fresh store) → Reached lim [] store
   then_message : {log added : List (List Setting)} {store message reply : List ℕ} (x : AfterTaking) → Reached lim log store → Bytes message
       → Answers (taken lim message store reply) x → Adds lim message store reply added → Reached lim (log ++ added) x.store
 
--- 
+-- "the settings taken, in order" make the tables t the tables u; each request first forgets the hash
 abbrev pub InOrder : Limits → Tables → List (List Setting) → Tables → Type 0
 InOrder lim t [] u = t ≡ u
 InOrder lim t (l ∷ log) u = (after : Tables) × InTurn lim (length l) (forget t) l after × InOrder lim after log u

@@ -75,7 +75,7 @@ module _ (lim : Limits) where
   hash_or_none none = refl
   hash_or_none (some x) = refl
 
-  -- 
+  -- "After each taken request the hash kept is that request's own; with .. no FF, none"
   pub hash_own : (n : ℕ) (t u : Tables) (l : List Setting) → t.hash ≡ no_hash → InTurn lim n t l u → u.hash ≡ (last_item l).hash
   hash_own n t u [] e z = sym (ap (λ (x : Tables). x.hash) z) ∙ e
   hash_own zero t u (s ∷ l) e z = absurd z

@@ -33,7 +33,7 @@ module _ (lim : Limits) (message store reply : List ℕ) where
       let e = outcome_determined lim message store reply x.after y.after x.allowed y.allowed in
       (said_one a b (x.says ∙ ap (λ (z : AfterTaking). z.answer) e ∙ sym y.says), x.writes ∙ ap (λ (z : AfterTaking). z.reply) e ∙ sym y.writes)
 
-  -- JUDGE IS COMMIT: 
+  -- JUDGE IS COMMIT: "the same numbers and order from both", and "the reply that committing would write"
   pub judge_is_commit : (a b : Answer) (r s q : List ℕ) → Judges lim message store reply (said a) r → Answers (taken lim message store reply) (leaves b s q) → (a ≡ b) × (r ≡ q)
   judge_is_commit a b r s q x y = judge_determined a b r q x (record { after = leaves b s q; allowed = y; says = refl; writes = refl })
 
@@ -133,7 +133,7 @@ module _ (lim : Limits) (message store reply reply' : List ℕ) where
   beside a r j n big' x p =
       any_buffer (had_room lim message store reply j.after j.allowed (λ e. n (ap (λ (s : Said). s.number) j.says ∙ e))) big' j.after x j.allowed p
 
-  -- JUDGED, COMMITTED: 
+  -- JUDGED, COMMITTED: "A message that was judged good and finds the same store is always committed, given a reply buffer of 20 bytes", whatever that holds: the answer is the
   -- same, and so are the bytes of the reply; a request leaves the tables after all its settings, and a result query the store as it was
   pub judged_committed : (a : Said) (r : List ℕ) → Judges lim message store reply a r → a.number ≡ 0 → 20 ≤ length reply'
       → (x : AfterTaking) → Answers (taken lim message store reply') x

@@ -1,4 +1,4 @@
--- Demand 2's 
+-- Demand 2's "the reply is the standard's", over the contract of commit: for every message, store and reply buffer. Assumes nothing.
 use Rattle.lists.proofs.Kit.{ℕ, ◌+◌, ◌≤◌, ◌<◌, ◌≡◌, refl, ap, subst⁻¹, inl, inr, ⊎_elim, Bool, true, false, List, ◌++◌, arith, length, take, drop, take_at}
 use Rattle.lists.specs.Ladder.{Answers}
 use Rattle.writing.specs.declared.Coding.{Coding}
@@ -71,7 +71,7 @@ module _ (lim : Limits) (message store reply : List ℕ) where
   no_reply : (k : ℕ) → 10 ≤ k → (x : AfterTaking) → x ≡ stays lim message store reply k → x.answer.number < 10 → StandardReply lim x
   no_reply k a x e n = absurd (omega (arith, ap (λ (y : AfterTaking). y.answer.number) e))
 
-  -- STANDARD REPLY: 
+  -- STANDARD REPLY: "the reply is the standard's" (demand 2); "0 to 5 write a reply"
   pub reply_standard : (x : AfterTaking) → Answers (taken lim message store reply) x → x.answer.number < 10 → StandardReply lim x
   reply_standard x (inl (_, e)) = no_reply 10 (omega arith) x e
   reply_standard x (inr (_, inl (_, e))) = no_reply 11 (omega arith) x e

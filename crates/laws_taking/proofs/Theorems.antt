@@ -109,7 +109,7 @@ module _ (lim : Limits) (message store reply : List ℕ) where
   answered_0 x (inr (_, inr (_, inr (_, inr (_, inr (_, inr (_, inl (_, e)))))))) n = absurd (omega (arith, n, number_of e))
   answered_0 x (inr (big, inr (_, inr (sized, inr (_, inr (_, inr (_, inr (_, h)))))))) n = (big_enough big, in_size lim.message message sized, h)
 
-  -- STORE STAYS: 
+  -- STORE STAYS: "Only .. a taken request change[s] it": any number but 0 leaves every byte of the store
   pub store_stays : (x : AfterTaking) → Answers (taken lim message store reply) x → x.answer.number ≢ 0 → x.store ≡ store
   store_stays x a n = by (ends x a)
     where
@@ -118,7 +118,7 @@ module _ (lim : Limits) (message store reply : List ℕ) where
       by (replied number failed send reboot h l e) = ap (λ (y : AfterTaking). y.store) e
       by (stored l u ok e) = absurd (n (ap (λ (y : AfterTaking). y.answer.number) e))
 
-  -- UNTOUCHED: 
+  -- UNTOUCHED: "10 to 17 touch no byte of any buffer", and "for 10 to 14: ID 0, no, no, length 0"
   pub untouched : (x : AfterTaking) → Answers (taken lim message store reply) x → 10 ≤ x.answer.number → x ≡ stays lim message store reply x.answer.number
   untouched x a n = by (ends x a)
     where
@@ -236,7 +236,7 @@ module _ (c : Coding) (lim : Limits) (message store reply : List ℕ) (b : Bytes
             let (w, k, y, z) = run_written c lim r in
             (l, u, counted_written counts q (k ∙ append-nil w) y, subst (λ (i : ℕ). InTurn lim i (forget t) l u) (sym q) z)
 
-    -- HASH KEPT: 
+    -- HASH KEPT: "After each taken request the hash kept is that request's own; with code 0 or no FF, none"
     pub hash_kept : (l : List Setting) (u : Tables) → InTurn lim (length l) (forget t) l u → u.hash ≡ (last_item l).hash
     hash_kept l u z = hash_own lim (length l) (forget t) u l refl z
 

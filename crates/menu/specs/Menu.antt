@@ -13,7 +13,7 @@ pub record Told : Type 0 where
   pub lines : ℕ
   pub channels : ℕ
 
--- 
+-- "11 .. returns 0 and 0"
 abbrev pub told : Counts → Told
 told (Held lines channels) = record { number = 0; lines = lines; channels = channels }
 told NotAStore = record { number = 11; lines = 0; channels = 0 }
@@ -22,7 +22,7 @@ told NotAStore = record { number = 11; lines = 0; channels = 0 }
 abbrev pub counts_of : Tables → Told
 counts_of t = record { number = 0; lines = length t.lines; channels = length t.channels }
 
--- 
+-- "one call returns the two counts": of the tables that the store holds, or 11 where it is no store
 abbrev pub counting : Limits → List ℕ → Ladder Told
 counting lim store =
     rung (StoreOf lim store → ⊥) (record { number = 11; lines = 0; channels = 0 })

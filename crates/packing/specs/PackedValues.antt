@@ -36,7 +36,7 @@ pub record Packed {A : Type 0} (call : Ladder A) (fields : A → List Field) (r 
 
 -- ---- what stands behind a row
 
--- by its kind: a line has no address, an individual no IDtype, and only a group an attribute, broadcast and OVCM; 
+-- by its kind: a line has no address, an individual no IDtype, and only a group an attribute, broadcast and OVCM; "a refusal has all other bits 0"
 abbrev pub entry_values : Option Target → EntryValues
 entry_values none = record { address = 0; idtype = false; encryption = false; emergency = false; priority = 0; attribute = 0; broadcast = false; ovcm = false }
 entry_values (some (Line f)) =

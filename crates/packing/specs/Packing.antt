@@ -99,12 +99,12 @@ abbrev pub found_of : Option ℕ → ℕ
 found_of none = 0
 found_of (some r) = 1
 
--- 
+-- "a refusal carries no row": its bits are 0
 abbrev pub row_of : Option ℕ → ℕ
 row_of none = 0
 row_of (some r) = r
 
--- 
+-- "bits 0-7 number, bit 8 a row has it, 16-31 the row, all others 0"
 abbrev pub packed_caller : ToldCaller → ℕ
 packed_caller t = t.number + found_of t.row * 256 + row_of t.row * 65536
 
@@ -113,7 +113,7 @@ pub record PacksCaller (t : ToldCaller) (r : ℕ) : Type 0 where
   pub row : row_of t.row < 65536
   pub bits : r ≡ packed_caller t
 
--- 
+-- "The lookup answers with the row, or that no row has that number": an answer that its contract allows, packed
 pub record LooksUp (lim : Limits) (idtype : ℕ) (digits store : List ℕ) (r : ℕ) : Type 0 where
   pub answer : ToldCaller
   pub allowed : Answers (looking_up lim idtype digits store) answer

@@ -1,4 +1,4 @@
--- How what the office's reader answers is packed in one number for C: docs/REPORTS.md, 
+-- How what the office's reader answers is packed in one number for C: docs/REPORTS.md, "For C".
 use Rattle.std.specs.Prelude.{ℕ, ◌+◌, ◌*◌, ◌≡◌, true, false, cond, List, [], ◌∷◌, ltb, length}
 use Rattle.lists.specs.Ladder.{Answers}
 use Rattle.writing.specs.Fields.{Field, val}
@@ -34,7 +34,7 @@ pub record AnswersMessage (most : ℕ) (message : List ℕ) (r : ℕ) : Type 0 w
 abbrev pub entry : (asked flags index value : ℕ) → Parameter
 entry asked flags index value = record { asked = asked; flags = flags; index = index; unknown = false; value = value }
 
--- the table of docs/REPORTS.md, row by row: 
+-- the table of docs/REPORTS.md, row by row: "flags are those of a slot of the store, and of a line 16 for PABX"
 abbrev pub parameter : Item → Parameter
 parameter (Group i f a t) = entry (ask_byte Groups) (group_flags f) i a.0
 parameter (Individual i f a t) = entry (ask_byte Individuals) (individual_flags f) i a.0
@@ -49,7 +49,7 @@ parameter (Hash p) = entry (ask_byte AHash) 0 0 0
 parameter NoHash = entry (ask_byte AHash) 0 0 0
 parameter (Unknown b) = record { asked = b; flags = 0; index = 0; unknown = true; value = 0 }
 
--- 
+-- "answer 0 in all bits where no parameter in range starts there"
 abbrev pub parameter_read : ItemRead → Parameter
 parameter_read (AnItem i next) = parameter i
 parameter_read NoItem = entry 0 0 0 0
@@ -73,7 +73,7 @@ bare next number size = record { next = next; text = 0; units = 0; number = numb
 abbrev pub texted : ℕ → TextPlace → (number size : ℕ) → Places
 texted next t number size = record { next = next; text = t.start; units = t.units; number = number; size = size }
 
--- 
+-- "places and lengths of what a parameter has none of are 0"
 abbrev pub places : Item → ℕ → Places
 places (Group i f a t) next = texted next t 0 0
 places (Individual i f a t) next = texted next t 0 0

@@ -68,7 +68,7 @@ forget_weights ws t w = record {
 pub forget_logged : (s : List ℕ) (n : ℕ) (ds : List D.Deed) (t : Tables) → Logged s n ds t → Logged s n ds (forget t)
 forget_logged s n ds t l = record { follow = l.follow; count = l.count; few = l.few; short = l.short; tells = telling_hash handheld ds t no_hash l.tells }
 
--- 
+-- "After each taken request the hash kept is that request's own"
 pub own_hash : (c : Coding) (n : ℕ) (t : Tables) (bs : List ℕ) (l : List Setting) (u : Tables) → Judged c handheld n (forget t) bs (kept l u) → u.hash ≡ (last_item l).hash
 own_hash c n t bs l u (taken q r) = hash_own handheld n (forget t) u l refl (run_written c handheld r).3
 

@@ -140,7 +140,7 @@ module _ (message area reply : List ℕ) where
       by (full f e) = (store_of e, ap (λ (x : AfterTaking). x.reply) e)
       by (behind k) = absurd (omega (arith, k.number, h))
 
-  -- NOT-KEPT: 
+  -- NOT-KEPT: "A refused message isn't kept"
   pub not_kept : (a : AfterTaking) → Answers (plain_taken message area reply) a → a.answer.number ≢ 0 → a.store ≡ area
   not_kept a p h = by (ends a p)
     where
@@ -174,7 +174,7 @@ module _ (message area reply : List ℕ) where
         comes_to = inl (t.coding, t.count, t.bytes, t.request, kept f.settings f.after, t.judged, sym (passes_end message area reply f.log _ f.passes));
       })
 
-  -- FULL-EXACTLY: 
+  -- FULL-EXACTLY: "18 .. exactly when a request that would be taken passes the area's end"
   pub full_exactly : (a : AfterTaking) → Answers (plain_taken message area reply) a → (a.answer.number ≡ 18) ↔ Full message area reply
   full_exactly a p = (λ h. by h (ends a p), λ f. number_of (plain_determined a (stays handheld message area reply 18) p (full_answers f)))
     where

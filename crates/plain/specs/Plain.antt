@@ -18,7 +18,7 @@ use Rattle.plain.specs.declared.answers.Refusal.TheVariants.{ReplyBuffer, NotAnA
 
 -- ---- answers
 
--- the numbers of the refusals that touch nothing; 
+-- the numbers of the refusals that touch nothing; "18, last and with nothing written"
 abbrev pub refusal_number : Refusal → ℕ
 refusal_number ReplyBuffer = 10
 refusal_number NotAnArea = 11
@@ -39,11 +39,11 @@ plain_leaves a area reply = record { answer = plain_said a; store = area; reply 
 module _ (message area reply : List ℕ) where
   -- ---- what a message comes to
 
-  -- 
+  -- "18 .. exactly when a request that would be taken passes the area's end"; else it is kept, behind those that were
   abbrev pub kept_behind : List (List ℕ) → AfterTaking → AfterTaking
   kept_behind log a = cond (leb (4 + length (log_bytes (log ++ (message ∷ [])))) area_size) a (stays handheld message area reply 18)
 
-  -- a request: the reply of the hand-held; 
+  -- a request: the reply of the hand-held; "A refused message isn't kept"
   abbrev pub plain_settled : List (List ℕ) → Outcome Setting Tables → AfterTaking
   plain_settled log (kept l u) =
       kept_behind log
@@ -63,7 +63,7 @@ module _ (message area reply : List ℕ) where
     pub area_is : AreaOf area log tables
     pub comes_to : PlainRequest log tables a ⊎ AsQuery handheld message area reply tables a
 
-  -- 
+  -- "18 .. exactly when a request that would be taken passes the area's end": the reply buffer and the area are good, and the tables of its requests take this one
   pub record Full : Type 0 where
     pub buffer : 20 ≤ length reply
     pub log : List (List ℕ)

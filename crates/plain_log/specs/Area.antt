@@ -1,4 +1,4 @@
--- The area of the plain engine: document 02, A12, 
+-- The area of the plain engine: document 02, A12, "It keeps the requests that were taken, one after another, in 32,768 lent bytes".
 use Rattle.std.specs.Prelude.{ℕ, ◌+◌, ◌/◌, ◌%◌, ◌≤◌, ◌≡◌, List, [], ◌∷◌, ◌++◌, map, length}
 use Rattle.lists.specs.Ladder.{Ladder, rung, foot}
 use Rattle.slots.specs.Slots.{flat, pad, u16}
@@ -18,18 +18,18 @@ use Rattle.plain_log.specs.declared.areas.Started.TheVariants.{Fresh, WrongSize}
 abbrev pub area_size : ℕ
 area_size = 32768
 
--- 
+-- "each request's length plus 2": two bytes of length, and the request as it was received
 abbrev pub record_bytes : List ℕ → List ℕ
 record_bytes message = u16 (length message) ++ message
 
 abbrev pub log_bytes : List (List ℕ) → List ℕ
 log_bytes log = flat (map record_bytes log)
 
--- 
+-- "4 bytes on the used length", in network order
 abbrev pub u32 : ℕ → List ℕ
 u32 n = u16 (n / 65536) ++ u16 (n % 65536)
 
--- 
+-- "then each request's length plus 2; the rest is 0"
 abbrev pub area_bytes : List (List ℕ) → List ℕ
 area_bytes log = pad 0 area_size (u32 (length (log_bytes log)) ++ log_bytes log)
 
@@ -55,7 +55,7 @@ pub record AreaOf (area : List ℕ) (log : List (List ℕ)) (t : Tables) : Type 
   pub fits : 4 + length (log_bytes log) ≤ area_size
   pub taken : TakenInTurn handheld fresh log t
 
--- 
+-- "11 for bytes that aren't such an area"
 abbrev pub IsArea : List ℕ → Type 0
 IsArea area = (log : List (List ℕ)) × (t : Tables) × AreaOf area log t
 

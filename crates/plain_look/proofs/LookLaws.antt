@@ -21,6 +21,7 @@ use Rattle.read_deeds.specs.Cursors.{Follow, NextDeed}
 use Rattle.read_deeds.specs.ReadDeeds.{TextSeen, PutIs}
 use Rattle.plain_look.specs.declared.known.Looked.{Looked}
 use Rattle.plain_look.specs.Looking.{Where, anywhere, inside, Reads, PutSeen, FoundIs, LookedIs, deeds_most, LookIs, kind_number, KnowPut, KnowStep}
+use Rattle.writing.specs.declared.Coding.TheVariants.{Unicode16}
 
 -- ---- kinds by number
 
@@ -85,6 +86,10 @@ latest_stays k other = go (first_stays k) refl
     go false h = refl
 
 -- ---- what is known
+
+-- the code's constant for it
+abbrev pub unknown_looked : Looked
+unknown_looked = record { there = false; birth = 0; often = 0; put = record { key = 0; name = 0; hidden = false; text = record { start = 0; units = 0; coding = Unicode16 } } }
 
 -- nothing is known where nothing is there
 pub unknown_is : (w : Where) (r : Looked) → r.there ≡ false → r.often ≡ 0 → LookedIs w r unknown

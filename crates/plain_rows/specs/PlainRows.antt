@@ -1,4 +1,4 @@
--- What the screen's calls answer with no table, for every area, scratch and row: document 02, A12, 
+-- What the screen's calls answer with no table, for every area, scratch and row: document 02, A12, "answers each row by reading them from the first".
 use Rattle.std.specs.Prelude.{ℕ, ◌*◌, ◌≤◌, ◌<◌, ◌≡◌, List, ◌++◌, length, take, drop}
 use Rattle.std.proofs.Math.Option.{none, some}
 use Rattle.std.specs.Borrow.{Bor}
@@ -18,7 +18,7 @@ use Rattle.plain_log.specs.Area.{AreaOf, IsArea}
 abbrev pub NoRow : List ℕ → Row → Type 0
 NoRow area row = (log : List (List ℕ)) (t : Tables) → AreaOf area log t → caption t row ≡ none
 
--- 
+-- "15 for a screen call's scratch", which is 64 bytes; "11 for bytes that aren't such an area"; 17 as on the hand-held
 abbrev pub plain_judged : {A : Type 0} → List ℕ → ℕ → Row → (Refusal → A) → (A → Type 0) → Ladder A
 plain_judged area room row refuse There =
     rung (room < 64) (refuse ScratchSize)

@@ -28,7 +28,7 @@ receive_determined = case_determined Receives one_receive 22 frequency Frequency
 pub channel_determined : (f : ℕ) (a b : ChannelAnswer) → Answered (Back Transmits) 22 f (answer (channel a)) → Answered (Back Transmits) 22 f (answer (channel b)) → a ≡ b
 channel_determined = case_determined (Back Transmits) one_channel 22 channel Channel NoChannel channel_back
 
--- 
+-- "Numbers and channels convert, both ways": channels
 pub channels_both_ways : BothWays Transmits 22 22
 channels_both_ways = both_ways Transmits 22 22 (omega arith) (omega arith) one_transmit one_channel
 

@@ -43,7 +43,7 @@ dialled_of_individual_determined = case_determined (Back Individual) (one_dialle
 pub dialled_of_group_determined : (i : ℕ) (a b : DialledAnswer) → Answered (Back Group) 21 i (answer (dialled a)) → Answered (Back Group) 21 i (answer (dialled b)) → a ≡ b
 dialled_of_group_determined = case_determined (Back Group) (one_dialled GroupShort groups) 21 dialled Dialled OutsideKind dialled_back
 
--- 
+-- "Numbers and channels convert, both ways": numbers
 pub individuals_both_ways : BothWays Individual 20 21
 individuals_both_ways =
     both_ways Individual 20 21 (omega arith) (omega arith) (one_address IndividualShort individuals) (one_dialled IndividualShort individuals)

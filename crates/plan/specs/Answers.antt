@@ -11,7 +11,7 @@ use Rattle.plan.specs.declared.frequencies.FrequencyAnswer.TheVariants.{Frequenc
 use Rattle.plan.specs.declared.frequencies.ChannelAnswer.{ChannelAnswer}
 use Rattle.plan.specs.declared.frequencies.ChannelAnswer.TheVariants.{Channel, NoChannel}
 
--- 
+-- "Numbers returned": a number, and a value
 pub record Answer : Type 0 where
   pub number : ℕ
   pub value : ℕ
@@ -20,7 +20,7 @@ pub record Answer : Type 0 where
 abbrev pub given : ℕ → Answer
 given v = record { number = 0; value = v }
 
--- 
+-- "20 to 22 return 0"
 abbrev pub refused : ℕ → Answer
 refused n = record { number = n; value = 0 }
 

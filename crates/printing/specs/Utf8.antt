@@ -9,11 +9,11 @@ units [] = []
 units (b ∷ []) = []
 units (high ∷ low ∷ bytes) = (high * 256 + low) ∷ units bytes
 
--- RFC 2781, 2.1: two units 
+-- RFC 2781, 2.1: two units "W1 = 110110yyyyyyyyyy, W2 = 110111xxxxxxxxxx" are one character,
 abbrev pub pair? : ℕ → ℕ → Bool
 pair? w1 w2 = cond (eqb (w1 / 1024) 0x36) (eqb (w2 / 1024) 0x37) false
 
--- 
+-- "U' = yyyyyyyyyyxxxxxxxxxx" over 0x10000
 abbrev pub joined : ℕ → ℕ → ℕ
 joined w1 w2 = 0x10000 + w1 % 1024 * 1024 + w2 % 1024
 

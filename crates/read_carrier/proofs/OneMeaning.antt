@@ -32,7 +32,7 @@ reply_one {r} {s} {f} {g} {h} {k} a b =
     let (v, z) = vals_end 8 h.value k.value n z in
     (p, q, λ i. record { code = c i; value = v i })
 
--- SETTINGS ONE: 
+-- SETTINGS ONE: "No two lists share bytes", the carrier's included
 pub settings_one : (c : Coding) (ss ts : List Setting) (m : List ℕ) → Request c ss m → Request c ts m → ss ≡ ts
 settings_one c ss ts m a b =
     no_two_lists c ss ts b.data_bytes (subst (WrittenAs c ss) (carries_one a.carried b.carried).1 a.written) b.written

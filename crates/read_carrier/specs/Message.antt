@@ -15,12 +15,12 @@ use Rattle.read_carrier.specs.declared.carrier.CarrierRead.TheVariants.{Carried,
 
 -- ---- the carrier
 
--- 
+-- "The fixed start bytes 02 02 are compared as they stand"
 abbrev pub StartsWith : List ℕ → Bool → Type 0
 StartsWith m true = m ≡ start_bytes ++ drop 2 m
 StartsWith m false = (rest : List ℕ) → m ≡ start_bytes ++ rest → ⊥
 
--- 
+-- "The length counts everything after itself; 0 means that it isn't stated. Any other value must fit exactly"
 abbrev pub LengthIs : ℕ → ℕ → Bool → Type 0
 LengthIs stated after true = States stated after
 LengthIs stated after false = States stated after → ⊥

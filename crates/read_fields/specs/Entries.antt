@@ -108,7 +108,7 @@ abbrev pub PassAt : {A : Type 0} → (A → List Field) → (A → Type 0) → L
 PassAt {A} form In m at (To next) = (a : A) × In a × FieldsAt (form a) m at next
 PassAt {A} form In m at Stopped = (a : A) (next : ℕ) → In a → FieldsAt (form a) m at next → ⊥
 
--- 
+-- "each 12 bits; 4 bits 1111 if Count is odd"
 abbrev pub channel_list : List ℕ → List Field
 channel_list es = map (val 12) es ++ fill (length es)
 

@@ -14,11 +14,11 @@ use Rattle.read_setting.specs.declared.reader.SettingRead.TheVariants.{Taken, Mi
 abbrev pub SettingAt : Coding → ℕ → List ℕ → ℕ → SettingRead → Type 0
 -- the setting in range that stands there, up to `next`
 SettingAt c left m at (Taken r next) = (s : Setting) × Meant m r s × InRange text_limits left s × StandsAt c m at next s
--- 
+-- "a missing type byte is 4"
 SettingAt c left m at Missing = length m ≤ at
--- 3: 
+-- 3: "type not among the thirteen"
 SettingAt c left m at Unknown = (at < length m) × ((k : Kind) → type_byte k ≡ get_or m at 0 → ⊥)
--- 4: the type is among the thirteen, and no setting in range stands there: 
+-- 4: the type is among the thirteen, and no setting in range stands there: "bad field, length or count"
 SettingAt c left m at BadField =
     (at < length m) × (k : Kind) × (type_byte k ≡ get_or m at 0)
     × ((s : Setting) (next : ℕ) → InRange text_limits left s → StandsAt c m at next s → ⊥)

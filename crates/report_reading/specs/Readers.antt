@@ -34,7 +34,7 @@ abbrev pub HeadIs : List ℕ → ℕ → ℕ → ℕ → HeadRead → Type 0
 HeadIs m p size limit (Head n) = (p + size ≤ length m) × (n ≡ be 0 (take size (drop p m))) × (n < limit)
 HeadIs m p size limit NoHead = p + size ≤ length m → be 0 (take size (drop p m)) < limit → ⊥
 
--- 
+-- "attribute 2, broadcast 1, encryption 1, OVCM 1, emergency 1, priority 2, reserved 4"
 pub record GroupFlagsAre (n : ℕ) (f : GroupFlags) : Type 0 where
   pub attribute : n / 1024 % 4 ≡ f.attribute
   pub broadcast : n / 512 % 2 ≡ bit f.broadcast
@@ -43,13 +43,13 @@ pub record GroupFlagsAre (n : ℕ) (f : GroupFlags) : Type 0 where
   pub emergency : n / 64 % 2 ≡ bit f.emergency
   pub priority : n / 16 % 4 ≡ f.priority
 
--- 
+-- "encryption 1, emergency 1, priority 2"
 pub record IndividualFlagsAre (n : ℕ) (f : IndividualFlags) : Type 0 where
   pub encryption : n / 8 % 2 ≡ bit f.encryption
   pub emergency : n / 4 % 2 ≡ bit f.emergency
   pub priority : n % 4 ≡ f.priority
 
--- 
+-- "IDtype 1, encryption 1, emergency 1, priority 2, reserved 7, index 4"
 pub record LineFlagsAre (n : ℕ) (f : LineFlags) : Type 0 where
   pub pabx : n / 32768 % 2 ≡ bit f.pabx
   pub encryption : n / 16384 % 2 ≡ bit f.encryption
@@ -131,7 +131,7 @@ abbrev pub WalkIs : List ℕ → ℕ → Bool → Bool → Type 0
 WalkIs m count last true = Standing m (last ≡ true) 10 count
 WalkIs m count last false = Standing m (last ≡ true) 10 count → ⊥
 
--- 
+-- "total from 1, index 1 to the total"; "0 only where the total is 1"
 pub record HeadOk (total index count : ℕ) : Type 0 where
   pub from_1 : 1 ≤ index
   pub to_total : index ≤ total

@@ -1,4 +1,4 @@
--- What the office's reader answers of a message, and of the parameter at a place of one: docs/RULES.md, Q14, and docs/REPORTS.md, 
+-- What the office's reader answers of a message, and of the parameter at a place of one: docs/RULES.md, Q14, and docs/REPORTS.md, "For C".
 use Rattle.std.specs.Prelude.{ℕ, ◌≡◌, List, [], ◌∷◌, map, length}
 use Rattle.std.proofs.Math.Option.{none, some}
 use Rattle.lists.specs.Ladder.{Answers}
@@ -71,7 +71,7 @@ counted Version = 0
 counted NoReport = 0
 counted (Report total index count) = count
 
--- 
+-- "It answers the total, the index and how many parameters there are": with these parameters it is the reader's answer
 abbrev pub ReadAs : ℕ → List ℕ → ReportRead → Type 0
 ReadAs most m r = (items : List Item) × (length items ≡ counted r) × Answers (reading most m) (told r items)
 
@@ -81,7 +81,7 @@ ReadAs most m r = (items : List Item) × (length items ≡ counted r) × Answers
 abbrev pub IsRead : List ℕ → ℕ → ℕ → Item → Type 0
 IsRead m at next i = (r : ItemRead) → ReadAt m at r → (f : Found) × (r ≡ AnItem f next) × Says m next i f
 
--- 
+-- "each of the others at the byte behind the one before it", up to the message's end
 abbrev pub Walked : List ℕ → ℕ → List Item → Type 0
 Walked m at [] = at ≡ length m
 Walked m at (i ∷ l) = (next : ℕ) × FieldsAt (item_fields i) m at next × IsRead m at next i × Walked m next l

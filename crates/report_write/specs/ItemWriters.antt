@@ -11,7 +11,7 @@ use Rattle.reports.specs.declared.Asked.TheVariants.{Groups, Individuals, Lines,
 use Rattle.reports.specs.Items.{item_bytes}
 use Rattle.reports.specs.TableSlots.{EntryOf, EntryOk, InSlot, InPlaces, entry_bytes, item_at, slot_item, slot_width}
 
--- 
+-- "least / most bytes": no parameter has more than a quick text's
 abbrev pub item_most : ℕ
 item_most = 51
 

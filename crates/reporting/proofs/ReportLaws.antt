@@ -30,17 +30,17 @@ use Rattle.reporting.specs.Written.{ItemsPut, Headed, answering}
 -- ---- before the plan
 
 module _ (lim : Limits) (query : List ℕ) (index : ℕ) (store buffer : List ℕ) where
-  -- 
+  -- "15"
   pub says_15 : length buffer < lim.message → Answers (reporting lim query index store buffer) (stays lim query index store buffer 15)
   says_15 h = inl (h, refl)
 
   module _ (big : lim.message ≤ length buffer) where
-    -- 
+    -- "11"
     pub says_11 : (StoreOf lim store → ⊥) → Answers (reporting lim query index store buffer) (stays lim query index store buffer 11)
     says_11 n = inr (λ l. omega arith, inl (n, refl))
 
     module _ (s : StoreOf lim store) where
-      -- 
+      -- "12, 13, 14, 1, 4"
       pub says_refused : (why : NoReport) → RefusedAs lim.message query why → Answers (reporting lim query index store buffer) (record { answer = told (Untouched why); buffer = buffer })
       says_refused Size n = inr (λ l. omega arith, inr (λ k. k s, inl (n, refl)))
       says_refused Carrier (i, n) = inr (λ l. omega arith, inr (λ k. k s, inr (λ k. k i, inl (n, refl))))
@@ -88,12 +88,12 @@ module _ (lim : Limits) (query : List ℕ) (index : ℕ) (store work buffer type
   unfolding messages
   total_is t r a = ap (λ (x : List ℕ). length (messages lim t x)) (queries_one a.asks q) ∙ p.total t (see.1 t a.holds)
 
-  -- 
+  -- "4"
   pub says_many : 255 < w.closed + 1 → Answers (answering lim query index store buffer) (record { answer = told (Untouched BadQuery); buffer = buffer })
   says_many l = inl (λ t r a. omega (arith, total_is t r a), refl)
 
   module _ (few : w.closed + 1 ≤ 255) where
-    -- 
+    -- "16"
     pub says_none : (1 ≤ index → index ≤ w.closed + 1 → ⊥) → Answers (answering lim query index store buffer) (record { answer = told (Untouched NoMessage); buffer = buffer })
     says_none n = inr (λ k. omega (arith, k s.store.tables types asks, total_is s.store.tables types asks), inl (λ t r a o l. n o (omega (arith, total_is t r a)), refl))
 

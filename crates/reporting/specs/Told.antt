@@ -1,4 +1,4 @@
--- What each case of the call's answer tells: docs/RULES.md, 
+-- What each case of the call's answer tells: docs/RULES.md, "Numbers returned".
 use Rattle.std.specs.Prelude.{ℕ}
 use Rattle.reports.specs.Reporting.{Told}
 use Rattle.reporting.specs.declared.answers.NoReport.{NoReport}

@@ -74,18 +74,18 @@ a_key : reported (put_own Key fresh (record { target = ToGroup (record { 0 = 0x1
 unfolding reported
 a_key = refl
 
--- quick text 5 
+-- quick text 5 "A"
 a_quick : reported (put_own QuickTexts fresh (none ∷ none ∷ none ∷ none ∷ none ∷ some (0x41 ∷ []) ∷ [])) (0xCC ∷ []) ≡ 0x8C ∷ 0x00 ∷ 0x14 ∷ 0x00 ∷ 0x41 ∷ 0x00 ∷ 0x00 ∷ []
 unfolding reported
 a_quick = refl
 
--- status texts 33 
+-- status texts 33 "B" and 40, empty
 a_status : reported (put_own StatusTexts fresh (none ∷ some (0x42 ∷ []) ∷ none ∷ none ∷ none ∷ none ∷ none ∷ none ∷ some [] ∷ [])) (0xD0 ∷ [])
     ≡ 0x90 ∷ 0x00 ∷ 0x21 ∷ 0x00 ∷ 0x00 ∷ 0x42 ∷ 0x00 ∷ 0x00 ∷ 0x90 ∷ 0x00 ∷ 0x28 ∷ 0x01 ∷ 0x00 ∷ 0x00 ∷ []
 unfolding reported
 a_status = refl
 
--- group contact 100001, encryption, priority 2, 
+-- group contact 100001, encryption, priority 2, "A"
 a_group : reported one_group (0xC8 ∷ []) ≡ 0x88 ∷ 0x00 ∷ 0x10 ∷ 0x00 ∷ 0x01 ∷ 0x0D ∷ 0x20 ∷ 0x00 ∷ 0x41 ∷ 0x00 ∷ 0x00 ∷ []
 unfolding one_group reported
 a_group = refl

@@ -25,7 +25,7 @@ abbrev SmallRead : Read → Type 0
 SmallRead r = (r.number < 256) × (r.total < 256) × (r.index < 256) × (length r.items < 256)
 
 module _ (lim : Limits) (query : List ℕ) (index : ℕ) (store buffer : List ℕ) where
-  -- REPORT STAYS: 
+  -- REPORT STAYS: "All of them write nothing, 1 too"
   pub report_stays : (a : After) → Answers (reporting lim query index store buffer) a → a.answer.number ≢ 0 → a.buffer ≡ buffer
   report_stays a (inl (p, e)) n = ap (λ (x : After). x.buffer) e
   report_stays a (inr (p, inl (q, e))) n = ap (λ (x : After). x.buffer) e

@@ -1,4 +1,4 @@
--- What a query is answered with: docs/RULES.md, 
+-- What a query is answered with: docs/RULES.md, "answered type by type in the order asked".
 use Rattle.std.specs.Prelude.{ℕ, suc, ◌%◌, cond, List, [], ◌∷◌, ◌++◌, map, eqb}
 use Rattle.std.proofs.Math.Option.{Option, none, some}
 use Rattle.writing.specs.Settings.{Text, Entry, Hash}
@@ -9,7 +9,7 @@ use Rattle.reports.specs.declared.Asked.TheVariants.{Groups, Individuals, Lines,
 use Rattle.reports.specs.Items.{Item, group, individual, line, key, quick, home, channel, system, status, hash, unknown}
 use Rattle.reports.specs.Types.{asked_by}
 
--- the entries in order, with their positions from `from` on: 
+-- the entries in order, with their positions from `from` on: "position mod 16", or what else the index has room for
 abbrev pub numbered : {A : Type 0} → ℕ → (ℕ → A → Item) → ℕ → List A → List Item
 numbered room f from [] = []
 numbered room f from (a ∷ l) = f (from % room) a ∷ numbered room f (suc from) l
@@ -20,7 +20,7 @@ quick_item e = quick e.index e.text
 abbrev pub status_item : ℕ → Entry → Item
 status_item p e = status e.index p e.text
 
--- 
+-- "no hash kept: BF 00"
 abbrev pub kept_hash : Hash → Option Hash
 kept_hash h = cond (eqb h.code 0) none (some h)
 
@@ -37,12 +37,12 @@ items_of t System = system t.system ∷ []
 items_of t StatusTexts = numbered 256 status_item 0 (entries 32 t.status)
 items_of t AHash = hash (kept_hash t.hash) ∷ []
 
--- 
+-- "An unknown type is answered by its error alone and ends that report"
 abbrev pub then_more : Tables → ℕ → Option Asked → List Item → List Item
 then_more t b none more = unknown b ∷ []
 then_more t b (some a) more = items_of t a ++ more
 
--- 
+-- "type by type in the order asked"
 abbrev pub asked : Tables → List ℕ → List Item
 asked t [] = []
 asked t (b ∷ l) = then_more t b (asked_by b) (asked t l)

@@ -1,4 +1,4 @@
--- How a report is cut into messages, and a message's bytes: docs/RULES.md, 
+-- How a report is cut into messages, and a message's bytes: docs/RULES.md, "A report goes on in further messages".
 use Rattle.std.specs.Prelude.{ℕ, suc, ◌+◌, ◌-◌, Bool, true, false, cond, ◌&&◌, List, [], ◌∷◌, ◌++◌, ltb, length}
 use Rattle.writing.specs.Canonical.{plain}
 use Rattle.writing.specs.Carrier.{start_bytes, carrier, coding_type}
@@ -19,7 +19,7 @@ abbrev pub into : {A : Type 0} → Bool → A → List (List A) → List (List A
 into true a gs = onto a gs
 into false a gs = [] ∷ onto a gs
 
--- 
+-- "each message takes every parameter that still fits, whole": the open message has so many bytes and parameters
 module _ {A : Type 0} (size : A → ℕ) (room most : ℕ) where
   abbrev pub fits? : ℕ → ℕ → A → Bool
   fits? used count a = ltb count most && ltb (used + size a) (suc room)
@@ -32,11 +32,11 @@ module _ {A : Type 0} (size : A → ℕ) (room most : ℕ) where
 abbrev pub item_size : Item → ℕ
 item_size i = length (item_bytes i)
 
--- 
+-- "doesn't fit 4,096 bytes, or passes 255 parameters": ten bytes stand before the parameters
 unfoldable pub messages : Limits → Tables → List ℕ → List (List Item)
 messages lim t types = split item_size (lim.message - 10) 255 0 0 (asked t types)
 
--- 
+-- "OTAPVer 5, MsgType 3 (011), DPCount 8 (total), DPIndex 8 (from 1), ParamSum 8"
 abbrev pub report_head : ℕ → ℕ → ℕ → List Field
 report_head total index count = val 5 1 ∷ val 3 3 ∷ val 8 total ∷ val 8 index ∷ val 8 count ∷ []
 

@@ -1,4 +1,4 @@
--- One parameter of a report, and its bytes: docs/REPORTS.md, 
+-- One parameter of a report, and its bytes: docs/REPORTS.md, "Report parameters", row by row.
 use Rattle.std.specs.Prelude.{ℕ, ◌≤◌, ◌<◌, ◌≡◌, ◌≢◌, true, false, List, [], ◌∷◌, ◌++◌, map}
 use Rattle.std.proofs.Math.Option.{Option, none, some}
 use Rattle.writing.specs.declared.HomeNumbers.{HomeNumbers}
@@ -15,7 +15,7 @@ use Rattle.reports.specs.declared.Asked.{Asked}
 use Rattle.reports.specs.declared.Asked.TheVariants.{Groups, Individuals, Lines, Key as AKey, QuickTexts, Home, Channels, System, StatusTexts, Hash as AHash}
 use Rattle.reports.specs.Types.{report_byte, NoType}
 
--- 
+-- "A parameter is one entry", with its index as it is written; or a type that isn't supported
 pub data Item : Type 0 where
   group : (place : ℕ) → GroupMember → Item
   individual : (place : ℕ) → IndividualMember → Item
@@ -29,7 +29,7 @@ pub data Item : Type 0 where
   hash : Option Hash → Item
   unknown : (type : ℕ) → Item
 
--- the column type; an error has 
+-- the column type; an error has "the byte asked"
 abbrev pub item_byte : Item → ℕ
 item_byte (group p g) = report_byte Groups
 item_byte (individual p x) = report_byte Individuals
@@ -43,20 +43,20 @@ item_byte (status c p us) = report_byte StatusTexts
 item_byte (hash h) = report_byte AHash
 item_byte (unknown b) = b
 
--- 
+-- "QryResult 1 (0 good, 1 failed) and ReasonCode 7 stand first"
 abbrev pub good : List Field → List Field
 good fs = flag false ∷ val 7 0 ∷ fs
 
--- 
+-- "If a query's result is a failure, the parameter gives the error type only": 3, type not supported
 abbrev pub failed : List Field
 failed = flag true ∷ val 7 3 ∷ []
 
--- 
+-- "ListCount 8, then for each HashCode 8, value"
 abbrev pub kept : Option Hash → List Field
 kept none = val 8 0 ∷ []
 kept (some h) = val 8 1 ∷ val 8 h.code ∷ map (val 8) h.value
 
--- the column 
+-- the column "fields after the type byte"
 abbrev pub item_body : Item → List Field
 item_body (group p g) =
     good (val 24 g.address.0 ∷ val 4 p ∷ val 2 g.flags.attribute ∷ flag g.flags.broadcast ∷ flag g.flags.encryption
@@ -102,7 +102,7 @@ abbrev pub InHash : Option Hash → Type 0
 InHash none = Unit {0}
 InHash (some h) = HashOk h × (h.code ≢ 0)
 
--- 
+-- "ranges as in settings"; an index fits its field
 abbrev pub InItem : Item → Type 0
 InItem (group p g) = (p < 16) × GroupOk g
 InItem (individual p x) = (p < 16) × IndividualOk x
@@ -116,7 +116,7 @@ InItem (status c p us) = (32 ≤ c) × (c ≤ 127) × (p < 256) × StatusOk us
 InItem (hash h) = InHash h
 InItem (unknown b) = (b < 256) × NoType b
 
--- the column 
+-- the column "least / most bytes, with the type byte"
 abbrev pub least : Asked → ℕ
 least Groups = 9
 least Individuals = 8

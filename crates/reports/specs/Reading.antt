@@ -1,4 +1,4 @@
--- What the office's reader answers to a message: docs/RULES.md, 
+-- What the office's reader answers to a message: docs/RULES.md, "Order of its refusals: 12, 13, 14, 1, 4".
 use Rattle.std.specs.Prelude.{ℕ, ◌≡◌, List, []}
 use Rattle.lists.specs.Ladder.{Ladder, rung, foot}
 use Rattle.writing.specs.Carrier.{InSize, NothingCarried, OtherKind, OtherVersion}
@@ -19,7 +19,7 @@ pub record Reads (message : List ℕ) (r : Read) : Type 0 where
   pub good : r.number ≡ 0
   pub report : ReportOf r.total r.index r.items message
 
--- 
+-- "12, 13, 14, 1 or 4"; the most is the set's largest message
 abbrev pub reading : ℕ → List ℕ → Ladder Read
 reading most message =
     rung (InSize most message → ⊥) (refused 12)

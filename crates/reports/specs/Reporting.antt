@@ -1,4 +1,4 @@
--- What answering a query gives, and leaves in the buffer: docs/RULES.md, 
+-- What answering a query gives, and leaves in the buffer: docs/RULES.md, "Order of its refusals".
 use Rattle.std.specs.Prelude.{ℕ, ◌-◌, ◌≤◌, ◌<◌, ◌≡◌, List, [], length, get_or}
 use Rattle.lists.specs.Ladder.{Ladder, rung, foot}
 use Rattle.writing.specs.Carrier.{InSize, NothingCarried, OtherKind, OtherVersion}
@@ -21,7 +21,7 @@ pub record After : Type 0 where
   pub buffer : List ℕ
 
 module _ (lim : Limits) (query : List ℕ) (index : ℕ) (store buffer : List ℕ) where
-  -- 
+  -- "All write nothing"
   abbrev pub stays : ℕ → After
   stays n = record { answer = record { number = n; total = 0; message_length = 0 }; buffer = buffer }
 
@@ -34,15 +34,15 @@ module _ (lim : Limits) (query : List ℕ) (index : ℕ) (store buffer : List �
     pub holds : Holds lim t store
     pub asks : TypesOf types query
 
-  -- 
+  -- "more than 255 messages"
   abbrev pub TooMany : Type 0
   TooMany = (t : Tables) (types : List ℕ) → Asks t types → 255 < length (messages lim t types)
 
-  -- 
+  -- "a message index outside 1 to the total"
   abbrev pub NoIndex : Type 0
   NoIndex = (t : Tables) (types : List ℕ) → Asks t types → 1 ≤ index → index ≤ length (messages lim t types) → ⊥
 
-  -- 
+  -- "each call writes the one asked for"
   pub record Reports (a : After) : Type 0 where
     pub tables : Tables
     pub types : List ℕ
@@ -50,7 +50,7 @@ module _ (lim : Limits) (query : List ℕ) (index : ℕ) (store buffer : List �
     pub after : a ≡ writes (length (messages lim tables types))
         (report_bytes (length (messages lim tables types)) index (get_or (messages lim tables types) (index - 1) []))
 
-  -- 
+  -- "15, 11, 12, 13, 14, 1, 4, 16"
   abbrev pub reporting : Ladder After
   reporting =
       rung (length buffer < lim.message) (stays 15)

@@ -9,11 +9,11 @@ use Rattle.reports.specs.Items.{Item, group, individual, line, key, quick, home,
 
 -- ---- queries
 
--- 
+-- "OTAPVer 5, MsgType 3 (010), ParamTypeSum 8"
 abbrev pub query_head : ℕ → List Field
 query_head count = val 5 1 ∷ val 3 2 ∷ val 8 count ∷ []
 
--- the message asks for these types, 
+-- the message asks for these types, "coding type ignored"
 pub record TypesOf (types message : List ℕ) : Type 0 where
   pub any_coding : ℕ
   pub data_bytes : List ℕ
@@ -23,7 +23,7 @@ pub record TypesOf (types message : List ℕ) : Type 0 where
   pub says : Shows (query_head (length types)) (bits_of head)
   pub some_type : 1 ≤ length types
 
--- 4, 
+-- 4, "a query of no types or with a count that its bytes don't match"
 abbrev pub NoTypes : List ℕ → Type 0
 NoTypes message = (types : List ℕ) → TypesOf types message → ⊥
 
@@ -43,7 +43,7 @@ Known (status c p us) = Unit {0}
 Known (hash h) = Unit {0}
 Known (unknown b) = ⊥
 
--- 
+-- "an error only as the last parameter of the last message"
 abbrev pub ErrorLast : Type 0 → List Item → Type 0
 ErrorLast Last [] = Unit {0}
 ErrorLast Last (i ∷ []) = Known i ⊎ Last
@@ -61,7 +61,7 @@ pub record ReportOf (total index : ℕ) (items : List Item) (message : List ℕ)
   pub to_total : index ≤ total
   pub written : ItemsWritten items rest
   pub in_range : All InItem items
-  -- 
+  -- "ParamSum 0 only with total 1"
   pub some_item : (1 ≤ length items) ⊎ (total ≡ 1)
   pub errors : ErrorLast (index ≡ total) items
 

@@ -1,4 +1,4 @@
--- The types of a query and of a report: docs/REPORTS.md, 
+-- The types of a query and of a report: docs/REPORTS.md, "Report parameters", the columns asked and report.
 use Rattle.std.specs.Prelude.{ℕ, cond, ◌≢◌, List, [], ◌∷◌, eqb}
 use Rattle.std.proofs.Math.Option.{Option, none, some}
 use Rattle.writing.specs.declared.Kind.{Kind}
@@ -20,11 +20,11 @@ kind_asked System = K.System
 kind_asked StatusTexts = K.StatusTexts
 kind_asked Hash = K.Last
 
--- the byte that asks: 
+-- the byte that asks: "C8 to D0 and FF", as in a setting
 abbrev pub ask_byte : Asked → ℕ
 ask_byte a = type_byte (kind_asked a)
 
--- the byte that answers: 
+-- the byte that answers: "88 to 90 and BF"
 abbrev pub report_byte : Asked → ℕ
 report_byte Groups = 0x88
 report_byte Individuals = 0x89

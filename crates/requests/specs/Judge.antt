@@ -1,4 +1,4 @@
--- What becomes of a request's settings, stated from the writing alone: document 01, 
+-- What becomes of a request's settings, stated from the writing alone: document 01, "Order for a message". Over any settings, tables and writing.
 use Rattle.std.specs.Prelude.{◌≡◌, List, [], ◌∷◌, ◌++◌, ℕ, suc, ◌+◌, length}
 use Rattle.std.proofs.Math.Option.{Option, none, some}
 

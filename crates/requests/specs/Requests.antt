@@ -1,4 +1,4 @@
--- What a request's settings come to, and its last item: document 01, 
+-- What a request's settings come to, and its last item: document 01, "Order for a message" and the last item FF.
 use Rattle.std.specs.Prelude.{ℕ, ◌≡◌, false, List, [], ◌∷◌}
 use Rattle.std.proofs.Math.Option.{Option, none, some}
 use Rattle.lists.specs.Bytes.{Bytes}
@@ -38,7 +38,7 @@ Fault c lim = Judge.Fault Setting Tables (WrittenIn c) (InRange text_limits) (ap
 abbrev pub Judged : Coding → Limits → ℕ → Tables → List ℕ → Outcome Setting Tables → Type 0
 Judged c lim = Judge.Judged Setting Tables (WrittenIn c) (InRange text_limits) (apply lim) Known
 
--- 
+-- "After each taken request the hash kept is that request's own; with code 0 or no FF, none"
 abbrev pub forget : Tables → Tables
 forget t = put_own Last t no_hash
 

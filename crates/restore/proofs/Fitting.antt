@@ -126,7 +126,7 @@ module _ (lim : Limits) (x : Exportable lim) (t : Tables) (ok : Allowed lim t) w
       (omega (arith, ok.individual_contacts.0))
   exported_readable LineSlots = slots_readable line_slot_setting LineOk 49 line_slot_readable t.line_slots ok.line_slots (omega arith)
 
-  -- COUNTED: 
+  -- COUNTED: "1 to 255" settings
   pub exported_count : (p : Part) → (1 ≤ length (exported p t)) × (length (exported p t) ≤ 255)
   exported_count Lines = omega (arith, x.counted, ok.lines.0, length-map t.lines line_add)
   exported_count Fixed = omega arith

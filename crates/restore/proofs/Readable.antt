@@ -63,7 +63,7 @@ each_widths f w (e ∷ es) p = omega (arith, widths_append (f e) (each f es), p.
 
 -- ---- line contacts
 
--- 
+-- "a replace with flags and Count 0"
 pub lines_readable : Readable 5 (lines Replace no_line_flags [])
 lines_readable =
     readable (lines Replace no_line_flags []) 5
@@ -82,7 +82,7 @@ contact_widths e r =
       r.1,
     )
 
--- 
+-- "one add per contact"
 pub line_readable : (l : Line) → LineOk l → Readable 49 (line_add l)
 line_readable l ok =
     let e : Contact = record { number = l.number; text = l.text } in
@@ -148,7 +148,7 @@ quick_ranged es ok = all_turn QuickEntry (InQuick text_limits Add) (λ e q. (q.t
 pub quick_replace_readable : (es : List Entry) → length es < 64 → All QuickEntry es → Readable (4 + length es * 49) (quick_texts Replace es)
 quick_replace_readable es few ok = quick_readable Replace es (omega arith) (λ left. quick_ranged es ok) few ok
 
--- 
+-- "one add if there are 64"
 pub quick_add_readable : (e : Entry) → QuickEntry e → Readable 53 (quick_add e)
 quick_add_readable e ok = quick_readable Add (e ∷ []) (omega arith) (λ left. quick_ranged (e ∷ []) (ok, tt)) (omega arith) (ok, tt)
 

@@ -27,7 +27,7 @@ counted_written ss {settings} k w =
     record { some_setting = k.some_setting; head = k.head; settings = settings; parts = k.parts; counted = k.says; written = w }
 
 module _ (lim : Limits) (x : Exportable lim) (t : Tables) (ok : Allowed lim t) (p : Part) where
-  -- EXPORTED REQUEST: a part's bytes are a request of the settings that it exports; 
+  -- EXPORTED REQUEST: a part's bytes are a request of the settings that it exports; "true lengths"
   pub exported_request : (r : Request unicode16 (exported p t) (request_bytes (exported p t))) × (r.carried.stated ≡ 2 + length r.data_bytes)
   exported_request =
       let ss : List Setting = exported p t in
@@ -42,7 +42,7 @@ module _ (lim : Limits) (x : Exportable lim) (t : Tables) (ok : Allowed lim t) (
   pub exported_only : (ss : List Setting) → Request unicode16 ss (request_bytes (exported p t)) → ss ≡ exported p t
   exported_only ss r = settings_one unicode16 ss (exported p t) (request_bytes (exported p t)) r exported_request.0
 
-  -- STANDARD REQUEST: 
+  -- STANDARD REQUEST: "No FF; true lengths"
   pub exported_standard : StandardRequest (exported p t) (request_bytes (exported p t))
   exported_standard =
       record { is = exported_request.0; true_length = exported_request.1; no_last = (exported_readable lim x t ok p).no_last; only = exported_only }

@@ -1,4 +1,4 @@
--- What taking the exported requests leaves of another set's tables, 
+-- What taking the exported requests leaves of another set's tables, "the same tables", and how long the requests are.
 use Rattle.std.specs.Prelude.{ℕ, suc, ◌+◌, ◌-◌, ◌*◌, ◌/◌, ◌≤◌, ◌≡◌, Bool, true, cond, ◌||◌, List, [], ◌∷◌, map, length, take, leb}
 use Rattle.std.proofs.Math.Option.{some}
 use Rattle.lists.specs.Ladder.{Answers}
@@ -41,13 +41,13 @@ abbrev pub with_parts : Tables → List Part → Tables → Tables
 with_parts t [] u = u
 with_parts t (p ∷ ps) u = with_parts t ps (with_part p t (forget u))
 
--- 
+-- "The same tables" leaves the kept hash aside
 abbrev pub SameTables : Tables → Tables → Type 0
 SameTables t u = forget t ≡ forget u
 
 -- ---- which set is to take an export
 
--- 
+-- "From here on demand 2's restoring and A10's condition hold for a fresh set, since another table's texts can take the room in a used one"; where each text has a place of its own, whatever was held
 abbrev pub Ready : Texts → Tables → Type 0
 Ready x u = WhereShared x (SameTables u fresh)
 

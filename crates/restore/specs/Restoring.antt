@@ -1,4 +1,4 @@
--- What restoring one set's tables in another answers and leaves: demand 2, 
+-- What restoring one set's tables in another answers and leaves: demand 2, "the seven exported requests, taken by any other started set, give it the same tables"; they are ten since A4.
 use Rattle.std.specs.Prelude.{ℕ, ◌≤◌, ◌<◌, ◌≡◌, List, [], ◌∷◌, length}
 use Rattle.lists.specs.Ladder.{Ladder, rung, foot}
 use Rattle.tables.specs.declared.limits.Limits.{Limits}
@@ -29,13 +29,13 @@ pub record AfterRestore : Type 0 where
   pub buffer : List ℕ
   pub reply : List ℕ
 
--- these bytes were written over a buffer, one after the other from its start: 
+-- these bytes were written over a buffer, one after the other from its start: "Bytes past the request's length stay"
 abbrev pub written_in_turn : List (List ℕ) → List ℕ → List ℕ
 written_in_turn [] buffer = buffer
 written_in_turn (bytes ∷ more) buffer = written_in_turn more (written_over bytes buffer)
 
 module _ (lim : Limits) (from to buffer reply : List ℕ) where
-  -- 
+  -- "10 to 17 touch no byte of any buffer"
   abbrev pub stays : ℕ → AfterRestore
   stays n = record { answer = n; to = to; buffer = buffer; reply = reply }
 

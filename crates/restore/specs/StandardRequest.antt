@@ -1,4 +1,4 @@
--- What an exported part's bytes are: the standard's request of exactly its settings, 
+-- What an exported part's bytes are: the standard's request of exactly its settings, "No FF; true lengths".
 use Rattle.std.specs.Prelude.{ℕ, ◌+◌, ◌≡◌, List, length}
 use Rattle.std.proofs.Math.Option.{none}
 use Rattle.lists.specs.Every.{All}

@@ -1,4 +1,4 @@
--- 
+-- "Scratch bytes not in a written number stay": and a number has at most 18 units. Assumes nothing.
 use Rattle.lists.proofs.Kit.{ℕ, zero, suc, ◌+◌, ◌*◌, ◌-◌, ◌/◌, ◌%◌, ◌≤◌, ◌≡◌, refl, sym, ap, ◌∙◌, subst, List, [], ◌∷◌, ◌++◌, map, arith, length, drop, get_or, length-append, length-drop, length-map, get_or-append-add, get_or-drop}
 use Rattle.lists.specs.Ladder.{Answers}
 use Rattle.plan.specs.Numbers.{Individual as IndividualPlan, Group as GroupPlan}

@@ -1,4 +1,4 @@
--- What stands in a row of the screen, what is shown of it, where its text stands, and the tests of the calls: document 01, 
+-- What stands in a row of the screen, what is shown of it, where its text stands, and the tests of the calls: document 01, "Numbers, channels, screen".
 use Rattle.std.specs.Prelude.{ℕ, zero, suc, ◌+◌, ◌*◌, ◌-◌, ◌/◌, ◌%◌, ◌<◌, ◌≡◌, cond, List, [], ◌∷◌, ◌++◌, map, eqb, ltb, get_or}
 use Rattle.std.proofs.Math.Option.{Option, none, some}
 use Rattle.lists.specs.Ladder.{Ladder, rung, foot}
@@ -54,11 +54,11 @@ line_row l = line l.text l.number
 abbrev pub individual_row : IndividualMember → Caption
 individual_row i = individual i.text i.address
 
--- 
+-- "A background group, in C8 or D1, gets no row on the screen (17); a response or member group does"
 abbrev pub group_row : GroupMember → Option Caption
 group_row g = cond (eqb g.flags.attribute 1) none (some (group g.text g.address))
 
--- 
+-- "A screen row is named by table (line position from 0, quick index, status code, group or individual index)"; none: "screen row absent"; of contacts "Rows go by position, in D3 by index"
 abbrev pub caption : Tables → Row → Option Caption
 caption t (Line n) = of line_row (get_or (map some t.lines) n none)
 caption t (QuickText n) = of text (get_or t.quick n none)
@@ -79,7 +79,7 @@ text_of (individual us a) = us
 
 -- ---- numbers
 
--- 
+-- "digits (as ASCII codes)": 0 to 9, then A to F in upper case
 abbrev pub ascii : ℕ → ℕ
 ascii d = cond (ltb d 10) (48 + d) (55 + d)
 
@@ -88,7 +88,7 @@ abbrev pub digits : (base n x : ℕ) → List ℕ
 digits base zero x = []
 digits base (suc n) x = digits base n (x / base) ++ (x % base ∷ [])
 
--- 
+-- "eight dialled digits, or six upper-case hex digits for an address outside the plan"
 pub data AddressText (Plan : ℕ → ℕ → Type 0) (address : ℕ) (us : Text) : Type 0 where
   dialled : (number : ℕ) → Plan number address → us ≡ map ascii (digits 10 8 number) → AddressText Plan address us
   outside : ((number : ℕ) → Plan number address → ⊥) → us ≡ map ascii (digits 16 6 address) → AddressText Plan address us
@@ -120,8 +120,8 @@ abbrev pub text_or : Text → (Text → Type 0) → Display → Type 0
 text_or (u ∷ us) Number d = d ≡ stored (u ∷ us)
 text_or [] Number d = (ns : Text) × Number ns × (d ≡ written ns)
 
--- 
--- 
+-- "the stored text's own part of the store, or the part of its scratch where the number was written, when a line, group or individual text is empty";
+-- "An empty status text is shown as an empty part"
 abbrev pub Displays : Caption → Display → Type 0
 Displays (text us) d = d ≡ stored us
 Displays (line us ds) d = text_or us (NumberText (line us ds)) d
@@ -179,7 +179,7 @@ start_by (Shared a) lim t row = shared_start lim t (table_of row) (place_of row)
 abbrev pub text_start : Limits → Tables → Row → ℕ
 text_start lim t row = start_by lim.texts lim t row
 
--- 
+-- "Text units and digits (as ASCII codes) are 16 bits, high byte first, without the end unit"
 abbrev pub unit_bytes : Text → List ℕ
 unit_bytes us = flat (map u16 us)
 
@@ -189,7 +189,7 @@ unit_bytes us = flat (map u16 us)
 abbrev pub NoRow : Limits → List ℕ → Row → Type 0
 NoRow lim store row = (t : Tables) → Holds lim t store → caption t row ≡ none
 
--- 
+-- "Screen: 15, 11, 17": the tests of both calls, by the scratch's size
 abbrev pub judged : {A : Type 0} → Limits → List ℕ → ℕ → Row → (Refusal → A) → (A → Type 0) → Ladder A
 judged lim store room row refuse There =
     rung (room < 36) (refuse ScratchSize)

@@ -1,4 +1,4 @@
--- What the screen's two calls answer, for every store, scratch and row: document 01, 
+-- What the screen's two calls answer, for every store, scratch and row: document 01, "Numbers, channels, screen" and "Numbers returned".
 use Rattle.std.specs.Prelude.{ℕ, ◌+◌, ◌*◌, ◌≡◌, List, [], ◌++◌, length, take, drop}
 use Rattle.std.proofs.Math.Option.{Option, none, some}
 use Rattle.std.specs.Borrow.{Bor}
@@ -28,7 +28,7 @@ pub record AfterRow : Type 0 where
   pub part : RowPart
   pub scratch : List ℕ
 
--- 
+-- "15 scratch under 36 bytes"; "11 store not 12,288 bytes, or not a store", 24,576 since A4; "17 screen row absent"
 abbrev pub refusal : Refusal → ℕ
 refusal ScratchSize = 15
 refusal NotAStore = 11
@@ -39,7 +39,7 @@ abbrev pub number : Answer → ℕ
 number Shown = 0
 number (Refused r) = refusal r
 
--- 
+-- "10 to 17 touch no byte of any buffer"; "11 and 15 to 17 from .. screen return .. an empty part"
 abbrev pub refused : ℕ → List ℕ → AfterRow
 refused n scratch = record { number = n; part = of_store 0 0; scratch = scratch }
 
@@ -49,7 +49,7 @@ leaves (Store start bytes) scratch = record { number = 0; part = of_store start 
 leaves (Scratch bytes) scratch = record { number = 0; part = of_scratch bytes; scratch = scratch }
 leaves (NoPlace r) scratch = refused (refusal r) scratch
 
--- the stored text's own part, or the number at the start of the scratch; 
+-- the stored text's own part, or the number at the start of the scratch; "Scratch bytes not in a written number stay"
 abbrev pub shows : Limits → Tables → List ℕ → Row → Display → AfterRow
 shows lim t scratch row (stored us) = record { number = 0; part = of_store (text_start lim t row) (2 * length us); scratch = scratch }
 shows lim t scratch row (written us) = record { number = 0; part = of_scratch (2 * length us); scratch = unit_bytes us ++ drop (2 * length us) scratch }
@@ -79,7 +79,7 @@ abbrev pub bytes_of : RowPart → List ℕ → List ℕ → List ℕ
 bytes_of (of_store start bytes) store scratch = take bytes (drop start store)
 bytes_of (of_scratch bytes) store scratch = take bytes scratch
 
--- what bytes show of a row: 
+-- what bytes show of a row: "the whole text", or the number, unit for unit; nothing where there is no row
 abbrev pub RowBytes : Option Caption → List ℕ → Type 0
 RowBytes none bytes = bytes ≡ []
 RowBytes (some c) bytes = (d : Display) × Displays c d × (bytes ≡ unit_bytes (units d))

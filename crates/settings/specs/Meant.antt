@@ -27,7 +27,7 @@ pub record EntriesAre {A : Type 0} (form : Coding → List A → List Field) (m 
 abbrev pub TextOf : List ℕ → TextPlace → List ℕ → Type 0
 TextOf m p us = (next : ℕ) × TextIs m p us next
 
--- what a setting that was read means: 
+-- what a setting that was read means: "texts stay as places in the message"
 abbrev pub Meant : List ℕ → Read → Setting → Type 0
 Meant m (GroupContacts o f p) s = (es : List (Addressed GroupAddress)) × (s ≡ group_contacts o f es) × EntriesAre (λ c. each (addressed (λ a. a.0) c)) m p es
 Meant m (IndividualContacts o f p) s = (es : List (Addressed IndividualAddress)) × (s ≡ individual_contacts o f es) × EntriesAre (λ c. each (addressed (λ a. a.0) c)) m p es

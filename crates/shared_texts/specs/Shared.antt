@@ -1,4 +1,4 @@
--- The bytes of tables whose texts share one area of a bytes: heads, then the area, then zeros. 
+-- The bytes of tables whose texts share one area of a bytes: heads, then the area, then zeros. "Equal tables are still equal bytes."
 use Rattle.std.specs.Prelude.{ℕ, suc, ◌+◌, ◌*◌, ◌-◌, ◌≤◌, ◌<◌, ◌≡◌, true, List, [], ◌∷◌, ◌++◌, map, drop, get_or, replicate, take}
 use borrow.Rule.Slice.PartMut.{mid_of}
 use Rattle.slots.specs.Slots.{flat, sum, places, u16, zeros?}

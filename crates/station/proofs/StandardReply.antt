@@ -24,7 +24,7 @@ reply_length result failed h =
     let w : widths (carrier (6 + v) 0 ++ reply result failed h) ≡ 8 * (8 + v) = omega (arith, reply_widths result failed h) in
     omega (arith, plain_length (carrier (6 + v) 0 ++ reply result failed h) (8 + v) w)
 
--- STANDARD BYTES: 
+-- STANDARD BYTES: "the reply is the standard's" (demand 2), with this result, failed ID and hash; "We write coding type 0000 and the true length"
 pub standard_bytes : (result failed : ℕ) (h : Hash) → result < 256 → failed < 256 → HashOk h
     → (r : Reply result failed h (reply_bytes result failed h)) × (r.carried.stated ≡ 2 + length r.data_bytes)
 standard_bytes result failed h r f ok =

@@ -1,4 +1,4 @@
--- What taking a message answers, in document 01's numbers and values: 
+-- What taking a message answers, in document 01's numbers and values: "Numbers returned".
 use Rattle.std.specs.Prelude.{ℕ, Bool, false}
 use Rattle.writing.specs.Carrier.{result_number}
 use Rattle.station.specs.declared.answers.Refusal.{Refusal}
@@ -6,7 +6,7 @@ use Rattle.station.specs.declared.answers.Refusal.TheVariants.{ReplyBuffer, NotA
 use Rattle.station.specs.declared.answers.Answer.{Answer}
 use Rattle.station.specs.declared.answers.Answer.TheVariants.{Untouched, Replied}
 
--- 
+-- "The answer also says send, reboot and reply length"
 pub record Said : Type 0 where
   pub number : ℕ
   pub failed : ℕ
@@ -22,7 +22,7 @@ refusal_number MessageSize = 12
 refusal_number Carrier = 13
 refusal_number MessageType = 14
 
--- 
+-- "for 10 to 14: ID 0, no, no, length 0"
 abbrev pub refused_with : ℕ → Said
 refused_with n = record { number = n; failed = 0; send = false; reboot = false; reply_length = 0 }
 

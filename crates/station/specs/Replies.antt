@@ -1,4 +1,4 @@
--- The bytes of a reply: document 01, 
+-- The bytes of a reply: document 01, "The carrier".
 use Rattle.std.specs.Prelude.{ℕ, ◌+◌, ◌≡◌, List, ◌++◌, length}
 use Rattle.slots.specs.Slots.{written_over}
 use Rattle.writing.specs.Canonical.{plain}
@@ -7,7 +7,7 @@ use Rattle.writing.specs.Settings.{Hash}
 use Rattle.tables.specs.Allowed.{HashOk}
 use Rattle.tables.specs.Layout.{hash_bytes}
 
--- 
+-- "We write coding type 0000 and the true length", which counts two bytes of the carrier and the data
 abbrev pub reply_bytes : (result failed : ℕ) → Hash → List ℕ
 reply_bytes result failed h = start_bytes ++ plain (carrier (6 + length h.value) 0 ++ reply result failed h)
 

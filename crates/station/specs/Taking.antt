@@ -1,4 +1,4 @@
--- What taking a message answers and leaves, for every message, store and reply buffer: document 01, 
+-- What taking a message answers and leaves, for every message, store and reply buffer: document 01, "Numbers returned" and its order.
 use Rattle.std.specs.Prelude.{ℕ, ◌+◌, ◌<◌, ◌≡◌, ◌≢◌, ◌⊎◌, Bool, true, false, List, length}
 use Rattle.lists.specs.Ladder.{Ladder, rung, foot}
 use Rattle.writing.specs.Carrier.{RequestOf, Query, InSize, NothingCarried, OtherType, OtherVersion, NoRequest, NoQuery}
@@ -28,7 +28,7 @@ abbrev pub leaves : Answer → List ℕ → List ℕ → AfterTaking
 leaves a store reply = record { answer = said a; store = store; reply = reply }
 
 module _ (lim : Limits) (message store reply : List ℕ) where
-  -- 
+  -- "10 to 17 touch no byte of any buffer"
   abbrev pub stays : ℕ → AfterTaking
   stays n = record { answer = refused_with n; store = store; reply = reply }
 
@@ -40,16 +40,16 @@ module _ (lim : Limits) (message store reply : List ℕ) where
     reply = written_over (reply_bytes number failed h) reply;
   }
 
-  -- 
+  -- "1, 2, 3 and 4 carry code 0"; "Send: yes for 1 to 5"; "Reboot: FF's bit of a taken request"
   abbrev pub turned_down : (number failed : ℕ) → AfterTaking
   turned_down number failed = replies number failed true false no_hash store
 
-  -- a request: 
+  -- a request: "for a taken request as FF's reply bit says"; "A reply carries the hash kept afterwards"
   abbrev pub settled : Outcome Setting Tables → AfterTaking
   settled (kept l u) = replies 0 0 (last_item l).flags.reply (last_item l).flags.reboot u.hash (layout lim u)
   settled (refused number failed) = turned_down number failed
 
-  -- a result query: it matches the hash kept, or 
+  -- a result query: it matches the hash kept, or "code 0, nothing kept, or code or value differs"
   abbrev pub Asked : Hash → Hash → AfterTaking → Type 0
   Asked h k a =
       ((h.code ≢ 0) × (h ≡ k) × (a ≡ replies 0 0 true false k store))
@@ -71,7 +71,7 @@ module _ (lim : Limits) (message store reply : List ℕ) where
     pub holds : Holds lim tables store
     pub comes_to : AsRequest tables a ⊎ AsQuery tables a
 
-  -- 
+  -- "Order for a message: 10, 11, 12, 13, 14, 1; then ParamSum missing or 0, or coding type (4, failed ID 0)"; "A malformed query gives 4, ID 0"
   abbrev pub taken : Ladder AfterTaking
   taken =
       rung (length reply < 20) (stays 10)

@@ -188,11 +188,11 @@ module _ (s : List ℕ) (l : length s ≡ 4) (b : Bytes s) where
 abbrev Fields : Type 0
 Fields = ℕ × (ℕ × Bool)
 
--- 
+-- "LA is 0 to 8", "roaming 2 (not 11)"
 abbrev FieldsOk : Fields → Type 0
 FieldsOk x = (x.0 ≤ 8) × (x.1.0 < 3)
 
--- 
+-- "LA 4, roaming 2, PAR 1"
 abbrev fields_byte : Fields → ℕ
 fields_byte x = x.0 * 8 + x.1.0 * 2 + bit x.1.1
 

@@ -85,11 +85,11 @@ flags_are P byte R k b = (
   λ x. subst R (sym (head-eq_of_cons-eq x.bytes)) (k.back x.entry x.holds),
 )
 
--- 
+-- "IDtype 1 (0 PSTN, 1 PABX)"
 pub id_type : Flags (λ b. Unit {0}) bit (◌< 2)
 id_type = record { of = odd; good = λ b r. tt; is = λ b r. omega (arith, odd_is b); back = λ f p. omega (arith, bit_small f) }
 
--- 
+-- "attribute 2 (not 00), broadcast 1, encryption 1, OVCM 1, emergency 1, priority 2"
 pub group_flag : Flags (λ f. ((f.attribute ≢ 0) × (f.attribute < 4)) × (f.priority < 4)) group_flags (λ b. (64 ≤ b) × (b < 256))
 group_flag =
     record {
@@ -102,7 +102,7 @@ group_flag =
       );
     }
 
--- 
+-- "encryption 1, emergency 1, priority 2"
 pub individual_flag : Flags (λ f. f.priority < 4) individual_flags (◌< 16)
 individual_flag =
     record {

@@ -1,4 +1,4 @@
-// A slot of a head and a text. 
+// A slot of a head and a text. "Status texts and slots: add overwrites"; of a quick text "add to an index that has a text does nothing".
 ghost use Rattle.std.specs.Prelude.{◌≡◌, ◌+◌, ◌*◌, ◌≤◌, ◌<◌, length};
 ghost use Rattle.store_places.specs.Changes.{free?, SlotPut, SlotSet, PlaceSet};
 

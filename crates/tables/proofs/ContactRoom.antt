@@ -23,7 +23,7 @@ use Rattle.tables.proofs.RoomSentences.{no_room, all_have_room}
 use Rattle.tables.proofs.Sentences.{key_is_both}
 use Rattle.tables.proofs.StepLaws.{turn_keeps}
 
--- ---- 
+-- ---- "A setting has no room when, at some entry, the table is then full and the entry needs a new place"
 
 -- each entry is put by the key of what it makes
 abbrev put_made : {A K E : Type 0} → (A → K) → (K → A → Bool) → ℕ → (E → A) → E → List A → Option (List A)

@@ -18,7 +18,7 @@ use Rattle.tables.specs.Owns.{put_own}
 use Rattle.tables.specs.Tables.{Tables}
 use Rattle.tables.proofs.Sentences.{place_empty}
 
--- ---- 
+-- ---- "group and individual contacts keyed by address"
 
 -- whether a contact's address has this number
 abbrev pub has_number : (w : Members) → ℕ → MemberIn w → Bool
@@ -71,7 +71,7 @@ module _ (w : Members) (room : ℕ) (f : FlagsIn w) (e : Addressed (AddressIn w)
 pub contacts_replace : (w : Members) (room : ℕ) (f : FlagsIn w) (es : List (Addressed (AddressIn w))) (xs : List (MemberIn w)) → contacts_after w room Replace f es xs ≡ contacts_after w room Add f es []
 contacts_replace w room f es xs = refl
 
--- 
+-- "Count 0 is allowed": an add or a delete with no entries changes nothing, and a replace empties the list
 module _ (lim : Limits) (t : Tables) where
   pub group_contacts_count_0 : (o : Operation) (f : GroupFlags) → change lim (group_contacts o f []) t ≡ some (start_from o (put_own GroupContacts t []) t)
   group_contacts_count_0 Add f = refl
@@ -83,7 +83,7 @@ module _ (lim : Limits) (t : Tables) where
   individual_contacts_count_0 Delete f = refl
   individual_contacts_count_0 Replace f = refl
 
--- ---- line slots: 
+-- ---- line slots: "Status texts and slots: add overwrites"
 
 module _ (lim : Limits) (f : LineFlags) (s : Slot Number) (t : Tables) where
   -- whatever was there
@@ -94,6 +94,6 @@ module _ (lim : Limits) (f : LineFlags) (s : Slot Number) (t : Tables) where
   pub line_slot_delete : change lim (line_slot Delete f s) t ≡ some (put_own LineSlot t (set t.line_slots s.index none))
   line_slot_delete = refl
 
-  -- 
+  -- "Deleting what isn't there does nothing"
   pub line_slot_delete_absent : get_or t.line_slots s.index none ≡ none → change lim (line_slot Delete f s) t ≡ some t
   line_slot_delete_absent h = ap (λ x. some (put_own LineSlot t x)) (place_empty t.line_slots s.index h)

@@ -16,7 +16,7 @@ module _ (lim : Limits) (t : Tables) (ok : Allowed lim t) where
   pub order_permutes : (p : ℕ) → times p (line_order t.lines) ≡ cond (ltb p (length t.lines)) 1 0
   order_permutes p = Keys.order_permutes (map (λ l. sorting (line_key l)) t.lines) apart p ∙ ap (λ (n : ℕ). cond (ltb p n) 1 0) (length-map t.lines (λ l. sorting (line_key l)))
 
-  -- ORDER-ASCENDS: along it the lines ascend 
+  -- ORDER-ASCENDS: along it the lines ascend "by IDtype, then by digits compared from the left, a shorter number before a longer one that starts with it"
   pub order_ascends : Ascends (key_in (map (λ l. sorting (line_key l)) t.lines)) (line_order t.lines)
   order_ascends = Keys.order_ascends (map (λ l. sorting (line_key l)) t.lines) apart
 

@@ -30,7 +30,7 @@ pub record Stuck {A T : Type 0} (step : A → T → Option T) (es : List A) (t :
   pub full : step entry table ≡ none
 
 module _ {A T : Type 0} (step : A → T → Option T) where
-  -- 
+  -- "each entry in order": the first ones, and then the others
   pub turn_append : (a b : List A) (t : T) → in_turn step (a ++ b) t ≡ and_then (in_turn step a t) (in_turn step b)
   turn_append [] b t = refl
   turn_append (x ∷ a) b t = go (λ u. turn_append a b u) (step x t)
@@ -58,7 +58,7 @@ module _ {A T : Type 0} (step : A → T → Option T) where
             full = s.full;
           }
 
-  -- NO-ROOM: 
+  -- NO-ROOM: "A setting has no room when, at some entry," the entry has none in the table as it is then
   pub no_room : (es : List A) (t : T) → (in_turn step es t ≡ none) ↔ Stuck step es t
   no_room es t = (
     turn_none es t,
@@ -67,9 +67,9 @@ module _ {A T : Type 0} (step : A → T → Option T) where
         ∙ ap (λ (o : Option T). and_then o (in_turn step s.rest)) s.full,
   )
 
--- ---- 
+-- ---- "the table is then full and the entry needs a new place"
 
--- 
+-- "Room: 32 line contacts, 64 channels"
 pub room_is : (handheld.lines ≡ 32) × (handheld.channels ≡ 64)
 room_is = (refl, refl)
 
@@ -81,7 +81,7 @@ line_no_room = keyed_no_room line_key has_key key_is_both
 pub channel_no_room : (room n : ℕ) (cs : List ℕ) → length cs ≤ room → (put_channel room n cs ≡ none) ↔ (length cs ≡ room)
 channel_no_room = last_no_room
 
--- ---- 
+-- ---- "Room freed earlier in the same message is used."
 
 -- after a line was deleted, any line has room
 pub line_freed : (room : ℕ) (k : LineKey) (before : List Line) (x : Line) (after : List Line) → line_key x ≡ k → length (before ++ x ∷ after) ≤ room → (l : Line) → put_line room l (drop_line k (before ++ x ∷ after)) ≢ none

@@ -1,4 +1,4 @@
--- The sentences of document 01, 
+-- The sentences of document 01, "What each operation does", each as a law of the definitions. Assumes nothing.
 use Rattle.lists.proofs.Kit.{ℕ, ◌-◌, ◌≤◌, ◌<◌, ◌≡◌, refl, sym, ap, ◌∙◌, ◌≢◌, ◌↔◌, ◌⊎◌, inl, inr, Bool, true, false, true≢false, List, [], ◌∷◌, ◌++◌, head-eq_of_cons-eq, tail-eq_of_cons-eq, Option, none, some, eq-eqb, eqb-true, ne_eqb, eqb-false, eqb, length, get_or, set, replicate, length-set, get_or-set_same, get_or-set_other, set-get_or}
 use Rattle.lists.specs.Every.{All}
 use Rattle.lists.proofs.Every.{all_turn}
@@ -28,7 +28,7 @@ use Rattle.writing.specs.declared.Kind.TheVariants.{Lines, Key, QuickTexts, Home
 use Rattle.tables.specs.Owns.{put_own}
 use Rattle.tables.proofs.EntryCodes.{bit_one}
 
--- ---- 
+-- ---- "The identity of a line is its IDtype together with its digits."
 
 -- KEY-IS-BOTH: a line has the key that its IDtype and its digits are
 pub key_is_both : (k : LineKey) (l : Line) → (has_key k l ≡ true) ↔ (line_key l ≡ k)
@@ -73,19 +73,19 @@ known_or_new k (l ∷ ls) = go (has_key k l) refl (known_or_new k ls)
     go false h (inr r) = inr (λ e. true≢false (sym ((key_is_both k l).1 e) ∙ h), r)
 
 module _ (room : ℕ) (f : LineFlags) (e : Contact) where
-  -- 
+  -- "Add puts a new key at the end"
   pub line_add_new : (ls : List Line) → Without (entry_key f e) ls → length ls < room → line_step room Add f e ls ≡ some (ls ++ (line_of f e ∷ []))
   line_add_new = keyed_new line_key has_key key_is_both room (line_of f e)
 
-  -- 
+  -- "and overwrites a known one in its place, flags included"; the others stay, and a full list has room for it
   pub line_add_known : (before : List Line) (l : Line) (after : List Line) → Without (entry_key f e) before → line_key l ≡ entry_key f e → length (before ++ l ∷ after) ≤ room → line_step room Add f e (before ++ l ∷ after) ≡ some (before ++ line_of f e ∷ after)
   line_add_known = keyed_known line_key has_key key_is_both room (line_of f e)
 
-  -- 
+  -- "Delete closes the gap": the others keep their order
   pub line_delete : (before : List Line) (l : Line) (after : List Line) → Without (entry_key f e) before → line_key l ≡ entry_key f e → Without (entry_key f e) after → line_step room Delete f e (before ++ l ∷ after) ≡ some (before ++ after)
   line_delete before l after h n k = ap some (drop_known line_key has_key key_is_both (entry_key f e) before l after h n k)
 
-  -- 
+  -- "Deleting what isn't there does nothing"
   pub line_delete_absent : (ls : List Line) → Without (entry_key f e) ls → line_step room Delete f e ls ≡ some ls
   line_delete_absent ls h = ap some (drop_absent line_key has_key key_is_both (entry_key f e) ls h)
 
@@ -105,7 +105,7 @@ place_changed os k o h = record { there = get_or-set_same os k o none h; others 
 pub place_empty : {A : Type 0} (os : List (Option A)) (k : ℕ) → get_or os k none ≡ none → set os k none ≡ os
 place_empty os k h = ap (set os k) (sym h) ∙ set-get_or os k none
 
--- ---- 
+-- ---- "Quick texts: add to an index that has a text does nothing."
 
 module _ (e : Entry) (qs : List (Option Text)) where
   -- the table is as before
@@ -120,11 +120,11 @@ module _ (e : Entry) (qs : List (Option Text)) where
   pub quick_delete : quick_step Delete e qs ≡ some (set qs e.index none)
   quick_delete = refl
 
-  -- 
+  -- "Deleting what isn't there does nothing"
   pub quick_delete_absent : get_or qs e.index none ≡ none → quick_step Delete e qs ≡ some qs
   quick_delete_absent h = ap some (place_empty qs e.index h)
 
--- ---- 
+-- ---- "Status texts and slots: add overwrites."
 
 module _ (e : Entry) (ss : List (Option Text)) where
   -- whatever was there
@@ -135,7 +135,7 @@ module _ (e : Entry) (ss : List (Option Text)) where
   pub status_delete : status_step Delete e ss ≡ some (set ss (e.index - 32) none)
   status_delete = refl
 
-  -- 
+  -- "Deleting what isn't there does nothing"
   pub status_delete_absent : get_or ss (e.index - 32) none ≡ none → status_step Delete e ss ≡ some ss
   status_delete_absent h = ap some (place_empty ss (e.index - 32) h)
 
@@ -145,11 +145,11 @@ module _ (lim : Limits) (f : GroupFlags) (s : Slot GroupAddress) (t : Tables) wh
   pub group_add : change lim (group Add f s) t ≡ some (put_own Group t (set t.groups s.index (some (record { flags = f; address = s.address; text = s.text }))))
   group_add = refl
 
-  -- 
+  -- "In a D1 or D2 delete only the index counts"
   pub group_delete : change lim (group Delete f s) t ≡ some (put_own Group t (set t.groups s.index none))
   group_delete = refl
 
-  -- 
+  -- "Deleting what isn't there does nothing"
   pub group_delete_absent : get_or t.groups s.index none ≡ none → change lim (group Delete f s) t ≡ some t
   group_delete_absent h = ap (λ x. some (put_own Group t x)) (place_empty t.groups s.index h)
 
@@ -159,15 +159,15 @@ module _ (lim : Limits) (f : IndividualFlags) (s : Slot IndividualAddress) (t : 
   pub individual_add : change lim (individual Add f s) t ≡ some (put_own Individual t (set t.individuals s.index (some (record { flags = f; address = s.address; text = s.text }))))
   individual_add = refl
 
-  -- 
+  -- "In a D1 or D2 delete only the index counts"
   pub individual_delete : change lim (individual Delete f s) t ≡ some (put_own Individual t (set t.individuals s.index none))
   individual_delete = refl
 
-  -- 
+  -- "Deleting what isn't there does nothing"
   pub individual_delete_absent : get_or t.individuals s.index none ≡ none → change lim (individual Delete f s) t ≡ some t
   individual_delete_absent h = ap (λ x. some (put_own Individual t x)) (place_empty t.individuals s.index h)
 
--- ---- 
+-- ---- "Channels: add always appends, so repeats are kept; delete removes every match."
 
 module _ (room n : ℕ) where
   -- add appends, whether or not the channel is there already
@@ -190,11 +190,11 @@ module _ (room n : ℕ) where
       let s : drop_channel n (c ∷ after) ≡ c ∷ drop_channel n after = rw (ne_eqb c n h) in
       unless_append (λ c. eqb c n) before (c ∷ after) ∙ ap (λ (l : List ℕ). drop_channel n before ++ l) s
 
-  -- 
+  -- "Deleting what isn't there does nothing"
   pub channel_delete_absent : (cs : List ℕ) → All (λ c. c ≢ n) cs → channel_step room Delete n cs ≡ some cs
   channel_delete_absent cs h = ap some (drop_absent (λ c. c) (λ d c. eqb c d) (λ d c. (eqb-true c d, eq-eqb c d)) n cs h)
 
--- ---- 
+-- ---- "Replace empties the table, then adds each entry in order."
 
 -- line contacts: what was there before does not matter
 pub lines_replace : (room : ℕ) (f : LineFlags) (es : List Contact) (ls : List Line) → lines_after room Replace f es ls ≡ lines_after room Add f es []
@@ -212,7 +212,7 @@ status_replace es ss = refl
 pub channels_replace : (room : ℕ) (ns cs : List ℕ) → channels_after room Replace ns cs ≡ channels_after room Add ns []
 channels_replace room ns cs = refl
 
--- ---- 
+-- ---- "Count 0 is allowed."
 
 -- an add or a delete with no entries changes nothing, and a replace empties the table
 module _ (lim : Limits) (t : Tables) where
@@ -240,7 +240,7 @@ module _ (lim : Limits) (t : Tables) where
   channels_count_0 Delete = refl
   channels_count_0 Replace = refl
 
-  -- ---- 
+  -- ---- "CB, CD and CF overwrite."
 
   -- the emergency key
   pub key_overwrites : (target : KeyTarget) (f : KeyFlags) → change lim (key target f) t ≡ some (put_own Key t (record { target = target; flags = f }))
@@ -254,6 +254,6 @@ module _ (lim : Limits) (t : Tables) where
   pub system_overwrites : (s : SystemCode) → change lim (system s) t ≡ some (put_own System t s)
   system_overwrites s = refl
 
-  -- 
+  -- "After each taken request the hash kept is that request's own": FF's hash is kept
   pub hash_kept : (f : LastFlags) (h : Hash) → change lim (last f h) t ≡ some (put_own Last t h)
   hash_kept f h = refl

@@ -17,12 +17,12 @@ use Rattle.tables.specs.MemberKinds.{contact_key}
 use Rattle.tables.specs.Tables.{Line, line_key, GroupMember, IndividualMember, Tables}
 use Rattle.tables.specs.Texts.{text_sum, TextRoom}
 
--- 
+-- "At most 16 units before the end, 23 in quick texts", none of them 0
 pub record TextOk (limit : ℕ) (us : Text) : Type 0 where
   pub short : length us ≤ limit
   pub units : All (λ u. (u ≢ 0) × (u < 65536)) us
 
--- 
+-- "A quick text is not empty"
 pub record QuickOk (us : Text) : Type 0 where
   pub some_unit : 1 ≤ length us
   pub text : TextOk text_limits.quick us

@@ -1,4 +1,4 @@
--- What each setting does to its table: document 01, 
+-- What each setting does to its table: document 01, "What each operation does". None is "no room".
 use Rattle.std.specs.Prelude.{ℕ, ◌-◌, Bool, ◌&&◌, cond, List, [], ◌∷◌, get_or, set, replicate, eqb, leb}
 use Rattle.std.proofs.Math.Option.{Option, none, some}
 use Rattle.slots.specs.Slots.{unless, same?}
@@ -26,12 +26,12 @@ abbrev pub and_then : {A B : Type 0} → Option A → (A → Option B) → Optio
 and_then none f = none
 and_then (some a) f = f a
 
--- 
+-- "A setting has no room when, at some entry, the table is then full and the entry needs a new place"
 abbrev pub in_turn : {A T : Type 0} → (A → T → Option T) → List A → T → Option T
 in_turn step [] t = some t
 in_turn step (a ∷ l) t = and_then (step a t) (in_turn step l)
 
--- 
+-- "Replace empties the table, then adds each entry in order"
 abbrev pub start_from : {T : Type 0} → Operation → T → T → T
 start_from Add empty t = t
 start_from Delete empty t = t
@@ -47,7 +47,7 @@ keyed_step same room Replace a ls = put_keyed (same a) room a ls
 
 -- ---- line contacts
 
--- 
+-- "Add, delete and replace compare both"
 abbrev pub same_key : LineKey → LineKey → Bool
 same_key j k = eqb (bit j.pabx) (bit k.pabx) && same? j.number k.number
 
@@ -55,11 +55,11 @@ same_key j k = eqb (bit j.pabx) (bit k.pabx) && same? j.number k.number
 abbrev pub has_key : LineKey → Line → Bool
 has_key k l = same_key (line_key l) k
 
--- 
+-- "Add puts a new key at the end and overwrites a known one in its place, flags included"
 abbrev pub put_line : ℕ → Line → List Line → Option (List Line)
 put_line room l ls = put_keyed (has_key (line_key l)) room l ls
 
--- 
+-- "Delete closes the gap"; "Deleting what isn't there does nothing"
 abbrev pub drop_line : LineKey → List Line → List Line
 drop_line k ls = unless (has_key k) ls
 
@@ -76,7 +76,7 @@ line_step room o f e ls = keyed_step (λ l. has_key (line_key l)) room o (line_o
 abbrev pub lines_after : ℕ → Operation → LineFlags → List Contact → List Line → Option (List Line)
 lines_after room o f es ls = in_turn (line_step room o f) es (start_from o [] ls)
 
--- ---- group and individual contacts: 
+-- ---- group and individual contacts: "cleared and then added in order, as lines are"
 
 -- whether a contact has the address a
 abbrev pub has_address : (w : Members) → AddressIn w → MemberIn w → Bool
@@ -101,7 +101,7 @@ contacts_after w room o f es xs = in_turn (contact_step w room o f) es (start_fr
 
 -- ---- quick texts and status texts
 
--- 
+-- "Quick texts: add to an index that has a text does nothing"
 abbrev pub if_absent : Option Text → Text → Option Text
 if_absent none us = some us
 if_absent (some vs) us = some vs
@@ -114,7 +114,7 @@ quick_step Replace e qs = some (set qs e.index (if_absent (get_or qs e.index non
 abbrev pub quick_after : Operation → List Entry → List (Option Text) → Option (List (Option Text))
 quick_after o es qs = in_turn (quick_step o) es (start_from o (replicate quick_places none) qs)
 
--- 
+-- "Status texts and slots: add overwrites"; status code 32 has the first place
 abbrev pub status_step : Operation → Entry → List (Option Text) → Option (List (Option Text))
 status_step Add e ss = some (set ss (e.index - 32) (some e.text))
 status_step Delete e ss = some (set ss (e.index - 32) none)
@@ -125,11 +125,11 @@ status_after o es ss = in_turn (status_step o) es (start_from o (replicate statu
 
 -- ---- channels
 
--- 
+-- "Channels: add always appends, so repeats are kept"
 abbrev pub put_channel : ℕ → ℕ → List ℕ → Option (List ℕ)
 put_channel room n cs = put_last room n cs
 
--- 
+-- "delete removes every match"
 abbrev pub drop_channel : ℕ → List ℕ → List ℕ
 drop_channel n cs = unless (λ c. eqb c n) cs
 
@@ -143,7 +143,7 @@ channels_after room o ns cs = in_turn (channel_step room o) ns (start_from o [] 
 
 -- ---- slots
 
--- 
+-- "Status texts and slots: add overwrites"; a delete empties the slot
 abbrev pub slot_after : {A : Type 0} → Operation → A → Option A
 slot_after Add a = some a
 slot_after Delete a = none
@@ -156,7 +156,7 @@ abbrev pub with_room : {A B : Type 0} → (A → B) → Option A → Option B
 with_room f none = none
 with_room f (some a) = some (f a)
 
--- what a setting makes of its own table; 
+-- what a setting makes of its own table; "CB, CD and CF overwrite"; FF's hash is kept
 abbrev pub own_after : Limits → (s : Setting) → Own (kind s) → Option (Own (kind s))
 own_after lim (group_contacts o f es) x = contacts_after OfGroups contact_places o f es x
 own_after lim (individual_contacts o f es) x = contacts_after OfIndividuals contact_places o f es x
@@ -176,7 +176,7 @@ own_after lim (last f h) x = some h
 abbrev pub change : Limits → Setting → Tables → Option Tables
 change lim s t = with_room (put_own (kind s) t) (own_after lim s (own (kind s) t))
 
--- 
+-- "no room exactly when the texts held after it, summed, pass 4,096 bytes": judged after each whole setting, not after an entry and not after the message
 abbrev pub within : Texts → Tables → Option Tables
 within Placed t = some t
 within (Shared a) t = cond (leb (text_sum t) a) (some t) none

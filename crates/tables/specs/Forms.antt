@@ -11,7 +11,7 @@ use Rattle.tables.specs.Layout.{quick_bytes, status_bytes, group_bytes, individu
 use Rattle.tables.specs.SharedLayout.{head_widths, shared_layout, shared_size}
 use Rattle.tables.specs.Tables.{Line, GroupMember, IndividualMember, Tables}
 
--- 
+-- "keep all texts in one area of 4,096 bytes .. and give up the fixed places; the vehicle keeps them"
 abbrev pub laid : Texts → Limits → Tables → List ℕ
 laid Placed lim t = placed_layout lim t
 laid (Shared a) lim t = shared_layout lim a t

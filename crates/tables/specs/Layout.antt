@@ -1,4 +1,4 @@
--- The bytes of tables whose texts have places of their own: docs/STORE.md. 
+-- The bytes of tables whose texts have places of their own: docs/STORE.md. "Unused bytes are 0, so equal contents are equal bytes."
 use Rattle.std.specs.Prelude.{ℕ, suc, ◌+◌, ◌*◌, ◌-◌, ◌≤◌, ◌<◌, ◌≡◌, List, [], ◌∷◌, ◌++◌, map, length, replicate}
 use Rattle.slots.specs.Slots.{flat, pad, places, front, u16, u24}
 use Rattle.orders.specs.OrderParts.{order_bytes}
@@ -62,7 +62,7 @@ abbrev pub key_flags : Key → ℕ
 key_flags k =
     bit (current k.target) * 16 + bit (to_group k.target) * 8 + bit k.flags.voice * 4 + bit k.flags.status * 2 + bit k.flags.siren
 
--- the address, 0 where the key calls the current place: 
+-- the address, 0 where the key calls the current place: "an address held before is dropped"
 abbrev pub key_address : KeyTarget → ℕ
 key_address (Current g) = 0
 key_address (ToGroup a) = a.0
@@ -207,7 +207,7 @@ used_size lim = channels_at + (channels_size lim + lines_size lim)
 abbrev pub counted : {A : Type 0} → ℕ → (A → List ℕ) → ℕ → List A → List ℕ
 counted w f n xs = u16 (length xs) ++ places w f (front n xs)
 
--- 
+-- "Keep beside the CA line contacts an order of them": the list table of the lines, then their order
 abbrev pub ordered : ℕ → List Line → List ℕ
 ordered n ls = counted line_width line_bytes n ls ++ order_bytes n (line_order ls)
 

@@ -3,11 +3,11 @@ use Rattle.std.specs.Prelude.{ℕ, ◌+◌, ◌*◌, ◌≤◌}
 use Rattle.tables.specs.declared.limits.Limits.{Limits}
 use Rattle.tables.specs.declared.limits.Texts.TheVariants.{Placed, Shared}
 
--- 
+-- "Room: 32 line contacts, 64 channels"; messages of at most 4,096 bytes; "The store grows to 24,576 bytes"; "keep all texts in one area of 4,096 bytes"
 abbrev pub handheld : Limits
 handheld = record { lines = 32; channels = 64; message = 4096; size = 24576; texts = Shared 4096 }
 
--- 
+-- "room for 128 line contacts and 256 channels, messages of up to 8,192 bytes, and a store of 49,152 bytes"
 abbrev pub vehicle : Limits
 vehicle = record { lines = 128; channels = 256; message = 8192; size = 49152; texts = Placed }
 
@@ -25,6 +25,6 @@ status_places = 96
 abbrev pub slot_places : ℕ
 slot_places = 16
 
--- 
+-- "There is room for 64, 64 and 16": group contacts, individual contacts, and the line slots above
 abbrev pub contact_places : ℕ
 contact_places = 64

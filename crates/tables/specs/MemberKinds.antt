@@ -1,4 +1,4 @@
--- Groups and individuals by kind: 
+-- Groups and individuals by kind: "Group and individual addresses have the same 24 bits and are kept apart by kind".
 use Rattle.std.specs.Prelude.{ℕ}
 use Rattle.plan.specs.declared.numbers.GroupAddress.{GroupAddress}
 use Rattle.plan.specs.declared.numbers.IndividualAddress.{IndividualAddress}
@@ -26,6 +26,6 @@ abbrev pub number_of : (w : Members) → AddressIn w → ℕ
 number_of OfGroups a = a.0
 number_of OfIndividuals a = a.0
 
--- a contact's key: 
+-- a contact's key: "group and individual contacts keyed by address"
 abbrev pub contact_key : (w : Members) → MemberIn w → ℕ
 contact_key w x = number_of w x.address

@@ -4,7 +4,7 @@ use Rattle.orders.specs.Orders.{order}
 use Rattle.writing.specs.Writing.{bit}
 use Rattle.tables.specs.Tables.{Line, LineKey, line_key}
 
--- 
+-- "by IDtype, then by digits compared from the left, a shorter number before a longer one that starts with it": so are these lists compared
 abbrev pub sorting : LineKey → List ℕ
 sorting k = bit k.pabx ∷ k.number
 

@@ -1,4 +1,4 @@
--- The bytes of tables whose texts share one area of a bytes: heads, then the area, then zeros. 
+-- The bytes of tables whose texts share one area of a bytes: heads, then the area, then zeros. "Equal tables are still equal bytes."
 use Rattle.std.specs.Prelude.{ℕ, suc, ◌+◌, ◌*◌, ◌-◌, List, [], ◌∷◌, ◌++◌, replicate}
 use Rattle.slots.specs.Slots.{flat, places, u16}
 use Rattle.orders.specs.OrderParts.{order_bytes}

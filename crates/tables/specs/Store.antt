@@ -23,13 +23,13 @@ use Rattle.tables.specs.Texts.{text_sum, text_size}
 
 -- ---- which bytes are a store, and starting one
 
--- 
+-- "A store is exactly the bytes of tables and a kept hash that these rules allow": they fill it, and have room in it
 pub record StoreOf (lim : Limits) (bytes : List ℕ) : Type 0 where
   pub size : length bytes ≡ lim.size
   pub roomy : Roomy lim
   pub store : IsStore lim bytes
 
--- 
+-- "11 for the new size": store not 24,576 bytes
 abbrev pub started : Started → ℕ
 started Fresh = 0
 started WrongSize = 11
@@ -43,7 +43,7 @@ pub record Begun : Type 0 where
 abbrev pub begins : Started → List ℕ → Begun
 begins a store = record { number = started a; store = store }
 
--- 
+-- "Starting a store: any 12,288 bytes become fresh, another length is 11", and touches nothing; they are 24,576 since A4
 abbrev pub starting : Limits → List ℕ → Ladder Begun
 starting lim before =
     rung (length before ≡ lim.size → Roomy lim → ⊥) (record { number = 11; store = before })

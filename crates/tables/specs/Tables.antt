@@ -1,4 +1,4 @@
--- The tables of a set, and a fresh one: document 01, 
+-- The tables of a set, and a fresh one: document 01, "What each operation does".
 use Rattle.std.specs.Prelude.{ℕ, Bool, false, List, [], replicate}
 use Rattle.std.proofs.Math.Option.{Option, none}
 use Rattle.plan.specs.declared.numbers.GroupAddress.{GroupAddress}
@@ -20,7 +20,7 @@ pub record Line : Type 0 where
   pub number : Number
   pub text : Text
 
--- 
+-- "The identity of a line is its IDtype together with its digits"
 pub record LineKey : Type 0 where
   pub pabx : Bool
   pub number : Number
@@ -65,7 +65,7 @@ pub record Tables : Type 0 where
 abbrev pub no_hash : Hash
 no_hash = record { code = 0; value = [] }
 
--- 
+-- "A fresh store has empty tables, CB with current 1 and all else 0, CD and CF all 0, no hash"
 abbrev pub fresh : Tables
 fresh = record {
   hash = no_hash;

@@ -77,7 +77,7 @@ table_sum os = 2 * units_of (present os)
 abbrev pub text_size : (k : Kind) → Own k → ℕ
 text_size k x = table_sum (row_texts k x)
 
--- texts that take n bytes have room: 
+-- texts that take n bytes have room: "the vehicle keeps them, and no sum binds it"
 abbrev pub TextRoom : Texts → ℕ → Type 0
 TextRoom Placed n = Unit {0}
 TextRoom (Shared a) n = n ≤ a

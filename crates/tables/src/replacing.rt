@@ -1,4 +1,4 @@
-// 
+// "Replace empties the table, then adds each entry in order": the first half.
 ghost use Rattle.std.specs.Prelude.{◌≡◌, length, replicate};
 ghost use Rattle.tables.specs.Apply.{start_from};
 

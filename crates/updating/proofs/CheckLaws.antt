@@ -127,7 +127,7 @@ copied lim first message lent copy left r s i e k = subst (λ (l : List ℕ). To
 -- ---- what checking answers
 
 module _ (lim : Limits) (first second message : List ℕ) where
-  -- 
+  -- "11 for either store, first store first"
   pub says_first : (StoreOf lim first → ⊥) → Answers (checking lim first second message) FirstNotAStore
   says_first n = inl (n, refl)
 

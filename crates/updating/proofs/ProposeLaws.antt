@@ -105,7 +105,7 @@ known_turn lim first second a b work a' b' work' k d e r l i j w c is before t u
 -- ---- what proposing answers
 
 module _ (lim : Limits) (first second buffer : List ℕ) where
-  -- 
+  -- "11 for either store, first store first"
   pub says_first : (StoreOf lim first → ⊥) → Answers (proposing lim first second buffer) (stays lim first second buffer P.FirstNotAStore)
   says_first n = inl (n, refl)
 
@@ -113,7 +113,7 @@ module _ (lim : Limits) (first second buffer : List ℕ) where
   says_second s n = inr (λ k. k s, inl (n, refl))
 
   module _ (s : StoreOf lim first) (z : StoreOf lim second) where
-    -- 
+    -- "15 for a buffer under 4,096 bytes", which is the most that a message has
     pub says_15 : length buffer < lim.message → Answers (proposing lim first second buffer) (stays lim first second buffer P.Buffer)
     says_15 h = inr (λ k. k s, inr (λ k. k z, inl (h, refl)))
 
@@ -122,7 +122,7 @@ module _ (lim : Limits) (first second buffer : List ℕ) where
       both : (t u : Tables) → Holds lim t first → Holds lim u second → Both lim first second a b work t u
       both t u h k = record { able = x; roomy = s.roomy; here = h; there = k; lent = record { one = one; other = other; copy = copy } }
 
-      -- 
+      -- "19, with nothing written, exactly when the tables of no export part, or of several, differ"
       says_none : AllCompared lim first second a b work Nothing → Answers (proposing lim first second buffer) (stays lim first second buffer P.NoSinglePart)
       says_none c = inr (λ k. k s, inr (λ k. k z, inr (λ k. omega (arith, k, size), inl (λ t u h k p o. o.0 (known_same t u (c t u (both t u h k)) p), refl))))
 

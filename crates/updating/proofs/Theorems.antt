@@ -141,7 +141,7 @@ module _ (lim : Limits) (first second buffer : List ℕ) where
       let e = one_answer (proposing lim first second buffer) one_proposal _ _ x y in
       (ap (λ (z : AfterProposal). z.answer) e, ap (λ (z : AfterProposal). z.buffer) e)
 
-  -- NINETEEN EXACTLY: of two stores, with a buffer of a message's size, it answers 19 
+  -- NINETEEN EXACTLY: of two stores, with a buffer of a message's size, it answers 19 "exactly when the tables of no export part, or of several, differ"
   pub nineteen_exactly : Exportable lim → StoreOf lim first → StoreOf lim second → lim.message ≤ length buffer → (t u : Tables) → Holds lim t first → Holds lim u second
       → (a : AfterProposal) → Answers (proposing lim first second buffer) a → (a.answer ≡ P.NoSinglePart) ↔ NoneOrSeveral t u
   nineteen_exactly x s z size t u h k a answers = (λ e. single answers e (single_or_not lim x t u h.0 k.0), none answers)

@@ -1,4 +1,4 @@
--- What checking a proposed request and proposing one answer: document 02, 
+-- What checking a proposed request and proposing one answer: document 02, "Short updates".
 use Rattle.std.specs.Prelude.{ℕ, ◌≤◌, ◌<◌, ◌≡◌, ◌≢◌, ◌⊎◌, ◌↔◌, Bool, true, false, List, length, drop}
 use Rattle.lists.specs.Ladder.{Ladder, rung, foot, Answers}
 use Rattle.slots.specs.Slots.{written_over}
@@ -30,7 +30,7 @@ use Rattle.updating.specs.declared.proposing.Differing.TheVariants.{Nothing, One
 
 -- ---- the check
 
--- 
+-- "the first store would take the request and then has the second's tables, the kept hash aside"; a result query, a malformed or a too long message is no such request
 pub record Updates (lim : Limits) (first second message : List ℕ) : Type 0 where
   pub coding : Coding
   pub count : ℕ
@@ -47,14 +47,14 @@ pub record Updates (lim : Limits) (first second message : List ℕ) : Type 0 whe
   pub same : SameTables after wanted
 
 module _ (lim : Limits) (first second message : List ℕ) where
-  -- 
+  -- "says yes exactly when"
   abbrev pub Says : Check → Type 0
   Says Yes = Updates lim first second message
   Says No = Updates lim first second message → ⊥
   Says FirstNotAStore = ⊥
   Says SecondNotAStore = ⊥
 
-  -- 
+  -- "Refusals: 11 for either store, first store first"
   abbrev pub checking : Ladder Check
   checking =
       rung (StoreOf lim first → ⊥) FirstNotAStore
@@ -78,11 +78,11 @@ checked SecondNotAStore = record { number = 11; says_yes = false }
 abbrev pub SamePart : Part → Tables → Tables → Type 0
 SamePart p t u = Agree (part_kinds p) t u
 
--- 
+-- "sets whose tables differ in one export part only"
 abbrev pub Sole : Part → Tables → Tables → Type 0
 Sole p t u = (SamePart p t u → ⊥) × ((q : Part) → q ≢ p → SamePart q t u)
 
--- 
+-- "of no export part, or of several, differ"
 abbrev pub NoneOrSeveral : Tables → Tables → Type 0
 NoneOrSeveral t u = ((q : Part) → SamePart q t u) ⊎ ((p : Part) × (q : Part) × (p ≢ q) × (SamePart p t u → ⊥) × (SamePart q t u → ⊥))
 
@@ -117,7 +117,7 @@ module _ (lim : Limits) (first second buffer : List ℕ) where
   abbrev pub NoSingle : Type 0
   NoSingle = (t u : Tables) → Holds lim t first → Holds lim u second → (p : Part) → Sole p t u → ⊥
 
-  -- 
+  -- "it writes the second's part"
   pub record Proposes (a : AfterProposal) : Type 0 where
     pub before : Tables
     pub held : Holds lim before first
@@ -127,7 +127,7 @@ module _ (lim : Limits) (first second buffer : List ℕ) where
     pub sole : Sole which before wanted
     pub outcome : a ≡ writes (request_bytes (exported which wanted))
 
-  -- 
+  -- "11 for either store, first store first; then, from the proposer, 15 .., then 19, with nothing written"
   abbrev pub proposing : Ladder AfterProposal
   proposing =
       rung (StoreOf lim first → ⊥) (stays P.FirstNotAStore)

@@ -42,7 +42,7 @@ digits_told BufferSize buffer = record { number = 15; count = 0; buffer = buffer
 abbrev pub stays : ℕ → List ℕ → AfterDigits
 stays n buffer = record { number = n; count = 0; buffer = buffer }
 
--- 
+-- "15 (a digits buffer under 18 bytes), 11, 17 (nothing stands there)"; else "one digit a byte at the buffer's start, bytes past them stay"
 abbrev pub writing_digits : Limits → Row → List ℕ → List ℕ → Ladder AfterDigits
 writing_digits lim row store buffer =
     rung (length buffer < 18) (stays 15 buffer)

@@ -36,7 +36,7 @@ group_target g = ToGroup g.flags g.address
 abbrev pub individual_target : IndividualMember → Target
 individual_target i = ToIndividual i.flags i.address
 
--- behind a row, named 
+-- behind a row, named "by the screen's index or position; background groups too, for the radio listens to them"
 abbrev pub entry_at : Tables → Row → Option Target
 entry_at t (Line n) = of line_target (get_or (map some t.lines) n none)
 entry_at t (QuickText n) = none
@@ -63,14 +63,14 @@ pub record Asked (A : Type 0) : Type 0 where
   pub number : ℕ
   pub value : Option A
 
--- a refusal: 
+-- a refusal: "all other bits 0"
 abbrev pub refused : {A : Type 0} → ℕ → Asked A
 refused n = record { number = n; value = none }
 
 abbrev pub given : {A : Type 0} → A → Asked A
 given v = record { number = 0; value = some v }
 
--- 
+-- "11, 17 (nothing stands there)"; else what the tables of the store have there
 abbrev pub asking : {A : Type 0} → Limits → (Tables → Option A) → List ℕ → Ladder (Asked A)
 asking lim what store =
     rung (StoreOf lim store → ⊥) (refused 11)

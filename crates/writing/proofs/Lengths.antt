@@ -99,7 +99,7 @@ allowed c k left (individual p f s) o h e =
 allowed c k left (line_slot p f s) o h e = subst (Allows AddOrDelete) (option_some_injective p o e) (slot_allows p NotReplace (λ x. x) h.0)
 allowed c k left (last f x) o h e = option_none_ne_some o e
 
--- the columns 
+-- the columns "least / most", in the order of the type bytes
 pub rows_are :
     map {B = ℕ × Option ℕ} (λ t. ((bounds unicode16 text_limits t).least, (bounds unicode16 text_limits t).most))
     (GroupContacts ∷ IndividualContacts ∷ Lines ∷ Key ∷ QuickTexts ∷ Home ∷ Channels ∷ System ∷ StatusTexts ∷ Group ∷ Individual ∷ LineSlot

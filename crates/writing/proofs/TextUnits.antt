@@ -58,7 +58,7 @@ all_at P [] k d h p = h
 all_at P (x ∷ xs) zero d h p = p.0
 all_at P (x ∷ xs) (suc k) d h p = all_at P xs k d h p.1
 
--- NO WRITING ABOVE 255: 
+-- NO WRITING ABOVE 255: "A text with a unit above 255 has no writing under 0100", be it the unit j of the text i
 pub no_writing_above_255 : (s : Setting) (i j : ℕ) (bs : List ℕ) → 255 < get_or (get_or (texts s) i []) j 0 → Written eight_bit s bs → ⊥
 no_writing_above_255 s i j bs h w =
     let small : All (◌≤ 255) (get_or (texts s) i []) =

@@ -98,7 +98,7 @@ body_whole c (last f h) = (1 + length h.value, omega (arith, widths_map (val 8) 
 pub whole : (c : Coding) (s : Setting) → Whole (fields c s)
 whole c s = let (n, e) = body_whole c s in (3 + n, omega arith)
 
--- 
+-- "DataLength .. counting itself and all that follows": a writing has a byte more
 pub length_written : (c : Coding) (s : Setting) (bs : List ℕ) → Written c s bs → length bs ≡ suc (data_length c s)
 length_written c s bs w = let (n, e) = body_whole c s in omega (arith, length_bits_of bs, shows_length (fields c s) (bits_of bs) w)
 

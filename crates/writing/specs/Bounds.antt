@@ -1,4 +1,4 @@
--- The rules' table of the thirteen settings, the columns 
+-- The rules' table of the thirteen settings, the columns "least / most" and the operations allowed.
 use Rattle.std.specs.Prelude.{ℕ, ◌+◌, ◌*◌, ◌/◌, ◌≤◌}
 use Rattle.std.proofs.Math.Option.{Option, none, some}
 use Rattle.writing.specs.declared.Kind.{Kind}

@@ -1,4 +1,4 @@
--- The writing with reserved bits 0: 
+-- The writing with reserved bits 0: "Reserved bits are .. written as 0".
 use Rattle.std.specs.Prelude.{ℕ, zero, suc, ◌+◌, ◌*◌, ◌/◌, ◌%◌, ◌^◌, ◌<◌, ◌≢◌, List, [], ◌∷◌, ◌++◌}
 use Rattle.lists.specs.Every.{All}
 use Rattle.writing.specs.Fields.{Field, val, item, res, width, widths}
@@ -35,7 +35,7 @@ abbrev pub canonical_all : Coding → List Setting → List ℕ
 canonical_all c [] = []
 canonical_all c (s ∷ ss) = canonical c s ++ canonical_all c ss
 
--- 
+-- "only if every value fits its field, no text unit is 0 and no digit is 15"
 abbrev pub FitsField : Field → Type 0
 FitsField (val w v) = v < 2 ^ w
 FitsField (item w end v) = (v < 2 ^ w) × (v ≢ end)

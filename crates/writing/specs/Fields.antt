@@ -1,4 +1,4 @@
--- Fields of bits, 
+-- Fields of bits, "in network order, first bit highest": when a list of fields stands in a list of bits.
 use Rattle.std.specs.Prelude.{ℕ, zero, suc, ◌+◌, ◌/◌, ◌%◌, ◌^◌, ◌<◌, ◌≡◌, ◌≢◌, List, [], ◌∷◌, ◌++◌}
 
 -- the w low bits of v, highest first
@@ -14,7 +14,7 @@ bits_of (b ∷ bs) = bits 8 b ++ bits_of bs
 pub data Field : Type 0 where
   val : (w v : ℕ) → Field  -- w bits with the value v
   item : (w end v : ℕ) → Field  -- w bits with the value v, which is not the end mark
-  res : (w : ℕ) → Field  -- w reserved bits, 
+  res : (w : ℕ) → Field  -- w reserved bits, "ignored when read and written as 0"
 
 abbrev pub width : Field → ℕ
 width (val w v) = w

@@ -1,4 +1,4 @@
--- What a setting says: document 01, 
+-- What a setting says: document 01, "The ten settings", and since A4 three more. Operations, flags and fixed contents are the structs of src/.
 use Rattle.std.specs.Prelude.{ℕ, Bool, true, false, List, [], ◌∷◌, map}
 use Rattle.plan.specs.declared.numbers.GroupAddress.{GroupAddress}
 use Rattle.plan.specs.declared.numbers.IndividualAddress.{IndividualAddress}
@@ -98,10 +98,10 @@ texts (individual o f s) = s.text ∷ []
 texts (line_slot o f s) = s.text ∷ []
 texts (last f h) = []
 
--- 
+-- "0111 (16-bit Unicode)"
 abbrev pub unicode16 : Coding
 unicode16 = Unicode16
 
--- 
+-- "0100, eight-bit characters"
 abbrev pub eight_bit : Coding
 eight_bit = EightBit

@@ -5,7 +5,6 @@ use Rattle.callers.proofs.lookup.find_line.Goals as goal
 
 pub returns : goal.returns
 returns c =
-    let s = c in
     let a = c.args in
     let lines = c.lines_at-lines in
     let slots = c.line_slots in

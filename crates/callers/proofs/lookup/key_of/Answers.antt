@@ -8,12 +8,10 @@ loop-i-init c = record { within = omega arith; bytes = refl }
 
 pub overflow_add-key : goal.overflow_add-key
 overflow_add-key c =
-    let s = c in
     omega (arith, all_get (◌≤ 9) c.args.digits.now c.loop-i.i 0 c.requires.2 (omega arith))
 
 pub loop-i-preserved : goal.loop-i-preserved
 loop-i-preserved c =
-    let s = c in
     key_more c.args.idtype c.args.digits.now c.loop-i.i c.loop-i.key c.requires.1 c.loop-i.invariant (omega arith)
 
 pub returns : goal.returns

@@ -4,7 +4,6 @@ use Rattle.export.proofs.exporting.write_part.Goals as goal
 
 pub returns : goal.returns
 returns c =
-    let s = c in
     let a = c.args in
     let k = c.span_of-span in
     let w = c.write_held in

@@ -5,12 +5,10 @@ use Rattle.export_write.proofs.contacts.write_clearing.Goals as goal
 
 pub write_bytes-requires : goal.write_bytes-requires
 write_bytes-requires c =
-    let s = c in
     omega (arith, subst (λ (w : Members). c.args.at + clear_room w ≤ length c.args.buffer.now) c.in-OfGroups.is c.requires)
 
 pub write_bytes-requires-in-OfIndividuals : goal.write_bytes-requires-in-OfIndividuals
 write_bytes-requires-in-OfIndividuals c =
-    let s = c in
     omega (arith, subst (λ (w : Members). c.args.at + clear_room w ≤ length c.args.buffer.now) c.in-OfIndividuals.is c.requires)
 
 pub returns-in-OfGroups : goal.returns-in-OfGroups

@@ -3,6 +3,7 @@ use Rattle.lists.proofs.Kit.{not-true, not-false, ⊎_elim, sym, refl, ◌∙◌
 use Rattle.slots.proofs.Tables.{slot_wide}
 use Rattle.export_write.proofs.EntryWriting.{Turn, turn_start, turn_as, turn_none, turn_some, entered_most, entered_all, place_inside}
 use Rattle.export_write.proofs.entries.write_entries.Goals as goal
+use Rattle.export_write.proofs.entries.write_entries.Goals.{then-not-is_zeros, else-not-is_zeros}
 
 pub loop-next-init : goal.loop-next-init
 loop-next-init c = let a = c.args in turn_start a.table a.region.now a.buffer.now a.at (omega arith)
@@ -50,12 +51,12 @@ loop-next-preserved c =
     let k = c.is_zeros in
     let i = place_inside l.next a.table.places a.table.width (length a.region.now) (omega arith) c.requires.0.long in
     let n = slot_wide a.region.now (l.next * a.table.width) a.table.width i in
-    ⊎_elim (λ w. turn_as a.table a.region.now a.buffer.now a.at _ _ _ _ _ _ (l.next + 1) w.7 w.8 w.9
-    (turn_some a.table a.region.now a.buffer.now a.at l.buffer l.end l.count l.next l.invariant (omega arith) w.4.last.0 w.4.result w.4.kept.0 n c.if-count-table.false
-    (sym k.ensures ∙ not-true k.result w.0.taken) w.4.ensures))
-    (λ w. turn_as a.table a.region.now a.buffer.now a.at _ _ _ _ _ _ (l.next + 1) w.1 w.2 w.3
-    (turn_none a.table a.region.now a.buffer.now a.at l.buffer l.end l.count l.next l.invariant (omega arith) (sym k.ensures ∙ not-false k.result w.0.left)))
-    c.if-not-is_zeros.branch
+    elim c.if-not-is_zeros.branch
+    [ then-not-is_zeros w ↦ turn_as a.table a.region.now a.buffer.now a.at _ _ _ _ _ _ (l.next + 1) w.buffer-is w.end-is w.count-is
+        (turn_some a.table a.region.now a.buffer.now a.at l.buffer l.end l.count l.next l.invariant (omega arith) w.write_entry-end.new.buffer w.write_entry-end.result w.write_entry-end.auto.buffer n c.if-count-table.false
+        (sym k.ensures ∙ w.if-not-is_zeros.true) w.write_entry-end.ensures)
+    | else-not-is_zeros w ↦ turn_as a.table a.region.now a.buffer.now a.at _ _ _ _ _ _ (l.next + 1) w.buffer-is w.end-is w.count-is
+        (turn_none a.table a.region.now a.buffer.now a.at l.buffer l.end l.count l.next l.invariant (omega arith) (sym k.ensures ∙ w.if-not-is_zeros.false)) ]
 
 pub returns : goal.returns
 returns c =

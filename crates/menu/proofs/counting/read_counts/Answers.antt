@@ -5,7 +5,6 @@ use Rattle.menu.proofs.counting.read_counts.Goals as goal
 
 pub returns : goal.returns
 returns c =
-    let s = c in
     let a = c.args in
     let channels = c.channels_at-start in
     let lines = c.lines_at-lines in

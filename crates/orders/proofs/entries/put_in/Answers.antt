@@ -16,7 +16,6 @@ loop-i-smaller c = omega arith
 pub loop-i-preserved : goal.loop-i-preserved
 loop-i-preserved c =
     let l = c.loop-i in
-    let a = c.args in
     (length-set l.d l.i l.next ∙ l.invariant.0, λ h. (omega arith, put_more l.d l.next l.i (omega arith) ∙ (l.invariant.1 h).1))
 
 pub returns : goal.returns

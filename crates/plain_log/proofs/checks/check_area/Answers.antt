@@ -9,7 +9,6 @@ returns-then-weights-ne-WEIGHTS c = λ z a. c.if-weights-ne-WEIGHTS.true (ap len
 
 pub returns-then-used : goal.returns-then-used
 returns-then-used c =
-    let f = c in
     let a = c.args in
     used_not a.area.now a.weights.now a.weights.now c.used_of-used.result c.used_of-used.ensures c.if-used.true
 
@@ -28,14 +27,12 @@ slice_bounds-is_clear-start c =
 pub returns-then-not-is_clear : goal.returns-then-not-is_clear
 returns-then-not-is_clear c =
     let z = c.is_clear in
-    let f = c in
     let a = c.args in
     frame_not a.area.now a.weights.now a.weights.now c.used_of-used.result z.result c.used_of-used.ensures z.ensures (not-true _ c.if-not-is_clear.true-raw)
 
 pub loop-at-init : goal.loop-at-init
 loop-at-init c =
     let z = c.is_clear in
-    let f = c in
     let a = c.args in
     let bytes : Bytes a.area.now = λ i. (c.shared_slice_known-1.given i).fits in
     (refl, turn_start a.area.now a.weights.now c.used_of-used.result (frame_here a.area.now c.used_of-used.result z.result c.used_of-used.ensures c.if-used.false bytes z.ensures (not-false _ c.if-not-is_clear.false-raw)))
@@ -45,9 +42,7 @@ shape_of-weights-then-deeds-ge-DEEDS c = search (rules, c.loop-at.invariant.0)
 
 pub returns-then-deeds-ge-DEEDS : goal.returns-then-deeds-ge-DEEDS
 returns-then-deeds-ge-DEEDS c =
-    let d = c in
     let l = c.loop-at in
-    let f = c in
     let a = c.args in
     let used = c.used_of-used.result in
     turn_many a.area.now a.weights.now used (4 + used) l.at l.deeds l.hash l.weights l.invariant.1 l.weights c.if-deeds-ge-DEEDS.true
@@ -57,9 +52,7 @@ shape_of-weights-in_default c = search (rules, c.loop-at.invariant.0)
 
 pub returns-in_default : goal.returns-in_default
 returns-in_default c =
-    let d = c in
     let l = c.loop-at in
-    let f = c in
     let a = c.args in
     let used = c.used_of-used.result in
     let r = subst (RecordIs a.area.now l.at (4 + used) l.deeds l.weights _) c.in_default.is c.check_record-record.ensures in
@@ -70,9 +63,7 @@ shape_of-weights-then-next-at c = search (rules, c.loop-at.invariant.0)
 
 pub returns-then-next-at : goal.returns-then-next-at
 returns-then-next-at c =
-    let d = c in
     let l = c.loop-at in
-    let f = c in
     let a = c.args in
     let used = c.used_of-used.result in
     let g = c.«record».given in
@@ -84,9 +75,7 @@ shape_of-weights-then-passed-ge-DEEDS c = search (rules, c.loop-at.invariant.0)
 
 pub returns-then-passed-ge-DEEDS : goal.returns-then-passed-ge-DEEDS
 returns-then-passed-ge-DEEDS c =
-    let d = c in
     let l = c.loop-at in
-    let f = c in
     let a = c.args in
     let used = c.used_of-used.result in
     let g = c.«record».given in
@@ -95,9 +84,7 @@ returns-then-passed-ge-DEEDS c =
 
 pub loop-at-preserved : goal.loop-at-preserved
 loop-at-preserved c =
-    let d = c in
     let l = c.loop-at in
-    let f = c in
     let a = c.args in
     let used = c.used_of-used.result in
     let g = c.«record».given in
@@ -109,9 +96,7 @@ shape_of-weights c = search (rules, c.loop-at.invariant.0)
 
 pub returns : goal.returns
 returns c =
-    let d = c in
     let l = c.loop-at in
-    let f = c in
     let a = c.args in
     let used = c.used_of-used.result in
     turn_end a.area.now a.weights.now used (4 + used) l.at l.deeds l.hash l.weights l.invariant.1 c.loop-at-test.false

@@ -9,21 +9,17 @@ use Rattle.plain_log.proofs.checks.check_record.Goals as goal
 
 pub returns-then-end-start : goal.returns-then-end-start
 returns-then-end-start c =
-    let f = c in
     let a = c.args in
     not_there a.area.now a.at a.end a.deeds c.number_at-size.result c.number_at-size.result a.weights.now a.weights.now c.number_at-size.ensures refl (omega arith) (omega arith)
 
 pub returns-in_default : goal.returns-in_default
 returns-in_default c =
-    let f = c in
     let a = c.args in
     let size = c.number_at-size.result in
     not_request a.area.now a.at a.end a.deeds size (a.at + 2 + size - (a.at + 2)) a.weights.now a.weights.now c.number_at-size.ensures (omega arith) c.read_message-message.result (is_one_of c.in_default.in_default-own.keys2) c.read_message-message.ensures
 
 pub returns-in-Good : goal.returns-in-Good
 returns-in-Good c =
-    let j = c in
-    let f = c in
     let a = c.args in
     let size = c.number_at-size.result in
     let k = a.at + 2 + size - (a.at + 2) in
@@ -36,8 +32,6 @@ returns-in-Good c =
 
 pub returns-in-Fault : goal.returns-in-Fault
 returns-in-Fault c =
-    let j = c in
-    let f = c in
     let a = c.args in
     let size = c.number_at-size.result in
     let k = a.at + 2 + size - (a.at + 2) in

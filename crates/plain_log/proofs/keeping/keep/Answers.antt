@@ -13,9 +13,6 @@ returns-then-used-m c = (refl, λ log a h u. omega (arith, log_longer log c.args
 
 pub returns : goal.returns
 returns c =
-    let d = c in
-    let f = c in
-    let g = c in
     let a = c.args in
     λ log e h u.
     area_more log a.m.now a.area.now c.put_number.new.area c.copy.new.dst c.put_number-2.new.area (4 + a.used) (4 + a.used + 2) (4 + a.used + 2 + length a.m.now - (4 + a.used + 2)) _

@@ -1,11 +1,13 @@
 use Rattle.lists.proofs.Kit.{rules, arith, ℕ, ◌+◌, ◌-◌, ◌<◌, refl, subst⁻¹, ⊎_elim}
 use Rattle.plain_look.proofs.RowLooks.{Rows, rows_start, rows_found, rows_passed, rows_none, rows_end, rows_high}
+use Rattle.plain_look.proofs.LookLaws.{unknown_looked}
 use Rattle.plain_look.proofs.rows.listed_row.Goals as goal
+use Rattle.plain_look.proofs.rows.listed_row.Goals.{then-found+else-before-eq0, else-found}
 
 pub returns-then-count-ge-DEEDS : goal.returns-then-count-ge-DEEDS
 returns-then-count-ge-DEEDS c =
     let a = c.args in
-    rows_high a.m.now a.cursor a.count a.kind a.position _ c.if-count-ge-DEEDS.true
+    rows_high a.m.now a.cursor a.count a.kind a.position unknown_looked c.if-count-ge-DEEDS.true
 
 pub loop-i-init : goal.loop-i-init
 loop-i-init c =
@@ -18,7 +20,7 @@ returns-then-before-eq0 c =
     let l = c.loop-i in
     let n = c.next_deed-moved in
     let b = c.born_here-found in
-    rows_found a.m.now a.cursor a.count a.kind a.position l.here n.result b.result c.loop-i l.i (omega arith) n.ensures b.ensures l.invariant c.if-found.true c.if-before-eq0.true
+    rows_found a.m.now a.cursor a.count a.kind a.position l.here n.result b.result l.before l.i (omega arith) n.ensures b.ensures l.invariant c.if-found.true c.if-before-eq0.true
 
 pub loop-i-preserved : goal.loop-i-preserved
 loop-i-preserved c =
@@ -27,16 +29,14 @@ loop-i-preserved c =
     let n = c.next_deed-moved in
     let b = c.born_here-found in
     let less : l.i < a.count = omega arith in
-    ⊎_elim
-    {C = Rows a.m.now a.cursor a.count a.kind a.position n.result.cursor c.if-found (l.i + 1)}
-    (λ w. subst⁻¹ (λ (x : ℕ). Rows a.m.now a.cursor a.count a.kind a.position n.result.cursor x (l.i + 1)) w.2
-    (rows_passed a.m.now a.cursor a.count a.kind a.position l.here n.result b.result c.loop-i l.i less n.ensures b.ensures l.invariant w.0.taken w.1.left))
-    (λ w. subst⁻¹ (λ (x : ℕ). Rows a.m.now a.cursor a.count a.kind a.position n.result.cursor x (l.i + 1)) w.1
-    (rows_none a.m.now a.cursor a.count a.kind a.position l.here n.result b.result c.loop-i l.i less n.ensures b.ensures l.invariant w.0.left))
-    c.if-found.branch
+    elim c.if-found.branch
+    [ then-found+else-before-eq0 w ↦ subst⁻¹ (λ (x : ℕ). Rows a.m.now a.cursor a.count a.kind a.position n.result.cursor x (l.i + 1)) w.before-is
+        (rows_passed a.m.now a.cursor a.count a.kind a.position l.here n.result b.result l.before l.i less n.ensures b.ensures l.invariant w.if-found.true w.if-before-eq0.false)
+    | else-found w ↦ subst⁻¹ (λ (x : ℕ). Rows a.m.now a.cursor a.count a.kind a.position n.result.cursor x (l.i + 1)) w.before-is
+        (rows_none a.m.now a.cursor a.count a.kind a.position l.here n.result b.result l.before l.i less n.ensures b.ensures l.invariant w.if-found.false) ]
 
 pub returns : goal.returns
 returns c =
     let a = c.args in
     let l = c.loop-i in
-    rows_end a.m.now a.cursor a.count a.kind a.position l.here c.loop-i l.i _ (omega arith) refl l.invariant
+    rows_end a.m.now a.cursor a.count a.kind a.position l.here l.before l.i unknown_looked (omega arith) refl l.invariant

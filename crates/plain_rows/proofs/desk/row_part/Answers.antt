@@ -4,6 +4,5 @@ use Rattle.plain_rows.proofs.desk.row_part.Goals as goal
 
 pub returns : goal.returns
 returns c =
-    let p = c in
     let a = c.args in
     part_given a.area.now a.scratch _ a.row c.row_place-place.result c.pick.result refl c.row_place-place.ensures c.pick.ensures

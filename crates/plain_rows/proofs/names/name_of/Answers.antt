@@ -15,7 +15,6 @@ returns-in_default c =
 
 pub returns : goal.returns
 returns c =
-    let b = c in
     let a = c.args in
     name_answers a.area.now _ a.row a.room c.in-Is.seen c.find.result c.name_found.result (omega (arith, c.if-room-lt64.false))
     (subst (AreaIs a.area.now _ _) c.in-Is.is c.check_area-read.ensures refl) c.find.ensures c.name_found.ensures

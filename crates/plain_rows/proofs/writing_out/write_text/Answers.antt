@@ -20,30 +20,22 @@ returns-then-area-start c =
 
 pub returns-then-area-start-2 : goal.returns-then-area-start-2
 returns-then-area-start-2 c =
-    let k = c in
     let a = c.args in
     text_past_16 a.area.now (λ i. (c.shared_slice_known-1.given i).fits) a.place a.scratch.now c.in-Unicode16.is (omega (arith, c.if-area-start.false)) c.if-area-start-2.true
 
 pub returns-then-area-start-3 : goal.returns-then-area-start-3
 returns-then-area-start-3 c =
-    let k = c in
     let a = c.args in
     text_past_8 a.area.now (λ i. (c.shared_slice_known-1.given i).fits) a.place a.scratch.now c.in-EightBit.is (omega (arith, c.if-area-start.false)) c.if-area-start-3.true
 
 pub returns-else-area-start-2 : goal.returns-else-area-start-2
 returns-else-area-start-2 c =
-    let w = c in
-    let e = c in
-    let k = c in
     let a = c.args in
     text_copied a.area.now (λ i. (c.shared_slice_known-1.given i).fits) a.place a.scratch.now (omega (arith, c.if-scratch-bytes.false)) c.copy.new.dst
     c.in-Unicode16.is (omega (arith, c.if-area-start.false, c.if-area-start-2.false)) c.copy.ensures
 
 pub returns-else-area-start-3 : goal.returns-else-area-start-3
 returns-else-area-start-3 c =
-    let w = c in
-    let e = c in
-    let k = c in
     let a = c.args in
     text_widened a.area.now (λ i. (c.shared_slice_known-1.given i).fits) a.place a.scratch.now (omega (arith, c.if-scratch-bytes.false)) c.widen_padded.new.dst
     c.in-EightBit.is (omega (arith, c.if-area-start.false, c.if-area-start-3.false)) c.widen_padded.ensures

@@ -6,19 +6,19 @@ use Rattle.plain_weigh.proofs.weighing.known_for.Goals as goal
 pub returns-in-Nothing : goal.returns-in-Nothing
 returns-in-Nothing c =
     let a = c.args in
-    for_as _ _ c.args a.deed _ _ c.in-Nothing.is (for_nothing _ _ c.args _ (unknown_is _ _ refl refl))
+    for_as _ _ c.args.before a.deed _ _ c.in-Nothing.is (for_nothing _ _ c.args.before _ (unknown_is _ _ refl refl))
 
 pub returns-in-Clears : goal.returns-in-Clears
 returns-in-Clears c =
     let a = c.args in
-    for_as _ _ c.args a.deed _ _ c.in-Clears.is (for_clears _ _ c.args _ _ (unknown_is _ _ refl refl))
+    for_as _ _ c.args.before a.deed _ _ c.in-Clears.is (for_clears _ _ c.args.before _ _ (unknown_is _ _ refl refl))
 
 pub returns-in-Puts : goal.returns-in-Puts
 returns-in-Puts c =
     let a = c.args in
-    for_as _ _ c.args a.deed _ c.look_both.result c.in-Puts.is (for_puts _ _ c.args _ _ c.look_both.result c.look_both.ensures)
+    for_as _ _ c.args.before a.deed _ c.look_both.result c.in-Puts.is (for_puts _ _ c.args.before _ _ c.look_both.result c.look_both.ensures)
 
 pub returns-in-Removes : goal.returns-in-Removes
 returns-in-Removes c =
     let a = c.args in
-    for_as _ _ c.args a.deed _ c.look_both-in-Removes.result c.in-Removes.is (for_removes _ _ c.args _ _ c.look_both-in-Removes.result c.look_both-in-Removes.ensures)
+    for_as _ _ c.args.before a.deed _ c.look_both-in-Removes.result c.in-Removes.is (for_removes _ _ c.args.before _ _ c.look_both-in-Removes.result c.look_both-in-Removes.ensures)

@@ -6,7 +6,7 @@ use borrow.Enum.Refused.{opened as is_one_of}
 use Rattle.plain_weigh.proofs.weights.room_of.Goals as goal
 
 pub returns-in-GroupContacts : goal.returns-in-GroupContacts
-returns-in-GroupContacts c = contacts_room c.args.kind (is_one_of c.in-GroupContacts.in-GroupContacts-own.keys1)
+returns-in-GroupContacts c = contacts_room c.args.kind c.in-GroupContacts.in-GroupContacts-own.keys1
 
 pub returns-in-Lines : goal.returns-in-Lines
 returns-in-Lines c = sym (ap (room_of handheld) c.in-Lines.is)

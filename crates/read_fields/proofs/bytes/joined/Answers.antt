@@ -8,17 +8,14 @@ loop-i-init c = (omega arith, omega arith, refl)
 
 pub overflow_mul-n : goal.overflow_mul-n
 overflow_mul-n c =
-    let l = c in
     omega (arith, be_64 {i = c.loop-i.i + 1} (be_room c.loop-i.n c.loop-i.i 0 c.loop-i.invariant.1 (omega arith)) (omega arith))
 
 pub overflow_add-n : goal.overflow_add-n
 overflow_add-n c =
-    let l = c in
     omega (arith, be_64 {i = c.loop-i.i + 1} (be_room c.loop-i.n c.loop-i.i c.long.result c.loop-i.invariant.1 c.long.ensures.1) (omega arith))
 
 pub loop-i-preserved : goal.loop-i-preserved
 loop-i-preserved c =
-    let l = c in
     let a = c.args in (
       omega arith,
       be_room c.loop-i.n c.loop-i.i c.long.result c.loop-i.invariant.1 c.long.ensures.1,
@@ -27,7 +24,6 @@ loop-i-preserved c =
 
 pub returns : goal.returns
 returns c =
-    let l = c in
     let a = c.args in
     let e : c.loop-i.i ≡ a.k = omega arith in
     c.loop-i.invariant.2 ∙ ap (λ j. be 0 (take j (drop a.at a.m.now))) e

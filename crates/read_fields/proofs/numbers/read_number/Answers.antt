@@ -8,7 +8,6 @@ loop-count-init c = no_digit_yet _ _
 
 pub returns-then-remaining-lt1 : goal.returns-then-remaining-lt1
 returns-then-remaining-lt1 c =
-    let l = c in
     no_digit _ _ _ _ (λ i. (c.shared_slice_known-1.given i).fits) c.loop-count.invariant (omega arith)
 
 pub overflow_add-count : goal.overflow_add-count
@@ -19,7 +18,6 @@ overflow_add-p c = omega arith
 
 pub returns-in-One : goal.returns-in-One
 returns-in-One c =
-    let l = c in
     let d = subst (DigitsAre c.number.result) c.in-One.is c.digits_in-here.ensures in
     one_digit_ends _ _ _ _ (λ i. (c.shared_slice_known-1.given i).fits) c.loop-count.invariant (omega arith) (c.number.ensures (omega arith, omega arith)) c.ended.result d.0 d.1 c.ended.ensures
 
@@ -28,13 +26,11 @@ overflow_add-p-in-Zero c = omega arith
 
 pub returns-in-Zero : goal.returns-in-Zero
 returns-in-Zero c =
-    let l = c in
     let d = subst (DigitsAre c.number.result) c.in-Zero.is c.digits_in-here.ensures in
     no_digit_ends _ _ _ _ (λ i. (c.shared_slice_known-1.given i).fits) c.loop-count.invariant (omega arith) (c.number.ensures (omega arith, omega arith)) c.ended-in-Zero.result d c.ended-in-Zero.ensures
 
 pub returns-in-Bad : goal.returns-in-Bad
 returns-in-Bad c =
-    let l = c in
     let d = subst (DigitsAre c.number.result) c.in-Bad.is c.digits_in-here.ensures in
     bad_digits _ _ _ _ (λ i. (c.shared_slice_known-1.given i).fits) c.loop-count.invariant (omega arith) (c.number.ensures (omega arith, omega arith)) d
 
@@ -49,9 +45,8 @@ loop-count-smaller c = omega arith
 
 pub loop-count-preserved : goal.loop-count-preserved
 loop-count-preserved c =
-    let l = c in
     let d = subst (DigitsAre c.number.result) c.in-Two.is c.digits_in-here.ensures in
     digits_passed _ _ _ _ (λ i. (c.shared_slice_known-1.given i).fits) c.loop-count.invariant (omega arith) (c.number.ensures (omega arith, omega arith)) d.0 d.1
 
 pub returns : goal.returns
-returns c = let l = c in too_many_digits _ _ _ _ (λ i. (c.shared_slice_known-1.given i).fits) c.loop-count.invariant (omega arith)
+returns c = too_many_digits _ _ _ _ (λ i. (c.shared_slice_known-1.given i).fits) c.loop-count.invariant (omega arith)

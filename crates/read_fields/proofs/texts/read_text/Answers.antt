@@ -7,7 +7,6 @@ loop-units-init c = no_unit_yet _ _ _
 
 pub returns-then-remaining-width : goal.returns-then-remaining-width
 returns-then-remaining-width c =
-    let l = c in
     λ us next k x. no_unit _ _ c.unit_bytes-width.ensures _ _ (λ i. (c.shared_slice_known-1.given i).fits) _ _ c.loop-units.invariant (omega arith) us next x
 
 pub overflow_add-result : goal.overflow_add-result
@@ -15,11 +14,10 @@ overflow_add-result c = omega arith
 
 pub returns-then-number-eq0 : goal.returns-then-number-eq0
 returns-then-number-eq0 c =
-    let l = c in
     text_ended _ _ c.unit_bytes-width.ensures _ _ (λ i. (c.shared_slice_known-1.given i).fits) _ _ c.loop-units.invariant (omega arith) (c.number.ensures (omega arith, omega arith)) _ c.if-number-eq0.true (omega arith)
 
 pub overflow_add-units : goal.overflow_add-units
-overflow_add-units c = let l = c in omega (arith, c.loop-units.invariant.place)
+overflow_add-units c = omega (arith, c.loop-units.invariant.place)
 
 pub overflow_add-p : goal.overflow_add-p
 overflow_add-p c = omega arith
@@ -29,8 +27,7 @@ loop-units-smaller c = omega arith
 
 pub loop-units-preserved : goal.loop-units-preserved
 loop-units-preserved c =
-    let l = c in
     unit_passed _ _ c.unit_bytes-width.ensures _ _ (λ i. (c.shared_slice_known-1.given i).fits) _ _ c.loop-units.invariant (omega arith) (c.number.ensures (omega arith, omega arith)) c.if-number-eq0.false
 
 pub returns : goal.returns
-returns c = let l = c in too_many _ _ c.unit_bytes-width.ensures _ _ (λ i. (c.shared_slice_known-1.given i).fits) _ _ c.loop-units.invariant _ (omega arith)
+returns c = too_many _ _ c.unit_bytes-width.ensures _ _ (λ i. (c.shared_slice_known-1.given i).fits) _ _ c.loop-units.invariant _ (omega arith)

@@ -45,5 +45,4 @@ returns-in-255 c = λ k is. by_row c.args.coding Last k c.args.row _ _ _ c.read_
 
 pub returns-in_default : goal.returns-in_default
 returns-in_default c =
-    let r = (λ u. omega arith) in
-    λ k is. absurd (one_of_thirteen r.0.0.0.0.0.0.0.0.0.0.0.0.1 r.0.0.0.0.0.0.0.0.0.0.0.1 r.0.0.0.0.0.0.0.0.0.0.1 r.0.0.0.0.0.0.0.0.0.1 r.0.0.0.0.0.0.0.0.1 r.0.0.0.0.0.0.0.1 r.0.0.0.0.0.0.1 r.0.0.0.0.0.1 r.0.0.0.0.1 r.0.0.0.1 r.0.0.1 r.0.1 r.1 k is.type)
+    λ k is. absurd (one_of_thirteen (λ u. omega arith) (λ u. omega arith) (λ u. omega arith) (λ u. omega arith) (λ u. omega arith) (λ u. omega arith) (λ u. omega arith) (λ u. omega arith) (λ u. omega arith) (λ u. omega arith) (λ u. omega arith) (λ u. omega arith) (λ u. omega arith) k is.type)

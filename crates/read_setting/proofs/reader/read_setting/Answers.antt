@@ -10,56 +10,48 @@ returns-in_default c =
 
 pub returns-then-remaining-lt3 : goal.returns-then-remaining-lt3
 returns-then-remaining-lt3 c =
-    let f = c in
     let a = c.args in
     let bytes : Bytes a.m.now = λ i. (c.shared_slice_known-1.given i).fits in
     too_short a.coding _ a.m.now a.at bytes c.in-Found.row c.bounds_of-found.ensures c.in-Found.is (omega arith) (omega arith)
 
 pub returns-then-stated-least : goal.returns-then-stated-least
 returns-then-stated-least c =
-    let f = c in
     let a = c.args in
     let bytes : Bytes a.m.now = λ i. (c.shared_slice_known-1.given i).fits in
     too_little a.coding _ a.m.now a.at bytes c.in-Found.row c.bounds_of-found.ensures c.in-Found.is (c.number-stated.ensures (omega arith, omega arith)) (omega arith) (omega arith)
 
 pub returns-then-most-stated : goal.returns-then-most-stated
 returns-then-most-stated c =
-    let f = c in
     let a = c.args in
     let bytes : Bytes a.m.now = λ i. (c.shared_slice_known-1.given i).fits in
     too_much a.coding _ a.m.now a.at bytes c.in-Found.row c.bounds_of-found.ensures c.in-Found.is (c.number-stated.ensures (omega arith, omega arith)) (omega arith) (omega arith)
 
 pub returns-in_default-fields : goal.returns-in_default-fields
 returns-in_default-fields c =
-    let f = c in
     let a = c.args in
     let bytes : Bytes a.m.now = λ i. (c.shared_slice_known-1.given i).fits in
     no_fields a.coding _ a.m.now a.at bytes c.in-Found.row c.bounds_of-found.ensures c.in-Found.is (c.number-stated.ensures (omega arith, omega arith)) (omega arith) c.read_body-fields.ensures c.in_default-fields.is
 
 pub overflow_sub-taken : goal.overflow_sub-taken
 overflow_sub-taken c =
-    let f = c in
     let a = c.args in
     let bytes : Bytes a.m.now = λ i. (c.shared_slice_known-1.given i).fits in
     omega (arith, behind a.coding _ a.m.now a.at bytes c.in-Found.row c.bounds_of-found.ensures c.in-Found.is (c.number-stated.ensures (omega arith, omega arith)) (omega arith) c.read_body-fields.ensures c.in-Body.setting c.in-Body.next c.in-Body.is)
 
 pub overflow_sub-taken-2 : goal.overflow_sub-taken-2
 overflow_sub-taken-2 c =
-    let f = c in
     let a = c.args in
     let bytes : Bytes a.m.now = λ i. (c.shared_slice_known-1.given i).fits in
     omega (arith, behind a.coding _ a.m.now a.at bytes c.in-Found.row c.bounds_of-found.ensures c.in-Found.is (c.number-stated.ensures (omega arith, omega arith)) (omega arith) c.read_body-fields.ensures c.in-Body.setting c.in-Body.next c.in-Body.is)
 
 pub returns-then-stated-taken : goal.returns-then-stated-taken
 returns-then-stated-taken c =
-    let f = c in
     let a = c.args in
     let bytes : Bytes a.m.now = λ i. (c.shared_slice_known-1.given i).fits in
     other_length a.coding _ a.m.now a.at bytes c.in-Found.row c.bounds_of-found.ensures c.in-Found.is (c.number-stated.ensures (omega arith, omega arith)) (omega arith) c.read_body-fields.ensures c.in-Body.setting c.in-Body.next c.in-Body.is (omega arith)
 
 pub returns : goal.returns
 returns c =
-    let f = c in
     let a = c.args in
     let bytes : Bytes a.m.now = λ i. (c.shared_slice_known-1.given i).fits in
     the_setting a.coding _ a.m.now a.at bytes c.in-Found.row c.bounds_of-found.ensures c.in-Found.is (c.number-stated.ensures (omega arith, omega arith)) (omega arith) c.read_body-fields.ensures c.in-Body.setting c.in-Body.next c.in-Body.is (omega arith)

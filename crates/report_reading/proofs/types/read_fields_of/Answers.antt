@@ -36,5 +36,4 @@ returns-in-191 c = of_type _ _ Hash c.in-191.is c.read_hashes.result c.read_hash
 
 pub returns-in_default : goal.returns-in_default
 returns-in_default c =
-    let n = (λ u. omega arith) in
-    no_such_type _ _ (none_of n.0.0.0.0.0.0.0.0.0.1 n.0.0.0.0.0.0.0.0.1 n.0.0.0.0.0.0.0.1 n.0.0.0.0.0.0.1 n.0.0.0.0.0.1 n.0.0.0.0.1 n.0.0.0.1 n.0.0.1 n.0.1 n.1)
+    no_such_type _ _ (none_of (λ u. omega arith) (λ u. omega arith) (λ u. omega arith) (λ u. omega arith) (λ u. omega arith) (λ u. omega arith) (λ u. omega arith) (λ u. omega arith) (λ u. omega arith) (λ u. omega arith))

@@ -4,6 +4,7 @@ use Rattle.reporting.proofs.PlanTurns.{walked_as}
 use Rattle.reporting.proofs.PlanTurns.{WalkedTo, walked_start, walked_empty, walked_item, walked_end}
 use Rattle.reporting.proofs.TableLaws.{few_places}
 use Rattle.reporting.proofs.plan.plan_table.Goals as goal
+use Rattle.reporting.proofs.plan.plan_table.Goals.{then-size-ne0, else-size-ne0}
 
 pub loop-place-init : goal.loop-place-init
 loop-place-init c =
@@ -33,10 +34,9 @@ loop-place-preserved c =
     let l = c.loop-place in
     let s = c.place_size-size in
     let n : l.place < slot_count a.limits a.asked = omega (arith, c.places_of-places.ensures) in
-    ⊎_elim
-    (λ x. (omega arith, omega (arith, x.3), walked_as a.limits a.asked a.work.now a.ask a.room a.j a.walk x.2 x.3 (walked_item a.limits a.asked a.work.now a.ask a.room a.j a.walk l.place l.rank s.result l.w n l.invariant.2 s.ensures x.1.result x.0.taken l.invariant.1 x.1.ensures)))
-    (λ x. (omega arith, omega (arith, x.2), walked_as a.limits a.asked a.work.now a.ask a.room a.j a.walk x.1 x.2 (walked_empty a.limits a.asked a.work.now a.ask a.room a.j a.walk l.place l.rank s.result l.w n l.invariant.2 s.ensures x.0.left)))
-    c.if-size-ne0.branch
+    elim c.if-size-ne0.branch
+    [ then-size-ne0 x ↦ (omega arith, omega (arith, x.rank-is), walked_as a.limits a.asked a.work.now a.ask a.room a.j a.walk x.w-is x.rank-is (walked_item a.limits a.asked a.work.now a.ask a.room a.j a.walk l.place l.rank s.result l.w n l.invariant.2 s.ensures x.step-w.result x.if-size-ne0.true l.invariant.1 x.step-w.ensures))
+    | else-size-ne0 x ↦ (omega arith, omega (arith, x.rank-is), walked_as a.limits a.asked a.work.now a.ask a.room a.j a.walk x.w-is x.rank-is (walked_empty a.limits a.asked a.work.now a.ask a.room a.j a.walk l.place l.rank s.result l.w n l.invariant.2 s.ensures x.if-size-ne0.false)) ]
 
 pub returns : goal.returns
 returns c =

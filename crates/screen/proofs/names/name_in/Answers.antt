@@ -18,7 +18,6 @@ row_here c = record {
 
 pub returns-in_default : goal.returns-in_default
 returns-in_default c =
-    let s = c in
     let k = c.slot_of in
     named_beyond c.args.limits c.args.store.now c.args.row k.result k.ensures c.in_default.is
 

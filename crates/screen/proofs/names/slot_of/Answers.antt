@@ -21,12 +21,10 @@ overflow_add-run-2 c =
 pub slot_in-requires : goal.slot_in-requires
 slot_in-requires c =
     let run = c.table_run-run in
-    let s = c in
     run_near c.args.limits.texts run.result (run.ensures (omega arith) (c.requires.few_channels, c.requires.few_lines)).1 c.by_form-base.ensures c.by_form-width.ensures
 
 pub returns : goal.returns
 returns c =
-    let s = c in
     let a = c.args in
     let spot = c.spot_of-spot in
     let run = c.table_run-run in

@@ -25,12 +25,10 @@ shared_text-requires c =
 
 pub returns-in-Placed : goal.returns-in-Placed
 returns-in-Placed c =
-    let s = c in
     let a = c.args in
     text_placed a.limits a.store.now c.requires.0 a.row a.slot c.requires.1 c.used-bytes.result c.in-Placed.is c.used-bytes.ensures
 
 pub returns-in-Shared : goal.returns-in-Shared
 returns-in-Shared c =
-    let s = c in
     let a = c.args in
     text_shared a.limits a.store.now c.requires.0 a.row a.slot c.requires.1 c.spot_of.result c.spot_of.ensures c.shared_text.result c.shared_text.ensures _ c.in-Shared.is

@@ -26,7 +26,6 @@ returns-then-digit-eq0 c =
 
 pub put_digit-requires : goal.put_digit-requires
 put_digit-requires c =
-    let s = c in
     let l = c.loop-i in
     let p = c.requires.1 in (
       omega arith,

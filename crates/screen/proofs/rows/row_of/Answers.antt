@@ -29,5 +29,4 @@ returns-in-8 c = named_as c.args.table 8 c.args.place (omega arith)
 
 pub returns-in_default : goal.returns-in_default
 returns-in_default c =
-    let r = (λ u. omega arith) in
-    named_none c.args.table c.args.place r.0.0.0.0.0.0.0.1 r.0.0.0.0.0.0.1 r.0.0.0.0.0.1 r.0.0.0.0.1 r.0.0.0.1 r.0.0.1 r.0.1 r.1
+    named_none c.args.table c.args.place (λ u. omega arith) (λ u. omega arith) (λ u. omega arith) (λ u. omega arith) (λ u. omega arith) (λ u. omega arith) (λ u. omega arith) (λ u. omega arith)

@@ -4,18 +4,16 @@ use Rattle.screen.proofs.show.pick.Goals as goal
 
 pub overflow_add-end : goal.overflow_add-end
 overflow_add-end c =
-    let s = c in
     let f = fits_as c.args.store.now c.args.scratch.now c.in-Store.is c.requires in
     omega arith
 
 pub slice_bounds-result-end : goal.slice_bounds-result-end
 slice_bounds-result-end c =
-    let s = c in
     let f = fits_as c.args.store.now c.args.scratch.now c.in-Store.is c.requires in
     omega arith
 
 pub slice_bounds-result-end-in-Scratch : goal.slice_bounds-result-end-in-Scratch
-slice_bounds-result-end-in-Scratch c = let s = c in fits_as c.args.store.now c.args.scratch.now c.in-Scratch.is c.requires
+slice_bounds-result-end-in-Scratch c = fits_as c.args.store.now c.args.scratch.now c.in-Scratch.is c.requires
 
 pub returns-in-Store : goal.returns-in-Store
 returns-in-Store c =

@@ -8,7 +8,6 @@ use Rattle.station.proofs.judge.judge_request.Goals as goal
 
 pub returns : goal.returns
 returns c =
-    let b = c in
     let a = c.args in
     let (s, _, l, i) = c.requires in
     let w = c.load_copy in

@@ -6,4 +6,4 @@ use Rattle.station.proofs.judge.turn_down.Goals as goal
 pub returns : goal.returns
 returns c =
     let a = c.args in
-    λ m message store. replied m message store a.reply.now a.result c.result_number.result a.failed true false no_hash store _ _ _ c.result_number.ensures no_hash_ok refl (c.write_reply-length.ensures (omega arith))
+    λ m message store. replied m message store a.reply.now a.res c.result_number.result a.failed true false no_hash store _ _ _ c.result_number.ensures no_hash_ok refl (c.write_reply-length.ensures (omega arith))

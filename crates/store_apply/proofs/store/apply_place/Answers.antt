@@ -2,7 +2,6 @@ use borrow.Author.Rules.{rules}
 use mathlib.Core.Bool.{true}
 use Rattle.settings.specs.declared.settings.Setting.TheVariants.{Key, QuickTexts, Home, System, StatusTexts, Group, Individual, LineSlot, Last}
 use Rattle.store_apply.proofs.StoreLaws.{as_read, store_key, store_home, store_system, store_hash, store_quick, store_status, store_group, store_individual, store_line_slot, no_place}
-use borrow.Enum.Refused.{opened as is_one_of}
 use Rattle.store_apply.proofs.store.apply_place.Goals as goal
 
 pub returns-in-Key : goal.returns-in-Key
@@ -60,4 +59,4 @@ returns-in-Last c =
     λ l. as_read l a.m.now a.store.now _ true a.setting (Last c.in-Last.field-0 c.in-Last.hash) c.in-Last.is (store_hash l a.m.now a.store.now y.new.region c.in-Last.field-0 c.in-Last.hash y.ensures)
 
 pub returns-in_default : goal.returns-in_default
-returns-in_default c = let a = c.args in absurd (no_place a.setting (is_one_of c.in_default.in_default-own.keys10) c.requires.1)
+returns-in_default c = let a = c.args in absurd (no_place a.setting c.in_default.in_default-own.keys10 c.requires.1)

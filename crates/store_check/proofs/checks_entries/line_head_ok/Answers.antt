@@ -6,22 +6,18 @@ use Rattle.store_check.proofs.checks_entries.line_head_ok.Goals as goal
 
 pub returns-then-s-gt15 : goal.returns-then-s-gt15
 returns-then-s-gt15 c =
-    let b = c in
     refused (λ x. omega (arith, ((line_is Shared c.args.s.now (omega (arith, c.requires))).1 x).0))
 
 pub returns-then-s-gt1 : goal.returns-then-s-gt1
 returns-then-s-gt1 c =
-    let b = c in
     refused (λ x. omega (arith, ((line_is Shared c.args.s.now (omega (arith, c.requires))).1 x).1.0))
 
 pub returns-then-not-digits_ok : goal.returns-then-not-digits_ok
 returns-then-not-digits_ok c =
-    let b = c in
     refused (λ x. not_said c.digits_ok.result c.digits_ok.ensures c.if-not-digits_ok.true-raw ((line_is Shared c.args.s.now (omega (arith, c.requires))).1 x).1.1.0)
 
 pub returns : goal.returns
 returns c =
-    let a = c in
     let t = line_is Shared c.args.s.now (omega (arith, c.requires)) in
     let d = was_said c.digits_ok.result c.digits_ok.ensures c.if-not-digits_ok.false-raw in
     turned c.text_ok.result c.text_ok.ensures (λ x. t.0 (omega arith, (omega arith, (d, x)))) (λ x. (t.1 x).1.1.1)

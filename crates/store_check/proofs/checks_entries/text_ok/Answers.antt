@@ -7,17 +7,14 @@ use Rattle.store_check.proofs.checks_entries.text_ok.Goals as goal
 
 pub bounds-s-0 : goal.bounds-s-0
 bounds-s-0 c =
-    let b = c in
     omega (arith, c.requires, ap (λ (f : Form). text_width f c.args.most) c.in-Shared.is)
 
 pub returns-in-Placed : goal.returns-in-Placed
 returns-in-Placed c =
-    let b = c in
     let e = c.in-Placed.is in
     text_told c.units_ok.result c.args.most c.args.s.now c.args.form Placed e (c.units_ok.ensures c.args.most (c.requires ∙ ap (λ (f : Form). text_width f c.args.most) e))
 
 pub returns-in-Shared : goal.returns-in-Shared
 returns-in-Shared c =
-    let b = c in
     let e = c.in-Shared.is in
     text_told _ c.args.most c.args.s.now c.args.form Shared e (units_is c.args.most c.args.s.now (c.requires ∙ ap (λ (f : Form). text_width f c.args.most) e))

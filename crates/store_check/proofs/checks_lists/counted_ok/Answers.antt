@@ -6,13 +6,11 @@ use Rattle.store_check.proofs.checks_lists.counted_ok.Goals as goal
 
 pub returns-then-not-places_ok : goal.returns-then-not-places_ok
 returns-then-not-places_ok c =
-    let b = c in
     let p = c.places_ok in
     λ n l. refused (no_places c.args.form c.args.t n c.args.s.now c.requires p.result (p.ensures n (omega arith)) c.if-not-places_ok.true-raw)
 
 pub returns-then-not-is_clear : goal.returns-then-not-is_clear
 returns-then-not-is_clear c =
-    let b = c in
     let p = c.places_ok in
     let w = c.width-w in
     let u = c.used-end in
@@ -24,7 +22,6 @@ nonzero_div-end c = omega (arith, wide_in c.args.form c.args.t, c.width-w.ensure
 
 pub returns : goal.returns
 returns c =
-    let b = c in
     let p = c.places_ok in
     let w = c.width-w in
     let u = c.used-end in

@@ -8,6 +8,5 @@ returns-then-seen-eq0 c = λ xs p e n. granted (n c.if-seen-eq0.true)
 
 pub returns : goal.returns
 returns c =
-    let b = c in
     let a = c.args in
     λ xs p e n. key_none a.w a.o a.k c.requires.0 c.requires.1 a.key.now c.requires.2 xs p a.s.now e c.place_of.result c.place_of.ensures

@@ -6,12 +6,10 @@ use Rattle.store_check.proofs.checks_lists.keys_distinct.Goals as goal
 
 pub loop-at-init : goal.loop-at-init
 loop-at-init c =
-    let b = c in
     (omega arith, c.used-end.ensures.within, refl, λ n xs t. distinct_start c.args.w c.args.o c.args.k c.requires.0 c.requires.2 n xs c.args.s.now t c.used-end.result c.used-end.ensures _)
 
 pub returns-then-not-key_new : goal.returns-then-not-key_new
 returns-then-not-key_new c =
-    let b = c in
     let u = c.used-end in
     let l = c.loop-at in
     let m = c.mark-m in
@@ -20,7 +18,6 @@ returns-then-not-key_new c =
 
 pub loop-at-preserved : goal.loop-at-preserved
 loop-at-preserved c =
-    let b = c in
     let u = c.used-end in
     let l = c.loop-at in
     let m = c.mark-m in
@@ -33,6 +30,5 @@ loop-at-preserved c =
 
 pub returns : goal.returns
 returns c =
-    let b = c in
     let l = c.loop-at in
     λ n xs t. granted (distinct_end c.args.w c.args.o c.args.k c.requires.0 c.requires.2 n xs c.args.s.now t l.at l.seen (l.invariant.3 n xs t) (omega arith))

@@ -8,13 +8,11 @@ use Rattle.store_check.proofs.checks_lists.lines_ok.Goals as goal
 
 pub returns-then-not-counted_ok : goal.returns-then-not-counted_ok
 returns-then-not-counted_ok c =
-    let b = c in
     let t = c.counted_ok in
     refused (λ x. not_said t.result (t.ensures c.args.n (omega arith)) c.if-not-counted_ok.true-raw (lines_counted c.args.form c.args.n c.args.s.now c.requires.0 c.requires.1 x))
 
 pub returns-in-Placed : goal.returns-in-Placed
 returns-in-Placed c =
-    let b = c in
     let t = c.counted_ok in
     let h = c.count-held in
     let e = sym (ap (λ (f : Form). width_in f Lines) c.in-Placed.is) in
@@ -23,7 +21,6 @@ returns-in-Placed c =
 
 pub returns-in-Shared : goal.returns-in-Shared
 returns-in-Shared c =
-    let b = c in
     let t = c.counted_ok in
     let h = c.count-held in
     let e = sym (ap (λ (f : Form). width_in f Lines) c.in-Shared.is) in

@@ -7,14 +7,12 @@ use Rattle.store_check.proofs.checks_regions.contact_lists_ok.Goals as goal
 
 pub returns-then-not-contacts_ok : goal.returns-then-not-contacts_ok
 returns-then-not-contacts_ok c =
-    let b = c in
     let w = c.starts_of-at in
     let t = c.contacts_ok in
     refused (λ x. not_said t.result (contacts_told c.args.form OfGroups c.args.store.now _ _ (group_contacts_start c.args.form) w.ensures.group_contacts w.ensures.individual_contacts (omega (arith, c.requires, w.ensures.individual_contacts)) t.result t.ensures) c.if-not-contacts_ok.true-raw x.0)
 
 pub returns : goal.returns
 returns c =
-    let b = c in
     let f = c.args.form in
     let w = c.starts_of-at in
     let t = c.contacts_ok in

@@ -5,35 +5,30 @@ use Rattle.store_check.proofs.checks_regions.indexed_ok.Goals as goal
 
 pub returns-then-not-places_ok : goal.returns-then-not-places_ok
 returns-then-not-places_ok c =
-    let b = c in
     let w = c.starts_of-at in
     let t = c.places_ok in
     refused (λ x. not_said t.result (quick_told c.args.form c.args.store.now w.result w.ensures c.requires t.result t.ensures) c.if-not-places_ok.true-raw x.0)
 
 pub returns-then-not-places_ok-2 : goal.returns-then-not-places_ok-2
 returns-then-not-places_ok-2 c =
-    let b = c in
     let w = c.starts_of-at in
     let t = c.places_ok-2 in
     refused (λ x. not_said t.result (status_told c.args.form c.args.store.now w.result w.ensures c.requires t.result t.ensures) c.if-not-places_ok-2.true-raw x.1.0)
 
 pub returns-then-not-places_ok-3 : goal.returns-then-not-places_ok-3
 returns-then-not-places_ok-3 c =
-    let b = c in
     let w = c.starts_of-at in
     let t = c.places_ok-3 in
     refused (λ x. not_said t.result (groups_told c.args.form c.args.store.now w.result w.ensures c.requires t.result t.ensures) c.if-not-places_ok-3.true-raw x.1.1.0)
 
 pub returns-then-not-places_ok-4 : goal.returns-then-not-places_ok-4
 returns-then-not-places_ok-4 c =
-    let b = c in
     let w = c.starts_of-at in
     let t = c.places_ok-4 in
     refused (λ x. not_said t.result (individuals_told c.args.form c.args.store.now w.result w.ensures c.requires t.result t.ensures) c.if-not-places_ok-4.true-raw x.1.1.1.0)
 
 pub returns : goal.returns
 returns c =
-    let b = c in
     let f = c.args.form in
     let s = c.args.store.now in
     let w = c.starts_of-at in

@@ -20,7 +20,6 @@ returns-then-not-contact_lists_ok c =
 
 pub returns-then-not-channels_ok : goal.returns-then-not-channels_ok
 returns-then-not-channels_ok c =
-    let b = c in
     let a = c.args in
     let w = c.starts_of-at.ensures in
     let t = c.channels_ok in
@@ -28,7 +27,6 @@ returns-then-not-channels_ok c =
 
 pub returns : goal.returns
 returns c =
-    let b = c in
     let a = c.args in
     let w = c.starts_of-at.ensures in
     let t = regions_are a.form a.limits a.store.now in

@@ -5,13 +5,11 @@ use Rattle.store_check.proofs.checks_shared.is_shared.Goals as goal
 
 pub returns-then-not-regions_ok : goal.returns-then-not-regions_ok
 returns-then-not-regions_ok c =
-    let b = c in
     let a = c.args in
     refused (λ x. not_said c.regions_ok.result c.regions_ok.ensures c.if-not-regions_ok.true-raw (heads_there a.limits a.area a.store.now c.requires.0 c.requires.1 (λ i. (c.shared_slice_known-1.given i).fits) x))
 
 pub returns-then-not-area_ok : goal.returns-then-not-area_ok
 returns-then-not-area_ok c =
-    let b = c in
     let a = c.args in
     let u = c.units_in-units in
     let e = c.regions_end-texts in
@@ -20,7 +18,6 @@ returns-then-not-area_ok c =
 
 pub returns : goal.returns
 returns c =
-    let b = c in
     let a = c.args in
     let u = c.units_in-units in
     let e = c.regions_end-texts in

@@ -6,10 +6,8 @@ use Rattle.store_check.proofs.checks_slots.line_slot.Goals as goal
 
 pub returns-then-s-eq0 : goal.returns-then-s-eq0
 returns-then-s-eq0 c =
-    let b = c in
     slot_empty Placed Lines c.args.s.now c.requires (λ x. line_mark Placed c.args.s.now (omega (arith, c.requires)) x c.if-s-eq0.true) c.is_clear.result c.is_clear.ensures
 
 pub returns : goal.returns
 returns c =
-    let b = c in
     slot_entry Placed Lines c.args.s.now (byte_shown c.args.s.now 2 c.if-s-eq0.false) c.line_ok.result c.line_ok.ensures

@@ -5,10 +5,8 @@ use Rattle.store_check.proofs.checks_slots.status_slot.Goals as goal
 
 pub returns-then-s-eq0 : goal.returns-then-s-eq0
 returns-then-s-eq0 c =
-    let b = c in
     slot_empty c.args.form StatusTexts c.args.s.now c.requires (λ x. omega (arith, status_mark c.args.form c.args.s.now (omega (arith, c.requires)) x, c.if-s-eq0.true)) c.is_clear.result c.is_clear.ensures
 
 pub returns : goal.returns
 returns c =
-    let b = c in
     slot_entry c.args.form StatusTexts c.args.s.now (byte_shown c.args.s.now 0 c.if-s-eq0.false) c.status_ok.result c.status_ok.ensures

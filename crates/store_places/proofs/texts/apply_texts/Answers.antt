@@ -18,7 +18,6 @@ loop-left-preserved c =
     let a = c.args in
     let l = c.loop-left in
     let z = c.empty_to_replace in
-    let h = c.here-1 in
     let y = c.apply_entry in
     (omega (arith, l.invariant.0), texts_next a.table a.m.now a.operation z.new.part a.entries l.p l.left l.region l.invariant.1 c.in-Entry.place c.in-Entry.next y.new.region (omega arith) c.read_entry-here.ensures c.in-Entry.is y.ensures)
 

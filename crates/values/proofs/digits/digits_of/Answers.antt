@@ -6,12 +6,10 @@ use Rattle.values.proofs.digits.digits_of.Goals as goal
 
 pub slice_bounds-write_kept-end : goal.slice_bounds-write_kept-end
 slice_bounds-write_kept-end c =
-    let s = c in
     kind_wide c.args.row 1 (length c.args.slot.now) (line_kind c.args.row (is_one_of c.in-Line.in-Line-own.keys1)) c.requires.0
 
 pub write_kept-requires : goal.write_kept-requires
 write_kept-requires c =
-    let s = c in
     let h = kind_wide c.args.row 1 (length c.args.slot.now) (line_kind c.args.row (is_one_of c.in-Line.in-Line-own.keys1)) c.requires.0 in
     (omega (arith, mid_len 2 20 c.args.slot.now h), c.requires.1)
 

@@ -8,7 +8,7 @@ slot-here : (c : tie.After-slot) → Here c.args.limits c.args.store.now c.args.
 slot-here c = here c.requires (c.row_slot.ensures c.requires.roomy) c.in-At.is
 
 pub returns-in_default : goal.returns-in_default
-returns-in_default c = let s = c in filled_beyond c.args.limits c.args.store.now c.args.row c.row_slot.result (c.row_slot.ensures c.requires.roomy) c.in_default.is
+returns-in_default c = filled_beyond c.args.limits c.args.store.now c.args.row c.row_slot.result (c.row_slot.ensures c.requires.roomy) c.in_default.is
 
 pub slice_bounds-is_zeros-count : goal.slice_bounds-is_zeros-count
 slice_bounds-is_zeros-count c = let f = found_fits (slot-here c) in omega (arith, f.text_in, f.ends, f.inside)

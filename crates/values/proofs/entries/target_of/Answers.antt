@@ -4,13 +4,13 @@ use borrow.Enum.Refused.{opened as is_one_of}
 use Rattle.values.proofs.entries.target_of.Goals as goal
 
 pub line_at-requires : goal.line_at-requires
-line_at-requires c = let s = c in kind_wide c.args.row 1 (length c.args.slot.now) (line_kind c.args.row (is_one_of c.in-Line.in-Line-own.keys1)) c.requires
+line_at-requires c = kind_wide c.args.row 1 (length c.args.slot.now) (line_kind c.args.row (is_one_of c.in-Line.in-Line-own.keys1)) c.requires
 
 pub group_at-requires : goal.group_at-requires
-group_at-requires c = let s = c in kind_wide c.args.row 2 (length c.args.slot.now) (group_kind c.args.row (is_one_of c.in-Group.in-Group-own.keys2)) c.requires
+group_at-requires c = kind_wide c.args.row 2 (length c.args.slot.now) (group_kind c.args.row (is_one_of c.in-Group.in-Group-own.keys2)) c.requires
 
 pub individual_at-requires : goal.individual_at-requires
-individual_at-requires c = let s = c in kind_wide c.args.row 3 (length c.args.slot.now) (individual_kind c.args.row (is_one_of c.in-Individual.in-Individual-own.keys3)) c.requires
+individual_at-requires c = kind_wide c.args.row 3 (length c.args.slot.now) (individual_kind c.args.row (is_one_of c.in-Individual.in-Individual-own.keys3)) c.requires
 
 pub returns-in-Line : goal.returns-in-Line
 returns-in-Line c = line_read c.args.row c.args.slot.now c.line_at.result (line_kind c.args.row (is_one_of c.in-Line.in-Line-own.keys1)) c.line_at.ensures

@@ -4,14 +4,12 @@ use Rattle.values.proofs.tuning.tuned.Goals as goal
 
 pub returns-then-count-position : goal.returns-then-count-position
 returns-then-count-position c =
-    let s = c in
     let from = c.channels_at-channels in
     let to = c.lines_at-lines in
     channel_absent c.args.limits c.args.store.now c.requires from.result to.result from.ensures.0 (to.ensures.2 c.requires.roomy.few_channels).1 c.count.result c.count.ensures c.args.position c.if-count-position.true
 
 pub slice_bounds-pair_of-end : goal.slice_bounds-pair_of-end
 slice_bounds-pair_of-end c =
-    let s = c in
     let from = c.channels_at-channels in
     let to = c.lines_at-lines in
     let w = channel_within c.args.limits c.args.store.now c.requires from.result to.result from.ensures.0 (to.ensures.2 c.requires.roomy.few_channels).1 c.count.result c.count.ensures c.args.position c.if-count-position.false in
@@ -19,7 +17,6 @@ slice_bounds-pair_of-end c =
 
 pub returns : goal.returns
 returns c =
-    let s = c in
     let from = c.channels_at-channels in
     let to = c.lines_at-lines in
     let count = c.count in

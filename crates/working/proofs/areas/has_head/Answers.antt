@@ -21,7 +21,6 @@ run_of-run-requires c = let h = was_said c.countable.result c.countable.ensures 
 pub returns : goal.returns
 returns c =
     let r = c.run_of-run in
-    let z = c in
     let n = c.args.n in
     let h = was_said c.countable.result c.countable.ensures c.if-not-countable.false-raw in (
       λ e. record { few_channels = h.0; few_lines = h.1; heads = omega (arith, c.heads_size.ensures); table = omega arith; place = subst (λ (x : Run). n ≤ x.many) r.ensures.0 (leb-true _ _ e) },

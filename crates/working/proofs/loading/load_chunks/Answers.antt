@@ -4,7 +4,6 @@ use Rattle.working.proofs.loading.load_chunks.Goals as goal
 
 pub returns : goal.returns
 returns c = λ room h k.
-    let b = c in
     let a = c.args in
     let o = c.copy_run in
     let t = c.move_chunk in

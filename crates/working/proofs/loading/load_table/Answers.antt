@@ -13,7 +13,6 @@ bounds-heads-last c = load_head c.loop-i.invariant (omega arith) c.requires.0
 
 pub load_slot-requires : goal.load_slot-requires
 load_slot-requires c =
-    let b = c in
     load_asks c.loop-i.invariant c.wide-bytes.result (omega arith) c.requires.0 c.requires.2 c.wide-bytes.ensures.0
 
 pub overflow_add-place : goal.overflow_add-place

@@ -4,7 +4,6 @@ use Rattle.working.proofs.loading.load_widths.Goals as goal
 
 pub load_table-requires-then-own-eq-STATUS_TEXT : goal.load_table-requires-then-own-eq-STATUS_TEXT
 load_table-requires-then-own-eq-STATUS_TEXT c =
-    let b = c in
     let a = c.args in
     widths_ask a.slots.now a.heads.now a.area.now a.n a.from {own = a.own} {room = a.room} {o = 1} {r = 32} (omega arith) (omega arith) c.requires
 
@@ -16,7 +15,6 @@ returns-then-own-eq-STATUS_TEXT c =
 
 pub load_table-requires-then-own-eq-MEMBER_TEXT : goal.load_table-requires-then-own-eq-MEMBER_TEXT
 load_table-requires-then-own-eq-MEMBER_TEXT c =
-    let b = c in
     let a = c.args in
     widths_ask a.slots.now a.heads.now a.area.now a.n a.from {own = a.own} {room = a.room} {o = 4} {r = 32} (omega arith) (omega arith) c.requires
 
@@ -28,7 +26,6 @@ returns-then-own-eq-MEMBER_TEXT c =
 
 pub load_table-requires-then-own-eq-LINE_TEXT : goal.load_table-requires-then-own-eq-LINE_TEXT
 load_table-requires-then-own-eq-LINE_TEXT c =
-    let b = c in
     let a = c.args in
     widths_ask a.slots.now a.heads.now a.area.now a.n a.from {own = a.own} {room = a.room} {o = 20} {r = 32} (omega arith) (omega arith) c.requires
 
@@ -40,7 +37,6 @@ returns-then-own-eq-LINE_TEXT c =
 
 pub load_table-requires-2 : goal.load_table-requires-2
 load_table-requires-2 c =
-    let b = c in
     let a = c.args in
     widths_ask a.slots.now a.heads.now a.area.now a.n a.from {own = a.own} {room = a.room} {o = a.own} {r = 32} (omega arith) (omega arith) c.requires
 

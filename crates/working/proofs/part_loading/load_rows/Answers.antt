@@ -5,7 +5,6 @@ use Rattle.working.proofs.part_loading.load_rows.Goals as goal
 
 pub returns-then-area-place : goal.returns-then-area-place
 returns-then-area-place c =
-    let s = c in
     let a = c.args in
     let r = c.run_of-run in
     let n = c.units_before-place in
@@ -15,7 +14,6 @@ returns-then-area-place c =
 
 pub load_run-requires : goal.load_run-requires
 load_run-requires c =
-    let s = c in
     let a = c.args in
     let r = c.run_of-run in
     let n = c.units_before-place in
@@ -26,7 +24,6 @@ load_run-requires c =
 
 pub returns : goal.returns
 returns c =
-    let s = c in
     let a = c.args in
     let r = c.run_of-run in
     let n = c.units_before-place in

@@ -3,25 +3,22 @@ use Rattle.working.proofs.PartLoadTables.{stands_as, table_loaded, no_table}
 use Rattle.working.proofs.part_loading.load_table_part.Goals as goal
 
 pub returns-then-k-ge-TEXT_TABLES : goal.returns-then-k-ge-TEXT_TABLES
-returns-then-k-ge-TEXT_TABLES c = let s = c in no_table c.args.limits c.args.area c.args.store.now c.args.k c.args.work.now (omega arith)
+returns-then-k-ge-TEXT_TABLES c = no_table c.args.limits c.args.area c.args.store.now c.args.k c.args.work.now (omega arith)
 
 pub overflow_sub-run : goal.overflow_sub-run
 overflow_sub-run c =
-    let s = c in
     let r = c.run_of-run in
     let n = c.count_of-count in
     (stands_as c.args.limits c.args.k (omega arith) r.result n.result _ r.ensures.0 n.ensures refl).slots_count
 
 pub overflow_sub-run-2 : goal.overflow_sub-run-2
 overflow_sub-run-2 c =
-    let s = c in
     let r = c.run_of-run in
     let n = c.count_of-count in
     (stands_as c.args.limits c.args.k (omega arith) r.result n.result _ r.ensures.0 n.ensures refl).heads_count
 
 pub copy_run-requires : goal.copy_run-requires
 copy_run-requires c =
-    let s = c in
     let r = c.run_of-run in
     let n = c.count_of-count in
     let f = stands_as c.args.limits c.args.k (omega arith) r.result n.result _ r.ensures.0 n.ensures refl in
@@ -29,7 +26,6 @@ copy_run-requires c =
 
 pub copy_run-requires-2 : goal.copy_run-requires-2
 copy_run-requires-2 c =
-    let s = c in
     let r = c.run_of-run in
     let n = c.count_of-count in
     let f = stands_as c.args.limits c.args.k (omega (arith, c.if-k-ge-TEXT_TABLES.false)) r.result n.result c.order_of.result r.ensures.0 n.ensures c.order_of.ensures in
@@ -37,7 +33,6 @@ copy_run-requires-2 c =
 
 pub returns : goal.returns
 returns c =
-    let s = c in
     let r = c.run_of-run in
     let n = c.count_of-count in
     let o = c.order_of in

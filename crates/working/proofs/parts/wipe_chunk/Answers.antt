@@ -4,6 +4,5 @@ use Rattle.working.proofs.parts.wipe_chunk.Goals as goal
 
 pub returns : goal.returns
 returns c =
-    let b = c in
     let a = c.args in
     chunk_wiped a.dst.now c.wipe.new.s a.to c.requires c.wipe.ensures

@@ -7,7 +7,6 @@ save_area-requires c = let p = c.requires in (p.2, p.3)
 
 pub returns : goal.returns
 returns c = λ n.
-    let b = c in
     let a = c.args in
     let h = c.heads_size-start in
     all_saved a.limits a.area h.result a.work.now c.save_order.new.store h.ensures (omega arith) c.save_tables.new.store _ c.save_area.new.area c.wipe.new.s (omega arith)

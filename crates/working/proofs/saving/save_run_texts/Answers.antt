@@ -4,7 +4,6 @@ use Rattle.working.proofs.saving.save_run_texts.Goals as goal
 
 pub save_texts-requires : goal.save_texts-requires
 save_texts-requires c =
-    let b = c in
     let s = c.slots_end-end in
     (texts_ask c.args.run c.args.work.now s.result s.ensures c.requires.1, c.requires.2, c.requires.0.whole)
 
