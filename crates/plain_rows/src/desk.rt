@@ -1,6 +1,6 @@
 // A row of the desk emulator's screen: its number, the place of its text, and the part itself.
 ghost use Rattle.lists.specs.Ladder.{Answers};
-ghost use Rattle.screen.specs.Screen.{number, leaves};
+ghost use Rattle.screen.specs.Screen.{number, leaves, lent};
 ghost use Rattle.plain_rows.specs.PlainRows.{plain_numbering, plain_showing, PlainPart, PlainPlaced};
 ghost use Rattle.plain_rows.specs.Naming.{ScratchPicked};
 
@@ -53,7 +53,7 @@ fn pick(scratch: &[u8], place: Place) -> &[u8]
 
 // The part of the scratch that shows the row; empty where it is refused.
 pub fn row_part<'a>(area: &[u8], scratch: &'a mut [u8], row: Row) -> &'a [u8]
-    ensures { PlainPart area.now scratch.entry row result }
+    ensures { PlainPart area.now (lent scratch.entry) row result }
 {
     let place = row_place(area, scratch, row);
     pick(scratch, place)

@@ -15,7 +15,7 @@ use Rattle.reports.specs.Types.{asked_by}
 use Rattle.reports.proofs.Cursor.{collected, from_here, type_known, type_unknown, here_end, here_empty, here_item}
 use Rattle.reports.proofs.PlanLaws.{Planned, plan_start, plan_end}
 use Rattle.reports.proofs.Sizes.{item_length}
-use Rattle.reporting.specs.declared.plan.Walk.{Walk}
+use Rattle.reporting.specs.declared.planning.Walk.{Walk}
 use Rattle.reporting.specs.Plans.{from_type, from_types, items_from, Ranked, At, Steps, Walked, TableWalked, PlanIs}
 use Rattle.reporting.specs.Walks.{place_item, SizeIs}
 use Rattle.reporting.proofs.TableLaws.{in_places, slots_many, slots_same, slot_there, slot_ok, item_in}

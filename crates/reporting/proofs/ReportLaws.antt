@@ -21,7 +21,7 @@ use Rattle.reports.proofs.SplitLaws.{Fit}
 use Rattle.reporting.specs.declared.answers.NoReport.{NoReport}
 use Rattle.reporting.specs.declared.answers.NoReport.TheVariants.{Buffer, NotAStore, Size, Carrier, OtherType, Version, BadQuery, NoMessage}
 use Rattle.reporting.specs.declared.answers.Report.TheVariants.{Written, Untouched}
-use Rattle.reporting.specs.declared.plan.Walk.{Walk}
+use Rattle.reporting.specs.declared.planning.Walk.{Walk}
 use Rattle.reporting.specs.Asking.{RefusedAs}
 use Rattle.reporting.specs.Plans.{items_from, PlanIs}
 use Rattle.reporting.specs.Told.{told}

@@ -4,8 +4,8 @@ use Rattle.reports.specs.Cut.{fits?, item_size}
 use Rattle.reports.specs.Items.{Item}
 use Rattle.reports.proofs.PlanLaws.{Planned, takes_own, takes_other, opens_own, opens_other}
 use Rattle.reports.proofs.SplitLaws.{and_made}
-use Rattle.reporting.specs.declared.plan.Cursor.{Cursor}
-use Rattle.reporting.specs.declared.plan.Walk.{Walk}
+use Rattle.reporting.specs.declared.planning.Cursor.{Cursor}
+use Rattle.reporting.specs.declared.planning.Walk.{Walk}
 use Rattle.reporting.specs.Plans.{FitsIs, Steps}
 
 -- ---- whether it fits

@@ -11,8 +11,8 @@ use Rattle.reports.specs.Items.{Item, unknown}
 use Rattle.reports.specs.Types.{asked_by}
 use Rattle.reports.proofs.Cursor.{from_here}
 use Rattle.reports.proofs.PlanLaws.{Planned}
-use Rattle.reporting.specs.declared.plan.Cursor.{Cursor}
-use Rattle.reporting.specs.declared.plan.Walk.{Walk}
+use Rattle.reporting.specs.declared.planning.Cursor.{Cursor}
+use Rattle.reporting.specs.declared.planning.Walk.{Walk}
 
 -- ---- the parameters from a cursor on
 

@@ -11,7 +11,7 @@ use Rattle.reports.specs.Items.{Item, items_bytes}
 use Rattle.reports.specs.Reporting.{After, stays, TooMany, NoIndex, Reports}
 use Rattle.reports.specs.Types.{asked_by}
 use Rattle.reports.proofs.Cursor.{from_here}
-use Rattle.reporting.specs.declared.plan.Walk.{Walk}
+use Rattle.reporting.specs.declared.planning.Walk.{Walk}
 use Rattle.reporting.specs.declared.message.Spot.{Spot}
 use Rattle.reporting.specs.Plans.{from_type, items_from}
 

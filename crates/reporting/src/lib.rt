@@ -5,7 +5,7 @@ pub mod answers;
 mod asking;
 pub mod handheld;
 mod message;
-mod plan;
+mod planning;
 pub mod report;
 pub mod vehicle;
 mod walk;

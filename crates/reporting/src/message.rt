@@ -6,7 +6,7 @@ ghost use Rattle.reporting.specs.Plans.{Ranked};
 ghost use Rattle.reporting.specs.Written.{PlacePut, TablePut, TypePut, ItemsPut, Headed};
 
 use super::asking::{Asks, asked_by};
-use super::plan::Walk;
+use super::planning::Walk;
 use super::walk::{places_of, write_place};
 use export_write::fields::put_bytes;
 use read_carrier::carrier::{MFID, START, UNICODE16};

@@ -12,7 +12,7 @@ ghost use Rattle.reporting.specs.Written.{answering};
 use super::answers::{NoReport, Report};
 use super::asking::{Query, TYPES, read_query};
 use super::message::{FIRST, put_items, start_report};
-use super::plan::plan_report;
+use super::planning::plan_report;
 use store_check::checks::is_store;
 use tables::limits::Limits;
 use working::seen::seen;

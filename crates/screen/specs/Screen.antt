@@ -2,6 +2,7 @@
 use Rattle.std.specs.Prelude.{ℕ, ◌+◌, ◌*◌, ◌≡◌, List, [], ◌++◌, length, take, drop}
 use Rattle.std.proofs.Math.Option.{Option, none, some}
 use Rattle.std.specs.Borrow.{Bor}
+use denote.Ref.{MutBor}
 use Rattle.lists.specs.Ladder.{Ladder, Answers}
 use Rattle.tables.specs.declared.limits.Limits.{Limits}
 use Rattle.tables.specs.Store.{Holds}
@@ -84,10 +85,14 @@ abbrev pub RowBytes : Option Caption → List ℕ → Type 0
 RowBytes none bytes = bytes ≡ []
 RowBytes (some c) bytes = (d : Display) × Displays c d × (bytes ≡ unit_bytes (units d))
 
+-- a slice that a call may change, as it was lent: where it points, and its bytes
+abbrev pub lent : MutBor (List ℕ) → Bor (List ℕ)
+lent slice = record { ref_ptr = slice.ref_ptr; now = slice.now }
+
 -- where the part points: into its slice's block, so many bytes behind the slice's start
 abbrev pub points_to : RowPart → Bor (List ℕ) → Bor (List ℕ) → ℕ × ℕ
-points_to (of_store start bytes) store scratch = (store.ptr.0, store.ptr.1 + start)
-points_to (of_scratch bytes) store scratch = scratch.ptr
+points_to (of_store start bytes) store scratch = (store.ref_ptr.0, store.ref_ptr.1 + start)
+points_to (of_scratch bytes) store scratch = scratch.ref_ptr
 
 -- the call that gives the part: which part of which slice it is, and its bytes
 pub record PartGiven (lim : Limits) (store scratch : Bor (List ℕ)) (row : Row) (r : Bor (List ℕ)) : Type 0 where

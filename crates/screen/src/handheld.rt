@@ -1,7 +1,7 @@
 // The calls of the handheld's screen.
 ghost use Rattle.lists.specs.Ladder.{Answers};
 ghost use Rattle.tables.specs.Limits.{handheld};
-ghost use Rattle.screen.specs.Screen.{number, numbering, showing, leaves, PartGiven};
+ghost use Rattle.screen.specs.Screen.{number, numbering, showing, leaves, PartGiven, lent};
 
 use super::answers::{Answer, Place};
 use super::rows::Row;
@@ -17,7 +17,7 @@ pub fn row_number(store: &[u8], scratch: &[u8], row: Row) -> Answer
 
 // The part that shows the row: of the store, or of the scratch where its number was written; empty where it is refused.
 pub fn row_part<'a>(store: &'a [u8], scratch: &'a mut [u8], row: Row) -> &'a [u8]
-    ensures { PartGiven handheld store.entry scratch.entry row result }
+    ensures { PartGiven handheld store.entry (lent scratch.entry) row result }
 {
     part_in(store, scratch, row, HANDHELD)
 }

@@ -1,7 +1,7 @@
 // A row of the screen: its number, the place of its text, and the part itself.
 ghost use Rattle.lists.specs.Ladder.{Answers};
 ghost use Rattle.screen.specs.Steps.{Placed, PlaceFits, Picked};
-ghost use Rattle.screen.specs.Screen.{number, numbering, PartGiven};
+ghost use Rattle.screen.specs.Screen.{number, numbering, PartGiven, lent};
 
 use super::answers::{Answer, Place};
 use super::names::{Name, name_of};
@@ -57,7 +57,7 @@ fn pick<'a>(store: &'a [u8], scratch: &'a [u8], place: Place) -> &'a [u8]
 
 // The part of one of the two slices that shows the row.
 pub fn part_in<'a>(store: &'a [u8], scratch: &'a mut [u8], row: Row, limits: Limits) -> &'a [u8]
-    ensures { PartGiven limits store.entry scratch.entry row result }
+    ensures { PartGiven limits store.entry (lent scratch.entry) row result }
 {
     let place = place_in(store, scratch, row, limits);
     pick(store, scratch, place)

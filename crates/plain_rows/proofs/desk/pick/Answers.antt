@@ -8,7 +8,7 @@ pub returns-in_default : goal.returns-in_default
 returns-in_default c =
     let a = c.args in
     record {
-      ptr = ap (λ (i : ℕ). (a.scratch.ptr.0, i)) (zero-add a.scratch.ptr.1);
+      ptr = ap (λ (i : ℕ). (a.scratch.ref_ptr.0, i)) (zero-add a.scratch.ref_ptr.1);
       bytes = λ h. ap (λ (n : ℕ). take n a.scratch.now) (sym (no_bytes a.place (is_one_of c.in_default.in_default-own.keys2)));
     }
 
@@ -16,7 +16,7 @@ pub returns-then-scratch-bytes : goal.returns-then-scratch-bytes
 returns-then-scratch-bytes c =
     let a = c.args in
     record {
-      ptr = ap (λ (i : ℕ). (a.scratch.ptr.0, i)) (zero-add a.scratch.ptr.1);
+      ptr = ap (λ (i : ℕ). (a.scratch.ref_ptr.0, i)) (zero-add a.scratch.ref_ptr.1);
       bytes = λ h. absurd (omega (arith, ap bytes_in c.in-Scratch.is, c.if-scratch-bytes.true));
     }
 
@@ -25,6 +25,6 @@ returns c =
     let a = c.args in
     let e : c.in-Scratch.bytes - 0 ≡ bytes_in a.place = omega (arith, ap bytes_in c.in-Scratch.is) in
     record {
-      ptr = ap (λ (i : ℕ). (a.scratch.ptr.0, i)) (zero-add a.scratch.ptr.1);
+      ptr = ap (λ (i : ℕ). (a.scratch.ref_ptr.0, i)) (zero-add a.scratch.ref_ptr.1);
       bytes = λ h. ap (λ (n : ℕ). take n a.scratch.now) e;
     }

@@ -28,7 +28,7 @@ returns-in_default-weighed c =
     let t = c.next_entry-next in
     let r = c.weigh_next-weighed in
     setting_on _ _ c.args.before a.turn a.weight c.weigh_next-opened.result c.weigh_next-opened.ensures _ _ TooMany c.in-Room.is refl
-    (λ L M S read is many small few. weigh_full _ _ _ a.turn.left _ _ l.left l.now-weight l.here l.i c.loop-i-test.true t.result r.result t.ensures r.ensures c.in_default-weighed.is l.invariant.1 (length M + length S) L M S read is many small few)
+    (λ L M S read is many small few. weigh_full _ _ _ a.turn.left _ _ l.left l.now_weight l.here l.i c.loop-i-test.true t.result r.result t.ensures r.ensures c.in_default-weighed.is l.invariant.1 (length M + length S) L M S read is many small few)
 
 pub loop-i-preserved : goal.loop-i-preserved
 loop-i-preserved c =
@@ -36,10 +36,10 @@ loop-i-preserved c =
     let l = c.loop-i in
     let t = c.next_entry-next in
     let r = c.weigh_next-weighed in
-    (refl, weigh_on _ _ _ a.turn.left _ _ l.left l.now-weight l.here l.i c.loop-i-test.true t.result r.result t.ensures r.ensures _ _ c.in-Room-weighed.is (omega (arith, l.invariant.0)) l.invariant.1)
+    (refl, weigh_on _ _ _ a.turn.left _ _ l.left l.now_weight l.here l.i c.loop-i-test.true t.result r.result t.ensures r.ensures _ _ c.in-Room-weighed.is (omega (arith, l.invariant.0)) l.invariant.1)
 
 pub returns : goal.returns
 returns c =
     let a = c.args in
     let l = c.loop-i in
-    setting_on _ _ c.args.before a.turn a.weight c.weigh_next-opened.result c.weigh_next-opened.ensures _ _ (Fits l.now-weight l.here.passed) c.in-Room.is refl (weigh_ends _ _ _ a.turn.left _ _ l.left l.now-weight l.here l.i c.loop-i-test.false l.invariant.1)
+    setting_on _ _ c.args.before a.turn a.weight c.weigh_next-opened.result c.weigh_next-opened.ensures _ _ (Fits l.now_weight l.here.passed) c.in-Room.is refl (weigh_ends _ _ _ a.turn.left _ _ l.left l.now_weight l.here l.i c.loop-i-test.false l.invariant.1)

@@ -3,24 +3,27 @@ use Rattle.screen.proofs.NameLaws.{Here, found_fits}
 use Rattle.screen.proofs.TextPlaces.{text_placed, text_in_heads, text_shared}
 use Rattle.screen.proofs.names.text_in.Goals as goal
 
-slot-here : (c : tie.Start) → Here c.args.limits c.args.store.now c.args.row c.args.slot
-
-slot-here c = record { store = c.requires.0; is = c.requires.1 }
-
 pub slice_bounds-used-count : goal.slice_bounds-used-count
-slice_bounds-used-count c = omega (arith, (found_fits (slot-here c)).ends)
+slice_bounds-used-count c =
+    let slot_here : Here c.args.limits c.args.store.now c.args.row c.args.slot = record { store = c.requires.0; is = c.requires.1 } in
+    omega (arith, (found_fits slot_here).ends)
 
 pub slice_bounds-used-start : goal.slice_bounds-used-start
-slice_bounds-used-start c = omega (arith, (found_fits (slot-here c)).ends)
+slice_bounds-used-start c =
+    let slot_here : Here c.args.limits c.args.store.now c.args.row c.args.slot = record { store = c.requires.0; is = c.requires.1 } in
+    omega (arith, (found_fits slot_here).ends)
 
 pub slice_bounds-used-end : goal.slice_bounds-used-end
-slice_bounds-used-end c = omega (arith, (found_fits (slot-here c)).inside)
+slice_bounds-used-end c =
+    let slot_here : Here c.args.limits c.args.store.now c.args.row c.args.slot = record { store = c.requires.0; is = c.requires.1 } in
+    omega (arith, (found_fits slot_here).inside)
 
 pub shared_text-requires : goal.shared_text-requires
 shared_text-requires c =
+    let slot_here : Here c.args.limits c.args.store.now c.args.row c.args.slot = record { store = c.requires.0; is = c.requires.1 } in
     let s = c in
     let a = c.args in
-    let f = found_fits (slot-here s) in
+    let f = found_fits slot_here in
     (text_in_heads a.limits a.store.now c.requires.0 a.row a.slot c.requires.1 c.spot_of.result c.spot_of.ensures _ c.in-Shared.is, omega (arith, f.ends, f.inside))
 
 pub returns-in-Placed : goal.returns-in-Placed

@@ -21,7 +21,7 @@ returns-in-Store c =
     let e : c.in-Store.at + c.in-Store.bytes - c.in-Store.at ≡ c.in-Store.bytes = omega arith in
     record {
       block = block_as a.store a.scratch c.in-Store.is;
-      offset = add_comm c.in-Store.at a.store.ptr.1 ∙ offset_as a.store a.scratch c.in-Store.is;
+      offset = add_comm c.in-Store.at a.store.ref_ptr.1 ∙ offset_as a.store a.scratch c.in-Store.is;
       bytes = ap (λ n. take n (drop c.in-Store.at a.store.now)) e ∙ bytes_as a.store a.scratch c.in-Store.is;
     }
 
@@ -31,7 +31,7 @@ returns-in-Scratch c =
     let e : c.in-Scratch.bytes - 0 ≡ c.in-Scratch.bytes = omega arith in
     record {
       block = block_as a.store a.scratch c.in-Scratch.is;
-      offset = zero-add a.scratch.ptr.1 ∙ offset_as a.store a.scratch c.in-Scratch.is;
+      offset = zero-add a.scratch.ref_ptr.1 ∙ offset_as a.store a.scratch c.in-Scratch.is;
       bytes = ap (λ n. take n a.scratch.now) e ∙ bytes_as a.store a.scratch c.in-Scratch.is;
     }
 
@@ -41,6 +41,6 @@ returns-in-Refused c =
     let g = c.in-Refused.is in
     record {
       block = block_as a.store a.scratch g;
-      offset = add_comm 0 a.store.ptr.1 ∙ offset_as a.store a.scratch g;
+      offset = add_comm 0 a.store.ref_ptr.1 ∙ offset_as a.store a.scratch g;
       bytes = bytes_as a.store a.scratch g;
     }

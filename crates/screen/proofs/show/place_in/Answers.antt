@@ -7,30 +7,31 @@ use Rattle.screen.proofs.AnswerLaws.{InRow, Kept, row_found, text_placed, digits
 use Rattle.screen.proofs.ShowLaws.{place_refused}
 use Rattle.screen.proofs.show.place_in.Goals as goal
 
-found : (c : tie.After-name-of) (case : Name) → Kept case → c.name_of-name.result ≡ case → InRow c.args.limits c.args.store.now c.args.scratch.now c.args.row case
-
-found c case k e = row_found case k e c.name_of-name.ensures
-
 pub overflow_add-end : goal.overflow_add-end
 overflow_add-end c =
-    omega (arith, (found c (Digits c.in-Digits.at) tt c.in-Digits.is).is.4)
+    let found : (case : Name) → Kept case → c.name_of-name.result ≡ case → InRow c.args.limits c.args.store.now c.args.scratch.now c.args.row case = λ case k e. row_found case k e c.name_of-name.ensures in
+    omega (arith, (found (Digits c.in-Digits.at) tt c.in-Digits.is).is.4)
 
 pub slice_bounds-write_line-end : goal.slice_bounds-write_line-end
 slice_bounds-write_line-end c =
-    omega (arith, (found c (Digits c.in-Digits.at) tt c.in-Digits.is).is.4)
+    let found : (case : Name) → Kept case → c.name_of-name.result ≡ case → InRow c.args.limits c.args.store.now c.args.scratch.now c.args.row case = λ case k e. row_found case k e c.name_of-name.ensures in
+    omega (arith, (found (Digits c.in-Digits.at) tt c.in-Digits.is).is.4)
 
 pub write_line-requires : goal.write_line-requires
 write_line-requires c =
-    let i = found c (Digits c.in-Digits.at) tt c.in-Digits.is in
+    let found : (case : Name) → Kept case → c.name_of-name.result ≡ case → InRow c.args.limits c.args.store.now c.args.scratch.now c.args.row case = λ case k e. row_found case k e c.name_of-name.ensures in
+    let i = found (Digits c.in-Digits.at) tt c.in-Digits.is in
     (i.big, digits_kept i)
 
 pub write_address-requires : goal.write_address-requires
 write_address-requires c =
-    (found c (GroupNumber c.in-Group.a) tt c.in-Group.is).big
+    let found : (case : Name) → Kept case → c.name_of-name.result ≡ case → InRow c.args.limits c.args.store.now c.args.scratch.now c.args.row case = λ case k e. row_found case k e c.name_of-name.ensures in
+    (found (GroupNumber c.in-Group.a) tt c.in-Group.is).big
 
 pub write_address-requires-in-Individual : goal.write_address-requires-in-Individual
 write_address-requires-in-Individual c =
-    (found c (IndividualNumber c.in-Individual.a) tt c.in-Individual.is).big
+    let found : (case : Name) → Kept case → c.name_of-name.result ≡ case → InRow c.args.limits c.args.store.now c.args.scratch.now c.args.row case = λ case k e. row_found case k e c.name_of-name.ensures in
+    (found (IndividualNumber c.in-Individual.a) tt c.in-Individual.is).big
 
 pub returns-in-Refused : goal.returns-in-Refused
 returns-in-Refused c =
@@ -40,20 +41,24 @@ returns-in-Refused c =
 
 pub returns-in-Text : goal.returns-in-Text
 returns-in-Text c =
-    text_placed (found c (TextAt c.in-Text.at c.in-Text.bytes) tt c.in-Text.is)
+    let found : (case : Name) → Kept case → c.name_of-name.result ≡ case → InRow c.args.limits c.args.store.now c.args.scratch.now c.args.row case = λ case k e. row_found case k e c.name_of-name.ensures in
+    text_placed (found (TextAt c.in-Text.at c.in-Text.bytes) tt c.in-Text.is)
 
 pub returns-in-Digits : goal.returns-in-Digits
 returns-in-Digits c =
-    digits_placed (found c (Digits c.in-Digits.at) tt c.in-Digits.is) c.write_line.ensures
+    let found : (case : Name) → Kept case → c.name_of-name.result ≡ case → InRow c.args.limits c.args.store.now c.args.scratch.now c.args.row case = λ case k e. row_found case k e c.name_of-name.ensures in
+    digits_placed (found (Digits c.in-Digits.at) tt c.in-Digits.is) c.write_line.ensures
 
 pub returns-in-Group : goal.returns-in-Group
 returns-in-Group c =
-    let i = found c (GroupNumber c.in-Group.a) tt c.in-Group.is in
+    let found : (case : Name) → Kept case → c.name_of-name.result ≡ case → InRow c.args.limits c.args.store.now c.args.scratch.now c.args.row case = λ case k e. row_found case k e c.name_of-name.ensures in
+    let i = found (GroupNumber c.in-Group.a) tt c.in-Group.is in
     let d = c.dialled_of_group in
     address_placed GroupPlan i (group [] c.in-Group.a) d.result c.in-Group.a.0 i.is (λ ns p. (ns, p, refl)) d.ensures c.write_address.ensures
 
 pub returns-in-Individual : goal.returns-in-Individual
 returns-in-Individual c =
-    let i = found c (IndividualNumber c.in-Individual.a) tt c.in-Individual.is in
+    let found : (case : Name) → Kept case → c.name_of-name.result ≡ case → InRow c.args.limits c.args.store.now c.args.scratch.now c.args.row case = λ case k e. row_found case k e c.name_of-name.ensures in
+    let i = found (IndividualNumber c.in-Individual.a) tt c.in-Individual.is in
     let d = c.dialled_of_individual in
     address_placed IndividualPlan i (individual [] c.in-Individual.a) d.result c.in-Individual.a.0 i.is (λ ns p. (ns, p, refl)) d.ensures c.write_address-in-Individual.ensures

@@ -1,6 +1,6 @@
 use Rattle.lists.proofs.Kit.{rules, arith, refl}
 use Rattle.reporting.proofs.StepLaws.{fits_by}
-use Rattle.reporting.proofs.plan.fits.Goals as goal
+use Rattle.reporting.proofs.planning.fits.Goals as goal
 
 pub returns : goal.returns
 returns c =

@@ -1,7 +1,8 @@
 use Rattle.lists.proofs.Kit.{rules, arith, ◌≤◌, ◌-◌, subst, length}
 use Rattle.reporting.specs.Asking.{AskedIs}
 use Rattle.reporting.proofs.PlanTurns.{Planning, planning_start, planning_turn, planning_end, planning_unknown}
-use Rattle.reporting.proofs.plan.plan_report.Goals as goal
+use Rattle.lists.proofs.Kit.{get_or}
+use Rattle.reporting.proofs.planning.plan_report.Goals as goal
 
 pub loop-ask-init : goal.loop-ask-init
 loop-ask-init c =
@@ -18,7 +19,7 @@ pub returns-in_default : goal.returns-in_default
 returns-in_default c =
     let a = c.args in
     let l = c.loop-ask in
-    planning_unknown a.limits a.types.now a.work.now a.room a.j l.ask l.w c.step.result (omega arith) (omega (arith, c.requires.2)) l.invariant.1 (subst (AskedIs _) c.in_default.is c.asked_by.ensures) c.step.ensures
+    planning_unknown a.limits a.types.now a.work.now a.room a.j l.ask l.w c.step.result (omega arith) (omega (arith, c.requires.2)) l.invariant.1 (subst (AskedIs (get_or a.types.now l.ask 0)) c.in_default.is c.asked_by.ensures) c.step.ensures
 
 pub plan_table-w-requires : goal.plan_table-w-requires
 plan_table-w-requires c =
@@ -30,7 +31,7 @@ pub loop-ask-preserved : goal.loop-ask-preserved
 loop-ask-preserved c =
     let a = c.args in
     let l = c.loop-ask in
-    (omega arith, planning_turn a.limits a.types.now a.work.now a.room a.j l.ask l.w c.plan_table-w.result _ (omega arith) l.invariant.1 (subst (AskedIs _) c.in-Known.is c.asked_by.ensures) c.plan_table-w.ensures)
+    (omega arith, planning_turn a.limits a.types.now a.work.now a.room a.j l.ask l.w c.plan_table-w.result _ (omega arith) l.invariant.1 (subst (AskedIs (get_or a.types.now l.ask 0)) c.in-Known.is c.asked_by.ensures) c.plan_table-w.ensures)
 
 pub returns : goal.returns
 returns c =

@@ -3,7 +3,7 @@ use Rattle.reports.specs.TableSlots.{slot_count}
 use Rattle.reporting.proofs.PlanTurns.{walked_as}
 use Rattle.reporting.proofs.PlanTurns.{WalkedTo, walked_start, walked_empty, walked_item, walked_end}
 use Rattle.reporting.proofs.TableLaws.{few_places}
-use Rattle.reporting.proofs.plan.plan_table.Given as goal
+use Rattle.reporting.proofs.planning.plan_table.Given as goal
 
 abbrev pub invariant-loop-place : goal.invariant-loop-place
 invariant-loop-place l = (l.place ≤ l.places) × (l.rank ≤ l.place) × WalkedTo l.limits l.asked l.work l.ask l.room l.j l.initial.w l.place l.rank l.w

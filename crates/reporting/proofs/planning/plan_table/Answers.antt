@@ -3,8 +3,8 @@ use Rattle.reports.specs.TableSlots.{slot_count}
 use Rattle.reporting.proofs.PlanTurns.{walked_as}
 use Rattle.reporting.proofs.PlanTurns.{WalkedTo, walked_start, walked_empty, walked_item, walked_end}
 use Rattle.reporting.proofs.TableLaws.{few_places}
-use Rattle.reporting.proofs.plan.plan_table.Goals as goal
-use Rattle.reporting.proofs.plan.plan_table.Goals.{then-size-ne0, else-size-ne0}
+use Rattle.reporting.proofs.planning.plan_table.Goals as goal
+use Rattle.reporting.proofs.planning.plan_table.Goals.{then-size-ne0, else-size-ne0}
 
 pub loop-place-init : goal.loop-place-init
 loop-place-init c =
