@@ -135,8 +135,8 @@ module _ (Setting Tables : Type 0)
       fewer : {n : ℕ} {t u : Tables} {bs rest : List ℕ} {l : List Setting} → Runs n t bs l u rest → (k : ℕ) → k ≤ length l → Stands n t bs k
       fewer q zero h = ([], _, _, refl, done)
       fewer done (suc k) h = absurd (omega arith)
-      fewer (step {s} p w i a q) (suc k) h =
-          let (l, u, rest, e, r) = fewer q k (omega arith) in
+      fewer (step {n = n} {s = s} p w i a q) (suc k) h =
+          let (l, u, rest, e, r) = fewer {n = n} q k (omega arith) in
           (s ∷ l, u, rest, ap suc e, step {s = s} p w i a r)
 
       -- FIRST FAULT: a refusal names the least k for which no k settings stand at the start, or 0 where all stand and bytes are left over

@@ -96,7 +96,7 @@ module _ (log m : List ℕ) (b : Before) (x : SettingRead) (ws : List ℕ) (n : 
     pub tried_full : (vs : List ℕ) → tried ≡ Full → TryIs log m b x ws vs NoRoom
     tried_full vs e L M s c left t r tells w means i f =
         let h = subst (λ (z : Tried). TriedAs (b.passed + length (deeds s)) z (map (weight_of (kind s)) (change handheld s t))) e (tried_as L M s c left t r tells w means i f) in
-        (no_room_exactly handheld s t).1 (inl (tried_none _ (kind s) (change handheld s t) h))
+        (no_room_exactly handheld s t).1 (inl (tried_none (b.passed + length (deeds s)) (kind s) (change handheld s t) h))
 
     module _ (w : Weight) (p : ℕ) (e : tried ≡ Room w p) where
       -- the sum that is judged is that of the tables after it

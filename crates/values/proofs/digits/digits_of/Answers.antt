@@ -6,18 +6,18 @@ use Rattle.values.proofs.digits.digits_of.Goals as goal
 
 pub slice_bounds-write_kept-end : goal.slice_bounds-write_kept-end
 slice_bounds-write_kept-end c =
-    kind_wide c.args.row 1 (length c.args.slot.now) (line_kind c.args.row (is_one_of c.in-Line.in-Line-own.keys1)) c.requires.0
+    kind_wide c.args.row 1 (length c.args.slot.now) (line_kind c.args.row c.in-Line.in-Line-own.keys1) c.requires.0
 
 pub write_kept-requires : goal.write_kept-requires
 write_kept-requires c =
-    let h = kind_wide c.args.row 1 (length c.args.slot.now) (line_kind c.args.row (is_one_of c.in-Line.in-Line-own.keys1)) c.requires.0 in
+    let h = kind_wide c.args.row 1 (length c.args.slot.now) (line_kind c.args.row c.in-Line.in-Line-own.keys1) c.requires.0 in
     (omega (arith, mid_len 2 20 c.args.slot.now h), c.requires.1)
 
 pub returns-in-Line : goal.returns-in-Line
 returns-in-Line c =
     let a = c.args in
     let w = c.write_kept in
-    line_digits a.row a.slot.now a.buffer.now w.new.buffer w.result (line_kind a.row (is_one_of c.in-Line.in-Line-own.keys1)) w.ensures
+    line_digits a.row a.slot.now a.buffer.now w.new.buffer w.result (line_kind a.row c.in-Line.in-Line-own.keys1) w.ensures
 
 pub returns-in_default : goal.returns-in_default
 returns-in_default c =
