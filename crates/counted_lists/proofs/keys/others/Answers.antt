@@ -29,9 +29,10 @@ loop-at-preserved c =
       (
         elim c.if-not-same.branch [ then-not-same w ↦ omega (arith, k.wide) | else-not-same w ↦ omega (arith, k.wide) ],
         λ xs q e.
-            elim c.if-not-same.branch
-            [ then-not-same w ↦ more xs q e false w.if-not-same.true c.if-not-same.n w.n-is
-            | else-not-same w ↦ more xs q e true w.if-not-same.false c.if-not-same.n w.n-is ],
+            elim c.if-not-same.branch [
+              | then-not-same w ↦ more xs q e false w.if-not-same.true c.if-not-same.n w.n-is
+              | else-not-same w ↦ more xs q e true w.if-not-same.false c.if-not-same.n w.n-is
+            ],
       ),
     )
 

@@ -51,12 +51,13 @@ loop-next-preserved c =
     let k = c.is_zeros in
     let i = place_inside l.next a.table.places a.table.width (length a.region.now) (omega arith) c.requires.0.long in
     let n = slot_wide a.region.now (l.next * a.table.width) a.table.width i in
-    elim c.if-not-is_zeros.branch
-    [ then-not-is_zeros w ↦ turn_as a.table a.region.now a.buffer.now a.at _ _ _ _ _ _ (l.next + 1) w.buffer-is w.end-is w.count-is
-        (turn_some a.table a.region.now a.buffer.now a.at l.buffer l.end l.count l.next l.invariant (omega arith) w.write_entry-end.new.buffer w.write_entry-end.result w.write_entry-end.auto.buffer n c.if-count-table.false
-        (sym k.ensures ∙ w.if-not-is_zeros.true) w.write_entry-end.ensures)
-    | else-not-is_zeros w ↦ turn_as a.table a.region.now a.buffer.now a.at _ _ _ _ _ _ (l.next + 1) w.buffer-is w.end-is w.count-is
-        (turn_none a.table a.region.now a.buffer.now a.at l.buffer l.end l.count l.next l.invariant (omega arith) (sym k.ensures ∙ w.if-not-is_zeros.false)) ]
+    elim c.if-not-is_zeros.branch [
+      | then-not-is_zeros w ↦ turn_as a.table a.region.now a.buffer.now a.at _ _ _ _ _ _ (l.next + 1) w.buffer-is w.end-is w.count-is
+          (turn_some a.table a.region.now a.buffer.now a.at l.buffer l.end l.count l.next l.invariant (omega arith) w.write_entry-end.new.buffer w.write_entry-end.result w.write_entry-end.auto.buffer n c.if-count-table.false
+          (sym k.ensures ∙ w.if-not-is_zeros.true) w.write_entry-end.ensures)
+      | else-not-is_zeros w ↦ turn_as a.table a.region.now a.buffer.now a.at _ _ _ _ _ _ (l.next + 1) w.buffer-is w.end-is w.count-is
+          (turn_none a.table a.region.now a.buffer.now a.at l.buffer l.end l.count l.next l.invariant (omega arith) (sym k.ensures ∙ w.if-not-is_zeros.false))
+    ]
 
 pub returns : goal.returns
 returns c =

@@ -17,9 +17,10 @@ pub loop-i-preserved : goal.loop-i-preserved
 loop-i-preserved c =
     let l = c.loop-i in
     let a = c.args in
-    elim c.if-b-v.branch
-    [ then-b-v w ↦ out_moved a.v a.d.now l.d l.i l.j l.invariant (omega arith) c.if-b-v.d c.if-b-v.j w.lowered.result w.lowered.ensures w.if-b-v.true w.d-is w.j-is
-    | else-b-v w ↦ out_stayed a.v a.d.now l.d l.i l.j l.invariant (omega arith) c.if-b-v.d c.if-b-v.j w.if-b-v.false w.d-is w.j-is ]
+    elim c.if-b-v.branch [
+      | then-b-v w ↦ out_moved a.v a.d.now l.d l.i l.j l.invariant (omega arith) c.if-b-v.d c.if-b-v.j w.lowered.result w.lowered.ensures w.if-b-v.true w.d-is w.j-is
+      | else-b-v w ↦ out_stayed a.v a.d.now l.d l.i l.j l.invariant (omega arith) c.if-b-v.d c.if-b-v.j w.if-b-v.false w.d-is w.j-is
+    ]
 
 pub returns : goal.returns
 returns c =

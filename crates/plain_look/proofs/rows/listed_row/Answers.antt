@@ -29,11 +29,12 @@ loop-i-preserved c =
     let n = c.next_deed-moved in
     let b = c.born_here-found in
     let less : l.i < a.count = omega arith in
-    elim c.if-found.branch
-    [ then-found+else-before-eq0 w ↦ subst⁻¹ (λ (x : ℕ). Rows a.m.now a.cursor a.count a.kind a.position n.result.cursor x (l.i + 1)) w.before-is
-        (rows_passed a.m.now a.cursor a.count a.kind a.position l.here n.result b.result l.before l.i less n.ensures b.ensures l.invariant w.if-found.true w.if-before-eq0.false)
-    | else-found w ↦ subst⁻¹ (λ (x : ℕ). Rows a.m.now a.cursor a.count a.kind a.position n.result.cursor x (l.i + 1)) w.before-is
-        (rows_none a.m.now a.cursor a.count a.kind a.position l.here n.result b.result l.before l.i less n.ensures b.ensures l.invariant w.if-found.false) ]
+    elim c.if-found.branch [
+      | then-found+else-before-eq0 w ↦ subst⁻¹ (λ (x : ℕ). Rows a.m.now a.cursor a.count a.kind a.position n.result.cursor x (l.i + 1)) w.before-is
+          (rows_passed a.m.now a.cursor a.count a.kind a.position l.here n.result b.result l.before l.i less n.ensures b.ensures l.invariant w.if-found.true w.if-before-eq0.false)
+      | else-found w ↦ subst⁻¹ (λ (x : ℕ). Rows a.m.now a.cursor a.count a.kind a.position n.result.cursor x (l.i + 1)) w.before-is
+          (rows_none a.m.now a.cursor a.count a.kind a.position l.here n.result b.result l.before l.i less n.ensures b.ensures l.invariant w.if-found.false)
+    ]
 
 pub returns : goal.returns
 returns c =

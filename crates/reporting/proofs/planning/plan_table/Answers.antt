@@ -34,9 +34,10 @@ loop-place-preserved c =
     let l = c.loop-place in
     let s = c.place_size-size in
     let n : l.place < slot_count a.limits a.asked = omega (arith, c.places_of-places.ensures) in
-    elim c.if-size-ne0.branch
-    [ then-size-ne0 x ↦ (omega arith, omega (arith, x.rank-is), walked_as a.limits a.asked a.work.now a.ask a.room a.j a.walk x.w-is x.rank-is (walked_item a.limits a.asked a.work.now a.ask a.room a.j a.walk l.place l.rank s.result l.w n l.invariant.2 s.ensures x.step-w.result x.if-size-ne0.true l.invariant.1 x.step-w.ensures))
-    | else-size-ne0 x ↦ (omega arith, omega (arith, x.rank-is), walked_as a.limits a.asked a.work.now a.ask a.room a.j a.walk x.w-is x.rank-is (walked_empty a.limits a.asked a.work.now a.ask a.room a.j a.walk l.place l.rank s.result l.w n l.invariant.2 s.ensures x.if-size-ne0.false)) ]
+    elim c.if-size-ne0.branch [
+      | then-size-ne0 x ↦ (omega arith, omega (arith, x.rank-is), walked_as a.limits a.asked a.work.now a.ask a.room a.j a.walk x.w-is x.rank-is (walked_item a.limits a.asked a.work.now a.ask a.room a.j a.walk l.place l.rank s.result l.w n l.invariant.2 s.ensures x.step-w.result x.if-size-ne0.true l.invariant.1 x.step-w.ensures))
+      | else-size-ne0 x ↦ (omega arith, omega (arith, x.rank-is), walked_as a.limits a.asked a.work.now a.ask a.room a.j a.walk x.w-is x.rank-is (walked_empty a.limits a.asked a.work.now a.ask a.room a.j a.walk l.place l.rank s.result l.w n l.invariant.2 s.ensures x.if-size-ne0.false))
+    ]
 
 pub returns : goal.returns
 returns c =
