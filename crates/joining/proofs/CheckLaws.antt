@@ -174,8 +174,8 @@ opens_else most m v k c true (i, o) e = (i, v, k, c, _, o, eqb-false k 0 (not-tr
 opens_else most m v k c false (i, o) e = λ v' k' c' d j p. (opens_one p o).1 ∙ eqb-true k 0 (not-false (eqb k 0) e)
 
 -- a request counts the settings that it comes to
-pub sound_count : {c : Coding} {n : ℕ} {bs : List ℕ} {l : List Setting} {t : Unit {0}} → Sound c n bs (kept l t) → length l ≡ n
-sound_count (taken e q) = e
+pub sound_count : (c : Coding) {n : ℕ} {bs : List ℕ} {l : List Setting} {t : Unit {0}} → Sound c n bs (kept l t) → length l ≡ n
+sound_count c (taken e q) = e
 
 -- it has eight bytes before them
 long_enough : {c : Coding} {n : ℕ} {s m : List ℕ} → RequestOf c n s m → 8 ≤ length m
@@ -225,5 +225,5 @@ module _ (most : ℕ) (m : List ℕ) where
       by : (r : Request) → SettingsAre m at (record { count = count; coding = c }) r → RequestIs most m r
       by (Good g) (same, l, s, never) =
           let x : Sound c count (drop 8 m) (kept l tt) = subst (λ (j : ℕ). Sound c count (drop j m) (kept l tt)) e s in
-          subst⁻¹ (Fine most m) same (record { settings = l; counted = sound_count x; size = i; long = long_enough request; request = request; sound = x; no_ff = never })
+          subst⁻¹ (Fine most m) same (record { settings = l; counted = sound_count c x; size = i; long = long_enough request; request = request; sound = x; no_ff = never })
       by (Wrong f) (o, s, t) = at_settings o i request (subst (λ (j : ℕ). Sound c count (drop j m) o) e s) t

@@ -19,7 +19,7 @@ use Rattle.requests.specs.Judge.{Outcome, kept, refused}
 use Rattle.joining.specs.declared.answers.Join.{Join}
 use Rattle.joining.specs.declared.answers.Join.TheVariants.{Written, Codings, TooMany, TooLong}
 use Rattle.joining.specs.declared.checks.Head.{Head}
-use Rattle.joining.specs.Joins.{After, Sound, EndsRequest, joined_bytes, stays, Comes, one_of, joining}
+use Rattle.joining.specs.Joins.{After, Sound, EndsRequest, joined_bytes, stays, Comes, one_of, both_of, joining}
 use Rattle.joining.specs.Told.{told, CanJoin}
 use Rattle.joining.specs.Checking.{TurnsDown, Faulty, size, carrier as not_carried, other_type, other_version, no_request, at_settings, Fine, BothAre}
 
@@ -141,19 +141,23 @@ module _ (most : ℕ) (first second buffer : List ℕ) (in_second : Bool) (m : L
 -- ---- the call
 
 module _ (most : ℕ) (first second buffer : List ℕ) (room : most ≤ length buffer) where
+  -- what comes after the first request, and after both
+  abbrev then_second : Coding → List Setting → List ℕ → Ladder After
+  then_second c a x = one_of most first second buffer true second (λ d b y. both_of most first second buffer c a x d b y)
+
   pub wrong_first : {number failed : ℕ} → Faulty most first number failed → Answers (joining most first second buffer) (stays most first second buffer false number failed)
-  wrong_first z = inr (λ l. omega arith, faulty_answers most first second buffer false first _ z)
+  wrong_first z = inr (λ l. omega arith, faulty_answers most first second buffer false first then_second z)
 
   module _ (h : Head) (f : Fine most first h) where
     pub wrong_second : {number failed : ℕ} → Faulty most second number failed → Answers (joining most first second buffer) (stays most first second buffer true number failed)
-    wrong_second z = inr (λ l. omega arith, sound_answers most first second buffer false first _ f.size f.request f.sound f.no_ff _ (faulty_answers most first second buffer true second _ z))
+    wrong_second z = inr (λ l. omega arith, sound_answers most first second buffer false first then_second f.size f.request f.sound f.no_ff _ (faulty_answers most first second buffer true second (both_of most first second buffer h.coding f.settings (drop 8 first)) z))
 
     pub joins_both : (k : Head) (g : Fine most second k) (after : List ℕ) (r : Join) → BothAre most first second buffer after h k r → CanJoin most
         → Answers (joining most first second buffer) (record { answer = told r; buffer = after })
     joins_both k g after r b can =
         inr (
           λ l. omega arith,
-          sound_answers most first second buffer false first _ f.size f.request f.sound f.no_ff _ (sound_answers most first second buffer true second _ g.size g.request g.sound g.no_ff _
+          sound_answers most first second buffer false first then_second f.size f.request f.sound f.no_ff _ (sound_answers most first second buffer true second (both_of most first second buffer h.coding f.settings (drop 8 first)) g.size g.request g.sound g.no_ff _
               (b can f.settings g.settings f.counted g.counted)),
         )
 

@@ -45,8 +45,8 @@ module _ (most : ℕ) (first second buffer : List ℕ) where
   pub join_determined : (a b : After) → Answers (joining most first second buffer) a → Answers (joining most first second buffer) b → a ≡ b
   join_determined =
       one_answer (joining most first second buffer)
-      (one_foot false first _ (λ c l s. one_answer (one_of most first second buffer true second _)
-      (one_foot true second _ (λ d k t. one_answer (both_of most first second buffer c l s d k t) (λ x y p q. p ∙ sym q)))))
+      (one_foot false first (λ c l s. one_of most first second buffer true second (both_of most first second buffer c l s)) (λ c l s. one_answer (one_of most first second buffer true second (both_of most first second buffer c l s))
+      (one_foot true second (both_of most first second buffer c l s) (λ d k t. one_answer (both_of most first second buffer c l s d k t) (λ x y p q. p ∙ sym q)))))
 
 -- ---- how joining ends
 
@@ -93,10 +93,10 @@ module _ (most : ℕ) (first second buffer : List ℕ) where
         let (low, high, within) = sound_refused c j in
         stayed in_second number failed (omega arith) (omega arith) (omega (arith, count_small r)) e
     comes_ends c count s i r (kept l t) j (inl (f, e)) =
-        let n : length l ≡ count = sound_count j in
+        let n : length l ≡ count = sound_count c j in
         stayed in_second 4 (length l) (omega arith) (omega arith) (omega (arith, count_small r)) e
     comes_ends c count s i r (kept l t) j (inr (f, z)) =
-        let n : count ≡ length l = sym (sound_count j) in
+        let n : count ≡ length l = sym (sound_count c j) in
         then c l s (record { size = i; request = subst (λ (k : ℕ). RequestOf c k s m) n r; sound = subst (λ (k : ℕ). Sound c k s (kept l tt)) n j; no_ff = f }) z
 
     one_ends : Answers (one_of most first second buffer in_second m next) a → Ends a
@@ -118,7 +118,7 @@ module _ (most : ℕ) (first second buffer : List ℕ) where
   ends : (a : After) → Answers (joining most first second buffer) a → Ends a
   ends a (inl (_, e)) = stayed false 15 0 (omega arith) (omega arith) (omega arith) e
   ends a (inr (_, z)) =
-      one_ends false first _ a (λ c l x p. one_ends true second _ a (λ d k y q. both_ends a c d l k x y p q)) z
+      one_ends false first (λ c l x. one_of most first second buffer true second (both_of most first second buffer c l x)) a (λ c l x p. one_ends true second (both_of most first second buffer c l x) a (λ d k y q. both_ends a c d l k x y p q)) z
 
   -- ---- the theorems
 

@@ -66,9 +66,8 @@ returns-then-next-at c =
     let l = c.loop-at in
     let a = c.args in
     let used = c.used_of-used.result in
-    let g = c.«record».given in
-    let r = subst (RecordIs a.area.now l.at (4 + used) l.deeds l.weights _) g.1 c.check_record-record.ensures in
-    turn_stuck a.area.now a.weights.now used (4 + used) l.at l.deeds l.hash l.weights l.invariant.1 c.loop-at-test.true _ g.0.0 g.0.1.0 g.0.1.1.0 r c.if-next-at.true
+    let r = subst (RecordIs a.area.now l.at (4 + used) l.deeds l.weights _) c.in-Taken.is c.check_record-record.ensures in
+    turn_stuck a.area.now a.weights.now used (4 + used) l.at l.deeds l.hash l.weights l.invariant.1 c.loop-at-test.true _ c.in-Taken.next c.in-Taken.passed c.in-Taken.place r c.if-next-at.true
 
 pub shape_of-weights-then-passed-ge-DEEDS : goal.shape_of-weights-then-passed-ge-DEEDS
 shape_of-weights-then-passed-ge-DEEDS c = search (rules, c.loop-at.invariant.0)
@@ -78,18 +77,16 @@ returns-then-passed-ge-DEEDS c =
     let l = c.loop-at in
     let a = c.args in
     let used = c.used_of-used.result in
-    let g = c.«record».given in
-    let r = subst (RecordIs a.area.now l.at (4 + used) l.deeds l.weights _) g.1 c.check_record-record.ensures in
-    turn_much a.area.now a.weights.now used (4 + used) l.at l.deeds l.hash l.weights l.invariant.1 c.loop-at-test.true _ g.0.0 g.0.1.0 g.0.1.1.0 r c.if-passed-ge-DEEDS.true
+    let r = subst (RecordIs a.area.now l.at (4 + used) l.deeds l.weights _) c.in-Taken.is c.check_record-record.ensures in
+    turn_much a.area.now a.weights.now used (4 + used) l.at l.deeds l.hash l.weights l.invariant.1 c.loop-at-test.true _ c.in-Taken.next c.in-Taken.passed c.in-Taken.place r c.if-passed-ge-DEEDS.true
 
 pub loop-at-preserved : goal.loop-at-preserved
 loop-at-preserved c =
     let l = c.loop-at in
     let a = c.args in
     let used = c.used_of-used.result in
-    let g = c.«record».given in
-    let r = subst (RecordIs a.area.now l.at (4 + used) l.deeds l.weights _) g.1 c.check_record-record.ensures in
-    (search (rules, l.invariant.0), turn_more a.area.now a.weights.now used (4 + used) l.at l.deeds l.hash l.weights l.invariant.1 c.loop-at-test.true _ g.0.0 g.0.1.0 g.0.1.1.0 r)
+    let r = subst (RecordIs a.area.now l.at (4 + used) l.deeds l.weights _) c.in-Taken.is c.check_record-record.ensures in
+    (search (rules, l.invariant.0), turn_more a.area.now a.weights.now used (4 + used) l.at l.deeds l.hash l.weights l.invariant.1 c.loop-at-test.true _ c.in-Taken.next c.in-Taken.passed c.in-Taken.place r)
 
 pub shape_of-weights : goal.shape_of-weights
 shape_of-weights c = search (rules, c.loop-at.invariant.0)
