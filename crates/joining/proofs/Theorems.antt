@@ -203,7 +203,7 @@ module _ (most : ℕ) (first second buffer : List ℕ) where
       join_determined most first second buffer a (writes most first second buffer (joined_bytes c (length l + length k) (x ++ y))) z
       (inr (
         λ n. omega arith,
-        sound_answers most first second buffer false first _ f.size f.request f.sound f.no_ff _
-            (sound_answers most first second buffer true second _ g.size g.request g.sound g.no_ff _
+        sound_answers most first second buffer false first (λ c l x. one_of most first second buffer true second (both_of most first second buffer c l x)) f.size f.request f.sound f.no_ff _
+            (sound_answers most first second buffer true second (both_of most first second buffer c l x) g.size g.request g.sound g.no_ff _
             (inr (λ n. n refl, inr (λ n. omega arith, inr (λ n. omega arith, refl))))),
       ))
