@@ -43,8 +43,9 @@ FILENAME == ARGV[1] {
     next
 }
 /^#/ || /^$/ { next }
-!/^[a-z0-9_]+:( [a-z0-9_]+)*$/ { fault("no crate and what it uses: " $0); next }
+!/^[a-z0-9_]+( staticlib)?:( [a-z0-9_]+)*$/ { fault("no crate and what it uses: " $0); next }
 {
+    sub(/ staticlib:/, ":")
     name = substr($1, 1, length($1) - 1)
     if (name in layer) fault(name " has two lines")
     if (!(name in there)) fault("no such crate: " name)
@@ -105,7 +106,7 @@ awk -f "$work/place.awk" "$work/picture" "$page" > "$work/page"
 cat > "$work/named.awk" <<'AWK'
 function name_it(what) { if ((FILENAME, what) in named) fault(FILENAME, what " is named twice"); named[FILENAME, what] }
 function fault(page, what) { print page ": " what > "/dev/stderr"; faults++ }
-FILENAME == ARGV[1] { if (/^[a-z]/) { sub(/:.*/, ""); crate[$0] } next }
+FILENAME == ARGV[1] { if (/^[a-z]/) { sub(/[ :].*/, ""); crate[$0] } next }
 /^## / { section = $0 }
 /^```/ { fenced = !fenced; next }
 FILENAME == ARGV[2] && /^\| crate \| / { table = 1 }
