@@ -5,27 +5,33 @@ set -u
 cd "$(dirname "$0")/.." || exit 1
 work=$(mktemp -d) || exit 1
 trap 'rm -rf "$work"' EXIT
-tools=$work/kit/on/$(uname -m)/toolchain/bin
-mkdir -p "$tools" "$work/kit/bin" "$work/repo" "$work/bare"
+tools=$work/kit/toolchain/bin
+mkdir -p "$tools" "$work/kit/bin" "$work/bare"
 for tool in awk dirname sh uname; do
     ln -s "$(command -v $tool)" "$work/bare/"
 done
+for name in handheld office vehicle; do
+    mkdir -p "$work/repo/crates/otap_$name/out"
+done
 cp archive "$work/repo/"
-echo 'otap_handheld:' > "$work/repo/crates.txt"
+echo 'otap_handheld staticlib:' > "$work/repo/crates.txt"
 failed=0
 
-# The kit: `rt staticlib` does as $RT says, and clang prints $work/module.ll where it is asked for text.
+# The kit: `rt lib` does as $RT says, and clang prints $work/module.ll where it is asked for text.
 cat > "$work/kit/bin/rt" << 'END'
 #!/bin/sh
-[ "$1" != version ] || { echo "${VERSION:-rattle-kit-5b-plain logic 097e4c862dff5811}"; exit; }
-mkdir -p target/staticlib && touch target/staticlib/libotap_handheld.a module.bc
+[ "$1" != version ] || { echo "${VERSION:-rattle-kit-13f logic dac8208d650f15bf}"; exit; }
+name=${PWD##*/}
+touch "out/lib$name.a" out/module.bc
 case $RT in
-    "not $2") echo "fn read: no proof: of what it ensures"; exit 1 ;;
+    "not $name") echo "fn read: no proof: of what it ensures"; exit 1 ;;
     unproved) echo "fn commit: no proof: of what it ensures"; exit 1 ;;
+    nothing) rm "out/lib$name.a" ;;
     silent) ;;
-    *) "$RATTLE_HOME/on/$(uname -m)/toolchain/bin/clang" module.bc ;;
+    *) "${0%/*}/../toolchain/bin/clang" out/module.bc ;;
 esac
 END
+touch "$work/kit/bin/rtlib.py"
 cat > "$tools/clang" << END
 #!/bin/sh
 for word in "\$@"; do out=\$word; done
@@ -76,10 +82,11 @@ ends 2 "rt is not here" cortex-m4
 path=$work/kit/bin:$PATH
 export RT=whole
 ends 0 "^target/archive/cortex-m4/libotap_handheld.a $" cortex-m4
+ends 0 "^target/archive/aarch64-linux/libotap_handheld.a $" aarch64-linux
 ends 2 "no such target: cortex-m9; there are: x86_64-linux" cortex-m9
 RT=unproved ends 1 "otap_handheld is not proved, so nothing is written: fn commit: no proof" cortex-m4
 RT=silent ends 1 "compiled 0 modules" cortex-m4
-RATTLE_HOME=$work ends 2 "no clang at" cortex-m4
+RT=nothing ends 1 "rt lib wrote no crates/otap_handheld/out/libotap_handheld.a" aarch64-linux
 while read -r line; do
     module "$line"
     ends 1 "does not look as expected, so nothing is written:" cortex-m4
@@ -94,9 +101,13 @@ done << 'END'
 %r1 = call i64 asm "rdtsc", "=r"()
 END
 
+mv "$tools/clang" "$tools/other"
+ends 2 "no clang at" cortex-m4
+mv "$tools/other" "$tools/clang"
+
 # Of three crates each has an archive; where the last is not proved, the others have none either.
 module ""
-printf 'otap_office: otap_handheld\notap_vehicle: otap_handheld\n' >> "$work/repo/crates.txt"
+printf 'otap_office staticlib: lists\notap_vehicle staticlib: lists\n' >> "$work/repo/crates.txt"
 three="target/archive/cortex-m4/libotap_handheld.a target/archive/cortex-m4/libotap_office.a target/archive/cortex-m4/libotap_vehicle.a"
 ends 0 "^$three $" cortex-m4
 RT="not otap_office" ends 1 "otap_office is not proved, so nothing is written: fn read: no proof" cortex-m4
