@@ -32,7 +32,8 @@ function onTook(took) {
 // The rows that the screen has drawn are asked of the plain engine too, once it has come as far.
 function askRows() {
     const drawn = drawnRows();
-    if (!drawn || app.kind !== "handheld" || desk.full !== null || app.running || drawn.position !== app.series.position || desk.took !== drawn.position) return;
+    if (!drawn || app.kind !== "handheld" || desk.full !== null || app.running) return;
+    if (drawn.position !== app.series.position || desk.took !== drawn.position) return;
     if (desk.rows && desk.rows.drawn === drawn) return;
     const rows = drawn.tables.flatMap((table) => table.rows);
     desk.rows = { drawn, wanted: new Map(rows.map((row) => [`${row.table}-${row.index}`, row])), same: 0, all: rows.length };
