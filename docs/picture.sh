@@ -2,7 +2,8 @@
 # docs/picture.sh: draws the crates by layer, as crates.txt has them, between the two marks of docs/ARCHITECTURE.md.
 # docs/picture.sh --check: changes nothing, and ends with 1 where the page differs from what crates.txt gives.
 #
-#  - A crate's layer is one more than the highest that it uses. An arrow to what another arrow leads to anyway is left out.
+#  - A crate's layer is one more than the highest that it uses. An arrow to what another arrow leads to anyway is left out. What is no crate of the
+#    repository is the kit's, or `rt` refuses it; it is not drawn.
 #  - Either way it ends with 1 where crates.txt names a crate that is not there, or leaves one out; and where the crates with a row in the table of
 #    docs/ARCHITECTURE.md, or those in the block of the README, are not those of crates.txt.
 set -eu
@@ -35,7 +36,6 @@ function implied(name, used,   n, i, word) {
 
 function node(name) { return name in program ? name "([" name "])" : name }
 
-BEGIN { kit["io"]; kit["libc"] }
 FILENAME == ARGV[1] {
     split($0, part, "/")
     there[part[2]]
@@ -51,7 +51,7 @@ FILENAME == ARGV[1] {
     if (!(name in there)) fault("no such crate: " name)
     top = 1
     for (i = 2; i <= NF; i++) {
-        if ($i in kit) continue
+        if (!($i in there)) continue
         if (!($i in layer)) { fault(name " uses " $i ", which no line above names"); continue }
         uses[name] = uses[name] " " $i
         if (layer[$i] >= top) top = layer[$i] + 1
