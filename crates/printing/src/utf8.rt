@@ -3,6 +3,8 @@ ghost use Rattle.std.specs.Prelude.{◌+◌, ◌≤◌, ◌<◌, ◌≡◌, ◌�
 ghost use Rattle.printing.specs.Utf8 as utf;
 
 use super::output::text;
+use std::io;
+use std::io::Write;
 
 // A character, and the place behind it.
 #[derive(Clone, Copy)]
@@ -124,21 +126,22 @@ fn encode(code: u32) -> Utf8
     }
 }
 
-fn show_character(code: u32)
+fn show_character<W: Write>(out: &mut W, code: u32) -> io::Result<()>
     requires { code < 0x110000 }
 {
     let encoded = encode(code);
     let bytes = encoded.bytes;
     let length = encoded.length;
-    text(&bytes[0..length]);
+    text(out, &bytes[0..length])
 }
 
 // Writes a text's characters one by one.
-pub fn show_text(units: &[u8]) {
+pub fn show_text<W: Write>(out: &mut W, units: &[u8]) -> io::Result<()> {
     let mut at = 0;
     while 2 <= units.len() - at {
         let c = character_at(units, at);
-        show_character(c.code);
+        show_character(out, c.code)?;
         at = c.next;
     }
+    Ok(())
 }
