@@ -2,15 +2,17 @@
 use case_lines::printing::{decimal, text};
 use case_lines::sets::Set;
 use menu::counting::Counts;
+use std::io;
+use std::io::Write;
 
-fn tell(number: u32, lines: u32, channels: u32) {
-    text(b"  counts: ");
-    decimal(number);
-    text(b", lines ");
-    decimal(lines);
-    text(b", channels ");
-    decimal(channels);
-    text(b"\n");
+fn tell<W: Write>(out: &mut W, number: u32, lines: u32, channels: u32) -> io::Result<()> {
+    text(out, b"  counts: ")?;
+    decimal(out, number)?;
+    text(out, b", lines ")?;
+    decimal(out, lines)?;
+    text(out, b", channels ")?;
+    decimal(out, channels)?;
+    text(out, b"\n")
 }
 
 fn counts(set: Set, store: &[u8]) -> Counts {
@@ -21,10 +23,10 @@ fn counts(set: Set, store: &[u8]) -> Counts {
 }
 
 // The counts' line.
-pub fn held(set: Set, store: &[u8]) {
+pub fn held<W: Write>(out: &mut W, set: Set, store: &[u8]) -> io::Result<()> {
     let answer = counts(set, store);
     match answer {
-        Counts::Held(lines, channels) => tell(0, lines as u32, channels as u32),
-        Counts::NotAStore => tell(11, 0, 0),
+        Counts::Held(lines, channels) => tell(out, 0, lines as u32, channels as u32),
+        Counts::NotAStore => tell(out, 11, 0, 0),
     }
 }

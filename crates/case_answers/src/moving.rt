@@ -5,6 +5,8 @@ use case_lines::sets::Set;
 use case_lines::taking::answer_for;
 use export::parts::{Export, PARTS};
 use slots::bytes::same;
+use std::io;
+use std::io::Write;
 
 pub fn export_of(set: Set, part: u32, store: &[u8], buffer: &mut [u8]) -> Export {
     match set {
@@ -26,46 +28,80 @@ fn is_exported(set: Set, part: u32, request: &[u8], store: &[u8], buffer: &mut [
 }
 
 // A part's line, and whether the set that was sent it exports it the same.
-fn send(set: Set, part: u32, request: &[u8], to: &mut [u8]) {
-    text(b"part ");
-    decimal(part);
-    text(b" of ");
-    decimal((request.len() % 65536) as u32);
-    answer_for(set, b" bytes", request, to);
+fn send<W: Write>(
+    out: &mut W,
+    set: Set,
+    part: u32,
+    request: &[u8],
+    to: &mut [u8],
+) -> io::Result<()> {
+    text(out, b"part ")?;
+    decimal(out, part)?;
+    text(out, b" of ")?;
+    decimal(out, (request.len() % 65536) as u32)?;
+    answer_for(out, set, b" bytes", request, to)?;
     let mut buffer = [0u8; 8192];
     let again = is_exported(set, part, request, to, &mut buffer);
-    yes_or_no(b"  exported again as the same bytes:", again);
-    text(b"\n");
+    yes_or_no(out, b"  exported again as the same bytes:", again)?;
+    text(out, b"\n")
 }
 
 // Exports a part into this buffer, and sends it.
-fn move_by(sender: Set, taker: Set, part: u32, from: &[u8], to: &mut [u8], buffer: &mut [u8]) {
+fn move_by<W: Write>(
+    out: &mut W,
+    sender: Set,
+    taker: Set,
+    part: u32,
+    from: &[u8],
+    to: &mut [u8],
+    buffer: &mut [u8],
+) -> io::Result<()> {
     let written = export_of(sender, part, from, buffer);
     let Export::Written(length) = written else {
-        return;
+        return Ok(());
     };
     if buffer.len() < length {
-        return;
+        return Ok(());
     }
-    send(taker, part, &buffer[0..length], to);
+    send(out, taker, part, &buffer[0..length], to)
 }
 
-pub fn move_part(sender: Set, taker: Set, part: u32, from: &[u8], to: &mut [u8]) {
+pub fn move_part<W: Write>(
+    out: &mut W,
+    sender: Set,
+    taker: Set,
+    part: u32,
+    from: &[u8],
+    to: &mut [u8],
+) -> io::Result<()> {
     let mut buffer = [0u8; 8192];
-    move_by(sender, taker, part, from, to, &mut buffer);
+    move_by(out, sender, taker, part, from, to, &mut buffer)
 }
 
 // All parts in order.
-fn move_parts(sender: Set, taker: Set, from: &[u8], to: &mut [u8]) {
+fn move_parts<W: Write>(
+    out: &mut W,
+    sender: Set,
+    taker: Set,
+    from: &[u8],
+    to: &mut [u8],
+) -> io::Result<()> {
     let mut part = 1;
     while part <= PARTS {
-        move_part(sender, taker, part, from, to);
+        move_part(out, sender, taker, part, from, to)?;
         part += 1;
     }
+    Ok(())
 }
 
 // All parts, and the counts after them.
-pub fn move_all(sender: Set, taker: Set, from: &[u8], to: &mut [u8]) {
-    move_parts(sender, taker, from, to);
-    held(taker, to);
+pub fn move_all<W: Write>(
+    out: &mut W,
+    sender: Set,
+    taker: Set,
+    from: &[u8],
+    to: &mut [u8],
+) -> io::Result<()> {
+    move_parts(out, sender, taker, from, to)?;
+    held(out, taker, to)
 }

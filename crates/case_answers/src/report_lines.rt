@@ -4,6 +4,8 @@ use case_lines::printing::{decimal, hex, text};
 use case_lines::sets::Set;
 use report_reading::messages::ReportRead;
 use reporting::answers::{NoReport, Report};
+use std::io;
+use std::io::Write;
 
 // The most bytes of a message that are shown.
 const SHOWN: usize = 34;
@@ -24,9 +26,9 @@ fn number_of(why: NoReport) -> u32 {
     }
 }
 
-fn field(name: &[u8], value: u32) {
-    text(name);
-    decimal(value);
+fn field<W: Write>(out: &mut W, name: &[u8], value: u32) -> io::Result<()> {
+    text(out, name)?;
+    decimal(out, value)
 }
 
 fn report(set: Set, query: &[u8], index: u32, store: &[u8], buffer: &mut [u8]) -> Report {
@@ -44,56 +46,71 @@ fn read_report(set: Set, message: &[u8]) -> ReportRead {
 }
 
 // What the office reads of a message.
-fn read(set: Set, message: &[u8]) {
+fn read<W: Write>(out: &mut W, set: Set, message: &[u8]) -> io::Result<()> {
     let answer = read_report(set, message);
     match answer {
         ReportRead::Report(total, index, count) => {
-            field(b"  read: message ", index as u32);
-            field(b" of ", total as u32);
-            field(b", parameters ", count as u32);
+            field(out, b"  read: message ", index as u32)?;
+            field(out, b" of ", total as u32)?;
+            field(out, b", parameters ", count as u32)?;
         }
-        _ => text(b"  not read"),
+        _ => text(out, b"  not read")?,
     }
-    text(b"\n");
+    text(out, b"\n")
 }
 
 // The first bytes of a message, and what is read of it.
-fn show(set: Set, message: &[u8]) {
+fn show<W: Write>(out: &mut W, set: Set, message: &[u8]) -> io::Result<()> {
     let size = message.len();
     if size < SHOWN {
-        hex(message, size);
+        hex(out, message, size)?;
     } else {
-        hex(message, SHOWN);
+        hex(out, message, SHOWN)?;
     }
-    read(set, message);
+    read(out, set, message)
 }
 
 // A message's line: its number, the total, the length, and the bytes at the buffer's start.
-pub fn ask(set: Set, query: &[u8], index: u32, store: &[u8], buffer: &mut [u8]) {
-    field(b"  index ", index);
+pub fn ask<W: Write>(
+    out: &mut W,
+    set: Set,
+    query: &[u8],
+    index: u32,
+    store: &[u8],
+    buffer: &mut [u8],
+) -> io::Result<()> {
+    field(out, b"  index ", index)?;
     let answer = report(set, query, index, store, buffer);
     match answer {
         Report::Written(total, length) => {
-            field(b": 0, total ", total as u32);
-            field(b", length ", (length % 65536) as u32);
-            text(b",");
+            field(out, b": 0, total ", total as u32)?;
+            field(out, b", length ", (length % 65536) as u32)?;
+            text(out, b",")?;
             if length <= buffer.len() {
-                show(set, &buffer[0..length]);
+                show(out, set, &buffer[0..length])?;
             }
+            Ok(())
         }
         Report::Untouched(why) => {
-            field(b": ", number_of(why));
-            text(b", buffer");
-            hex(buffer, 2);
+            field(out, b": ", number_of(why))?;
+            text(out, b", buffer")?;
+            hex(out, buffer, 2)
         }
     }
 }
 
 // The line of a message that answers a query of these types, at most 255.
-pub fn asked(set: Set, types: &[u8], index: u32, store: &[u8], buffer: &mut [u8]) {
+pub fn asked<W: Write>(
+    out: &mut W,
+    set: Set,
+    types: &[u8],
+    index: u32,
+    store: &[u8],
+    buffer: &mut [u8],
+) -> io::Result<()> {
     let size = types.len();
     if 255 < size {
-        return;
+        return Ok(());
     }
     let stated = 4 + size;
     let high = (stated / 256) as u8;
@@ -102,5 +119,5 @@ pub fn asked(set: Set, types: &[u8], index: u32, store: &[u8], buffer: &mut [u8]
     let mut query = [0u8; QUERY];
     let at = put_bytes(&mut query, 0, &head);
     let end = put_bytes(&mut query, at, types);
-    ask(set, &query[0..end], index, store, buffer);
+    ask(out, set, &query[0..end], index, store, buffer)
 }

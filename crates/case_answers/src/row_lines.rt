@@ -3,6 +3,8 @@ use case_lines::printing::{decimal, hex, text};
 use case_lines::sets::Set;
 use screen::answers::{Answer, number_of};
 use screen::rows::{Row, row_of};
+use std::io;
+use std::io::Write;
 
 fn row_number(set: Set, store: &[u8], scratch: &[u8], row: Row) -> Answer {
     match set {
@@ -11,32 +13,44 @@ fn row_number(set: Set, store: &[u8], scratch: &[u8], row: Row) -> Answer {
     }
 }
 
-fn part(bytes: &[u8]) {
-    text(b", shows");
-    hex(bytes, bytes.len());
+fn part<W: Write>(out: &mut W, bytes: &[u8]) -> io::Result<()> {
+    text(out, b", shows")?;
+    hex(out, bytes, bytes.len())
 }
 
 // What a row shows: its number, and the bytes of its part.
-pub fn show(set: Set, store: &[u8], row: Row, scratch: &mut [u8]) {
-    text(b": ");
-    decimal(number_of(row_number(set, store, scratch, row)) as u32);
+pub fn show<W: Write>(
+    out: &mut W,
+    set: Set,
+    store: &[u8],
+    row: Row,
+    scratch: &mut [u8],
+) -> io::Result<()> {
+    text(out, b": ")?;
+    decimal(out, number_of(row_number(set, store, scratch, row)) as u32)?;
     match set {
-        Set::Handheld => part(screen::handheld::row_part(store, scratch, row)),
-        Set::Vehicle => part(screen::vehicle::row_part(store, scratch, row)),
+        Set::Handheld => part(out, screen::handheld::row_part(store, scratch, row)),
+        Set::Vehicle => part(out, screen::vehicle::row_part(store, scratch, row)),
     }
 }
 
 // The line of a row.
-pub fn row_for(set: Set, store: &[u8], table: u32, place: u32) {
-    text(b"row of table ");
-    decimal(table);
-    text(b", place ");
-    decimal(place);
+pub fn row_for<W: Write>(
+    out: &mut W,
+    set: Set,
+    store: &[u8],
+    table: u32,
+    place: u32,
+) -> io::Result<()> {
+    text(out, b"row of table ")?;
+    decimal(out, table)?;
+    text(out, b", place ")?;
+    decimal(out, place)?;
     let mut scratch = [0xEEu8; 36];
-    show(set, store, row_of(table, place), &mut scratch);
+    show(out, set, store, row_of(table, place), &mut scratch)
 }
 
 // The same of a hand-held.
-pub fn row(store: &[u8], table: u32, place: u32) {
-    row_for(Set::Handheld, store, table, place);
+pub fn row<W: Write>(out: &mut W, store: &[u8], table: u32, place: u32) -> io::Result<()> {
+    row_for(out, Set::Handheld, store, table, place)
 }

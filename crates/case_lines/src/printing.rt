@@ -1,47 +1,48 @@
-// Prints what a case comes to, on one line.
-use libc::STDOUT_FILENO;
+// Writes what a case comes to, on one line.
 use station::answers::{Answer, Reply, failed_id, number};
+use std::io;
+use std::io::Write;
 use tables::start::Started;
 use writing::Result;
 
 // The hexadecimal digits.
 const HEX: [u8; 16] = *b"0123456789ABCDEF";
 
-pub fn text(bytes: &[u8]) {
-    io::write_all(STDOUT_FILENO, bytes);
+pub fn text<W: Write>(out: &mut W, bytes: &[u8]) -> io::Result<()> {
+    out.write_all(bytes)
 }
 
-pub fn decimal(n: u32) {
-    io::print_decimal(STDOUT_FILENO, n as u64);
+pub fn decimal<W: Write>(out: &mut W, n: u32) -> io::Result<()> {
+    write!(out, "{n}")
 }
 
-pub fn yes_or_no(what: &[u8], answer: bool) {
-    text(what);
+pub fn yes_or_no<W: Write>(out: &mut W, what: &[u8], answer: bool) -> io::Result<()> {
+    text(out, what)?;
     if answer {
-        text(b" yes");
+        text(out, b" yes")
     } else {
-        text(b" no");
+        text(out, b" no")
     }
 }
 
 // A space and two hexadecimal digits.
-fn byte(b: u8) {
+fn byte<W: Write>(out: &mut W, b: u8) -> io::Result<()> {
     let high = (b / 16) as usize;
     let low = (b % 16) as usize;
-    text(&[b' ', HEX[high], HEX[low]]);
+    text(out, &[b' ', HEX[high], HEX[low]])
 }
 
 // The first bytes, as many as the length says, or that there are none; the line's end.
-pub fn hex(bytes: &[u8], length: usize) {
+pub fn hex<W: Write>(out: &mut W, bytes: &[u8], length: usize) -> io::Result<()> {
     if length == 0 {
-        text(b" none");
+        text(out, b" none")?;
     }
     let mut i = 0;
     while i < bytes.len() && i < length {
-        byte(bytes[i]);
+        byte(out, bytes[i])?;
         i += 1;
     }
-    text(b"\n");
+    text(out, b"\n")
 }
 
 // What an answer says of its reply; a refusal that touches nothing has none.
@@ -58,32 +59,38 @@ fn reply_of(answer: Answer) -> Reply {
     }
 }
 
-fn numbers(answer: Answer) {
-    text(b": ");
-    decimal(number(answer) as u32);
-    text(b", failed ID ");
-    decimal(failed_id(answer) as u32);
+fn numbers<W: Write>(out: &mut W, answer: Answer) -> io::Result<()> {
+    text(out, b": ")?;
+    decimal(out, number(answer) as u32)?;
+    text(out, b", failed ID ")?;
+    decimal(out, failed_id(answer) as u32)
 }
 
 // The line of starting a store.
-pub fn started(what: &[u8], answer: Started) {
-    text(what);
-    text(b": ");
+pub fn started<W: Write>(out: &mut W, what: &[u8], answer: Started) -> io::Result<()> {
+    text(out, what)?;
+    text(out, b": ")?;
     match answer {
-        Started::Fresh => decimal(0),
-        Started::WrongSize => decimal(11),
+        Started::Fresh => decimal(out, 0)?,
+        Started::WrongSize => decimal(out, 11)?,
     }
-    text(b"\n");
+    text(out, b"\n")
 }
 
 // The case's line: number, failed ID, send, reboot, whether the store stayed as it was, and the reply's bytes.
-pub(crate) fn line(what: &[u8], answer: Answer, stayed: bool, reply: &[u8]) {
-    text(what);
-    numbers(answer);
+pub(crate) fn line<W: Write>(
+    out: &mut W,
+    what: &[u8],
+    answer: Answer,
+    stayed: bool,
+    reply: &[u8],
+) -> io::Result<()> {
+    text(out, what)?;
+    numbers(out, answer)?;
     let said = reply_of(answer);
-    yes_or_no(b", send", said.send);
-    yes_or_no(b", reboot", said.reboot);
-    yes_or_no(b", store stayed", stayed);
-    text(b", reply");
-    hex(reply, said.length as usize);
+    yes_or_no(out, b", send", said.send)?;
+    yes_or_no(out, b", reboot", said.reboot)?;
+    yes_or_no(out, b", store stayed", stayed)?;
+    text(out, b", reply")?;
+    hex(out, reply, said.length as usize)
 }

@@ -2,39 +2,42 @@
 use case_lines::printing::started;
 use case_lines::taking::{answer, answer_into, messages};
 use station::handheld::start;
+use std::io;
+use std::io::Write;
 use tables::limits::HANDHELD_SIZE;
 
 // A request that is taken: the emergency key calls the current place by voice.
 const GOOD: [u8; 12] = *b"\x02\x02\x00\x08\x08\x07\x08\x01\xCB\x00\x03\xA0";
 
-fn stores() {
+fn stores<W: Write>(out: &mut W) -> io::Result<()> {
     let mut store = [0u8; HANDHELD_SIZE];
-    answer(b"store that was never started", &GOOD, &mut store);
-    started(b"starting 24576 bytes", start(&mut store));
-    answer(b"the same store, started", &GOOD, &mut store);
+    answer(out, b"store that was never started", &GOOD, &mut store)?;
+    started(out, b"starting 24576 bytes", start(&mut store))?;
+    answer(out, b"the same store, started", &GOOD, &mut store)?;
     let mut old = [0u8; 12288];
-    started(b"starting 12288 bytes", start(&mut old));
-    answer(b"store of 12288 bytes", &GOOD, &mut old);
+    started(out, b"starting 12288 bytes", start(&mut old))?;
+    answer(out, b"store of 12288 bytes", &GOOD, &mut old)
 }
 
-fn buffers(store: &mut [u8]) {
+fn buffers<W: Write>(out: &mut W, store: &mut [u8]) -> io::Result<()> {
     let mut small = [0u8; 19];
-    answer_into(b"reply buffer of 19 bytes", &GOOD, store, &mut small);
+    answer_into(out, b"reply buffer of 19 bytes", &GOOD, store, &mut small)?;
     let mut none = [0u8; 0];
-    answer_into(b"the same, and no store", b"", &mut none, &mut small);
-    answer(b"no store, and no message", b"", &mut none);
+    answer_into(out, b"the same, and no store", b"", &mut none, &mut small)?;
+    answer(out, b"no store, and no message", b"", &mut none)
 }
 
-fn sizes(store: &mut [u8]) {
-    answer(b"no message", b"", store);
+fn sizes<W: Write>(out: &mut W, store: &mut [u8]) -> io::Result<()> {
+    answer(out, b"no message", b"", store)?;
     let most = [0u8; 4096];
-    answer(b"message of 4096 bytes, all 0", &most, store);
+    answer(out, b"message of 4096 bytes, all 0", &most, store)?;
     let long = [0u8; 4097];
-    answer(b"message of 4097 bytes, all 0", &long, store);
+    answer(out, b"message of 4097 bytes, all 0", &long, store)
 }
 
-fn carriers(store: &mut [u8]) {
+fn carriers<W: Write>(out: &mut W, store: &mut [u8]) -> io::Result<()> {
     messages(
+        out,
         b"message of 6 bytes: 0202 0002 08 07\n\
         start bytes 02 03: 0203 0008 08 07 08 01 CB 0003 A0\n\
         start bytes 01 02: 0102 0008 08 07 08 01 CB 0003 A0\n\
@@ -56,13 +59,14 @@ fn carriers(store: &mut [u8]) {
         length 0, not stated: 0202 0000 08 07 08 01 CB 0003 A0\n\
         the same, length stated, reserved bits set: 0202 0008 08 F7 08 01 CB 0003 A0\n",
         store,
-    );
+    )?;
+    Ok(())
 }
 
-pub(crate) fn run(store: &mut [u8]) {
-    stores();
+pub(crate) fn run<W: Write>(out: &mut W, store: &mut [u8]) -> io::Result<()> {
+    stores(out)?;
     start(store);
-    buffers(store);
-    sizes(store);
-    carriers(store);
+    buffers(out, store)?;
+    sizes(out, store)?;
+    carriers(out, store)
 }

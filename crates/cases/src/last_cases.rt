@@ -1,8 +1,11 @@
 // The last item: send, reboot and the hash kept; and result queries.
 use case_lines::taking::messages;
+use std::io;
+use std::io::Write;
 
-pub(crate) fn run(store: &mut [u8]) {
+pub(crate) fn run<W: Write>(out: &mut W, store: &mut [u8]) -> io::Result<()> {
     messages(
+        out,
         b"a fresh store\n\
         FF before another: 0202 000C 08 07 08 02 FF 0003 40 CB 0003 A0\n\
         FF second of three: 0202 0010 08 07 08 03 CB 0003 A0 FF 0003 40 CB 0003 A0\n\
@@ -29,5 +32,6 @@ pub(crate) fn run(store: &mut [u8]) {
         FF with reboot and code 0: 0202 0008 08 07 08 01 FF 0003 80\n\
         query after code 0: 0202 000E 08 00 0D 02 0102030405060708090A\n",
         store,
-    );
+    )?;
+    Ok(())
 }

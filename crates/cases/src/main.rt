@@ -1,6 +1,8 @@
 // Runs cases that were worked out by hand, of numbers, buffers, messages and settings: a line each, with the number answered and what was left behind.
 #![tactic(auto)]
 
+use std::io;
+use std::io::{BufWriter, Write};
 use tables::limits::HANDHELD_SIZE;
 
 mod carrier_cases;
@@ -9,11 +11,13 @@ mod last_cases;
 mod plan_cases;
 mod setting_cases;
 
-fn main() {
-    plan_cases::run();
+fn main(rt: HostRuntime) -> io::Result<()> {
+    let mut out = BufWriter::new(rt.alloc(), rt.stdout())?;
+    plan_cases::run(&mut out)?;
     let mut store = [0u8; HANDHELD_SIZE];
-    carrier_cases::run(&mut store);
-    setting_cases::run(&mut store);
-    last_cases::run(&mut store);
-    judge_cases::run(&mut store);
+    carrier_cases::run(&mut out, &mut store)?;
+    setting_cases::run(&mut out, &mut store)?;
+    last_cases::run(&mut out, &mut store)?;
+    judge_cases::run(&mut out, &mut store)?;
+    out.flush()
 }

@@ -2,35 +2,37 @@
 use case_lines::printing::{decimal, text};
 use plan::frequencies::FrequencyAnswer;
 use plan::numbers::IndividualAnswer;
+use std::io;
+use std::io::Write;
 
-fn line(what: &[u8], input: u32, number: u32, value: u32) {
-    text(what);
-    text(b" ");
-    decimal(input);
-    text(b": ");
-    decimal(number);
-    text(b", value ");
-    decimal(value);
-    text(b"\n");
+fn line<W: Write>(out: &mut W, what: &[u8], input: u32, number: u32, value: u32) -> io::Result<()> {
+    text(out, what)?;
+    text(out, b" ")?;
+    decimal(out, input)?;
+    text(out, b": ")?;
+    decimal(out, number)?;
+    text(out, b", value ")?;
+    decimal(out, value)?;
+    text(out, b"\n")
 }
 
-fn individual(dialled: u32) {
+fn individual<W: Write>(out: &mut W, dialled: u32) -> io::Result<()> {
     match plan::numbers::individual_of_dialled(dialled) {
-        IndividualAnswer::Address(a) => line(b"individual address of", dialled, 0, a.0),
-        IndividualAnswer::OutsidePlan => line(b"individual address of", dialled, 20, 0),
+        IndividualAnswer::Address(a) => line(out, b"individual address of", dialled, 0, a.0),
+        IndividualAnswer::OutsidePlan => line(out, b"individual address of", dialled, 20, 0),
     }
 }
 
-fn transmit(channel: u32) {
+fn transmit<W: Write>(out: &mut W, channel: u32) -> io::Result<()> {
     match plan::channels::transmit(channel) {
-        FrequencyAnswer::Frequency(f) => line(b"transmit frequency of", channel, 0, f),
-        FrequencyAnswer::NoChannel => line(b"transmit frequency of", channel, 22, 0),
+        FrequencyAnswer::Frequency(f) => line(out, b"transmit frequency of", channel, 0, f),
+        FrequencyAnswer::NoChannel => line(out, b"transmit frequency of", channel, 22, 0),
     }
 }
 
-pub(crate) fn run() {
-    individual(32819200);
-    individual(32842550);
-    transmit(0);
-    transmit(641);
+pub(crate) fn run<W: Write>(out: &mut W) -> io::Result<()> {
+    individual(out, 32819200)?;
+    individual(out, 32842550)?;
+    transmit(out, 0)?;
+    transmit(out, 641)
 }

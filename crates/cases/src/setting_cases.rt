@@ -1,8 +1,11 @@
 // The emergency key, the home numbers and the system code; types, lengths and counts of settings.
 use case_lines::taking::requests;
+use std::io;
+use std::io::Write;
 
-pub(crate) fn run(store: &mut [u8]) {
+pub(crate) fn run<W: Write>(out: &mut W, store: &mut [u8]) -> io::Result<()> {
     requests(
+        out,
         b"a fresh store\n\
         LA 8: 01 CF 0005 0008 00\n\
         LA 9: 01 CF 0005 0009 00\n\
@@ -36,5 +39,6 @@ pub(crate) fn run(store: &mut [u8]) {
         a fresh store\n\
         eight settings, then LA 9: 09 {08 x CD 0005 # 64C0} CF 0005 0009 00\n",
         store,
-    );
+    )?;
+    Ok(())
 }

@@ -6,44 +6,55 @@ use plain::desk::{start, take};
 use plain_log::areas::AREA;
 use printing::output::{decimal, text};
 use records::{Record, read_record};
+use std::io;
+use std::io::{BufWriter, Read, Write};
 
-fn line(kind: u16, number: u8, failed: u8) {
-    decimal(kind as u64);
-    text(b" ");
-    decimal(number as u64);
-    text(b" ");
-    decimal(failed as u64);
-    text(b"\n");
+fn line<W: Write>(out: &mut W, kind: u16, number: u8, failed: u8) -> io::Result<()> {
+    decimal(out, kind as u64)?;
+    text(out, b" ")?;
+    decimal(out, number as u64)?;
+    text(out, b" ")?;
+    decimal(out, failed as u64)?;
+    text(out, b"\n")
 }
 
 // Takes the next record: is there another?
-fn take_record(buffer: &mut [u8], area: &mut [u8], reply: &mut [u8]) -> bool {
-    let record = read_record(buffer);
+fn take_record<R: Read, W: Write>(
+    input: &mut R,
+    out: &mut W,
+    buffer: &mut [u8],
+    area: &mut [u8],
+    reply: &mut [u8],
+) -> io::Result<bool> {
+    let record = read_record(input, buffer)?;
     match record {
-        Record::End => false,
+        Record::End => Ok(false),
         Record::Cut => {
-            text(b"cut\n");
-            false
+            text(out, b"cut\n")?;
+            Ok(false)
         }
         Record::TooLong(kind) => {
-            line(kind, 12, 0);
-            true
+            line(out, kind, 12, 0)?;
+            Ok(true)
         }
         Record::Whole(kind, length) => {
             let answer = take(&buffer[0..length], area, reply);
-            line(kind, number(answer), failed_id(answer));
-            true
+            line(out, kind, number(answer), failed_id(answer))?;
+            Ok(true)
         }
     }
 }
 
-fn main() {
+fn main(rt: HostRuntime) -> io::Result<()> {
+    let mut input = rt.reader();
+    let mut out = BufWriter::new(rt.alloc(), rt.stdout())?;
     let mut buffer = [0u8; 4096];
     let mut area = [0u8; AREA];
     let mut reply = [0u8; 20];
     start(&mut area);
     let mut turns = u64::MAX;
-    while turns > 0 && take_record(&mut buffer, &mut area, &mut reply) {
+    while turns > 0 && take_record(&mut input, &mut out, &mut buffer, &mut area, &mut reply)? {
         turns -= 1;
     }
+    out.flush()
 }

@@ -3,6 +3,8 @@ use plain::answers::{Answer as PlainAnswer, failed_id as plain_failed_id, number
 use printing::output::{decimal, text};
 use slots::bytes::same;
 use station::answers::{Answer, Reply, failed_id, number};
+use std::io;
+use std::io::Write;
 
 // Whether two replies are to be treated alike.
 fn same_reply(first: Reply, second: Reply) -> bool {
@@ -31,30 +33,38 @@ fn same_answer(handheld: Answer, plain: PlainAnswer) -> bool {
 }
 
 // A number and a failed ID.
-fn pair(number: u8, failed: u8) {
-    decimal(number as u64);
-    text(b" ");
-    decimal(failed as u64);
+fn pair<W: Write>(out: &mut W, number: u8, failed: u8) -> io::Result<()> {
+    decimal(out, number as u64)?;
+    text(out, b" ")?;
+    decimal(out, failed as u64)
 }
 
 // What the plain engine said, where it is not what the hand-held did; `written` where a refusal that touches nothing left another reply buffer.
-fn other(plain: PlainAnswer, reply: &[u8]) {
-    pair(plain_number(plain), plain_failed_id(plain));
+fn other<W: Write>(out: &mut W, plain: PlainAnswer, reply: &[u8]) -> io::Result<()> {
+    pair(out, plain_number(plain), plain_failed_id(plain))?;
     if 10 <= plain_number(plain) && !same(reply, &[0xEEu8; 20]) {
-        text(b" written");
+        text(out, b" written")?;
     }
+    Ok(())
 }
 
 // The line of a message.
-pub(crate) fn tell(kind: u16, handheld: Answer, plain: PlainAnswer, first: &[u8], second: &[u8]) {
-    decimal(kind as u64);
-    text(b" ");
-    pair(number(handheld), failed_id(handheld));
-    text(b" ");
+pub(crate) fn tell<W: Write>(
+    out: &mut W,
+    kind: u16,
+    handheld: Answer,
+    plain: PlainAnswer,
+    first: &[u8],
+    second: &[u8],
+) -> io::Result<()> {
+    decimal(out, kind as u64)?;
+    text(out, b" ")?;
+    pair(out, number(handheld), failed_id(handheld))?;
+    text(out, b" ")?;
     if same_answer(handheld, plain) && same(first, second) {
-        text(b"same");
+        text(out, b"same")?;
     } else {
-        other(plain, second);
+        other(out, plain, second)?;
     }
-    text(b"\n");
+    text(out, b"\n")
 }

@@ -3,6 +3,8 @@ use super::rows::{compare, show};
 use plain::desk::start as start_area;
 use printing::output::text;
 use station::handheld::start;
+use std::io;
+use std::io::Write;
 
 // A place in two bytes, high byte first.
 fn place(high: u8, low: u8) -> usize {
@@ -24,21 +26,28 @@ fn damage_by(bytes: &[u8], area: &mut [u8]) {
 }
 
 // Starts both engines afresh.
-fn start_both(store: &mut [u8], area: &mut [u8]) {
-    text(b"start\n");
+fn start_both<W: Write>(out: &mut W, store: &mut [u8], area: &mut [u8]) -> io::Result<()> {
+    text(out, b"start\n")?;
     start(store);
     start_area(area);
+    Ok(())
 }
 
 // 1 shows the plain engine's rows, 2 damages its area, 3 starts both engines afresh, 4 compares all rows of both.
-pub(crate) fn obey(bytes: &[u8], store: &mut [u8], area: &mut [u8]) {
+pub(crate) fn obey<W: Write>(
+    out: &mut W,
+    bytes: &[u8],
+    store: &mut [u8],
+    area: &mut [u8],
+) -> io::Result<()> {
     if bytes.len() == 0 {
-        return;
+        return Ok(());
     }
     match bytes[0] {
-        1 => show(area),
+        1 => show(out, area)?,
         2 => damage_by(bytes, area),
-        3 => start_both(store, area),
-        _ => compare(store, area),
+        3 => start_both(out, store, area)?,
+        _ => compare(out, store, area)?,
     }
+    Ok(())
 }

@@ -16,6 +16,8 @@ use printing::output::text;
 use records::{Record, read_record};
 use rows::compare;
 use station::handheld::{commit, start};
+use std::io;
+use std::io::{BufWriter, Read, Write};
 use tables::limits::HANDHELD_SIZE;
 
 // The kind of an instruction.
@@ -30,54 +32,76 @@ fn is_small(area: &[u8]) -> bool {
 }
 
 // Gives a message to both, and compares what they say, and their rows where the plain engine took it.
-fn receive(kind: u16, message: &[u8], store: &mut [u8], area: &mut [u8]) {
+fn receive<W: Write>(
+    out: &mut W,
+    kind: u16,
+    message: &[u8],
+    store: &mut [u8],
+    area: &mut [u8],
+) -> io::Result<()> {
     let mut first = [0xEEu8; 20];
     let mut second = [0xEEu8; 20];
     let handheld = commit(message, store, &mut first);
     let plain = take(message, area, &mut second);
-    tell(kind, handheld, plain, &first, &second);
+    tell(out, kind, handheld, plain, &first, &second)?;
     if number(plain) == 0 && is_small(area) {
-        compare(store, area);
+        compare(out, store, area)?;
     }
+    Ok(())
 }
 
 // A message, or an instruction.
-fn deal_with(kind: u16, bytes: &[u8], store: &mut [u8], area: &mut [u8]) {
+fn deal_with<W: Write>(
+    out: &mut W,
+    kind: u16,
+    bytes: &[u8],
+    store: &mut [u8],
+    area: &mut [u8],
+) -> io::Result<()> {
     if kind == INSTRUCTION {
-        obey(bytes, store, area);
+        obey(out, bytes, store, area)
     } else {
-        receive(kind, bytes, store, area);
+        receive(out, kind, bytes, store, area)
     }
 }
 
 // Deals with the next record: is there another?
-fn next(buffer: &mut [u8], store: &mut [u8], area: &mut [u8]) -> bool {
-    let record = read_record(buffer);
+fn next<R: Read, W: Write>(
+    input: &mut R,
+    out: &mut W,
+    buffer: &mut [u8],
+    store: &mut [u8],
+    area: &mut [u8],
+) -> io::Result<bool> {
+    let record = read_record(input, buffer)?;
     match record {
-        Record::End => false,
+        Record::End => Ok(false),
         Record::Cut => {
-            text(b"cut\n");
-            false
+            text(out, b"cut\n")?;
+            Ok(false)
         }
         Record::TooLong(_) => {
-            text(b"too long\n");
-            true
+            text(out, b"too long\n")?;
+            Ok(true)
         }
         Record::Whole(kind, length) => {
-            deal_with(kind, &buffer[0..length], store, area);
-            true
+            deal_with(out, kind, &buffer[0..length], store, area)?;
+            Ok(true)
         }
     }
 }
 
-fn main() {
+fn main(rt: HostRuntime) -> io::Result<()> {
+    let mut input = rt.reader();
+    let mut out = BufWriter::new(rt.alloc(), rt.stdout())?;
     let mut buffer = [0u8; 4097];
     let mut store = [0u8; HANDHELD_SIZE];
     let mut area = [0u8; AREA];
     start(&mut store);
     start_area(&mut area);
     let mut turns = u64::MAX;
-    while turns > 0 && next(&mut buffer, &mut store, &mut area) {
+    while turns > 0 && next(&mut input, &mut out, &mut buffer, &mut store, &mut area)? {
         turns -= 1;
     }
+    out.flush()
 }

@@ -5,6 +5,8 @@ use screen::answers::{Answer, Place, number_of};
 use screen::handheld::{row_number, row_part};
 use screen::rows::row_of;
 use slots::bytes::same;
+use std::io;
+use std::io::Write;
 
 // The first place of each table, and the one behind its last.
 const PLACES: [[u32; 2]; 8] = [
@@ -47,67 +49,79 @@ fn differing(store: &[u8], area: &[u8], table: u32, start: u32, end: u32) -> u32
 }
 
 // The name of a row: its table and its place.
-fn name(table: u32, place: u32) {
-    text(b"row ");
-    decimal(table as u64);
-    text(b" ");
-    decimal(place as u64);
+fn name<W: Write>(out: &mut W, table: u32, place: u32) -> io::Result<()> {
+    text(out, b"row ")?;
+    decimal(out, table as u64)?;
+    text(out, b" ")?;
+    decimal(out, place as u64)
 }
 
 // A line for the first row in which the engines differ; none where they do not.
-pub(crate) fn compare(store: &[u8], area: &[u8]) {
+pub(crate) fn compare<W: Write>(out: &mut W, store: &[u8], area: &[u8]) -> io::Result<()> {
     let mut table: u32 = 1;
     for places in 0..8 {
         let ends = PLACES[places];
         let place = differing(store, area, table, ends[0], ends[1]);
         if place < ends[1] {
-            name(table, place);
-            text(b" differs\n");
-            return;
+            name(out, table, place)?;
+            text(out, b" differs\n")?;
+            return Ok(());
         }
         table += 1;
     }
+    Ok(())
 }
 
 // A line for a row of the plain engine that is there: its name and its bytes.
-fn show_row(area: &[u8], table: u32, place: u32) {
+fn show_row<W: Write>(out: &mut W, area: &[u8], table: u32, place: u32) -> io::Result<()> {
     let mut scratch = [0u8; 64];
     let answer = plain_place(area, &mut scratch, row_of(table, place));
     match answer {
         Place::Scratch(bytes) => {
-            name(table, place);
-            text(b":");
-            hex(&scratch, bytes);
-            text(b"\n");
+            name(out, table, place)?;
+            text(out, b":")?;
+            hex(out, &scratch, bytes)?;
+            text(out, b"\n")
         }
-        _ => text(b""),
+        _ => text(out, b""),
     }
 }
 
 // The rows of a table of the plain engine, from one place to another.
-fn show_table(area: &[u8], table: u32, start: u32, end: u32) {
+fn show_table<W: Write>(
+    out: &mut W,
+    area: &[u8],
+    table: u32,
+    start: u32,
+    end: u32,
+) -> io::Result<()> {
     let mut place = start;
     while place < end {
-        show_row(area, table, place);
+        show_row(out, area, table, place)?;
         place += 1;
     }
+    Ok(())
 }
 
 // A line with what the plain engine answers for a row of no table: 17, or 11 where it has no area.
-fn show_number(area: &[u8]) {
+fn show_number<W: Write>(out: &mut W, area: &[u8]) -> io::Result<()> {
     let scratch = [0u8; 64];
-    text(b"rows ");
-    decimal(number_of(plain_number(area, &scratch, row_of(9, 0))) as u64);
-    text(b"\n");
+    text(out, b"rows ")?;
+    decimal(
+        out,
+        number_of(plain_number(area, &scratch, row_of(9, 0))) as u64,
+    )?;
+    text(out, b"\n")
 }
 
 // That line, and one for each row of the plain engine that is there.
-pub(crate) fn show(area: &[u8]) {
-    show_number(area);
+pub(crate) fn show<W: Write>(out: &mut W, area: &[u8]) -> io::Result<()> {
+    show_number(out, area)?;
     let mut table: u32 = 1;
     for places in 0..8 {
         let ends = PLACES[places];
-        show_table(area, table, ends[0], ends[1]);
+        show_table(out, area, table, ends[0], ends[1])?;
         table += 1;
     }
+    Ok(())
 }

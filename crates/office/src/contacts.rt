@@ -4,77 +4,99 @@ use plan::numbers::{GroupAddress, IndividualAddress};
 use printing::output::{address, text};
 use read_fields::numbers::NumberPlace;
 use read_fields::texts::TextPlace;
+use std::io;
+use std::io::Write;
 use writing::{GroupFlags, IndividualFlags, KeyFlags, KeyTarget, LineFlags};
 
 // An address and a text.
-fn addressed(m: &[u8], a: u32, name: TextPlace) {
-    address(a);
-    text(b" ");
-    quoted(m, name);
+fn addressed<W: Write>(out: &mut W, m: &[u8], a: u32, name: TextPlace) -> io::Result<()> {
+    address(out, a)?;
+    text(out, b" ")?;
+    quoted(out, m, name)
 }
 
 // The flags that individuals and lines have.
-fn few_flags(encryption: bool, emergency: bool, priority: u8) {
-    flag(b" encryption ", encryption);
-    flag(b" emergency ", emergency);
-    labelled(b" priority ", priority as u64);
+fn few_flags<W: Write>(
+    out: &mut W,
+    encryption: bool,
+    emergency: bool,
+    priority: u8,
+) -> io::Result<()> {
+    flag(out, b" encryption ", encryption)?;
+    flag(out, b" emergency ", emergency)?;
+    labelled(out, b" priority ", priority as u64)
 }
 
-pub(crate) fn group(m: &[u8], index: u8, flags: GroupFlags, a: GroupAddress, name: TextPlace) {
-    head(b"group contact ", index as u64);
-    addressed(m, a.0, name);
-    labelled(b" attribute ", flags.attribute as u64);
-    flag(b" broadcast ", flags.broadcast);
-    flag(b" encryption ", flags.encryption);
-    flag(b" OVCM ", flags.ovcm);
-    flag(b" emergency ", flags.emergency);
-    labelled(b" priority ", flags.priority as u64);
+pub(crate) fn group<W: Write>(
+    out: &mut W,
+    m: &[u8],
+    index: u8,
+    flags: GroupFlags,
+    a: GroupAddress,
+    name: TextPlace,
+) -> io::Result<()> {
+    head(out, b"group contact ", index as u64)?;
+    addressed(out, m, a.0, name)?;
+    labelled(out, b" attribute ", flags.attribute as u64)?;
+    flag(out, b" broadcast ", flags.broadcast)?;
+    flag(out, b" encryption ", flags.encryption)?;
+    flag(out, b" OVCM ", flags.ovcm)?;
+    flag(out, b" emergency ", flags.emergency)?;
+    labelled(out, b" priority ", flags.priority as u64)
 }
 
-pub(crate) fn individual(
+pub(crate) fn individual<W: Write>(
+    out: &mut W,
     m: &[u8],
     index: u8,
     flags: IndividualFlags,
     a: IndividualAddress,
     name: TextPlace,
-) {
-    head(b"individual contact ", index as u64);
-    addressed(m, a.0, name);
-    few_flags(flags.encryption, flags.emergency, flags.priority);
+) -> io::Result<()> {
+    head(out, b"individual contact ", index as u64)?;
+    addressed(out, m, a.0, name)?;
+    few_flags(out, flags.encryption, flags.emergency, flags.priority)
 }
 
-pub(crate) fn line(m: &[u8], index: u8, flags: LineFlags, number: NumberPlace, name: TextPlace) {
-    head(b"line contact ", index as u64);
+pub(crate) fn line<W: Write>(
+    out: &mut W,
+    m: &[u8],
+    index: u8,
+    flags: LineFlags,
+    number: NumberPlace,
+    name: TextPlace,
+) -> io::Result<()> {
+    head(out, b"line contact ", index as u64)?;
     if flags.pabx {
-        text(b"PABX ");
+        text(out, b"PABX ")?;
     } else {
-        text(b"PSTN ");
+        text(out, b"PSTN ")?;
     }
-    digits(m, number);
-    text(b" ");
-    quoted(m, name);
-    few_flags(flags.encryption, flags.emergency, flags.priority);
+    digits(out, m, number)?;
+    text(out, b" ")?;
+    quoted(out, m, name)?;
+    few_flags(out, flags.encryption, flags.emergency, flags.priority)
 }
 
 // Where the key calls.
-fn calls(target: KeyTarget) {
+fn calls<W: Write>(out: &mut W, target: KeyTarget) -> io::Result<()> {
     match target {
-        KeyTarget::Current(group) => flag(b"current place group ", group),
+        KeyTarget::Current(group) => flag(out, b"current place group ", group),
         KeyTarget::ToGroup(a) => {
-            text(b"group ");
-            address(a.0);
+            text(out, b"group ")?;
+            address(out, a.0)
         }
         KeyTarget::ToIndividual(a) => {
-            text(b"individual ");
-            address(a.0);
+            text(out, b"individual ")?;
+            address(out, a.0)
         }
     }
 }
 
-pub(crate) fn key(target: KeyTarget, flags: KeyFlags) {
-    text(b"emergency key: ");
-    calls(target);
-    flag(b" voice ", flags.voice);
-    flag(b" status ", flags.status);
-    flag(b" siren ", flags.siren);
+pub(crate) fn key<W: Write>(out: &mut W, target: KeyTarget, flags: KeyFlags) -> io::Result<()> {
+    text(out, b"emergency key: ")?;
+    calls(out, target)?;
+    flag(out, b" voice ", flags.voice)?;
+    flag(out, b" status ", flags.status)?;
+    flag(out, b" siren ", flags.siren)
 }

@@ -4,26 +4,28 @@ use printing::utf8::show_text;
 use read_fields::bytes::number;
 use read_fields::numbers::NumberPlace;
 use read_fields::texts::TextPlace;
+use std::io;
+use std::io::Write;
 
 // A number behind a word.
-pub(crate) fn labelled(label: &[u8], n: u64) {
-    text(label);
-    decimal(n);
+pub(crate) fn labelled<W: Write>(out: &mut W, label: &[u8], n: u64) -> io::Result<()> {
+    text(out, label)?;
+    decimal(out, n)
 }
 
 // What a parameter is and its index or code.
-pub(crate) fn head(what: &[u8], n: u64) {
-    labelled(what, n);
-    text(b": ");
+pub(crate) fn head<W: Write>(out: &mut W, what: &[u8], n: u64) -> io::Result<()> {
+    labelled(out, what, n)?;
+    text(out, b": ")
 }
 
 // A flag behind a word, as 0 or 1.
-pub(crate) fn flag(label: &[u8], set: bool) {
-    text(label);
+pub(crate) fn flag<W: Write>(out: &mut W, label: &[u8], set: bool) -> io::Result<()> {
+    text(out, label)?;
     if set {
-        text(b"1");
+        text(out, b"1")
     } else {
-        text(b"0");
+        text(out, b"0")
     }
 }
 
@@ -42,29 +44,35 @@ fn units_of(m: &[u8], place: TextPlace) -> &[u8] {
 }
 
 // A text in quotes.
-pub(crate) fn quoted(m: &[u8], place: TextPlace) {
-    text(b"\"");
-    show_text(units_of(m, place));
-    text(b"\"");
+pub(crate) fn quoted<W: Write>(out: &mut W, m: &[u8], place: TextPlace) -> io::Result<()> {
+    text(out, b"\"")?;
+    show_text(out, units_of(m, place))?;
+    text(out, b"\"")
 }
 
 // Two hexadecimal digits for each of so many bytes: the place behind them.
-pub(crate) fn hex_run(m: &[u8], start: usize, count: usize) -> usize {
+pub(crate) fn hex_run<W: Write>(
+    out: &mut W,
+    m: &[u8],
+    start: usize,
+    count: usize,
+) -> io::Result<usize> {
     let mut at = start;
     let mut left = count;
     while at < m.len() && 0 < left {
-        hex_pair(m[at]);
+        hex_pair(out, m[at])?;
         left -= 1;
         at += 1;
     }
-    at
+    Ok(at)
 }
 
 // A number's digits, two in a byte; of the last byte of an odd number only the first.
-pub(crate) fn digits(m: &[u8], place: NumberPlace) {
+pub(crate) fn digits<W: Write>(out: &mut W, m: &[u8], place: NumberPlace) -> io::Result<()> {
     let count = place.digits;
-    let end = hex_run(m, place.start, count / 2);
+    let end = hex_run(out, m, place.start, count / 2)?;
     if count % 2 == 1 {
-        decimal(number(m, end, 1) / 16);
+        decimal(out, number(m, end, 1) / 16)?;
     }
+    Ok(())
 }

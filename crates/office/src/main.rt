@@ -9,31 +9,36 @@ mod parameters;
 use messages::{refused, show_message};
 use printing::output::text;
 use records::{Record, read_record};
+use std::io;
+use std::io::{BufWriter, Read, Write};
 
 // Shows the message of the next record: is there another?
-fn next(buffer: &mut [u8]) -> bool {
-    let record = read_record(buffer);
+fn next<R: Read, W: Write>(input: &mut R, out: &mut W, buffer: &mut [u8]) -> io::Result<bool> {
+    let record = read_record(input, buffer)?;
     match record {
-        Record::End => false,
+        Record::End => Ok(false),
         Record::Cut => {
-            text(b"cut\n");
-            false
+            text(out, b"cut\n")?;
+            Ok(false)
         }
         Record::TooLong(_) => {
-            refused(12);
-            true
+            refused(out, 12)?;
+            Ok(true)
         }
         Record::Whole(_, length) => {
-            show_message(&buffer[0..length]);
-            true
+            show_message(out, &buffer[0..length])?;
+            Ok(true)
         }
     }
 }
 
-fn main() {
+fn main(rt: HostRuntime) -> io::Result<()> {
+    let mut input = rt.reader();
+    let mut out = BufWriter::new(rt.alloc(), rt.stdout())?;
     let mut buffer = [0u8; 4096];
     let mut turns = u64::MAX;
-    while turns > 0 && next(&mut buffer) {
+    while turns > 0 && next(&mut input, &mut out, &mut buffer)? {
         turns -= 1;
     }
+    out.flush()
 }

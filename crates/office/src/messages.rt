@@ -6,46 +6,49 @@ use report_reading::handheld::read_report;
 use report_reading::items::ItemRead;
 use report_reading::messages::ReportRead;
 use report_reading::types::read_item;
+use std::io;
+use std::io::Write;
 
 // The place of the first parameter.
 const FIRST: usize = 10;
 
-pub(crate) fn refused(number: u64) {
-    labelled(b"refused ", number);
-    text(b"\n");
+pub(crate) fn refused<W: Write>(out: &mut W, number: u64) -> io::Result<()> {
+    labelled(out, b"refused ", number)?;
+    text(out, b"\n")
 }
 
 // The lines of so many parameters.
-fn parameters(m: &[u8], count: u8) {
+fn parameters<W: Write>(out: &mut W, m: &[u8], count: u8) -> io::Result<()> {
     let mut at = FIRST;
     let mut left = count;
     while 0 < left {
         let here = read_item(m, at);
         let ItemRead::Item(item, next) = here else {
-            return;
+            return Ok(());
         };
-        show_parameter(m, item);
+        show_parameter(out, m, item)?;
         at = next;
         left -= 1;
     }
+    Ok(())
 }
 
-fn report(m: &[u8], total: u8, index: u8, count: u8) {
-    labelled(b"message ", index as u64);
-    labelled(b" of ", total as u64);
-    labelled(b", ", count as u64);
-    text(b" parameters\n");
-    parameters(m, count);
+fn report<W: Write>(out: &mut W, m: &[u8], total: u8, index: u8, count: u8) -> io::Result<()> {
+    labelled(out, b"message ", index as u64)?;
+    labelled(out, b" of ", total as u64)?;
+    labelled(out, b", ", count as u64)?;
+    text(out, b" parameters\n")?;
+    parameters(out, m, count)
 }
 
-pub(crate) fn show_message(m: &[u8]) {
+pub(crate) fn show_message<W: Write>(out: &mut W, m: &[u8]) -> io::Result<()> {
     let read = read_report(m);
     match read {
-        ReportRead::Size => refused(12),
-        ReportRead::Carrier => refused(13),
-        ReportRead::OtherType => refused(14),
-        ReportRead::Version => refused(1),
-        ReportRead::NoReport => refused(4),
-        ReportRead::Report(total, index, count) => report(m, total, index, count),
+        ReportRead::Size => refused(out, 12),
+        ReportRead::Carrier => refused(out, 13),
+        ReportRead::OtherType => refused(out, 14),
+        ReportRead::Version => refused(out, 1),
+        ReportRead::NoReport => refused(out, 4),
+        ReportRead::Report(total, index, count) => report(out, m, total, index, count),
     }
 }

@@ -3,10 +3,11 @@
 
 use export::handheld::export;
 use export::parts::{Export, PARTS};
-use libc::STDOUT_FILENO;
 use records::{Record, read_record};
 use station::answers::number;
 use station::handheld::{commit, judge, start};
+use std::io;
+use std::io::{BufWriter, Read, Write};
 use tables::limits::HANDHELD_SIZE;
 
 // Judges a message, and commits it where it is good.
@@ -17,24 +18,29 @@ fn take(message: &[u8], store: &mut [u8], reply: &mut [u8]) {
 }
 
 // Takes the next record: is there another?
-fn take_record(buffer: &mut [u8], store: &mut [u8], reply: &mut [u8]) -> bool {
-    let record = read_record(buffer);
+fn take_record<R: Read>(
+    input: &mut R,
+    buffer: &mut [u8],
+    store: &mut [u8],
+    reply: &mut [u8],
+) -> io::Result<bool> {
+    let record = read_record(input, buffer)?;
     match record {
-        Record::End => false,
-        Record::Cut => false,
-        Record::TooLong(_) => true,
+        Record::End => Ok(false),
+        Record::Cut => Ok(false),
+        Record::TooLong(_) => Ok(true),
         Record::Whole(_, length) => {
             take(&buffer[0..length], store, reply);
-            true
+            Ok(true)
         }
     }
 }
 
 // Writes the record of a part: length and kind, each two bytes little-endian, then the request.
-fn put_part(part: u32, store: &[u8], buffer: &mut [u8]) {
+fn put_part<W: Write>(out: &mut W, part: u32, store: &[u8], buffer: &mut [u8]) -> io::Result<()> {
     let written = export(part, store, buffer);
     let Export::Written(length) = written else {
-        return;
+        return Ok(());
     };
     let head = [
         (length % 256) as u8,
@@ -42,26 +48,30 @@ fn put_part(part: u32, store: &[u8], buffer: &mut [u8]) {
         (part % 256) as u8,
         0,
     ];
-    io::write_all(STDOUT_FILENO, &head);
-    io::write_all(STDOUT_FILENO, &buffer[0..length]);
+    out.write_all(&head)?;
+    out.write_all(&buffer[0..length])
 }
 
-fn take_all(buffer: &mut [u8], store: &mut [u8]) {
+fn take_all<R: Read>(input: &mut R, buffer: &mut [u8], store: &mut [u8]) -> io::Result<()> {
     let mut reply = [0u8; 20];
     let mut turns = u64::MAX;
-    while turns > 0 && take_record(buffer, store, &mut reply) {
+    while turns > 0 && take_record(input, buffer, store, &mut reply)? {
         turns -= 1;
     }
+    Ok(())
 }
 
-fn main() {
+fn main(rt: HostRuntime) -> io::Result<()> {
+    let mut input = rt.reader();
+    let mut out = BufWriter::new(rt.alloc(), rt.stdout())?;
     let mut buffer = [0u8; 4096];
     let mut store = [0u8; HANDHELD_SIZE];
     start(&mut store);
-    take_all(&mut buffer, &mut store);
+    take_all(&mut input, &mut buffer, &mut store)?;
     let mut part = 1;
     while part <= PARTS {
-        put_part(part, &store, &mut buffer);
+        put_part(&mut out, part, &store, &mut buffer)?;
         part += 1;
     }
+    out.flush()
 }

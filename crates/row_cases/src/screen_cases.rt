@@ -4,6 +4,8 @@ use case_lines::printing::text;
 use case_lines::sets::Set;
 use case_lines::taking::requests;
 use screen::rows::Row;
+use std::io;
+use std::io::Write;
 
 // A table and a place for each row that is shown.
 const ROWS: [[u32; 2]; 21] = [
@@ -30,8 +32,9 @@ const ROWS: [[u32; 2]; 21] = [
     [9, 0],
 ];
 
-fn fill(store: &mut [u8]) {
+fn fill<W: Write>(out: &mut W, store: &mut [u8]) -> io::Result<()> {
     requests(
+        out,
         b"a fresh store\n\
         line 0 with a text: 01 CA 000D 42 01 2345FF 0041 0042 0000\n\
         line 1 without: 01 CA 0008 40 01 123F 0000\n\
@@ -44,30 +47,32 @@ fn fill(store: &mut [u8]) {
         individual 1 without: 01 D2 0009 40 01 FF7DC8 0000\n\
         individual 2 without, outside the plan: 01 D2 0009 40 02 10FDEC 0000\n",
         store,
-    );
+    )?;
+    Ok(())
 }
 
-fn rows(store: &[u8]) {
+fn rows<W: Write>(out: &mut W, store: &[u8]) -> io::Result<()> {
     let mut i = 0;
     while i < 21 {
         let named = ROWS[i];
-        row(store, named[0], named[1]);
+        row(out, store, named[0], named[1])?;
         i += 1;
     }
+    Ok(())
 }
 
-fn refused(store: &[u8]) {
+fn refused<W: Write>(out: &mut W, store: &[u8]) -> io::Result<()> {
     let mut short = [0xEEu8; 35];
-    text(b"line 1 with a scratch of 35 bytes");
-    show(Set::Handheld, store, Row::Line(1), &mut short);
+    text(out, b"line 1 with a scratch of 35 bytes")?;
+    show(out, Set::Handheld, store, Row::Line(1), &mut short)?;
     let mut scratch = [0xEEu8; 36];
     let bytes = [0u8; 36];
-    text(b"line 1 of what is no store");
-    show(Set::Handheld, &bytes, Row::Line(1), &mut scratch);
+    text(out, b"line 1 of what is no store")?;
+    show(out, Set::Handheld, &bytes, Row::Line(1), &mut scratch)
 }
 
-pub(crate) fn run(store: &mut [u8]) {
-    fill(store);
-    rows(store);
-    refused(store);
+pub(crate) fn run<W: Write>(out: &mut W, store: &mut [u8]) -> io::Result<()> {
+    fill(out, store)?;
+    rows(out, store)?;
+    refused(out, store)
 }

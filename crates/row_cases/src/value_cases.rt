@@ -2,13 +2,15 @@
 use case_lines::printing::{decimal, hex, text};
 use case_lines::taking::requests;
 use screen::rows::row_of;
+use std::io;
+use std::io::Write;
 use values::answers::{Channel, Digits, EmergencyKey, Entry, Home, Key, System, Target};
 use values::handheld::{channel, emergency_key, entry, entry_digits, home_numbers, system_code};
 use writing::KeyTarget;
 
-fn field(name: &[u8], value: u32) {
-    text(name);
-    decimal(value);
+fn field<W: Write>(out: &mut W, name: &[u8], value: u32) -> io::Result<()> {
+    text(out, name)?;
+    decimal(out, value)
 }
 
 fn bit(b: bool) -> u32 {
@@ -20,150 +22,157 @@ fn wide(n: u8) -> u32 {
 }
 
 // The flags that lines, groups and individuals share.
-fn flags(encryption: bool, emergency: bool, priority: u8) {
-    field(b", encryption ", bit(encryption));
-    field(b", emergency ", bit(emergency));
-    field(b", priority ", wide(priority));
+fn flags<W: Write>(out: &mut W, encryption: bool, emergency: bool, priority: u8) -> io::Result<()> {
+    field(out, b", encryption ", bit(encryption))?;
+    field(out, b", emergency ", bit(emergency))?;
+    field(out, b", priority ", wide(priority))
 }
 
-fn target(x: Target) {
+fn target<W: Write>(out: &mut W, x: Target) -> io::Result<()> {
     match x {
         Target::Line(f) => {
-            text(b"0, line");
-            flags(f.encryption, f.emergency, f.priority);
-            field(b", IDtype ", bit(f.pabx));
+            text(out, b"0, line")?;
+            flags(out, f.encryption, f.emergency, f.priority)?;
+            field(out, b", IDtype ", bit(f.pabx))
         }
         Target::Group(f, a) => {
-            field(b"0, group ", a.0);
-            flags(f.encryption, f.emergency, f.priority);
-            field(b", attribute ", wide(f.attribute));
-            field(b", broadcast ", bit(f.broadcast));
-            field(b", OVCM ", bit(f.ovcm));
+            field(out, b"0, group ", a.0)?;
+            flags(out, f.encryption, f.emergency, f.priority)?;
+            field(out, b", attribute ", wide(f.attribute))?;
+            field(out, b", broadcast ", bit(f.broadcast))?;
+            field(out, b", OVCM ", bit(f.ovcm))
         }
         Target::Individual(f, a) => {
-            field(b"0, individual ", a.0);
-            flags(f.encryption, f.emergency, f.priority);
+            field(out, b"0, individual ", a.0)?;
+            flags(out, f.encryption, f.emergency, f.priority)
         }
     }
 }
 
 // The answer's line.
-fn behind(table: u32, place: u32, store: &[u8]) {
-    field(b"  behind table ", table);
-    field(b", place ", place);
-    text(b": ");
+fn behind<W: Write>(out: &mut W, table: u32, place: u32, store: &[u8]) -> io::Result<()> {
+    field(out, b"  behind table ", table)?;
+    field(out, b", place ", place)?;
+    text(out, b": ")?;
     let answer = entry(row_of(table, place), store);
     match answer {
-        Entry::There(x) => target(x),
-        Entry::Absent => text(b"17"),
-        Entry::NotAStore => text(b"11"),
+        Entry::There(x) => target(out, x)?,
+        Entry::Absent => text(out, b"17")?,
+        Entry::NotAStore => text(out, b"11")?,
     }
-    text(b"\n");
+    text(out, b"\n")
 }
 
 // The digits' line, with the whole buffer: what stands behind them stays.
-fn digits(table: u32, place: u32, store: &[u8], buffer: &mut [u8]) {
-    field(b"  digits of table ", table);
-    field(b", place ", place);
-    text(b": ");
+fn digits<W: Write>(
+    out: &mut W,
+    table: u32,
+    place: u32,
+    store: &[u8],
+    buffer: &mut [u8],
+) -> io::Result<()> {
+    field(out, b"  digits of table ", table)?;
+    field(out, b", place ", place)?;
+    text(out, b": ")?;
     let answer = entry_digits(row_of(table, place), store, buffer);
     match answer {
-        Digits::Written(n) => field(b"0, ", (n % 65536) as u32),
-        Digits::Absent => text(b"17"),
-        Digits::NotAStore => text(b"11"),
-        Digits::BufferSize => text(b"15"),
+        Digits::Written(n) => field(out, b"0, ", (n % 65536) as u32)?,
+        Digits::Absent => text(out, b"17")?,
+        Digits::NotAStore => text(out, b"11")?,
+        Digits::BufferSize => text(out, b"15")?,
     }
-    text(b", buffer");
-    hex(buffer, buffer.len());
+    text(out, b", buffer")?;
+    hex(out, buffer, buffer.len())
 }
 
-fn tuned(position: usize, store: &[u8]) {
-    field(b"  channel ", (position % 65536) as u32);
-    text(b": ");
+fn tuned<W: Write>(out: &mut W, position: usize, store: &[u8]) -> io::Result<()> {
+    field(out, b"  channel ", (position % 65536) as u32)?;
+    text(out, b": ")?;
     let answer = channel(position, store);
     match answer {
-        Channel::Tuned(c) => field(b"0, ", c as u32),
-        Channel::Absent => text(b"17"),
-        Channel::NotAStore => text(b"11"),
+        Channel::Tuned(c) => field(out, b"0, ", c as u32)?,
+        Channel::Absent => text(out, b"17")?,
+        Channel::NotAStore => text(out, b"11")?,
     }
-    text(b"\n");
+    text(out, b"\n")
 }
 
-fn armed(k: EmergencyKey) {
+fn armed<W: Write>(out: &mut W, k: EmergencyKey) -> io::Result<()> {
     let to = k.target;
     match to {
-        KeyTarget::Current(group) => field(b"0, current place, group ", bit(group)),
-        KeyTarget::ToGroup(a) => field(b"0, group ", a.0),
-        KeyTarget::ToIndividual(a) => field(b"0, individual ", a.0),
+        KeyTarget::Current(group) => field(out, b"0, current place, group ", bit(group))?,
+        KeyTarget::ToGroup(a) => field(out, b"0, group ", a.0)?,
+        KeyTarget::ToIndividual(a) => field(out, b"0, individual ", a.0)?,
     }
-    field(b", voice ", bit(k.flags.voice));
-    field(b", status ", bit(k.flags.status));
-    field(b", siren ", bit(k.flags.siren));
+    field(out, b", voice ", bit(k.flags.voice))?;
+    field(out, b", status ", bit(k.flags.status))?;
+    field(out, b", siren ", bit(k.flags.siren))
 }
 
-fn key(store: &[u8]) {
-    text(b"  key: ");
+fn key<W: Write>(out: &mut W, store: &[u8]) -> io::Result<()> {
+    text(out, b"  key: ")?;
     let answer = emergency_key(store);
     match answer {
-        Key::Armed(k) => armed(k),
-        Key::NotAStore => text(b"11"),
+        Key::Armed(k) => armed(out, k)?,
+        Key::NotAStore => text(out, b"11")?,
     }
-    text(b"\n");
+    text(out, b"\n")
 }
 
-fn home(store: &[u8]) {
-    text(b"  home numbers: ");
+fn home<W: Write>(out: &mut W, store: &[u8]) -> io::Result<()> {
+    text(out, b"  home numbers: ")?;
     let answer = home_numbers(store);
     match answer {
         Home::Numbers(h) => {
-            field(b"0, NZI ", h.nzi as u32);
-            field(b", NP ", h.np as u32);
+            field(out, b"0, NZI ", h.nzi as u32)?;
+            field(out, b", NP ", h.np as u32)?;
         }
-        Home::NotAStore => text(b"11"),
+        Home::NotAStore => text(out, b"11")?,
     }
-    text(b"\n");
+    text(out, b"\n")
 }
 
-fn system(store: &[u8]) {
-    text(b"  system code: ");
+fn system<W: Write>(out: &mut W, store: &[u8]) -> io::Result<()> {
+    text(out, b"  system code: ")?;
     let answer = system_code(store);
     match answer {
         System::Code(s) => {
-            field(b"0, LAI ", s.lai as u32);
-            field(b", LA ", wide(s.la));
-            field(b", roaming ", wide(s.roaming));
-            field(b", PAR ", bit(s.par));
+            field(out, b"0, LAI ", s.lai as u32)?;
+            field(out, b", LA ", wide(s.la))?;
+            field(out, b", roaming ", wide(s.roaming))?;
+            field(out, b", PAR ", bit(s.par))?;
         }
-        System::NotAStore => text(b"11"),
+        System::NotAStore => text(out, b"11")?,
     }
-    text(b"\n");
+    text(out, b"\n")
 }
 
-fn fixed(store: &[u8]) {
-    key(store);
-    home(store);
-    system(store);
-    tuned(0, store);
-    tuned(1, store);
-    tuned(2, store);
+fn fixed<W: Write>(out: &mut W, store: &[u8]) -> io::Result<()> {
+    key(out, store)?;
+    home(out, store)?;
+    system(out, store)?;
+    tuned(out, 0, store)?;
+    tuned(out, 1, store)?;
+    tuned(out, 2, store)
 }
 
 // The first place of every table, and what is no table or no place.
-fn every(store: &[u8]) {
-    behind(0, 0, store);
-    behind(1, 0, store);
-    behind(2, 0, store);
-    behind(3, 0, store);
-    behind(4, 0, store);
-    behind(5, 0, store);
-    behind(6, 0, store);
-    behind(7, 0, store);
-    behind(8, 0, store);
-    behind(9, 0, store);
+fn every<W: Write>(out: &mut W, store: &[u8]) -> io::Result<()> {
+    behind(out, 0, 0, store)?;
+    behind(out, 1, 0, store)?;
+    behind(out, 2, 0, store)?;
+    behind(out, 3, 0, store)?;
+    behind(out, 4, 0, store)?;
+    behind(out, 5, 0, store)?;
+    behind(out, 6, 0, store)?;
+    behind(out, 7, 0, store)?;
+    behind(out, 8, 0, store)?;
+    behind(out, 9, 0, store)
 }
 
-fn fill(store: &mut [u8]) {
+fn fill<W: Write>(out: &mut W, store: &mut [u8]) -> io::Result<()> {
     requests(
+        out,
         b"lines, PABX with all flags: 01 CA 0009 7E 01 2345FF 0000\n\
         line slot 0, 18 digits: 01 D3 0010 40 00 123456789012345678FF 0000\n\
         group 0, a member group with all flags: 01 D1 0009 7F C0 100001 0000\n\
@@ -176,50 +185,52 @@ fn fill(store: &mut [u8]) {
         home numbers: 01 CD 0005 07E4C0\n\
         system code: 01 CF 0005 FFF8 A0\n",
         store,
-    );
+    )?;
+    Ok(())
 }
 
-fn number(store: &[u8]) {
+fn number<W: Write>(out: &mut W, store: &[u8]) -> io::Result<()> {
     let mut buffer = [0xEEu8; 18];
-    digits(1, 0, store, &mut buffer);
-    digits(8, 0, store, &mut buffer);
-    digits(4, 0, store, &mut buffer);
+    digits(out, 1, 0, store, &mut buffer)?;
+    digits(out, 8, 0, store, &mut buffer)?;
+    digits(out, 4, 0, store, &mut buffer)?;
     let mut short = [0xEEu8; 17];
-    digits(1, 0, store, &mut short);
+    digits(out, 1, 0, store, &mut short)
 }
 
 // Every value of a store.
-fn all(store: &[u8]) {
-    every(store);
-    fixed(store);
-    number(store);
+fn all<W: Write>(out: &mut W, store: &[u8]) -> io::Result<()> {
+    every(out, store)?;
+    fixed(out, store)?;
+    number(out, store)
 }
 
 // Second places, of which one is a background group's, and places that no table has.
-fn others(store: &[u8]) {
-    behind(4, 1, store);
-    behind(4, 2, store);
-    behind(6, 1, store);
-    behind(6, 2, store);
-    behind(8, 16, store);
+fn others<W: Write>(out: &mut W, store: &[u8]) -> io::Result<()> {
+    behind(out, 4, 1, store)?;
+    behind(out, 4, 2, store)?;
+    behind(out, 6, 1, store)?;
+    behind(out, 6, 2, store)?;
+    behind(out, 8, 16, store)
 }
 
-fn current(store: &mut [u8]) {
+fn current<W: Write>(out: &mut W, store: &mut [u8]) -> io::Result<()> {
     requests(
+        out,
         b"key to the current place, group bit: 01 CB 0003 C0\n",
         store,
-    );
-    key(store);
+    )?;
+    key(out, store)
 }
 
-pub(crate) fn run(store: &mut [u8]) {
-    requests(b"a fresh store\n", store);
-    text(b"a fresh store\n");
-    all(store);
-    fill(store);
-    all(store);
-    others(store);
-    current(store);
-    text(b"no store\n");
-    all(b"");
+pub(crate) fn run<W: Write>(out: &mut W, store: &mut [u8]) -> io::Result<()> {
+    requests(out, b"a fresh store\n", store)?;
+    text(out, b"a fresh store\n")?;
+    all(out, store)?;
+    fill(out, store)?;
+    all(out, store)?;
+    others(out, store)?;
+    current(out, store)?;
+    text(out, b"no store\n")?;
+    all(out, b"")
 }

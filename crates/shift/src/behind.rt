@@ -1,6 +1,8 @@
 // What stands behind a row, in parentheses: an address in six hexadecimal digits, or a line's IDtype and digits.
 use printing::output::{address, decimal, text};
 use screen::rows::row_of;
+use std::io;
+use std::io::Write;
 use values::answers::{Digits, Entry, Target};
 use values::handheld::{entry, entry_digits};
 
@@ -9,44 +11,56 @@ fn wide(digit: u8) -> u64 {
 }
 
 // The first digits, as many as are counted.
-fn digits(buffer: &[u8], count: usize) {
+fn digits<W: Write>(out: &mut W, buffer: &[u8], count: usize) -> io::Result<()> {
     let mut i = 0;
     while i < buffer.len() && i < count {
-        decimal(wide(buffer[i]));
+        decimal(out, wide(buffer[i]))?;
         i += 1;
     }
+    Ok(())
 }
 
 // A line's IDtype and digits.
-fn line(store: &[u8], table: u32, place: u32, pabx: bool) {
+fn line<W: Write>(out: &mut W, store: &[u8], table: u32, place: u32, pabx: bool) -> io::Result<()> {
     if pabx {
-        text(b"PABX ");
+        text(out, b"PABX ")?;
     } else {
-        text(b"PSTN ");
+        text(out, b"PSTN ")?;
     }
     let mut buffer = [0u8; 18];
     let answer = entry_digits(row_of(table, place), store, &mut buffer);
     match answer {
-        Digits::Written(count) => digits(&buffer, count),
-        _ => text(b"none"),
+        Digits::Written(count) => digits(out, &buffer, count),
+        _ => text(out, b"none"),
     }
 }
 
-fn target(store: &[u8], table: u32, place: u32, behind: Target) {
-    text(b" (");
+fn target<W: Write>(
+    out: &mut W,
+    store: &[u8],
+    table: u32,
+    place: u32,
+    behind: Target,
+) -> io::Result<()> {
+    text(out, b" (")?;
     match behind {
-        Target::Line(flags) => line(store, table, place, flags.pabx),
-        Target::Group(_, a) => address(a.0),
-        Target::Individual(_, a) => address(a.0),
+        Target::Line(flags) => line(out, store, table, place, flags.pabx)?,
+        Target::Group(_, a) => address(out, a.0)?,
+        Target::Individual(_, a) => address(out, a.0)?,
     }
-    text(b")");
+    text(out, b")")
 }
 
 // Quick texts and status texts have nothing behind them.
-pub(crate) fn behind(store: &[u8], table: u32, place: u32) {
+pub(crate) fn behind<W: Write>(
+    out: &mut W,
+    store: &[u8],
+    table: u32,
+    place: u32,
+) -> io::Result<()> {
     let answer = entry(row_of(table, place), store);
     match answer {
-        Entry::There(x) => target(store, table, place, x),
-        _ => text(b""),
+        Entry::There(x) => target(out, store, table, place, x),
+        _ => text(out, b""),
     }
 }

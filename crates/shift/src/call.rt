@@ -3,15 +3,17 @@ use super::rows::row;
 use callers::handheld::line_of;
 use callers::lookup::Caller;
 use printing::output::text;
+use std::io;
+use std::io::Write;
 
-pub(crate) fn call(store: &[u8]) {
-    text(b"  call from 2346       ");
+pub(crate) fn call<W: Write>(out: &mut W, store: &[u8]) -> io::Result<()> {
+    text(out, b"  call from 2346       ")?;
     let answer = line_of(0, &[2, 3, 4, 6], store);
     match answer {
-        Caller::Row(position) => row(store, 1, (position % 65536) as u32),
-        Caller::NoRow => text(b"no row"),
-        Caller::NotAStore => text(b"no store"),
-        Caller::NotANumber => text(b"no number"),
+        Caller::Row(position) => row(out, store, 1, (position % 65536) as u32)?,
+        Caller::NoRow => text(out, b"no row")?,
+        Caller::NotAStore => text(out, b"no store")?,
+        Caller::NotANumber => text(out, b"no number")?,
     }
-    text(b"\n");
+    text(out, b"\n")
 }

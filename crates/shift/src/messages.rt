@@ -1,6 +1,8 @@
 // What a message comes to, in words.
 use printing::output::{decimal, hex, text};
 use station::answers::{Answer, Reply, failed_id, number};
+use std::io;
+use std::io::Write;
 
 // Whether a message asks for a result: MsgType is 5.
 fn is_query(message: &[u8]) -> bool {
@@ -11,64 +13,71 @@ fn is_query(message: &[u8]) -> bool {
 }
 
 // A few words for a number of document 01.
-fn meaning(number: u8) {
+fn meaning<W: Write>(out: &mut W, number: u8) -> io::Result<()> {
     match number {
-        1 => text(b"refused: another version"),
-        2 => text(b"refused: no room"),
-        3 => text(b"refused: no such setting"),
-        4 => text(b"refused: bad field"),
-        5 => text(b"the hash differs"),
-        12 => text(b"refused: too short or too long"),
-        13 => text(b"refused: bad carrier or length"),
-        14 => text(b"refused: not a request"),
-        _ => text(b"refused"),
+        1 => text(out, b"refused: another version"),
+        2 => text(out, b"refused: no room"),
+        3 => text(out, b"refused: no such setting"),
+        4 => text(out, b"refused: bad field"),
+        5 => text(out, b"the hash differs"),
+        12 => text(out, b"refused: too short or too long"),
+        13 => text(out, b"refused: bad carrier or length"),
+        14 => text(out, b"refused: not a request"),
+        _ => text(out, b"refused"),
     }
 }
 
 // The words for 0, or for another number with the setting at fault.
-fn outcome(answer: Answer, query: bool) {
+fn outcome<W: Write>(out: &mut W, answer: Answer, query: bool) -> io::Result<()> {
     let n = number(answer);
-    decimal(n as u64);
-    text(b", ");
+    decimal(out, n as u64)?;
+    text(out, b", ")?;
     if n != 0 {
-        meaning(n);
+        meaning(out, n)?;
     } else if query {
-        text(b"the hash matches");
+        text(out, b"the hash matches")?;
     } else {
-        text(b"taken");
+        text(out, b"taken")?;
     }
     let failed = failed_id(answer);
     if failed != 0 {
-        text(b"; failed ID ");
-        decimal(failed as u64);
+        text(out, b"; failed ID ")?;
+        decimal(out, failed as u64)?;
     }
+    Ok(())
 }
 
 // What is to be done with the reply, and its bytes.
-fn replied(said: Reply, reply: &[u8]) {
+fn replied<W: Write>(out: &mut W, said: Reply, reply: &[u8]) -> io::Result<()> {
     if said.send {
-        text(b"; send the reply");
+        text(out, b"; send the reply")?;
     } else {
-        text(b"; keep the reply");
+        text(out, b"; keep the reply")?;
     }
     if said.reboot {
-        text(b"; restart\n");
+        text(out, b"; restart\n")?;
     } else {
-        text(b"; no restart\n");
+        text(out, b"; no restart\n")?;
     }
-    text(b"  reply               ");
-    hex(reply, said.length as usize);
-    text(b"\n");
+    text(out, b"  reply               ")?;
+    hex(out, reply, said.length as usize)?;
+    text(out, b"\n")
 }
 
 // The lines of message n.
-pub(crate) fn tell(n: u64, message: &[u8], answer: Answer, reply: &[u8]) {
-    text(b"\nMessage ");
-    decimal(n);
-    text(b": ");
-    outcome(answer, is_query(message));
+pub(crate) fn tell<W: Write>(
+    out: &mut W,
+    n: u64,
+    message: &[u8],
+    answer: Answer,
+    reply: &[u8],
+) -> io::Result<()> {
+    text(out, b"\nMessage ")?;
+    decimal(out, n)?;
+    text(out, b": ")?;
+    outcome(out, answer, is_query(message))?;
     match answer {
-        Answer::Untouched(_) => text(b"; no reply; no restart\n"),
-        Answer::Replied(said) => replied(said, reply),
+        Answer::Untouched(_) => text(out, b"; no reply; no restart\n"),
+        Answer::Replied(said) => replied(out, said, reply),
     }
 }

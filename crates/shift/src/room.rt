@@ -2,25 +2,27 @@
 use menu::counting::Counts;
 use menu::handheld::counts;
 use printing::output::{decimal, text};
+use std::io;
+use std::io::Write;
 use tables::limits::HANDHELD;
 
 // So many of so many.
-fn taken(what: &[u8], held: u16, room: usize) {
-    text(what);
-    decimal(held as u64);
-    text(b" of ");
-    decimal(room as u64);
+fn taken<W: Write>(out: &mut W, what: &[u8], held: u16, room: usize) -> io::Result<()> {
+    text(out, what)?;
+    decimal(out, held as u64)?;
+    text(out, b" of ")?;
+    decimal(out, room as u64)
 }
 
-pub(crate) fn room(store: &[u8]) {
+pub(crate) fn room<W: Write>(out: &mut W, store: &[u8]) -> io::Result<()> {
     let answer = counts(store);
     let limits = HANDHELD;
     match answer {
         Counts::Held(lines, channels) => {
-            taken(b"  room                 lines ", lines, limits.lines);
-            taken(b", channels ", channels, limits.channels);
-            text(b"\n");
+            taken(out, b"  room                 lines ", lines, limits.lines)?;
+            taken(out, b", channels ", channels, limits.channels)?;
+            text(out, b"\n")
         }
-        Counts::NotAStore => text(b"  no store\n"),
+        Counts::NotAStore => text(out, b"  no store\n"),
     }
 }

@@ -5,6 +5,8 @@ use printing::utf8::show_text;
 use screen::answers::number_of;
 use screen::handheld::{row_number, row_part};
 use screen::rows::row_of;
+use std::io;
+use std::io::Write;
 
 // The first place of each table, and the one behind its last.
 const PLACES: [[u32; 2]; 8] = [
@@ -18,16 +20,16 @@ const PLACES: [[u32; 2]; 8] = [
     [0, 16],
 ];
 
-fn name(table: u32) {
+fn name<W: Write>(out: &mut W, table: u32) -> io::Result<()> {
     match table {
-        1 => text(b"  lines                "),
-        2 => text(b"  quick texts          "),
-        3 => text(b"  status texts         "),
-        4 => text(b"  groups               "),
-        5 => text(b"  individuals          "),
-        6 => text(b"  group contacts       "),
-        7 => text(b"  individual contacts  "),
-        _ => text(b"  line slots           "),
+        1 => text(out, b"  lines                "),
+        2 => text(out, b"  quick texts          "),
+        3 => text(out, b"  status texts         "),
+        4 => text(out, b"  groups               "),
+        5 => text(out, b"  individuals          "),
+        6 => text(out, b"  group contacts       "),
+        7 => text(out, b"  individual contacts  "),
+        _ => text(out, b"  line slots           "),
     }
 }
 
@@ -38,53 +40,60 @@ fn is_there(store: &[u8], table: u32, place: u32) -> bool {
 }
 
 // The place of a row and what it shows.
-pub(crate) fn row(store: &[u8], table: u32, place: u32) {
-    decimal(place as u64);
-    text(b" ");
+pub(crate) fn row<W: Write>(out: &mut W, store: &[u8], table: u32, place: u32) -> io::Result<()> {
+    decimal(out, place as u64)?;
+    text(out, b" ")?;
     let mut scratch = [0u8; 36];
-    show_text(row_part(store, &mut scratch, row_of(table, place)));
+    show_text(out, row_part(store, &mut scratch, row_of(table, place)))
 }
 
 // What stands before a row: the table's name before the first, a comma before the others.
-fn before(table: u32, first: bool) {
+fn before<W: Write>(out: &mut W, table: u32, first: bool) -> io::Result<()> {
     if first {
-        name(table);
+        name(out, table)
     } else {
-        text(b", ");
+        text(out, b", ")
     }
 }
 
 // A table's rows on one line: are there any?
-fn table_rows(store: &[u8], table: u32, start: u32, end: u32) -> bool {
+fn table_rows<W: Write>(
+    out: &mut W,
+    store: &[u8],
+    table: u32,
+    start: u32,
+    end: u32,
+) -> io::Result<bool> {
     let mut first = true;
     let mut place = start;
     while place < end {
         if is_there(store, table, place) {
-            before(table, first);
-            row(store, table, place);
-            behind(store, table, place);
+            before(out, table, first)?;
+            row(out, store, table, place)?;
+            behind(out, store, table, place)?;
             first = false;
         }
         place += 1;
     }
     if !first {
-        text(b"\n");
+        text(out, b"\n")?;
     }
-    !first
+    Ok(!first)
 }
 
 // The rows of every table.
-pub(crate) fn rows(store: &[u8]) {
+pub(crate) fn rows<W: Write>(out: &mut W, store: &[u8]) -> io::Result<()> {
     let mut none = true;
     let mut table: u32 = 1;
     for places in 0..8 {
         let ends = PLACES[places];
-        if table_rows(store, table, ends[0], ends[1]) {
+        if table_rows(out, store, table, ends[0], ends[1])? {
             none = false;
         }
         table += 1;
     }
     if none {
-        text(b"  no rows\n");
+        text(out, b"  no rows\n")?;
     }
+    Ok(())
 }

@@ -1,9 +1,12 @@
 // Scan channels: padding, repeats, and room for 64.
 use case_lines::taking::requests;
+use std::io;
+use std::io::Write;
 
 // Repeated are channels 241 and 256, 241 and 257 and so on.
-pub(crate) fn run(store: &mut [u8]) {
+pub(crate) fn run<W: Write>(out: &mut W, store: &mut [u8]) -> io::Result<()> {
     requests(
+        out,
         b"a fresh store\n\
         channel 241 with padding 0: 01 CE 0006 C001 0F1 0\n\
         channel 241 with padding 1111: 01 CE 0006 C001 0F1 F\n\
@@ -25,5 +28,6 @@ pub(crate) fn run(store: &mut [u8]) {
         the 65th channel again: 01 CE 0006 4001 0F2F\n\
         a delete, then the 65th channel: 02 CE 0006 8001 0F1F CE 0006 4001 0F2F\n",
         store,
-    );
+    )?;
+    Ok(())
 }

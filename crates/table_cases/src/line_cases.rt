@@ -1,8 +1,11 @@
 // Line contacts: numbers, and room for 32.
 use case_lines::taking::requests;
+use std::io;
+use std::io::Write;
 
-pub(crate) fn run(store: &mut [u8]) {
+pub(crate) fn run<W: Write>(out: &mut W, store: &mut [u8]) -> io::Result<()> {
     requests(
+        out,
         b"a fresh store\n\
         number of 18 digits: 01 CA 0010 40 01 123456789012345678FF 0000\n\
         number of 19 digits: 01 CA 0010 40 01 1234567890123456789F 0000\n\
@@ -27,5 +30,6 @@ pub(crate) fn run(store: &mut [u8]) {
         33 entries, 32 different: 01 CA 0088 C0 21 {20 x % FF 0000} 00FF 0000\n\
         lines replaced by none: 01 CA 0004 C0 00\n",
         store,
-    );
+    )?;
+    Ok(())
 }

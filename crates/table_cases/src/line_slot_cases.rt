@@ -1,9 +1,12 @@
 // Line slots: a number and a text by index, whose deletes hold every field to its range.
 use case_answers::row_lines::row;
 use case_lines::taking::requests;
+use std::io;
+use std::io::Write;
 
-pub(crate) fn run(store: &mut [u8]) {
+pub(crate) fn run<W: Write>(out: &mut W, store: &mut [u8]) -> io::Result<()> {
     requests(
+        out,
         b"a fresh store\n\
         line slot 3: 01 D3 0009 42 03 2345FF 0000\n\
         line slot 3 with reserved bits: 01 D3 0009 43 F3 2345FF 0000\n\
@@ -17,18 +20,19 @@ pub(crate) fn run(store: &mut [u8]) {
         delete with digit A: 01 D3 0007 80 03 AF 0000\n\
         line contact 12, which is a line slot's number too: 01 CA 0008 40 01 12FF 0000\n",
         store,
-    );
-    row(store, 8, 3);
-    row(store, 8, 15);
-    row(store, 8, 16);
+    )?;
+    row(out, store, 8, 3)?;
+    row(out, store, 8, 15)?;
+    row(out, store, 8, 16)?;
     requests(
+        out,
         b"delete of line slot 3 with the number 0: 01 D3 0007 80 03 0F 0000\n\
         delete of line slot 3 again: 01 D3 0007 80 03 0F 0000\n\
         line slot 0 with DataLength one too small: 01 D3 0008 42 00 2345FF 0000\n\
         line slot 0 without a text: 01 D3 0009 42 00 2345FF 0000\n",
         store,
-    );
-    row(store, 8, 3);
-    row(store, 8, 0);
-    row(store, 1, 0);
+    )?;
+    row(out, store, 8, 3)?;
+    row(out, store, 8, 0)?;
+    row(out, store, 1, 0)
 }

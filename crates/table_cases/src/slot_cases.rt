@@ -1,8 +1,11 @@
 // Group and individual slots.
 use case_lines::taking::requests;
+use std::io;
+use std::io::Write;
 
-pub(crate) fn run(store: &mut [u8]) {
+pub(crate) fn run<W: Write>(out: &mut W, store: &mut [u8]) -> io::Result<()> {
     requests(
+        out,
         b"a fresh store\n\
         group: 01 D1 0009 60 03 100001 0000\n\
         group with reserved bits: 01 D1 0009 60 33 100001 0000\n\
@@ -21,5 +24,6 @@ pub(crate) fn run(store: &mut [u8]) {
         individual delete with address 0: 01 D2 0009 80 0F 000000 0000\n\
         individual delete of none: 01 D2 0009 80 0F 000000 0000\n",
         store,
-    );
+    )?;
+    Ok(())
 }

@@ -1,8 +1,11 @@
 // Quick texts and status texts.
 use case_lines::taking::requests;
+use std::io;
+use std::io::Write;
 
-pub(crate) fn run(store: &mut [u8]) {
+pub(crate) fn run<W: Write>(out: &mut W, store: &mut [u8]) -> io::Result<()> {
     requests(
+        out,
         b"a fresh store\n\
         64 quick texts, Count 0: 01 CC 0143 C0 {40 x # 0041 0000}\n\
         63 quick texts: 01 CC 013E FF {3F x # 0041 0000}\n\
@@ -28,5 +31,6 @@ pub(crate) fn run(store: &mut [u8]) {
         status text of 17 units: 01 D0 0029 40 01 7F {11 x 01 #} 0000\n\
         status text of 16 units: 01 D0 0027 40 01 7F {10 x 01 #} 0000\n",
         store,
-    );
+    )?;
+    Ok(())
 }

@@ -8,120 +8,160 @@ use printing::output::{decimal, hex, text};
 use records::{Record, read_record};
 use station::answers::number;
 use station::handheld::{commit, start};
+use std::io;
+use std::io::{BufWriter, Read, Write};
 use tables::limits::HANDHELD_SIZE;
 use updating::answers::{Check, Proposal};
 use updating::handheld::{check, propose};
 
 // The line of a request that a set refuses: the set, the record's kind and the number.
-fn refusal(set: &[u8], kind: u16, number: u8) {
+fn refusal<W: Write>(out: &mut W, set: &[u8], kind: u16, number: u8) -> io::Result<()> {
     if number == 0 {
-        return;
+        return Ok(());
     }
-    text(set);
-    text(b" set, kind ");
-    decimal(kind as u64);
-    text(b": refused ");
-    decimal(number as u64);
-    text(b"\n");
+    text(out, set)?;
+    text(out, b" set, kind ")?;
+    decimal(out, kind as u64)?;
+    text(out, b": refused ")?;
+    decimal(out, number as u64)?;
+    text(out, b"\n")
 }
 
 // Takes the next record of a set: is it there?
-fn take_record(set: &[u8], buffer: &mut [u8], store: &mut [u8]) -> bool {
-    let record = read_record(buffer);
+fn take_record<R: Read, W: Write>(
+    input: &mut R,
+    out: &mut W,
+    set: &[u8],
+    buffer: &mut [u8],
+    store: &mut [u8],
+) -> io::Result<bool> {
+    let record = read_record(input, buffer)?;
     match record {
-        Record::End => false,
-        Record::Cut => false,
+        Record::End => Ok(false),
+        Record::Cut => Ok(false),
         Record::TooLong(kind) => {
-            refusal(set, kind, 12);
-            true
+            refusal(out, set, kind, 12)?;
+            Ok(true)
         }
         Record::Whole(kind, length) => {
             let mut reply = [0u8; 20];
             let answer = commit(&buffer[0..length], store, &mut reply);
-            refusal(set, kind, number(answer));
-            true
+            refusal(out, set, kind, number(answer))?;
+            Ok(true)
         }
     }
 }
 
 // Takes all records of a set, from a fresh store: are they all there?
-fn take_set(set: &[u8], buffer: &mut [u8], store: &mut [u8]) -> bool {
+fn take_set<R: Read, W: Write>(
+    input: &mut R,
+    out: &mut W,
+    set: &[u8],
+    buffer: &mut [u8],
+    store: &mut [u8],
+) -> io::Result<bool> {
     start(store);
     let mut left = PARTS;
     while left > 0 {
-        if !take_record(set, buffer, store) {
-            text(b"cut\n");
-            return false;
+        if !take_record(input, out, set, buffer, store)? {
+            text(out, b"cut\n")?;
+            return Ok(false);
         }
         left -= 1;
     }
-    true
+    Ok(true)
 }
 
 // The line of what is proposed: its number, and the request's bytes.
-fn show_proposal(first: &[u8], second: &[u8], buffer: &mut [u8]) {
-    text(b"proposal: ");
+fn show_proposal<W: Write>(
+    out: &mut W,
+    first: &[u8],
+    second: &[u8],
+    buffer: &mut [u8],
+) -> io::Result<()> {
+    text(out, b"proposal: ")?;
     let proposal = propose(first, second, buffer);
     match proposal {
         Proposal::Written(length) => {
-            text(b"0,");
-            hex(buffer, length);
+            text(out, b"0,")?;
+            hex(out, buffer, length)?;
         }
-        Proposal::FirstNotAStore => decimal(11),
-        Proposal::SecondNotAStore => decimal(11),
-        Proposal::Buffer => decimal(15),
-        Proposal::NoSinglePart => decimal(19),
+        Proposal::FirstNotAStore => decimal(out, 11)?,
+        Proposal::SecondNotAStore => decimal(out, 11)?,
+        Proposal::Buffer => decimal(out, 15)?,
+        Proposal::NoSinglePart => decimal(out, 19)?,
     }
-    text(b"\n");
+    text(out, b"\n")
 }
 
 // The line of a proposed request.
-fn show_check(first: &[u8], second: &[u8], message: &[u8]) {
+fn show_check<W: Write>(
+    out: &mut W,
+    first: &[u8],
+    second: &[u8],
+    message: &[u8],
+) -> io::Result<()> {
     let answer = check(first, second, message);
     match answer {
-        Check::Yes => text(b"yes\n"),
-        Check::No => text(b"no\n"),
-        Check::FirstNotAStore => text(b"11\n"),
-        Check::SecondNotAStore => text(b"11\n"),
+        Check::Yes => text(out, b"yes\n"),
+        Check::No => text(out, b"no\n"),
+        Check::FirstNotAStore => text(out, b"11\n"),
+        Check::SecondNotAStore => text(out, b"11\n"),
     }
 }
 
 // Checks the request of the next record: is there another?
-fn check_record(first: &[u8], second: &[u8], buffer: &mut [u8]) -> bool {
-    let record = read_record(buffer);
+fn check_record<R: Read, W: Write>(
+    input: &mut R,
+    out: &mut W,
+    first: &[u8],
+    second: &[u8],
+    buffer: &mut [u8],
+) -> io::Result<bool> {
+    let record = read_record(input, buffer)?;
     match record {
-        Record::End => false,
+        Record::End => Ok(false),
         Record::Cut => {
-            text(b"cut\n");
-            false
+            text(out, b"cut\n")?;
+            Ok(false)
         }
         Record::TooLong(_) => {
-            text(b"no\n");
-            true
+            text(out, b"no\n")?;
+            Ok(true)
         }
         Record::Whole(_, length) => {
-            show_check(first, second, &buffer[0..length]);
-            true
+            show_check(out, first, second, &buffer[0..length])?;
+            Ok(true)
         }
     }
 }
 
 // What is proposed, and each record behind the sets'.
-fn answer_all(first: &[u8], second: &[u8], buffer: &mut [u8]) {
-    show_proposal(first, second, buffer);
+fn answer_all<R: Read, W: Write>(
+    input: &mut R,
+    out: &mut W,
+    first: &[u8],
+    second: &[u8],
+    buffer: &mut [u8],
+) -> io::Result<()> {
+    show_proposal(out, first, second, buffer)?;
     let mut turns = u64::MAX;
-    while turns > 0 && check_record(first, second, buffer) {
+    while turns > 0 && check_record(input, out, first, second, buffer)? {
         turns -= 1;
     }
+    Ok(())
 }
 
-fn main() {
+fn main(rt: HostRuntime) -> io::Result<()> {
+    let mut input = rt.reader();
+    let mut out = BufWriter::new(rt.alloc(), rt.stdout())?;
     let mut buffer = [0u8; 4096];
     let mut first = [0u8; HANDHELD_SIZE];
     let mut second = [0u8; HANDHELD_SIZE];
-    if take_set(b"first", &mut buffer, &mut first)
-        && take_set(b"second", &mut buffer, &mut second)
+    if take_set(&mut input, &mut out, b"first", &mut buffer, &mut first)?
+        && take_set(&mut input, &mut out, b"second", &mut buffer, &mut second)?
     {
-        answer_all(&first, &second, &mut buffer);
+        answer_all(&mut input, &mut out, &first, &second, &mut buffer)?;
     }
+    out.flush()
 }

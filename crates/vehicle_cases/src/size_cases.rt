@@ -6,6 +6,8 @@ use case_lines::printing::{decimal, started, text};
 use case_lines::sets::{Set, start};
 use case_lines::taking::answer_for;
 use export::parts::{Export, NoExport};
+use std::io;
+use std::io::Write;
 
 // A request that is taken: the emergency key calls the current place by voice.
 const KEY: [u8; 12] = *b"\x02\x02\x00\x08\x08\x07\x08\x01\xCB\x00\x03\xA0";
@@ -19,72 +21,83 @@ fn number_of(why: NoExport) -> u32 {
 }
 
 // The line of an export: its number, and its length.
-fn exported(what: &[u8], store: &[u8], buffer: &mut [u8]) {
-    text(what);
+fn exported<W: Write>(out: &mut W, what: &[u8], store: &[u8], buffer: &mut [u8]) -> io::Result<()> {
+    text(out, what)?;
     let answer = export_of(Set::Vehicle, 1, store, buffer);
     match answer {
         Export::Written(length) => {
-            text(b": 0, length ");
-            decimal((length % 65536) as u32);
+            text(out, b": 0, length ")?;
+            decimal(out, (length % 65536) as u32)?;
         }
         Export::Untouched(why) => {
-            text(b": ");
-            decimal(number_of(why));
+            text(out, b": ")?;
+            decimal(out, number_of(why))?;
         }
     }
-    text(b"\n");
+    text(out, b"\n")
 }
 
-fn own(store: &mut [u8]) {
+fn own<W: Write>(out: &mut W, store: &mut [u8]) -> io::Result<()> {
     started(
+        out,
         b"a vehicle's start of 49152 bytes",
         start(Set::Vehicle, store),
-    );
-    answer_for(Set::Vehicle, b"a vehicle's store", &KEY, store);
+    )?;
+    answer_for(out, Set::Vehicle, b"a vehicle's store", &KEY, store)?;
     answer_for(
+        out,
         Set::Handheld,
         b"a vehicle's store, lent to a hand-held",
         &KEY,
         store,
-    );
+    )?;
+    Ok(())
 }
 
-fn lent(other: &mut [u8]) {
+fn lent<W: Write>(out: &mut W, other: &mut [u8]) -> io::Result<()> {
     started(
+        out,
         b"a vehicle's start of 24576 bytes",
         start(Set::Vehicle, other),
-    );
+    )?;
     started(
+        out,
         b"a hand-held's start of 24576 bytes",
         start(Set::Handheld, other),
-    );
+    )?;
     answer_for(
+        out,
         Set::Vehicle,
         b"a hand-held's store, lent to a vehicle",
         &KEY,
         other,
-    );
-    held(Set::Vehicle, other);
+    )?;
+    held(out, Set::Vehicle, other)
 }
 
-fn buffers(store: &[u8]) {
+fn buffers<W: Write>(out: &mut W, store: &[u8]) -> io::Result<()> {
     let mut small = [0xEEu8; 8191];
-    exported(b"export buffer of 8191 bytes", store, &mut small);
-    text(b"report buffer of 8191 bytes\n");
-    asked(Set::Vehicle, &[0xCB], 1, store, &mut small);
+    exported(out, b"export buffer of 8191 bytes", store, &mut small)?;
+    text(out, b"report buffer of 8191 bytes\n")?;
+    asked(out, Set::Vehicle, &[0xCB], 1, store, &mut small)
 }
 
-fn enough(store: &[u8], other: &[u8]) {
+fn enough<W: Write>(out: &mut W, store: &[u8], other: &[u8]) -> io::Result<()> {
     let mut buffer = [0xEEu8; 8192];
-    exported(b"export buffer of 8192 bytes", store, &mut buffer);
-    exported(b"the same, and a hand-held's store", other, &mut buffer);
-    text(b"report buffer of 8192 bytes\n");
-    asked(Set::Vehicle, &[0xCB], 1, store, &mut buffer);
+    exported(out, b"export buffer of 8192 bytes", store, &mut buffer)?;
+    exported(
+        out,
+        b"the same, and a hand-held's store",
+        other,
+        &mut buffer,
+    )?;
+    text(out, b"report buffer of 8192 bytes\n")?;
+    asked(out, Set::Vehicle, &[0xCB], 1, store, &mut buffer)
 }
 
-pub(crate) fn run(store: &mut [u8], other: &mut [u8]) {
-    own(store);
-    lent(other);
-    buffers(store);
-    enough(store, other);
+pub(crate) fn run<W: Write>(out: &mut W, store: &mut [u8], other: &mut [u8]) -> io::Result<()> {
+    own(out, store)?;
+    lent(out, other)?;
+    buffers(out, store)?;
+    enough(out, store, other)
 }

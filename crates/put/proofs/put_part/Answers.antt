@@ -7,7 +7,7 @@ use Rattle.export.proofs.ExportLaws.{written_within}
 use Rattle.put.proofs.put_part.Goals as goal
 
 pub slice_bounds-write_all-end-2 : goal.slice_bounds-write_all-end-2
-slice_bounds-write_all-end-2 c =
+slice_bounds-write_all-end-2 g c =
     let a = c.args in
     let k = c.export-written in
     let h : c.in-Written.length ≤ length k.new.buffer = written_within handheld a.part a.store.now a.buffer.now k.new.buffer _ (subst (λ (r : Export). Answers (exporting handheld a.part a.store.now a.buffer.now) (record { answer = told r; buffer = k.new.buffer })) c.in-Written.is k.ensures) in
