@@ -59,8 +59,7 @@ fn carriers<W: Write>(out: &mut W, store: &mut [u8]) -> io::Result<()> {
         length 0, not stated: 0202 0000 08 07 08 01 CB 0003 A0\n\
         the same, length stated, reserved bits set: 0202 0008 08 F7 08 01 CB 0003 A0\n",
         store,
-    )?;
-    Ok(())
+    )
 }
 
 pub(crate) fn run<W: Write>(out: &mut W, store: &mut [u8]) -> io::Result<()> {

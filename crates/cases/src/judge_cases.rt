@@ -44,8 +44,7 @@ fn hashes<W: Write>(out: &mut W, store: &mut [u8]) -> io::Result<()> {
         &QUERY,
         store,
         &mut small,
-    )?;
-    Ok(())
+    )
 }
 
 fn between<W: Write>(out: &mut W, store: &mut [u8]) -> io::Result<()> {

@@ -32,6 +32,5 @@ pub(crate) fn run<W: Write>(out: &mut W, store: &mut [u8]) -> io::Result<()> {
         FF with reboot and code 0: 0202 0008 08 07 08 01 FF 0003 80\n\
         query after code 0: 0202 000E 08 00 0D 02 0102030405060708090A\n",
         store,
-    )?;
-    Ok(())
+    )
 }

@@ -39,6 +39,5 @@ pub(crate) fn run<W: Write>(out: &mut W, store: &mut [u8]) -> io::Result<()> {
         a fresh store\n\
         eight settings, then LA 9: 09 {08 x CD 0005 # 64C0} CF 0005 0009 00\n",
         store,
-    )?;
-    Ok(())
+    )
 }

@@ -64,8 +64,7 @@ pub(crate) fn compare<W: Write>(out: &mut W, store: &[u8], area: &[u8]) -> io::R
         let place = differing(store, area, table, ends[0], ends[1]);
         if place < ends[1] {
             name(out, table, place)?;
-            text(out, b" differs\n")?;
-            return Ok(());
+            return text(out, b" differs\n");
         }
         table += 1;
     }

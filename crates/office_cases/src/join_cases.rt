@@ -41,8 +41,7 @@ fn taken<W: Write>(out: &mut W, store: &mut [u8]) -> io::Result<()> {
         out,
         b"joined: 0202 0017 08 07 08 02 CA 000A 40 02 1F 0000 2F 0000 CE 0007 40 02 0F1280\n",
         store,
-    )?;
-    Ok(())
+    )
 }
 
 fn without_room<W: Write>(out: &mut W, store: &mut [u8]) -> io::Result<()> {
@@ -62,8 +61,7 @@ fn without_room<W: Write>(out: &mut W, store: &mut [u8]) -> io::Result<()> {
         out,
         b"a line and 5 channels: 02 CA 0007 40 01 1F 0000 CE 000C 4005 0F1 0F1 0F1 0F1 0F1 F\n",
         store,
-    )?;
-    Ok(())
+    )
 }
 
 // A store that stayed was left as it was: a replace sent again, and an add.
@@ -93,8 +91,7 @@ fn refused<W: Write>(out: &mut W) -> io::Result<()> {
         b"two coding types",
         b"\x02\x02\x00\x0B\x08\x07\x08\x01\xCE\x00\x06\x40\x01\x0F\x1F",
         b"\x02\x02\x00\x0B\x08\x04\x08\x01\xCE\x00\x06\x40\x01\x0F\x1F",
-    )?;
-    Ok(())
+    )
 }
 
 pub(crate) fn run<W: Write>(out: &mut W, store: &mut [u8]) -> io::Result<()> {

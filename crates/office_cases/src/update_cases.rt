@@ -137,8 +137,7 @@ fn equal<W: Write>(out: &mut W, first: &mut [u8], second: &mut [u8]) -> io::Resu
         first,
         second,
         b"\x02\x02\x00\x09\x08\x07\x08\x01\xCA\x00\x04\xC0\x00",
-    )?;
-    Ok(())
+    )
 }
 
 fn refusals<W: Write>(

@@ -47,8 +47,7 @@ fn fill<W: Write>(out: &mut W, store: &mut [u8]) -> io::Result<()> {
         individual 1 without: 01 D2 0009 40 01 FF7DC8 0000\n\
         individual 2 without, outside the plan: 01 D2 0009 40 02 10FDEC 0000\n",
         store,
-    )?;
-    Ok(())
+    )
 }
 
 fn rows<W: Write>(out: &mut W, store: &[u8]) -> io::Result<()> {

@@ -185,8 +185,7 @@ fn fill<W: Write>(out: &mut W, store: &mut [u8]) -> io::Result<()> {
         home numbers: 01 CD 0005 07E4C0\n\
         system code: 01 CF 0005 FFF8 A0\n",
         store,
-    )?;
-    Ok(())
+    )
 }
 
 fn number<W: Write>(out: &mut W, store: &[u8]) -> io::Result<()> {

@@ -28,6 +28,5 @@ pub(crate) fn run<W: Write>(out: &mut W, store: &mut [u8]) -> io::Result<()> {
         the 65th channel again: 01 CE 0006 4001 0F2F\n\
         a delete, then the 65th channel: 02 CE 0006 8001 0F1F CE 0006 4001 0F2F\n",
         store,
-    )?;
-    Ok(())
+    )
 }

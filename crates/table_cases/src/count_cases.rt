@@ -46,8 +46,7 @@ fn lines<W: Write>(out: &mut W, store: &mut [u8]) -> io::Result<()> {
         out,
         b"delete of line 03 again: 01 CA 0008 80 01 03FF 0000\n",
         store,
-    )?;
-    Ok(())
+    )
 }
 
 fn channels<W: Write>(out: &mut W, store: &mut [u8]) -> io::Result<()> {

@@ -14,8 +14,7 @@ fn groups<W: Write>(out: &mut W, store: &mut [u8]) -> io::Result<()> {
         group with 17 characters: 0202 001E 08 04 08 01 D1 0019 60 00 100001 {11 x 41} 00\n\
         group with 16 characters, DataLength 24: 0202 001D 08 04 08 01 D1 0018 60 00 100001 {10 x 41} 00\n",
         store,
-    )?;
-    Ok(())
+    )
 }
 
 fn texts<W: Write>(out: &mut W, store: &mut [u8]) -> io::Result<()> {
@@ -27,8 +26,7 @@ fn texts<W: Write>(out: &mut W, store: &mut [u8]) -> io::Result<()> {
         delete of a quick text, without a character: 0202 000A 08 04 08 01 CC 0005 81 07 00\n\
         status text FF: 0202 000C 08 04 08 01 D0 0007 40 01 20 FF 00\n",
         store,
-    )?;
-    Ok(())
+    )
 }
 
 // The line, the quick text, the status text and the individual are sent twice.
@@ -39,8 +37,7 @@ fn both<W: Write>(out: &mut W, store: &mut [u8]) -> io::Result<()> {
         names of four tables in eight_bit characters: 0202 0026 08 04 08 04 CA 0008 40 01 123F 41 00 CC 0006 C1 07 42 00 D0 0007 40 01 7F 43 00 D2 0009 40 0F FF7DC8 44 00\n\
         the same names in 16-bit units: 0202 002E 08 07 08 04 CA 000A 40 01 123F 0041 0000 CC 0008 C1 07 0042 0000 D0 0009 40 01 7F 0043 0000 D2 000B 40 0F FF7DC8 0044 0000\n",
         store,
-    )?;
-    Ok(())
+    )
 }
 
 pub(crate) fn run<W: Write>(out: &mut W, store: &mut [u8]) -> io::Result<()> {

@@ -30,6 +30,5 @@ pub(crate) fn run<W: Write>(out: &mut W, store: &mut [u8]) -> io::Result<()> {
         33 entries, 32 different: 01 CA 0088 C0 21 {20 x % FF 0000} 00FF 0000\n\
         lines replaced by none: 01 CA 0004 C0 00\n",
         store,
-    )?;
-    Ok(())
+    )
 }

@@ -24,6 +24,5 @@ pub(crate) fn run<W: Write>(out: &mut W, store: &mut [u8]) -> io::Result<()> {
         individual delete with address 0: 01 D2 0009 80 0F 000000 0000\n\
         individual delete of none: 01 D2 0009 80 0F 000000 0000\n",
         store,
-    )?;
-    Ok(())
+    )
 }

@@ -31,6 +31,5 @@ pub(crate) fn run<W: Write>(out: &mut W, store: &mut [u8]) -> io::Result<()> {
         status text of 17 units: 01 D0 0029 40 01 7F {11 x 01 #} 0000\n\
         status text of 16 units: 01 D0 0027 40 01 7F {10 x 01 #} 0000\n",
         store,
-    )?;
-    Ok(())
+    )
 }

@@ -20,8 +20,7 @@ fn fill<W: Write>(out: &mut W, set: Set, store: &mut [u8]) -> io::Result<()> {
         the 64th: 01 CC 0034 41 3F {17 x 0041} 0000\n\
         36 status texts of 16 units, which makes 4096 bytes: 01 D0 04F0 C0 24 {24 x $ 0041004100410041004100410041004100410041004100410041004100410041 0000}\n",
         store,
-    )?;
-    Ok(())
+    )
 }
 
 // A setting is judged whole: not by its entries, and not with what comes behind it.
@@ -45,8 +44,7 @@ fn when_full<W: Write>(out: &mut W, set: Set, store: &mut [u8]) -> io::Result<()
         a group contact with a unit: 01 C8 000C 60 00 01 100001 0041 0000\n\
         an individual contact with a unit: 01 C9 000B 40 01 100001 0041 0000\n",
         store,
-    )?;
-    Ok(())
+    )
 }
 
 // What a delete or a shorter text frees is used again, but not by a setting before it.
@@ -63,8 +61,7 @@ fn freed<W: Write>(out: &mut W, store: &mut [u8]) -> io::Result<()> {
         status texts replaced by one of a unit: 01 D0 0009 C0 01 20 0045 0000\n\
         line 12 with two units: 01 CA 000C 40 01 12FF 0043 0044 0000\n",
         store,
-    )?;
-    Ok(())
+    )
 }
 
 // The first and the last text of the room, and those that moved.
@@ -129,8 +126,7 @@ fn two_desks<W: Write>(out: &mut W, store: &mut [u8]) -> io::Result<()> {
         b"status code 126 with 16 units: 01 D0 0027 40 01 7E {10 x 0041} 0000\n\
         then quick text 0 deleted: 01 CC 0006 81 00 0000\n",
         store,
-    )?;
-    Ok(())
+    )
 }
 
 // A vehicle's texts have places of their own.

@@ -70,8 +70,7 @@ fn fill<W: Write>(out: &mut W, store: &mut [u8]) -> io::Result<()> {
         a group contact and an individual contact: 02 C8 000C D0 00 01 100003 0045 0000 C9 000B F4 01 FF7DC8 0046 0000\n\
         a line slot: 01 D3 000B 42 03 2345FF 0047 0000\n",
         store,
-    )?;
-    Ok(())
+    )
 }
 
 // What the hand-held held before does not matter.

@@ -50,8 +50,7 @@ fn own<W: Write>(out: &mut W, store: &mut [u8]) -> io::Result<()> {
         b"a vehicle's store, lent to a hand-held",
         &KEY,
         store,
-    )?;
-    Ok(())
+    )
 }
 
 fn lent<W: Write>(out: &mut W, other: &mut [u8]) -> io::Result<()> {

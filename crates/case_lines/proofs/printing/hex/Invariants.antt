@@ -4,9 +4,9 @@ use lib.ListN.{length}
 use Rattle.case_lines.proofs.printing.hex.Given as goal
 
 abbrev pub invariant-loop-i : goal.invariant-loop-i
-invariant-loop-i l =
+invariant-loop-i g l =
     Unit {0}
 
 abbrev pub decreases-loop-i : goal.decreases-loop-i
-decreases-loop-i l =
+decreases-loop-i g l =
     length l.bytes - l.i

@@ -5,9 +5,9 @@ use lib.ListN.{length}
 use Rattle.case_lines.proofs.taking.each.Given as goal
 
 abbrev pub invariant-loop-at : goal.invariant-loop-at
-invariant-loop-at l =
+invariant-loop-at g l =
     (l.at ≤ length l.lines) × (length l.store ≡ length l.initial.store)
 
 abbrev pub decreases-loop-at : goal.decreases-loop-at
-decreases-loop-at l =
+decreases-loop-at g l =
     length l.lines - l.at

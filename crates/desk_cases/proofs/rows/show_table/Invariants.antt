@@ -4,7 +4,7 @@ use Rattle.desk_cases.proofs.rows.show_table.Given as goal
 
 -- `desk_cases::rows::show_table` meets its contract. Assumes nothing.
 abbrev pub invariant-loop-place : goal.invariant-loop-place
-invariant-loop-place l = Unit {0}
+invariant-loop-place g l = Unit {0}
 
 abbrev pub decreases-loop-place : goal.decreases-loop-place
-decreases-loop-place l = l.end - l.place
+decreases-loop-place g l = l.end - l.place

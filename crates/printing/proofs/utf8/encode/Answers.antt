@@ -1,4 +1,3 @@
-use borrow.Author.Rules.{rules}
 use native.Mathlib.Omega.{arith}
 use Rattle.printing.proofs.TextLaws.{one_byte, two_bytes, three_bytes, four_bytes}
 use Rattle.printing.proofs.utf8.encode.Goals as goal

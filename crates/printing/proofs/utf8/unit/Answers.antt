@@ -1,4 +1,3 @@
-use borrow.Author.Rules.{rules}
 use native.Mathlib.Omega.{arith}
 use Rattle.printing.proofs.TextLaws.{unit_stands}
 use Rattle.printing.proofs.utf8.unit.Goals as goal
