@@ -34,7 +34,7 @@ fn both<W: Write>(out: &mut W, store: &mut [u8]) -> io::Result<()> {
     messages(
         out,
         b"channel 241, without texts: 0202 000B 08 04 08 01 CE 0006 4001 0F1F\n\
-        names of four tables in eight_bit characters: 0202 0026 08 04 08 04 CA 0008 40 01 123F 41 00 CC 0006 C1 07 42 00 D0 0007 40 01 7F 43 00 D2 0009 40 0F FF7DC8 44 00\n\
+        names of four tables in eight-bit characters: 0202 0026 08 04 08 04 CA 0008 40 01 123F 41 00 CC 0006 C1 07 42 00 D0 0007 40 01 7F 43 00 D2 0009 40 0F FF7DC8 44 00\n\
         the same names in 16-bit units: 0202 002E 08 07 08 04 CA 000A 40 01 123F 0041 0000 CC 0008 C1 07 0042 0000 D0 0009 40 01 7F 0043 0000 D2 000B 40 0F FF7DC8 0044 0000\n",
         store,
     )
@@ -44,7 +44,7 @@ pub(crate) fn run<W: Write>(out: &mut W, store: &mut [u8]) -> io::Result<()> {
     messages(
         out,
         b"a fresh store\n\
-        group A1 in eight_bit characters: 0202 000F 08 04 08 01 D1 000A 60 00 100001 41 31 00\n",
+        group A1 in eight-bit characters: 0202 000F 08 04 08 01 D1 000A 60 00 100001 41 31 00\n",
         store,
     )?;
     row(out, store, 4, 0)?;
