@@ -2,7 +2,7 @@
 #![tactic(auto)]
 
 use std::io;
-use std::io::{BufWriter, Write};
+use std::io::Write;
 use tables::limits::HANDHELD_SIZE;
 
 mod carrier_cases;
@@ -12,7 +12,7 @@ mod plan_cases;
 mod setting_cases;
 
 fn main(rt: HostRuntime) -> io::Result<()> {
-    let mut out = BufWriter::new(rt.alloc(), rt.stdout())?;
+    let mut out = rt.stdout();
     plan_cases::run(&mut out)?;
     let mut store = [0u8; HANDHELD_SIZE];
     carrier_cases::run(&mut out, &mut store)?;

@@ -7,7 +7,7 @@ use plain_log::areas::AREA;
 use printing::output::{decimal, text};
 use records::{Record, read_record};
 use std::io;
-use std::io::{BufWriter, Read, Write};
+use std::io::{Read, Write};
 
 fn line<W: Write>(out: &mut W, kind: u16, number: u8, failed: u8) -> io::Result<()> {
     decimal(out, kind as u64)?;
@@ -47,7 +47,7 @@ fn take_record<R: Read, W: Write>(
 
 fn main(rt: HostRuntime) -> io::Result<()> {
     let mut input = rt.reader();
-    let mut out = BufWriter::new(rt.alloc(), rt.stdout())?;
+    let mut out = rt.stdout();
     let mut buffer = [0u8; 4096];
     let mut area = [0u8; AREA];
     let mut reply = [0u8; 20];

@@ -17,7 +17,7 @@ use records::{Record, read_record};
 use rows::compare;
 use station::handheld::{commit, start};
 use std::io;
-use std::io::{BufWriter, Read, Write};
+use std::io::{Read, Write};
 use tables::limits::HANDHELD_SIZE;
 
 // The kind of an instruction.
@@ -93,7 +93,7 @@ fn next<R: Read, W: Write>(
 
 fn main(rt: HostRuntime) -> io::Result<()> {
     let mut input = rt.reader();
-    let mut out = BufWriter::new(rt.alloc(), rt.stdout())?;
+    let mut out = rt.stdout();
     let mut buffer = [0u8; 4097];
     let mut store = [0u8; HANDHELD_SIZE];
     let mut area = [0u8; AREA];

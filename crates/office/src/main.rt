@@ -10,7 +10,7 @@ use messages::{refused, show_message};
 use printing::output::text;
 use records::{Record, read_record};
 use std::io;
-use std::io::{BufWriter, Read, Write};
+use std::io::{Read, Write};
 
 // Shows the message of the next record: is there another?
 fn next<R: Read, W: Write>(input: &mut R, out: &mut W, buffer: &mut [u8]) -> io::Result<bool> {
@@ -34,7 +34,7 @@ fn next<R: Read, W: Write>(input: &mut R, out: &mut W, buffer: &mut [u8]) -> io:
 
 fn main(rt: HostRuntime) -> io::Result<()> {
     let mut input = rt.reader();
-    let mut out = BufWriter::new(rt.alloc(), rt.stdout())?;
+    let mut out = rt.stdout();
     let mut buffer = [0u8; 4096];
     let mut turns = u64::MAX;
     while turns > 0 && next(&mut input, &mut out, &mut buffer)? {

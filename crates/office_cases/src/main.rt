@@ -2,7 +2,7 @@
 #![tactic(auto)]
 
 use std::io;
-use std::io::{BufWriter, Write};
+use std::io::Write;
 use tables::limits::HANDHELD_SIZE;
 
 mod join_cases;
@@ -10,7 +10,7 @@ mod report_cases;
 mod update_cases;
 
 fn main(rt: HostRuntime) -> io::Result<()> {
-    let mut out = BufWriter::new(rt.alloc(), rt.stdout())?;
+    let mut out = rt.stdout();
     let mut store = [0u8; HANDHELD_SIZE];
     report_cases::run(&mut out, &mut store)?;
     join_cases::run(&mut out, &mut store)?;

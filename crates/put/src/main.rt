@@ -7,7 +7,7 @@ use records::{Record, read_record};
 use station::answers::number;
 use station::handheld::{commit, judge, start};
 use std::io;
-use std::io::{BufWriter, Read, Write};
+use std::io::{Read, Write};
 use tables::limits::HANDHELD_SIZE;
 
 // Judges a message, and commits it where it is good.
@@ -63,7 +63,7 @@ fn take_all<R: Read>(input: &mut R, buffer: &mut [u8], store: &mut [u8]) -> io::
 
 fn main(rt: HostRuntime) -> io::Result<()> {
     let mut input = rt.reader();
-    let mut out = BufWriter::new(rt.alloc(), rt.stdout())?;
+    let mut out = rt.stdout();
     let mut buffer = [0u8; 4096];
     let mut store = [0u8; HANDHELD_SIZE];
     start(&mut store);

@@ -2,7 +2,7 @@
 #![tactic(auto)]
 
 use std::io;
-use std::io::{BufWriter, Write};
+use std::io::Write;
 use tables::limits::HANDHELD_SIZE;
 
 mod caller_cases;
@@ -10,7 +10,7 @@ mod screen_cases;
 mod value_cases;
 
 fn main(rt: HostRuntime) -> io::Result<()> {
-    let mut out = BufWriter::new(rt.alloc(), rt.stdout())?;
+    let mut out = rt.stdout();
     let mut store = [0u8; HANDHELD_SIZE];
     caller_cases::run(&mut out, &mut store)?;
     screen_cases::run(&mut out, &mut store)?;

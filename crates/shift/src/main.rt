@@ -16,7 +16,7 @@ use rows::rows;
 use station::answers::{Answer, Refusal, number};
 use station::handheld::{commit, judge, start};
 use std::io;
-use std::io::{BufWriter, Read, Write};
+use std::io::{Read, Write};
 use tables::limits::HANDHELD_SIZE;
 
 // What the set shows: rows, the menu's line, and who calls.
@@ -77,7 +77,7 @@ fn next<R: Read, W: Write>(
 
 fn main(rt: HostRuntime) -> io::Result<()> {
     let mut input = rt.reader();
-    let mut out = BufWriter::new(rt.alloc(), rt.stdout())?;
+    let mut out = rt.stdout();
     let mut buffer = [0u8; 4096];
     let mut store = [0u8; HANDHELD_SIZE];
     let mut reply = [0u8; 20];

@@ -2,7 +2,7 @@
 #![tactic(auto)]
 
 use std::io;
-use std::io::{BufWriter, Write};
+use std::io::Write;
 use tables::limits::HANDHELD_SIZE;
 
 mod channel_cases;
@@ -17,7 +17,7 @@ mod text_room_cases;
 mod type_cases;
 
 fn main(rt: HostRuntime) -> io::Result<()> {
-    let mut out = BufWriter::new(rt.alloc(), rt.stdout())?;
+    let mut out = rt.stdout();
     let mut store = [0u8; HANDHELD_SIZE];
     line_cases::run(&mut out, &mut store)?;
     type_cases::run(&mut out, &mut store)?;

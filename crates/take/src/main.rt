@@ -5,7 +5,7 @@ use records::{Record, read_record};
 use station::answers::{Answer, failed_id, number};
 use station::handheld::{commit, judge, start};
 use std::io;
-use std::io::{BufWriter, Read, Write};
+use std::io::{Read, Write};
 use tables::limits::HANDHELD_SIZE;
 
 fn space<W: Write>(out: &mut W) -> io::Result<()> {
@@ -59,7 +59,7 @@ fn take_record<R: Read, W: Write>(
 
 fn main(rt: HostRuntime) -> io::Result<()> {
     let mut input = rt.reader();
-    let mut out = BufWriter::new(rt.alloc(), rt.stdout())?;
+    let mut out = rt.stdout();
     let mut buffer = [0u8; 4096];
     let mut store = [0u8; HANDHELD_SIZE];
     let mut reply = [0u8; 20];

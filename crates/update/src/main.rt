@@ -9,7 +9,7 @@ use records::{Record, read_record};
 use station::answers::number;
 use station::handheld::{commit, start};
 use std::io;
-use std::io::{BufWriter, Read, Write};
+use std::io::{Read, Write};
 use tables::limits::HANDHELD_SIZE;
 use updating::answers::{Check, Proposal};
 use updating::handheld::{check, propose};
@@ -154,7 +154,7 @@ fn answer_all<R: Read, W: Write>(
 
 fn main(rt: HostRuntime) -> io::Result<()> {
     let mut input = rt.reader();
-    let mut out = BufWriter::new(rt.alloc(), rt.stdout())?;
+    let mut out = rt.stdout();
     let mut buffer = [0u8; 4096];
     let mut first = [0u8; HANDHELD_SIZE];
     let mut second = [0u8; HANDHELD_SIZE];

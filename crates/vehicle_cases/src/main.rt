@@ -2,7 +2,7 @@
 #![tactic(auto)]
 
 use std::io;
-use std::io::{BufWriter, Write};
+use std::io::Write;
 use tables::limits::{HANDHELD_SIZE, VEHICLE_SIZE};
 
 mod asking_cases;
@@ -11,7 +11,7 @@ mod room_cases;
 mod size_cases;
 
 fn main(rt: HostRuntime) -> io::Result<()> {
-    let mut out = BufWriter::new(rt.alloc(), rt.stdout())?;
+    let mut out = rt.stdout();
     let mut store = [0u8; VEHICLE_SIZE];
     let mut other = [0u8; HANDHELD_SIZE];
     room_cases::run(&mut out, &mut store)?;
