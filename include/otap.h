@@ -68,19 +68,19 @@ enum { OTAP_LAYOUT = 6 };
 
 /*
  * Stack in bytes: a ceiling for each call on every processor, which tests/stack.c holds it to, and the most that it measured (docs/TESTING.md has each): on
- * x86-64, Cortex-M4 and Cortex-M33, of otap_start and the conversions on AArch64 too. The ceilings have room for a third more beside the working copy. It is tested on a full store with every kind of message; no
- * theorem bounds it.
+ * x86-64, and with the older kit on Cortex-M4 and Cortex-M33, of otap_start and the conversions on AArch64 too. It is tested on a full store with every kind
+ * of message; no theorem bounds it.
  */
 enum {
     OTAP_START_STACK = 256,      /* measured 40 */
-    OTAP_JUDGE_STACK = 28928,    /* 27,824: it has the working copy that otap_commit has */
-    OTAP_COMMIT_STACK = 29440,   /* 28,104: 24,576 of them are the working copy of the store */
-    OTAP_EXPORT_STACK = 27648,   /* 26,728, with a working copy too */
-    OTAP_REPORT_STACK = 27904,   /* 26,984, with a working copy too */
-    OTAP_ROW_STACK = 3584,       /* 2,600 otap_row_number, 2,616 otap_row_part */
-    OTAP_COUNTS_STACK = 2816,    /* 1,992 */
-    OTAP_LINE_OF_STACK = 3072,   /* 2,120 */
-    OTAP_VALUE_STACK = 3072,     /* 2,120 otap_entry, otap_entry_digits; 2,008 otap_channel, 1,992 otap_emergency_key and the others of a value */
+    OTAP_JUDGE_STACK = 29696,    /* 27,824: it has the working copy that otap_commit has */
+    OTAP_COMMIT_STACK = 29696,   /* 28,104: 24,576 of them are the working copy of the store */
+    OTAP_EXPORT_STACK = 27136,   /* 26,520, with a working copy too */
+    OTAP_REPORT_STACK = 27136,   /* 26,616, with a working copy too */
+    OTAP_ROW_STACK = 3072,       /* 2,312 otap_row_number, 2,328 otap_row_part */
+    OTAP_COUNTS_STACK = 2048,    /* 1,784 */
+    OTAP_LINE_OF_STACK = 2048,   /* 1,848 */
+    OTAP_VALUE_STACK = 2048,     /* 1,864 otap_entry, otap_entry_digits; 1,800 otap_channel, 1,784 otap_emergency_key and the others of a value */
     OTAP_CONVERSION_STACK = 256  /* 64 */
 };
 

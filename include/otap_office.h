@@ -56,10 +56,10 @@ enum {
 
 /* Stack in bytes, as in otap.h: a ceiling, which tests/office_stack.c holds each call to, and the most that it measured, on x86-64. */
 enum {
-    OTAP_CHECK_STACK = 54784,           /* measured 52,264: 49,152 of them are two working copies of the store */
-    OTAP_PROPOSE_STACK = 37376,         /* 35,448, with a working copy and two requests */
-    OTAP_VEHICLE_CHECK_STACK = 103936,  /* 101,416: 98,304 of them are two working copies */
-    OTAP_VEHICLE_PROPOSE_STACK = 20992, /* 19,110, with two requests */
+    OTAP_CHECK_STACK = 54272,           /* measured 52,216: 49,152 of them are two working copies of the store */
+    OTAP_PROPOSE_STACK = 36864,         /* 35,128, with a working copy and two requests */
+    OTAP_VEHICLE_CHECK_STACK = 103424,  /* 101,368: 98,304 of them are two working copies */
+    OTAP_VEHICLE_PROPOSE_STACK = 20480, /* 18,766, with two requests */
     OTAP_OFFICE_STACK = 2048            /* 808: every other call of this archive */
 };
 

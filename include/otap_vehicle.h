@@ -46,10 +46,10 @@ enum {
  * text has its place. The others have the ceilings of otap.h.
  */
 enum {
-    OTAP_VEHICLE_JUDGE_STACK = 53504,  /* measured 52,408 */
-    OTAP_VEHICLE_COMMIT_STACK = 53504, /* 52,416 */
-    OTAP_VEHICLE_EXPORT_STACK = 3072,  /* 2,182 */
-    OTAP_VEHICLE_REPORT_STACK = 3328   /* 2,470 */
+    OTAP_VEHICLE_JUDGE_STACK = 53248,  /* measured 52,408 */
+    OTAP_VEHICLE_COMMIT_STACK = 53248, /* 52,416 */
+    OTAP_VEHICLE_EXPORT_STACK = 2560,  /* 2,024 */
+    OTAP_VEHICLE_REPORT_STACK = 2560   /* 2,062 */
 };
 
 /* As otap_start, of OTAP_VEHICLE_STORE_BYTES bytes. */
