@@ -67,7 +67,7 @@ enum { OTAP_DIGITS = 18 };
 enum { OTAP_LAYOUT = 6 };
 
 /*
- * Stack in bytes: a ceiling for each call on every processor, which tests/stack.c holds it to, and the most that it measured (docs/TESTING.md has each): on
+ * Stack in bytes: a ceiling for each call on every processor, which tests/stack.c holds it to, and the most that it measured (docs/TESTING.md has those of the older kit): on
  * x86-64, and with the older kit on Cortex-M4 and Cortex-M33, of otap_start and the conversions on AArch64 too. It is tested on a full store with every kind
  * of message; no theorem bounds it.
  */
