@@ -1,5 +1,6 @@
 -- Laws of bytes: what a loop over them has done so far, and what zero and equal bytes are. Assumes nothing.
 use Rattle.lists.proofs.Kit.{◌≡◌, refl, sym, ap, ap₂, ◌∙◌, Bool, true, false, ◌&&◌, false≢true, List, [], ◌∷◌, ◌++◌, append-nil, ℕ, zero, suc, ◌+◌, ◌-◌, ◌≤◌, ◌<◌, min, not-suc-le-zero, le_of_suc-le-suc, add-one, arith, eqb-true, eq-eqb, ltb-true, ltb-false, put_mid, mid_of, post_of, eqb, ltb, length, set, drop, take, get_or, replicate, length-append, length-drop, length-take, drop_of_length-le, take-append-drop, drop-cons, drop-nil, take_all, take_at, length-take-le}
+use Rattle.std.specs.List.{fold, list_all}
 use Rattle.lists.proofs.Bools.{is_false, and_parts}
 use Rattle.slots.specs.Slots.{pad, zeros?, same?}
 use Rattle.slots.proofs.Pads.{pad_is}
@@ -15,6 +16,14 @@ still_more false b rest = refl
 pub still_all : (so_far : Bool) → (so_far && true) ≡ so_far
 still_all true = refl
 still_all false = refl
+
+-- a fold that looks at all bytes answers whether they are zeros
+fold_from : (so_far : Bool) (s : List ℕ) → fold (λ z b. z && eqb b 0) so_far s ≡ (so_far && zeros? s)
+fold_from so_far [] = sym (still_all so_far)
+fold_from so_far (b ∷ bs) = fold_from (so_far && eqb b 0) bs ∙ sym (still_more so_far (eqb b 0) (zeros? bs))
+
+pub fold_zeros : (s : List ℕ) → fold (λ z b. z && eqb b 0) true s ≡ zeros? s
+fold_zeros s = fold_from true s
 
 -- ---- copying
 
@@ -82,6 +91,11 @@ shift_done s t u w n h e l v =
 -- one byte more is looked at
 pub zeros_step : (s : List ℕ) (i : ℕ) → i < length s → zeros? (drop i s) ≡ (eqb (get_or s i 0) 0 && zeros? (drop (i + 1) s))
 zeros_step s i h = rw (add-one, drop-cons s i 0)
+
+-- a byte that is not 0 ends the search for one
+pub zeros_list : (s : List ℕ) → list_all (λ b. eqb b 0) s ≡ zeros? s
+zeros_list [] = refl
+zeros_list (b ∷ bs) = ap (λ z. eqb b 0 && z) (zeros_list bs)
 
 -- zeros are zeros
 pub zeros_all : (n : ℕ) → zeros? (replicate n 0) ≡ true

@@ -60,11 +60,36 @@ module _ (p : List ℕ → Bool) (s : List ℕ) (w at : ℕ) (xs : List (List �
       go [] q e u = omega (arith, u)
       go (y ∷ ys) q e u = absurd (omega (arith, length-drop at s, ap length e, length-append y (flat ys), q.0))
 
--- ---- a slot, read where it stands
+-- ---- a slot, cut off the front of what is left
 
--- the slot is empty or not
-pub part_zeros : (s : List ℕ) (at w : ℕ) {b : Bool} → zeros? (mid_of at (at + w - at) s) ≡ b → zeros? (take w (drop at s)) ≡ b
-part_zeros s at w h = let k : at + w - at ≡ w = omega arith in rw k at h
+-- x is the slot that stands at `at` in s, before t
+pub record Chunk (s : List ℕ) (at w : ℕ) (x t : List ℕ) : Type 0 where
+  pub fits : w ≤ length s - at
+  pub is : take w (drop at s) ≡ x
+  pub rest : t ≡ drop (at + w) s
+
+module _ (s : List ℕ) (at w : ℕ) where
+  -- a slot comes off the front
+  pub chunk : (x t r : List ℕ) → r ≡ drop at s → r ≡ x ++ t → length x ≡ w → Chunk s at w x t
+  chunk x t r e f l =
+      record {
+        fits = omega (arith, length-drop at s, ap length (sym e ∙ f), length-append x t);
+        is = ap (take w) (sym e ∙ f) ∙ take_at x t w l;
+        rest = sym (drop_at x t w l) ∙ ap (drop w) (sym f ∙ e) ∙ drop-drop w at s;
+      }
+
+  -- too little is left for a slot
+  pub chunk_end : (n : ℕ) (r : List ℕ) → r ≡ drop at s → n ≡ w → length r < n → length s - at < w
+  chunk_end n r e m h = omega (arith, length-drop at s, ap length e)
+
+-- ---- a slot, read
+
+-- a key of n bytes, read in the slot x
+pub slot_hit : (x : List ℕ) (o n : ℕ) (key : List ℕ) → length key ≡ n → {b : Bool} → b ≡ same? (mid_of o (o + n - o) x) key → hit o key x ≡ b
+slot_hit x o n key l {b} e =
+    let k : o + n - o ≡ length key = omega arith in
+    let h : same? (mid_of o (o + n - o) x) key ≡ b = sym e in
+    rw k at h
 
 -- the key of the slot x, which stands at `at` before r
 pub key_there : (s x r : List ℕ) (at o : ℕ) (key : List ℕ) → drop at s ≡ x ++ r → o + length key ≤ length x → {b : Bool} → same? (mid_of (at + o) (at + o + length key - (at + o)) s) key ≡ b → hit o key x ≡ b
@@ -73,26 +98,6 @@ key_there s x r at o key d h {b} e =
     let f : drop (at + o) s ≡ drop o x ++ r = sym (drop-drop o at s) ∙ ap (drop o) d ∙ drop-append-le o x r (omega arith) in
     let g : mid_of (at + o) (at + o + length key - (at + o)) s ≡ take (length key) (drop o x) = (rw (n, f) (take-append-le (length key) (drop o x) r (omega (arith, length-drop o x)))) in
     ap (λ (m : List ℕ). same? m key) (sym g) ∙ e
-
--- the slot that stands at `at` has the key or not
-pub part_hit : (s : List ℕ) (at w o : ℕ) (key : List ℕ) → o + length key ≤ w → w ≤ length s - at → {b : Bool} → same? (mid_of (at + o) (at + o + length key - (at + o)) s) key ≡ b → hit o key (take w (drop at s)) ≡ b
-part_hit s at w o key h k e =
-    let l : length (take w (drop at s)) ≡ w = length-take-le w (drop at s) (omega (arith, length-drop at s)) in
-    key_there s (take w (drop at s)) (drop w (drop at s)) at o key (sym (take-append-drop w (drop at s))) (omega arith) e
-
-module _ (s : List ℕ) (at w o : ℕ) (key : List ℕ) (h : o + length key ≤ w) (k : w ≤ length s - at) where
-  -- a slot that has the key fits
-  pub fit_hit : same? (mid_of (at + o) (at + o + length key - (at + o)) s) key ≡ true → fit o key (take w (drop at s)) ≡ true
-  fit_hit e = rw (part_hit s at w o key h k e)
-
-  -- one that has it not fits where it is empty
-  pub fit_miss : {b : Bool} → same? (mid_of (at + o) (at + o + length key - (at + o)) s) key ≡ false → zeros? (mid_of at (at + w - at) s) ≡ b → fit o key (take w (drop at s)) ≡ b
-  fit_miss e z = rw (part_hit s at w o key h k e) (part_zeros s at w z)
-
--- the same said of the key's own length
-pub said_of : (n : ℕ) (key s : List ℕ) (at o : ℕ) → length key ≡ n → {b : Bool} → same? (mid_of (at + o) (at + o + n - (at + o)) s) key ≡ b
-    → same? (mid_of (at + o) (at + o + length key - (at + o)) s) key ≡ b
-said_of n key s at o e {b} h = subst (λ (k : ℕ). same? (mid_of (at + o) (at + o + k - (at + o)) s) key ≡ b) (sym e) h
 
 -- ---- whether the key fits the slots
 

@@ -12,12 +12,11 @@ pub fn used(s: &[u8], w: usize) -> usize
         return 0;
     }
     let mut at = 0;
-    while w <= s.len() - at {
-        let e = at + w;
-        if is_zeros(&s[at..e]) {
+    for slot in s.chunks_exact(w) {
+        if is_zeros(slot) {
             return at;
         }
-        at = e;
+        at += w;
     }
     at
 }
@@ -26,51 +25,33 @@ pub fn used(s: &[u8], w: usize) -> usize
 fn key_fits(w: usize, o: usize, n: usize) -> bool
     ensures { (result ≡ true) ↔ ((0 < w) × (o + n ≤ w)) }
 {
-    if w == 0 {
-        return false;
-    }
-    if w < o {
-        return false;
-    }
-    n <= w - o
+    0 < w && o <= w && n <= w - o
 }
 
 // Where the first slot starts that has the key, of n bytes, at o or is empty, or the end of the slots; n is said apart so that the compiler knows it.
 pub fn place_of(s: &[u8], w: usize, o: usize, n: usize, key: &[u8]) -> usize
     ensures { Found (KeyAt w o key.now × (length key.now ≡ n)) (fit o key.now) w s.now result }
 {
-    if key.len() != n {
-        return 0;
-    }
-    if !key_fits(w, o, n) {
+    if key.len() != n || !key_fits(w, o, n) {
         return 0;
     }
     let mut at = 0;
-    while w <= s.len() - at {
-        let a = at + o;
-        let b = a + n;
-        let e = at + w;
-        if alike(&s[a..b], key) {
+    for slot in s.chunks_exact(w) {
+        if alike(&slot[o..o + n], key) || is_zeros(slot) {
             return at;
         }
-        if is_zeros(&s[at..e]) {
-            return at;
-        }
-        at = e;
+        at += w;
     }
     at
 }
 
 // Drops the first w bytes, and puts zeros at the end.
 fn shift(s: &mut [u8], w: usize)
+    requires { w ≤ length s.old }
     ensures { s.new ≡ pad 0 (length s.old) (drop w s.old) }
 {
-    let n = if s.len() < w { 0 } else { s.len() - w };
-    let mut i = 0;
-    while i < n {
-        s[i] = s[i + w];
-        i += 1;
-    }
+    s.copy_within(w.., 0);
+    let n = s.len() - w;
     wipe(&mut s[n..]);
 }
 

@@ -5,7 +5,6 @@ use Rattle.slots.proofs.bytes.copy_padded.Goals as goal
 pub returns : goal.returns
 returns c =
     let a = c.args in
-    let m = c.smaller-n in
     let t = c.copy in
     let u = c.wipe in
-    padded_done a.src.now a.dst.now t.new.dst u.new.s m.result m.ensures t.ensures u.ensures
+    padded_done a.src.now a.dst.now t.new.dst u.new.s c.min-n.result (search rules) t.ensures u.ensures

@@ -1,22 +1,10 @@
-use Rattle.lists.proofs.Kit.{rules, arith, ◌+◌, ◌-◌, ◌≤◌, ◌≡◌, refl, sym, ap, ◌∙◌, ◌&&◌, length, drop, drop_of_length-le}
-use Rattle.slots.specs.Slots.{zeros?}
-use Rattle.slots.proofs.Runs.{zeros_step, still_more, still_all}
+use Rattle.std.proofs.Common.{tests}
+use Rattle.lists.proofs.Kit.{rules, ◌∙◌, ◌&&◌, true, eqb}
+use Rattle.std.proofs.lemmas.Iterator.{YieldsList-from_slice}
+use Rattle.std.proofs.lemmas.Iterator.Consumers.{fold_from_yields_List}
+use Rattle.slots.proofs.Runs.{fold_zeros}
 use Rattle.slots.proofs.bytes.is_clear.Goals as goal
-
-pub loop-i-init : goal.loop-i-init
-loop-i-init c = (omega arith, refl)
-
-pub loop-i-preserved : goal.loop-i-preserved
-loop-i-preserved c =
-    let l = c.loop-i in
-    let s = c.args.s.now in (
-      omega arith,
-      l.invariant.1 ∙ ap (λ x. l.clear && x) (zeros_step s l.i (omega arith)) ∙ still_more l.clear _ _
-          ∙ ap (λ x. x && zeros? (drop (l.i + 1) s)) (sym c.still-clear.ensures),
-    )
 
 pub returns : goal.returns
 returns c =
-    let l = c.loop-i in
-    let s = c.args.s.now in
-    sym (l.invariant.1 ∙ ap (λ x. l.clear && zeros? x) (drop_of_length-le s {i = l.i} (omega arith)) ∙ still_all l.clear)
+    fold_from_yields_List _ (λ z b. z && eqb b 0) true c.fold.result c.fold.ensures.ran (YieldsList-from_slice c.args.s.now cc) (λ a x b q k. search (rules, tests)) ∙ fold_zeros c.args.s.now

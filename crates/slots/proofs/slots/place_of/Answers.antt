@@ -1,61 +1,47 @@
-use Rattle.lists.proofs.Kit.{rules, arith, ℕ, ◌-◌, ◌≤◌, ◌≡◌, refl, sym, ◌∙◌, length, List}
-use Rattle.slots.specs.Slots.{Slots, flat, fit, KeyAt}
-use Rattle.slots.proofs.Search.{Rest, search_start, search_more, search_stop, search_end, fit_hit, fit_miss, said_of, fits_said, key_fits, key_not}
+use Rattle.lists.proofs.Kit.{arith, ℕ, ◌≤◌, ◌≡◌, true, sym, ap, ◌∙◌, ◌||◌}
+use Rattle.slots.specs.Slots.{zeros?, hit, fit}
+use Rattle.slots.proofs.Search.{search_more, search_stop, search_end, chunk, chunk_end, slot_hit}
 use Rattle.slots.proofs.slots.place_of.Goals as goal
-
-pub returns-then-key-n : goal.returns-then-key-n
-returns-then-key-n c = record { within = omega arith; first = λ k. absurd (c.if-key-n.true k.1); cannot = λ h. refl }
-
-pub returns-then-not-key_fits : goal.returns-then-not-key_fits
-returns-then-not-key_fits c =
-    let a = c.args in
-    let f = c.key_fits in
-    record { within = omega arith; first = λ k. absurd (key_not a.w a.o a.key.now f.result (fits_said a.w a.o a.n a.key.now c.if-key-n.false f.ensures) c.if-not-key_fits.true-raw k.0); cannot = λ h. refl }
-
-pub loop-at-init : goal.loop-at-init
-loop-at-init c =
-    let a = c.args in
-    let f = c.key_fits in
-    (omega arith, key_fits a.w a.o a.key.now f.result (fits_said a.w a.o a.n a.key.now c.if-key-n.false f.ensures) c.if-not-key_fits.false-raw, search_start (fit a.o a.key.now) a.s.now a.w)
+use Rattle.slots.proofs.slots.place_of.Goals.{then-alike-via-then-alike, then-alike-via-else-alike+then-is_zeros}
 
 pub returns-then-alike : goal.returns-then-alike
 returns-then-alike c =
-    let l = c.loop-at in
+    let l = c.loop-slot in
     let a = c.args in
-    let long = c.if-key-n.false in
-    let t = fit_hit a.s.now l.at a.w a.o a.key.now (omega arith) (omega arith) (said_of a.n a.key.now a.s.now l.at a.o long (sym c.alike.ensures ∙ c.if-alike.true)) in
+    let i = l.invariant in
+    let n = c.in-Some.ensures.steps in
+    let k = chunk a.s.now l.at a.w _ _ _ i.2 n.1.0 (n.1.1 ∙ i.1) in
+    let h = slot_hit c.in-Some.slot.now a.o a.n a.key.now c.if-key-n.false c.alike.ensures in
+    let z : fit a.o a.key.now c.in-Some.slot.now ≡ true
+    = elim c.then-alike.branch [
+      | then-alike-via-then-alike w ↦ rw (h, w.if-alike.true)
+      | then-alike-via-else-alike+then-is_zeros w ↦ rw (h, w.if-alike.false) (sym w.is_zeros.ensures ∙ w.if-is_zeros.true)
+    ] in
     record {
-      within = omega arith;
-      first = λ k xs q e. search_stop (fit a.o a.key.now) a.s.now a.w l.at xs (l.invariant.2 xs q e) (omega arith) (omega arith) t;
-      cannot = λ h. absurd (h (l.invariant.1, c.if-key-n.false));
+      within = i.0;
+      first = λ g xs q e. search_stop (fit a.o a.key.now) a.s.now a.w l.at xs (i.4 xs q e) i.3.wide k.fits (ap (fit a.o a.key.now) k.is ∙ z);
+      cannot = λ g. absurd (g (i.3, c.if-key-n.false));
     }
 
-pub returns-then-is_zeros : goal.returns-then-is_zeros
-returns-then-is_zeros c =
-    let l = c.loop-at in
+pub loop-slot-preserved : goal.loop-slot-preserved
+loop-slot-preserved c =
+    let l = c.loop-slot in
     let a = c.args in
-    let long = c.if-key-n.false in
-    let t = fit_miss a.s.now l.at a.w a.o a.key.now (omega arith) (omega arith) (said_of a.n a.key.now a.s.now l.at a.o long (sym c.alike.ensures ∙ c.if-alike.false)) (sym c.is_zeros.ensures ∙ c.if-is_zeros.true) in
-    record {
-      within = omega arith;
-      first = λ k xs q e. search_stop (fit a.o a.key.now) a.s.now a.w l.at xs (l.invariant.2 xs q e) (omega arith) (omega arith) t;
-      cannot = λ h. absurd (h (l.invariant.1, c.if-key-n.false));
-    }
-
-pub loop-at-preserved : goal.loop-at-preserved
-loop-at-preserved c =
-    let l = c.loop-at in
-    let a = c.args in
-    let long = c.if-key-n.false in
-    let t = fit_miss a.s.now l.at a.w a.o a.key.now (omega arith) (omega arith) (said_of a.n a.key.now a.s.now l.at a.o long (sym c.alike.ensures ∙ c.if-alike.false)) (sym c.is_zeros.ensures ∙ c.if-is_zeros.false) in
-    (omega arith, l.invariant.1, λ xs q e. search_more (fit a.o a.key.now) a.s.now a.w l.at xs (l.invariant.2 xs q e) (omega arith) (omega arith) t)
+    let i = l.invariant in
+    let n = c.in-Some.ensures.steps in
+    let k = chunk a.s.now l.at a.w _ _ _ i.2 n.1.0 (n.1.1 ∙ i.1) in
+    let h = slot_hit c.in-Some.slot.now a.o a.n a.key.now c.if-key-n.false c.alike.ensures in
+    let z = ap (fit a.o a.key.now) k.is ∙ ap (λ b. b || zeros? c.in-Some.slot.now) (h ∙ c.if-alike.false) ∙ sym c.is_zeros.ensures ∙ c.if-is_zeros.false in
+    (omega (arith, k.fits), n.0 ∙ i.1, k.rest, i.3, λ xs q e. search_more (fit a.o a.key.now) a.s.now a.w l.at xs (i.4 xs q e) i.3.wide k.fits z)
 
 pub returns : goal.returns
 returns c =
-    let l = c.loop-at in
+    let l = c.loop-slot in
     let a = c.args in
+    let i = l.invariant in
+    let d = chunk_end a.s.now l.at a.w _ _ i.2 i.1 c.in-None.ensures.steps.1.0 in
     record {
-      within = omega arith;
-      first = λ k xs q e. search_end (fit a.o a.key.now) a.s.now a.w l.at xs (l.invariant.2 xs q e) (omega arith);
-      cannot = λ h. absurd (h (l.invariant.1, c.if-key-n.false));
+      within = i.0;
+      first = λ k xs q e. search_end (fit a.o a.key.now) a.s.now a.w l.at xs (i.4 xs q e) d;
+      cannot = λ h. absurd (h (i.3, c.if-key-n.false));
     }

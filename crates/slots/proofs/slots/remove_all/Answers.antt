@@ -4,12 +4,6 @@ use Rattle.slots.proofs.Search.{key_fits, key_not}
 use Rattle.slots.proofs.Gaps.{Gone, gone_start, gone_end, turn, turn_key, turn_miss, turn_hit}
 use Rattle.slots.proofs.slots.remove_all.Goals as goal
 
-pub returns-then-not-key_fits : goal.returns-then-not-key_fits
-returns-then-not-key_fits c =
-    let a = c.args in
-    let f = c.key_fits in
-    record { gone = λ k. absurd (key_not a.w a.o a.key.now f.result f.ensures c.if-not-key_fits.true-raw k); kept = λ h. refl }
-
 pub loop-at-init : goal.loop-at-init
 loop-at-init c =
     let a = c.args in
