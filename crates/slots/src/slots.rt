@@ -62,9 +62,8 @@ pub fn remove_all(s: &mut [u8], w: usize, o: usize, key: &[u8])
     if !key_fits(w, o, key.len()) {
         return;
     }
-    let mut at = s.len();
-    while w <= at {
-        at -= w;
+    for k in (0..s.len() / w).rev() {
+        let at = k * w;
         let a = at + o;
         let e = a + key.len();
         if same(&s[a..e], key) {

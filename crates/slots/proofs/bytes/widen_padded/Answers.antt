@@ -1,4 +1,4 @@
-use Rattle.lists.proofs.Kit.{arith, ◌+◌, ◌*◌, ◌<◌, ◌≤◌, ◌≡◌, refl, ap, ◌∙◌, length, length-set, length-take}
+use Rattle.lists.proofs.Kit.{arith, ◌<◌, refl, ap, ◌∙◌, length, length-set, length-take}
 use Rattle.std.proofs.lemmas.List.{get_or-take}
 use Rattle.slots.proofs.Widening.{widened, wiped_length, widen_none, widen_more, widen_done}
 use Rattle.slots.proofs.bytes.widen_padded.Goals as goal

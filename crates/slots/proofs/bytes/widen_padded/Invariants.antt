@@ -1,4 +1,4 @@
-use Rattle.lists.proofs.Kit.{◌≡◌, length, take, min, ◌/◌}
+use Rattle.lists.proofs.Kit.{◌≡◌, length, take}
 use Rattle.slots.proofs.Widening.{widened}
 use Rattle.slots.proofs.bytes.widen_padded.Given as goal
 

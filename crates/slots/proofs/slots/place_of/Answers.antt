@@ -1,5 +1,5 @@
-use Rattle.lists.proofs.Kit.{arith, ℕ, ◌≤◌, ◌≡◌, true, sym, ap, ◌∙◌, ◌||◌}
-use Rattle.slots.specs.Slots.{zeros?, hit, fit}
+use Rattle.lists.proofs.Kit.{arith, ◌≡◌, true, sym, ap, ◌∙◌, ◌||◌}
+use Rattle.slots.specs.Slots.{zeros?, fit}
 use Rattle.slots.proofs.Search.{search_more, search_stop, search_end, chunk, chunk_end, slot_hit}
 use Rattle.slots.proofs.slots.place_of.Goals as goal
 use Rattle.slots.proofs.slots.place_of.Goals.{then-alike-via-then-alike, then-alike-via-else-alike+then-is_zeros}

@@ -1,6 +1,6 @@
-use Rattle.lists.proofs.Kit.{arith, ◌≤◌, ◌≡◌, sym, ap, ◌∙◌}
+use Rattle.lists.proofs.Kit.{arith, sym, ap, ◌∙◌}
 use Rattle.slots.specs.Slots.{zeros?}
-use Rattle.slots.proofs.Search.{search_start, search_more, search_stop, search_end, chunk, chunk_end}
+use Rattle.slots.proofs.Search.{search_more, search_stop, search_end, chunk, chunk_end}
 use Rattle.slots.proofs.slots.used.Goals as goal
 
 pub returns-then-is_zeros : goal.returns-then-is_zeros
