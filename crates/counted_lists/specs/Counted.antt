@@ -71,10 +71,15 @@ pub record Told (s : List ℕ) (r : ℕ) : Type 0 where
   pub small : r < 65536
   pub says : (w n : ℕ) (xs : List (List ℕ)) → Counted w n xs s → r ≡ length xs
 
--- r is where the slots end, or 0
+-- s is no list of slots of w bytes
+abbrev pub NoEnd : ℕ → List ℕ → Type 0
+NoEnd w s = (n : ℕ) (xs : List (List ℕ)) → Counted w n xs s → ⊥
+
+-- r is where the slots end
 pub record EndOf (w : ℕ) (s : List ℕ) (r : ℕ) : Type 0 where
   pub within : r ≤ length s
-  pub wide : 2 ≤ r → 0 < w
+  pub past : 2 ≤ r
+  pub wide : 0 < w
   pub says : (n : ℕ) (xs : List (List ℕ)) → Counted w n xs s → r ≡ length xs * w + 2
 
 -- r is where the first slot that has the key starts, or the end

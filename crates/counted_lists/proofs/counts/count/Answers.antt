@@ -1,4 +1,4 @@
-use Rattle.lists.proofs.Kit.{rules, arith}
+use Rattle.lists.proofs.Kit.{arith}
 use Rattle.counted_lists.proofs.CountLaws.{counted_length, count_read}
 use Rattle.counted_lists.proofs.counts.count.Goals as goal
 

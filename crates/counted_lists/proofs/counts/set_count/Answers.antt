@@ -1,4 +1,4 @@
-use Rattle.lists.proofs.Kit.{rules, arith}
+use Rattle.lists.proofs.Kit.{arith}
 use Rattle.counted_lists.proofs.CountLaws.{count_written}
 use Rattle.counted_lists.proofs.counts.set_count.Goals as goal
 

@@ -1,43 +1,41 @@
-use Rattle.lists.proofs.Kit.{rules, ℕ, ◌+◌, ◌-◌, ◌≤◌, ◌≡◌, sym, ◌∙◌, Bool, true, false, cond, List, arith, length, drop, take, ⊎_elim, not-true, not-false}
-use Rattle.slots.specs.Slots.{flat, Slots, hit}
-use Rattle.slots.proofs.Search.{part_hit}
-use Rattle.counted_lists.proofs.KeyLaws.{Tally, tally_start, tally_more, tally_end}
+use Rattle.lists.proofs.Kit.{◌+◌, refl, ap, ◌∙◌, subst, Bool, cond, arith, length, length-append}
+use Rattle.std.specs.Slice.Iter.{chunks_exact_rest}
+use Rattle.slots.specs.Slots.{hit}
+use Rattle.slots.proofs.Search.{slot_hit}
+use Rattle.counted_lists.proofs.KeyLaws.{Tally, tally_more, tally_end}
 use Rattle.counted_lists.proofs.keys.others.Goals as goal
-use Rattle.counted_lists.proofs.keys.others.Goals.{then-not-same, else-not-same}
 
-pub loop-at-init : goal.loop-at-init
-loop-at-init c =
+pub loop-slot-preserved-then-not-same : goal.loop-slot-preserved-then-not-same
+loop-slot-preserved-then-not-same c =
+    let l = c.loop-slot in
     let a = c.args in
-    (omega arith, (omega arith, tally_start (hit a.o a.key.now) a.s.now a.w))
+    let i = l.invariant in
+    let n = c.in-Some.ensures.steps in
+    let x = c.in-Some.slot.now in
+    let t = chunks_exact_rest c.next.new.self in
+    let h = slot_hit x a.o _ a.key.now refl c.same.ensures ∙ c.if-not-same.true in (
+      omega (arith, length-append x t, ap length n.1.0, n.1.1, i.0, i.1, c.requires.wide),
+      n.0 ∙ i.1,
+      λ xs q e. subst (λ (b : Bool). Tally (hit a.o a.key.now) a.w t (cond b l.n (l.n + 1)) xs) h (tally_more (hit a.o a.key.now) a.w l.n xs _ x t (i.2 xs q e) c.requires.wide n.1.0 (n.1.1 ∙ i.1)),
+    )
 
-pub loop-at-smaller : goal.loop-at-smaller
-loop-at-smaller c = let k = c.requires in omega (arith, k.wide)
-
-pub loop-at-preserved : goal.loop-at-preserved
-loop-at-preserved c =
-    let l = c.loop-at in
+pub loop-slot-preserved : goal.loop-slot-preserved
+loop-slot-preserved c =
+    let l = c.loop-slot in
     let a = c.args in
-    let k = c.requires in
-    let y = c.same in
-    let hits : (b : Bool) → y.result ≡ b → hit a.o a.key.now (take a.w (drop l.at a.s.now)) ≡ b
-    = λ b h. part_hit a.s.now l.at a.w a.o a.key.now k.inside (omega arith) (sym y.ensures ∙ h) in
-    let more : (xs : List (List ℕ)) → Slots a.w xs → a.s.now ≡ flat xs → (b : Bool) → y.result ≡ b → (n : ℕ) → n ≡ cond b l.n (l.n + 1)
-    → Tally (hit a.o a.key.now) a.s.now a.w (l.at + a.w) n xs
-    = λ xs q e b h.
-    tally_more (hit a.o a.key.now) a.s.now a.w l.at l.n xs (l.invariant.1.1 xs q e) k.wide (omega arith) b (hits b h) in (
-      omega arith,
-      (
-        elim c.if-not-same.branch [ then-not-same w ↦ omega (arith, k.wide) | else-not-same w ↦ omega (arith, k.wide) ],
-        λ xs q e.
-            elim c.if-not-same.branch [
-              | then-not-same w ↦ more xs q e false w.if-not-same.true c.if-not-same.n w.n-is
-              | else-not-same w ↦ more xs q e true w.if-not-same.false c.if-not-same.n w.n-is
-            ],
-      ),
+    let i = l.invariant in
+    let n = c.in-Some.ensures.steps in
+    let x = c.in-Some.slot.now in
+    let t = chunks_exact_rest c.next.new.self in
+    let h = slot_hit x a.o _ a.key.now refl c.same.ensures ∙ c.if-not-same.false in (
+      omega (arith, length-append x t, ap length n.1.0, i.0),
+      n.0 ∙ i.1,
+      λ xs q e. subst (λ (b : Bool). Tally (hit a.o a.key.now) a.w t (cond b l.n (l.n + 1)) xs) h (tally_more (hit a.o a.key.now) a.w l.n xs _ x t (i.2 xs q e) c.requires.wide n.1.0 (n.1.1 ∙ i.1)),
     )
 
 pub returns : goal.returns
 returns c =
-    let l = c.loop-at in
+    let l = c.loop-slot in
     let a = c.args in
-    (λ xs q e. tally_end (hit a.o a.key.now) a.s.now a.w l.at l.n xs (l.invariant.1.1 xs q e) (omega arith))
+    let i = l.invariant in
+    λ xs q e. tally_end (hit a.o a.key.now) a.w l.n xs _ (i.2 xs q e) (omega (arith, c.in-None.ensures.steps.1.0, i.1))
