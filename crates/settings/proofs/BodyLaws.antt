@@ -1,5 +1,5 @@
 -- The fields after DataLength: a fixed head, read as one number, and what follows it. Assumes nothing.
-use Rattle.lists.proofs.Kit.{ℕ, ◌+◌, ◌*◌, ◌%◌, ◌≤◌, ◌<◌, ◌≡◌, refl, sym, subst, subst⁻¹, List, ◌++◌, Bool, true, false, arith, eqb-true, eqb-false, eqb, length, drop, take}
+use Rattle.lists.proofs.Kit.{ℕ, ◌+◌, ◌*◌, ◌%◌, ◌≤◌, ◌<◌, ◌≡◌, sym, subst, subst⁻¹, List, ◌++◌, Bool, true, false, arith, eqb-true, eqb-false, eqb, length, drop, take}
 use Rattle.lists.specs.Bytes.{Bytes}
 use Rattle.writing.specs.declared.Coding.{Coding}
 use Rattle.writing.specs.declared.Kind.{Kind}

@@ -1,4 +1,4 @@
-use Rattle.lists.proofs.Kit.{arith, get_or, subst⁻¹}
+use Rattle.lists.proofs.Kit.{get_or, subst⁻¹}
 use Rattle.settings.proofs.TypeTableLaws.{row_at}
 use Rattle.writing.specs.declared.Kind.TheVariants.{Last}
 use Rattle.settings.specs.TypeTable.{kinds, BoundsAt}
