@@ -91,8 +91,9 @@ module _ (s r x r' : List ℕ) (k : r ≡ x ++ r') (l : length x ≡ 32) (q : Be
   block_more b e y =
       let p = q.0.0 in
       let m = q.0.1 in (
-      (p ++ x, m + 1, q.0.2 ∙ ap (λ (z : List ℕ). p ++ z) k ∙ sym (append_assoc p x r'), omega (arith, length-append p x, l, q.0.3)),
-      block_split ∙ ap (λ (c : Bool). c && units? r') (sym e ∙ y))
+        (p ++ x, m + 1, q.0.2 ∙ ap (λ (z : List ℕ). p ++ z) k ∙ sym (append_assoc p x r'), omega (arith, length-append p x, l, q.0.3)),
+        block_split ∙ ap (λ (c : Bool). c && units? r') (sym e ∙ y),
+      )
 
   -- BLOCK-STOP: another ends it
   pub block_stop : (b : Bool) → b ≡ units? x → b ≡ false → false ≡ units? s

@@ -13,8 +13,9 @@ returns-then-not-units_shown c =
 pub loop-block-preserved : goal.loop-block-preserved
 loop-block-preserved c =
     let step = c.in-Some.ensures.steps.1 in (
-    c.next.ensures.steps.0 ∙ c.loop-block.invariant.0,
-    block_more c.args.s.now _ c.in-Some.block.now _ step.0 (step.1 ∙ c.loop-block.invariant.0) c.loop-block.invariant.1 c.units_shown.result c.units_shown.ensures c.if-not-units_shown.false)
+      c.next.ensures.steps.0 ∙ c.loop-block.invariant.0,
+      block_more c.args.s.now _ c.in-Some.block.now _ step.0 (step.1 ∙ c.loop-block.invariant.0) c.loop-block.invariant.1 c.units_shown.result c.units_shown.ensures c.if-not-units_shown.false,
+    )
 
 pub returns : goal.returns
 returns c =

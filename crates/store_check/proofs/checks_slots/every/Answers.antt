@@ -18,8 +18,9 @@ loop-slot-preserved g c =
     let x = c.in-Some.slot in
     let step = c.in-Some.ensures.steps.1 in
     let long = step.1 ∙ c.loop-slot.invariant.0 in (
-    c.next.ensures.steps.0 ∙ c.loop-slot.invariant.0,
-    λ f t n e told l. rest_pass f t c.args.s.now g.row.W e n _ x.now _ step.0 long ((told x c.takes.result (long ∙ e) c.takes.ensures).0 c.if-not-takes.false) (c.loop-slot.invariant.1 f t n e told l))
+      c.next.ensures.steps.0 ∙ c.loop-slot.invariant.0,
+      λ f t n e told l. rest_pass f t c.args.s.now g.row.W e n _ x.now _ step.0 long ((told x c.takes.result (long ∙ e) c.takes.ensures).0 c.if-not-takes.false) (c.loop-slot.invariant.1 f t n e told l),
+    )
 
 pub returns : goal.returns
 returns g c = λ f t n e told l. granted (rest_end f t c.args.s.now g.row.W e n _ (subst (λ v. length c.loop-slot.slot-iterator.rest.now < v) c.loop-slot.invariant.0 c.in-None.ensures.steps.1.0) (c.loop-slot.invariant.1 f t n e told l))
