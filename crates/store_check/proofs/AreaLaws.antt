@@ -1,5 +1,5 @@
 -- Units of two bytes of which none is 0, looked at one by one and by blocks, and an area that they fill. Assumes nothing.
-use Rattle.lists.proofs.Kit.{ℕ, zero, suc, ◌+◌, ◌-◌, ◌*◌, ◌/◌, ◌≤◌, ◌<◌, ◌≡◌, refl, sym, ap, ◌∙◌, subst, Bool, true, false, not, ◌&&◌, true≢false, false≢true, ◌↔◌, ◌≢◌, List, [], ◌∷◌, arith, eqb, ne_eqb, add-one, mid_of, length, take, drop, get_or, length-drop, drop-drop, drop-cons}
+use Rattle.lists.proofs.Kit.{ℕ, zero, suc, ◌+◌, ◌-◌, ◌*◌, ◌/◌, ◌≤◌, ◌<◌, ◌≡◌, refl, sym, ap, ◌∙◌, subst, Bool, true, false, not, ◌&&◌, true≢false, false≢true, ◌↔◌, ◌≢◌, List, [], ◌∷◌, ◌++◌, append_assoc, ◌%◌, arith, eqb, ne_eqb, add-one, mid_of, length, take, drop, get_or, length-append, length-drop, drop-drop, drop-cons, take_at, drop_at}
 use Rattle.lists.specs.Every.{All}
 use Rattle.lists.proofs.Bools.{and_parts}
 use Rattle.slots.specs.Slots.{zeros?}
@@ -76,30 +76,35 @@ units_split (suc k) s =
     go r (x ∷ []) = refl
     go r (x ∷ y ∷ s) = ap (λ (b : Bool). shown? x y && b) (r s) ∙ still_more (shown? x y) (units? (take (k * 2) s)) (units? (drop (k * 2) s))
 
-module _ (k : ℕ) (s : List ℕ) (at : ℕ) (q : units? s ≡ units? (drop at s)) where
-  -- a block, as it is read
-  abbrev block : List ℕ
-  block = mid_of at (at + k * 2 - at) s
+-- r is what is left of s behind blocks of 32 bytes, and decides for it
+abbrev pub Behind : List ℕ → List ℕ → Type 0
+Behind s r = ((p : List ℕ) × (m : ℕ) × (s ≡ p ++ r) × (length p ≡ m * 32)) × (units? s ≡ units? r)
 
-  block_split : units? s ≡ (units? block && units? (drop (at + k * 2) s))
+module _ (s r x r' : List ℕ) (k : r ≡ x ++ r') (l : length x ≡ 32) (q : Behind s r) where
+  block_split : units? s ≡ (units? x && units? r')
   block_split =
-      let e : at + k * 2 - at ≡ k * 2 = omega arith in
-      q ∙ units_split k (drop at s) ∙ ap (λ (l : List ℕ). units? (take (k * 2) (drop at s)) && units? l) (drop-drop (k * 2) at s)
-      ∙ ap (λ (i : ℕ). units? (take i (drop at s)) && units? (drop (at + k * 2) s)) (sym e)
+      q.1 ∙ units_split 16 r ∙ ap (λ (y : List ℕ). units? (take 32 r) && units? y) (ap (drop 32) k ∙ drop_at x r' 32 l)
+      ∙ ap (λ (y : List ℕ). units? y && units? r') (ap (take 32) k ∙ take_at x r' 32 l)
 
   -- BLOCK-MORE: one in which none is 0 is passed
-  pub block_more : (b : Bool) → b ≡ units? block → not b ≡ false → units? s ≡ units? (drop (at + k * 2) s)
-  block_more true e y = block_split ∙ ap (λ (c : Bool). c && units? (drop (at + k * 2) s)) (sym e)
-  block_more false e y = absurd (true≢false y)
+  pub block_more : (b : Bool) → b ≡ units? x → b ≡ true → Behind s r'
+  block_more b e y =
+      let p = q.0.0 in
+      let m = q.0.1 in (
+        (p ++ x, m + 1, q.0.2 ∙ ap (λ (z : List ℕ). p ++ z) k ∙ sym (append_assoc p x r'), omega (arith, length-append p x, l, q.0.3)),
+        block_split ∙ ap (λ (c : Bool). c && units? r') (sym e ∙ y),
+      )
 
   -- BLOCK-STOP: another ends it
-  pub block_stop : (b : Bool) → b ≡ units? block → not b ≡ true → false ≡ units? s
-  block_stop true e y = absurd (false≢true y)
-  block_stop false e y = ap (λ (c : Bool). c && units? (drop (at + k * 2) s)) e ∙ sym block_split
+  pub block_stop : (b : Bool) → b ≡ units? x → b ≡ false → false ≡ units? s
+  block_stop b e y = sym (block_split ∙ ap (λ (c : Bool). c && units? r') (sym e ∙ y))
 
 -- BLOCK-END: those behind the last block decide
-pub block_end : (s : List ℕ) (at : ℕ) → units? s ≡ units? (drop at s) → (b : Bool) → b ≡ units? (mid_of at (length s - at) s) → b ≡ units? s
-block_end s at q b e = e ∙ ap units? (rest_is s at (length s - at) (omega arith)) ∙ sym q
+pub block_end : (s r z : List ℕ) → Behind s r → length r < 32 → z ≡ drop (length s - length s % 32) s → (b : Bool) → b ≡ units? z → b ≡ units? s
+block_end s r z q h k b e =
+    let p = q.0.0 in
+    let i : length s - length s % 32 ≡ length p = omega (arith, ap length q.0.2 ∙ length-append p r, q.0.3, h) in
+    e ∙ ap units? (k ∙ ap (λ (n : ℕ). drop n s) i ∙ ap (drop (length p)) q.0.2 ∙ drop_at p r (length p) refl) ∙ sym q.1
 
 -- ---- an area
 

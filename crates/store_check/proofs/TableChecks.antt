@@ -1,14 +1,13 @@
 -- Tables made of slots, whichever and in both forms: how wide an entry is, that it shows, and what a walk over the slots decides. Assumes nothing.
-use Rattle.lists.proofs.Kit.{◌≡◌, refl, sym, ap, ◌∙◌, subst, Bool, true, false, ◌↔◌, List, ℕ, ◌+◌, ◌*◌, ◌-◌, ◌≤◌, ◌<◌, arith, mid_of, length, drop}
+use Rattle.lists.proofs.Kit.{◌≡◌, refl, sym, ap, ◌∙◌, subst, Bool, true, false, ◌↔◌, List, ◌++◌, ℕ, zero, suc, ◌+◌, ◌*◌, ◌<◌, suc-mul, zero-mul, arith, length, length-append, take, drop, take_at, drop_at}
 use Rattle.slots.specs.Slots.{zeros?, PlacesOf, Found}
-use Rattle.slots.proofs.Walks.{Left, places_more, places_stop, places_end}
 use Rattle.shared_texts.proofs.HeadCodes.{quick_kept, line_kept, group_kept, individual_kept}
 use Rattle.store_check.specs.declared.checks_tables.Table.{Table}
 use Rattle.store_check.specs.declared.checks_tables.Table.TheVariants.{QuickTexts, StatusTexts, Members as Of, Channels, Lines}
 use Rattle.store_check.specs.declared.forms.Form.{Form}
 use Rattle.store_check.specs.declared.forms.Form.TheVariants.{Placed, Shared}
 use Rattle.store_check.specs.Checks.{TextIn, QuickIs, NamedIn, NamedIs, LineIn, LineIs, text_in, named_in, line_in, text_width, quick, EntryIn, OkIn, bytes_in, width_in, EntryIs, SlotIs, PlacesIn, ListIn}
-use Rattle.store_check.proofs.CheckLaws.{rest_is}
+use Rattle.slots.proofs.Walks.{places_none, places_cons, places_uncons}
 use Rattle.store_check.proofs.FrontLaws.{front_is}
 use Rattle.tables.proofs.EntryCodes.{quick_shown, member_code, member_shown, channel_code, channel_shown, line_code, line_shown}
 use Rattle.tables.proofs.TextCodes.{text_length}
@@ -92,30 +91,55 @@ places_told f b s t u e h = subst (PlacesTold f b s) (sym e) h
 pub form_told : (t : Table) (b : Bool) (s : List ℕ) (f g : Form) → f ≡ g → PlacesTold g b s t → PlacesTold f b s t
 form_told t b s f g e h = subst (λ (v : Form). PlacesTold v b s t) (sym e) h
 
--- what is left of a table from `at` on
-abbrev pub LeftIn : Form → Table → List ℕ → ℕ → Type 0
-LeftIn f t s at = (n : ℕ) → length s ≡ n * width_in f t → Left (PlacesOf (OkIn f t) (width_in f t) (bytes_in f t)) (width_in f t) n s at
+-- what is left of a table of n places is a table of some that decides for it
+abbrev pub RestIn : Form → Table → ℕ → List ℕ → List ℕ → Type 0
+RestIn f t n s r = (m : ℕ) × (length r ≡ m * width_in f t) × (PlacesIn f t n s ↔ PlacesIn f t m r)
 
-module _ (f : Form) (t : Table) (s : List ℕ) (at w : ℕ) (e : w ≡ width_in f t) (q : LeftIn f t s at) where
-  -- the slot at `at`
-  abbrev here : List ℕ
-  here = mid_of at (at + w - at) s
+module _ (f : Form) (t : Table) (s : List ℕ) (w : ℕ) (e : w ≡ width_in f t) (n : ℕ) where
+  -- no slot is passed yet
+  pub rest_start : length s ≡ n * w → RestIn f t n s s
+  rest_start l = (n, l ∙ ap (λ v. n * v) e, (λ x. x, λ x. x))
 
-  -- a slot of the table is passed
-  pub pass : w ≤ length s - at → SlotIs f t here → LeftIn f t s (at + w)
-  pass h x n l =
-      subst (λ (v : ℕ). Left (PlacesOf (OkIn f t) (width_in f t) (bytes_in f t)) (width_in f t) n s (at + v)) (sym e)
-      (places_more (OkIn f t) (width_in f t) (bytes_in f t) (long_in f t) (wide_in f t) n s at (q n l) (omega arith) (subst (λ (v : ℕ). SlotIs f t (mid_of at (at + v - at) s)) e x))
+  module _ (r x r' : List ℕ) (k : r ≡ x ++ r') (l : length x ≡ w) where
+    first_here : take (width_in f t) r ≡ x
+    first_here = ap (take (width_in f t)) k ∙ take_at x r' (width_in f t) (l ∙ e)
 
-  -- another is none of a table's
-  pub pass_stop : w ≤ length s - at → (SlotIs f t here → ⊥) → (n : ℕ) → length s ≡ n * width_in f t → PlacesIn f t n s → ⊥
-  pass_stop h x n l =
-      places_stop (OkIn f t) (width_in f t) (bytes_in f t) (long_in f t) (wide_in f t) n s at (q n l) (omega arith)
-      (subst (λ (v : ℕ). SlotIs f t (mid_of at (at + v - at) s) → ⊥) e x)
+    rest_here : drop (width_in f t) r ≡ r'
+    rest_here = ap (drop (width_in f t)) k ∙ drop_at x r' (width_in f t) (l ∙ e)
+
+    some_left : length r ≡ zero * width_in f t → ⊥
+    some_left h = omega (arith, ap length k ∙ length-append x r', l, e, wide_in f t, h, zero-mul (width_in f t))
+
+    -- a slot of the table is passed
+    pub rest_pass : SlotIs f t x → RestIn f t n s r → RestIn f t n s r'
+    rest_pass p q = go q.0 q.1 q.2
+      where
+        go : (m : ℕ) → length r ≡ m * width_in f t → PlacesIn f t n s ↔ PlacesIn f t m r → RestIn f t n s r'
+        go zero h b = absurd (some_left h)
+        go (suc m) h b = (
+          m,
+          omega (arith, ap length k ∙ length-append x r', l, e, h, suc-mul m (width_in f t)),
+          (
+            λ y. subst (PlacesIn f t m) rest_here (places_uncons (OkIn f t) (width_in f t) (bytes_in f t) (long_in f t) m r (b.0 y)).1,
+            λ y. b.1 (places_cons (OkIn f t) (width_in f t) (bytes_in f t) m r (subst (SlotIs f t) (sym first_here) p) (subst (PlacesIn f t m) (sym rest_here) y)),
+          ),
+        )
+
+    -- another is none of a table's
+    pub rest_stop : (SlotIs f t x → ⊥) → RestIn f t n s r → PlacesIn f t n s → ⊥
+    rest_stop p q = go q.0 q.1 q.2
+      where
+        go : (m : ℕ) → length r ≡ m * width_in f t → PlacesIn f t n s ↔ PlacesIn f t m r → PlacesIn f t n s → ⊥
+        go zero h b y = some_left h
+        go (suc m) h b y = p (subst (SlotIs f t) first_here (places_uncons (OkIn f t) (width_in f t) (bytes_in f t) (long_in f t) m r (b.0 y)).0)
 
   -- no slot is left
-  pub pass_end : length s - at < w → (n : ℕ) → length s ≡ n * width_in f t → PlacesIn f t n s
-  pass_end h n l = places_end (OkIn f t) (width_in f t) (bytes_in f t) (long_in f t) (wide_in f t) n s at (q n l) (omega arith)
+  pub rest_end : (r : List ℕ) → length r < w → RestIn f t n s r → PlacesIn f t n s
+  rest_end r h q = go q.0 q.1 q.2
+    where
+      go : (m : ℕ) → length r ≡ m * width_in f t → PlacesIn f t n s ↔ PlacesIn f t m r → PlacesIn f t n s
+      go zero l b = b.1 (places_none (OkIn f t) (width_in f t) (bytes_in f t) r l)
+      go (suc m) l b = absurd (omega (arith, h, e, l, suc-mul m (width_in f t)))
 
 -- a list table is a table of places with zeros from the first empty slot on
 pub list_is : (f : Form) (t : Table) (n : ℕ) (s : List ℕ) (r : ℕ) → Found (0 < width_in f t) zeros? (width_in f t) s r → PlacesIn f t n s → (b : Bool) → b ≡ zeros? (drop r s) → (b ≡ true) ↔ ListIn f t n s

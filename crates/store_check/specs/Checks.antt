@@ -1,5 +1,6 @@
 -- What the checks of a store's bytes decide, region by region and in both forms: inner steps, no promise cites these.
-use Rattle.std.specs.Prelude.{ℕ, ◌+◌, ◌*◌, ◌%◌, ◌≤◌, ◌≡◌, Bool, true, false, not, cond, ◌&&◌, List, [], ◌∷◌, ◌++◌, map, eqb, leb, length, get_or, replicate}
+use Rattle.std.specs.Prelude.{ℕ, ◌+◌, ◌*◌, ◌%◌, ◌≤◌, ◌≡◌, ◌↔◌, Bool, true, false, not, cond, ◌&&◌, List, [], ◌∷◌, ◌++◌, map, eqb, leb, length, get_or, replicate}
+use denote.Ref.{Bor}
 use Rattle.lists.specs.Every.{All}
 use Rattle.slots.specs.Slots.{EntryOf, SlotOf, PlacesOf, ListOf, flat, pad, u16, u24, zeros?}
 use Rattle.orders.specs.Orders.{order}
@@ -166,6 +167,10 @@ EntryIs f t s = EntryOf (OkIn f t) (bytes_in f t) s
 -- the bytes are a slot's: an entry's, or an empty one
 abbrev pub SlotIs : Form → Table → List ℕ → Type 0
 SlotIs f t s = SlotOf (OkIn f t) (width_in f t) (bytes_in f t) s
+
+-- a test of a slot's bytes tells whether they are one
+abbrev pub Tells : (Bor (List ℕ) → Bool → Type 0) → Form → Table → Type 0
+Tells told f t = (x : Bor (List ℕ)) (b : Bool) → length x.now ≡ width_in f t → told x b → (b ≡ true) ↔ SlotIs f t x.now
 
 -- the bytes are a table of n places
 abbrev pub PlacesIn : Form → Table → ℕ → List ℕ → Type 0

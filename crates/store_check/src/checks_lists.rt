@@ -80,6 +80,7 @@ fn keys_distinct(s: &[u8], w: usize, o: usize, k: usize) -> bool
 {
     let end = used(s, w);
     let mut seen = [0u8; 1024];
+    // No plainer by an iterator: each key is compared with the slots behind it, which the numbers name.
     let mut at = end;
     while w <= at {
         let next = at;

@@ -18,15 +18,14 @@ const BLOCK: usize = 32;
 fn area_shown(s: &[u8]) -> bool
     ensures { result ≡ units? s.now }
 {
-    let mut at = 0;
-    while BLOCK <= s.len() - at {
-        let e = at + BLOCK;
-        if !units_shown(&s[at..e]) {
+    let blocks = s.chunks_exact(BLOCK);
+    let rest = blocks.remainder();
+    for block in blocks {
+        if !units_shown(block) {
             return false;
         }
-        at = e;
     }
-    units_shown(&s[at..])
+    units_shown(rest)
 }
 
 // Whether so many units stand in the area, none of them 0, and zeros behind them; a last byte alone is no unit.

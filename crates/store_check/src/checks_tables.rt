@@ -4,12 +4,15 @@ ghost use Rattle.store_check.specs.declared.forms.Form.TheVariants.{Placed, Shar
 ghost use Rattle.store_check.specs.Checks.{width_in, PlacesIn};
 
 use super::checks_slots::{
-    channel_slots, line_heads, line_slots, member_heads, member_slots, quick_heads, quick_slots,
-    status_heads, status_slots,
+    channel_slot, every, line_head, line_slot, member_slot, quick_slot, status_slot,
 };
 use super::forms::{Form, QUICK_UNITS, SHORT_UNITS, text_width};
+use tables::head_places::{LINE_HEAD, MEMBER_HEAD, QUICK_HEAD, STATUS_HEAD};
 use tables::members::Members;
-use tables::places::{CHANNEL_SLOT, LINE_TEXT, MEMBER_TEXT, STATUS_TEXT};
+use tables::places::{
+    CHANNEL_SLOT, LINE_SLOT, LINE_TEXT, MEMBER_SLOT, MEMBER_TEXT, QUICK_SLOT, STATUS_SLOT,
+    STATUS_TEXT,
+};
 
 // The tables that are made of slots.
 #[derive(Clone, Copy)]
@@ -38,11 +41,11 @@ fn placed_ok(t: Table, s: &[u8]) -> bool
     ensures { (n : ℕ) → length s.now ≡ n * width_in Placed t → (result ≡ true) ↔ PlacesIn Placed t n s.now }
 {
     match t {
-        Table::QuickTexts => quick_slots(s),
-        Table::StatusTexts => status_slots(s),
-        Table::Members(who) => member_slots(who, s),
-        Table::Channels => channel_slots(s),
-        Table::Lines => line_slots(s),
+        Table::QuickTexts => every::<QUICK_SLOT, _>(s, |x| quick_slot(Form::Placed, x)),
+        Table::StatusTexts => every::<STATUS_SLOT, _>(s, |x| status_slot(Form::Placed, x)),
+        Table::Members(who) => every::<MEMBER_SLOT, _>(s, |x| member_slot(Form::Placed, who, x)),
+        Table::Channels => every::<CHANNEL_SLOT, _>(s, |x| channel_slot(x)),
+        Table::Lines => every::<LINE_SLOT, _>(s, |x| line_slot(x)),
     }
 }
 
@@ -50,11 +53,11 @@ fn shared_ok(t: Table, s: &[u8]) -> bool
     ensures { (n : ℕ) → length s.now ≡ n * width_in Shared t → (result ≡ true) ↔ PlacesIn Shared t n s.now }
 {
     match t {
-        Table::QuickTexts => quick_heads(s),
-        Table::StatusTexts => status_heads(s),
-        Table::Members(who) => member_heads(who, s),
-        Table::Channels => channel_slots(s),
-        Table::Lines => line_heads(s),
+        Table::QuickTexts => every::<QUICK_HEAD, _>(s, |x| quick_slot(Form::Shared, x)),
+        Table::StatusTexts => every::<STATUS_HEAD, _>(s, |x| status_slot(Form::Shared, x)),
+        Table::Members(who) => every::<MEMBER_HEAD, _>(s, |x| member_slot(Form::Shared, who, x)),
+        Table::Channels => every::<CHANNEL_SLOT, _>(s, |x| channel_slot(x)),
+        Table::Lines => every::<LINE_HEAD, _>(s, |x| line_head(x)),
     }
 }
 

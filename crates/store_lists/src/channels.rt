@@ -39,12 +39,10 @@ fn delete_channel(list: &mut [u8], n: u16)
 fn add_channels(list: &mut [u8], m: &[u8], entries: Entries) -> bool
     ensures { ChannelsApplied Add m.now entries list.old list.new result }
 {
-    let mut i = 0;
-    while i < entries.count {
+    for i in 0..entries.count {
         if !add_channel(list, channel_at(m, entries.start, i)) {
             return false;
         }
-        i += 1;
     }
     true
 }
@@ -70,10 +68,8 @@ fn delete_channels(list: &mut [u8], m: &[u8], entries: Entries)
 {
     let mut marks = [0u8; MARKS];
     mark_channels(list, &mut marks);
-    let mut i = 0;
-    while i < entries.count {
+    for i in 0..entries.count {
         delete_marked(list, &mut marks, channel_at(m, entries.start, i));
-        i += 1;
     }
 }
 

@@ -40,13 +40,11 @@ fn has_address(list: &[u8], x: u8, y: u8, z: u8) -> bool
     if (list.len() - 2) / MEMBER_SLOT < held {
         return true;
     }
-    let mut i = 0;
-    while i < held {
+    for i in 0..held {
         let at = i * MEMBER_SLOT + FIRST_ADDRESS;
         if same_address(list[at], list[at + 1], list[at + 2], x, y, z) {
             return true;
         }
-        i += 1;
     }
     false
 }

@@ -42,9 +42,7 @@ pub(crate) fn mark_channels(list: &[u8], marks: &mut [u8])
     if (list.len() - 2) / 2 < held {
         return;
     }
-    let mut i = 0;
-    while i < held {
+    for i in 0..held {
         mark(marks, pair(list[2 * i + 2], list[2 * i + 3]));
-        i += 1;
     }
 }

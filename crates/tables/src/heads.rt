@@ -10,7 +10,7 @@ use writing::{GroupFlags, IndividualFlags};
 pub fn bit_of(b: bool) -> u8
     ensures { (result ≡ bit b) × (result ≤ 1) }
 {
-    if b { 1 } else { 0 }
+    u8::from(b)
 }
 
 pub fn group_flag_byte(flags: GroupFlags) -> u8

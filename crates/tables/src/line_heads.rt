@@ -53,10 +53,8 @@ fn kept_digit(m: &[u8], place: NumberPlace, i: usize) -> u8
 fn put_digits(dst: &mut [u8], m: &[u8], place: NumberPlace)
     ensures { DigitsPut m.now place dst.old dst.new }
 {
-    let mut i = 0;
-    while i < dst.len() {
+    for i in 0..dst.len() {
         dst[i] = kept_digit(m, place, i);
-        i += 1;
     }
 }
 

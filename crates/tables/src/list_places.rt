@@ -18,21 +18,11 @@ pub fn channels_at(limits: Limits) -> usize
     by_form(texts, CHANNELS, SHARED_CHANNELS)
 }
 
-// A number, or the most that is asked for.
-fn at_most(n: usize, most: usize) -> usize
-    ensures { (result ≤ most) × (result ≤ n) × (n ≤ most → result ≡ n) }
-{
-    if most < n {
-        return most;
-    }
-    n
-}
-
 // Where the lines' region starts, behind the channels, of which a count has room for no more.
 pub fn lines_at(limits: Limits) -> usize
     ensures { (result ≤ lines_at limits) × (region_start limits 11 + count_size ≤ result) × (limits.channels < 65536 → (result ≡ region_start limits 12) × (result ≡ region_start limits 11 + channels_size limits)) }
 {
-    let channels = at_most(limits.channels, COUNTED);
+    let channels = limits.channels.min(COUNTED);
     channels_at(limits) + (COUNT + channels * CHANNEL_SLOT)
 }
 
@@ -49,6 +39,6 @@ pub fn line_slots(limits: Limits) -> usize
     ensures { (result ≤ limits.lines * line_width) × (limits.lines ≤ 255 → result ≡ limits.lines * slot_width limits.texts line_own text_limits.short) }
 {
     let texts = limits.texts;
-    let lines = at_most(limits.lines, ORDERED);
+    let lines = limits.lines.min(ORDERED);
     by_form(texts, lines * LINE_SLOT, lines * LINE_HEAD)
 }

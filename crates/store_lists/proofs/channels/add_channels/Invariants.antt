@@ -6,6 +6,3 @@ use Rattle.store_lists.proofs.channels.add_channels.Given as goal
 
 abbrev pub invariant-loop-i : goal.invariant-loop-i
 invariant-loop-i l = (length l.list ≡ length l.initial.list) × ChannelsLeft ChannelTable Add l.m l.entries l.initial.list l.i l.list
-
-abbrev pub decreases-loop-i : goal.decreases-loop-i
-decreases-loop-i l = l.entries.count - l.i

@@ -7,6 +7,3 @@ use Rattle.store_lists.proofs.channels.delete_channels.Given as goal
 abbrev pub invariant-loop-i : goal.invariant-loop-i
 invariant-loop-i l =
     (length l.list ≡ length l.initial.list) × (length l.initial.marks ≡ 641) × (length l.marks ≡ 641) × ChannelsLeft MarkedTable Delete l.m l.entries (l.initial.marks ++ l.initial.list) l.i (l.marks ++ l.list)
-
-abbrev pub decreases-loop-i : goal.decreases-loop-i
-decreases-loop-i l = l.entries.count - l.i

@@ -4,6 +4,3 @@ use Rattle.store_lists.proofs.keyed.has_address.Given as goal
 
 abbrev pub invariant-loop-i : goal.invariant-loop-i
 invariant-loop-i l = OthersTo l.x l.y l.z l.list l.i
-
-abbrev pub decreases-loop-i : goal.decreases-loop-i
-decreases-loop-i l = l.held - l.i

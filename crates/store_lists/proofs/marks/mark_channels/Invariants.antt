@@ -5,6 +5,3 @@ use Rattle.store_lists.proofs.marks.mark_channels.Given as goal
 
 abbrev pub invariant-loop-i : goal.invariant-loop-i
 invariant-loop-i l = (length l.marks ≡ length l.initial.marks) × MarkedTo l.list l.marks l.i
-
-abbrev pub decreases-loop-i : goal.decreases-loop-i
-decreases-loop-i l = l.held - l.i
