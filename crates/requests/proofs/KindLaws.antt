@@ -1,11 +1,9 @@
 -- Which working copy a request needs: the kinds of the settings that stand in its bytes. Assumes nothing.
-use Rattle.lists.proofs.Kit.{ℕ, zero, suc, ◌+◌, ◌-◌, ◌≤◌, ◌<◌, ◌≡◌, refl, sym, ap, ◌∙◌, subst, List, [], ◌∷◌, ◌++◌, Bool, true, false, ◌||◌, leb, leb-true, arith, length, get_or, drop, length-append, length-drop, drop-cons, drop-drop, drop_at}
+use Rattle.lists.proofs.Kit.{ℕ, suc, ◌+◌, ◌-◌, ◌≤◌, ◌<◌, ◌≡◌, refl, sym, ap, ◌∙◌, subst, List, ◌++◌, Bool, true, false, ◌||◌, leb, leb-true, arith, length, get_or, drop, length-append, length-drop, drop-cons, drop-drop, drop_at}
 use Rattle.lists.proofs.Bytes.{bytes_all}
 use Rattle.writing.specs.declared.Coding.{Coding}
 use Rattle.writing.specs.declared.Kind.{Kind}
-use Rattle.writing.specs.Ranges.{text_limits, InRange}
 use Rattle.writing.specs.Settings.{Setting, kind}
-use Rattle.writing.specs.Writing.{type_byte}
 use Rattle.writing.proofs.Unique.{unique}
 use Rattle.writing.proofs.Whole.{length_written, headed}
 use Rattle.read_fields.specs.Places.{StandsAt}
@@ -17,7 +15,6 @@ use Rattle.tables.specs.Layout.{used_size}
 use Rattle.tables.specs.Owns.{only}
 use Rattle.working.specs.Parts.{fixed?, copied?}
 use Rattle.requests.specs.Parts.{OnlyOf}
-use Rattle.requests.specs.Requests.{WrittenIn}
 use Rattle.requests.specs.Trying.{read_kind}
 use Rattle.requests.proofs.TryLaws.{meant_kind}
 

@@ -3,6 +3,7 @@ use Rattle.lists.proofs.Kit.{ℕ, suc, ◌+◌, ◌-◌, ◌≤◌, ◌<◌, ◌
 use denote.Enum.Declared.{tag_of}
 use types.Run.{OneOf, miss}
 use Rattle.lists.specs.Bytes.{Bytes}
+use Rattle.std.specs.Prelude.{Some, None, Ok, Err}
 use Rattle.writing.specs.declared.Coding.{Coding}
 use Rattle.writing.specs.declared.LastFlags.{LastFlags}
 use Rattle.writing.specs.declared.Result.TheVariants.{NoRoom}
@@ -22,8 +23,6 @@ use Rattle.tables.specs.Allowed.{Allowed}
 use Rattle.tables.specs.Store.{Works}
 use Rattle.tables.specs.Tables.{Tables}
 use Rattle.tables.proofs.AllowedLaws.{allowed_within, apply_room}
-use Rattle.requests.specs.declared.run.Step.TheVariants.{Next, Fault as StepFault}
-use Rattle.requests.specs.declared.trying.Held.TheVariants.{Bytes as HeldBytes, NoRoom as HeldNoRoom}
 use Rattle.requests.specs.Judge.{done, taken, over, fault, refused}
 use Rattle.requests.specs.Running.{FlagsAre, Stepped, StepIs, Ran}
 use Rattle.requests.specs.Requests.{Runs, Fault, Judged, item_of, or_else, LastItem, last_item}
@@ -70,12 +69,12 @@ module _ (c : Coding) (lim : Limits) (m : List ℕ) where
     fits x next y = has_writing c x y.bytes y.written
 
     pub step_taken : (r : Read) (next sum n : ℕ) (f : LastFlags) → SettingAt c left m at (Taken r next) → FlagsAre r f
-        → TryIs lim m r sum s t (HeldBytes n) → StepIs c lim left m at sum s t (Next next f n)
+        → TryIs lim m r sum s t (Some n) → StepIs c lim left m at sum s t (Ok (record { next = next; flags = f; sum = n }))
     step_taken r next sum n f (x, means, i, stands) g a was roomy holds is =
         let (u, q, h, e) = a was x c left roomy holds is means i (fits x next stands) in
         record { setting = x; tables = u; range = i; stands = stands; applied = q; holds = h; summed = e; flags = g m x means }
 
-    pub step_full : (r : Read) (next sum : ℕ) → SettingAt c left m at (Taken r next) → TryIs lim m r sum s t HeldNoRoom → StepIs c lim left m at sum s t (StepFault NoRoom)
+    pub step_full : (r : Read) (next sum : ℕ) → SettingAt c left m at (Taken r next) → TryIs lim m r sum s t None → StepIs c lim left m at sum s t (Err NoRoom)
     step_full r next sum (x, means, i, stands) a was roomy holds is =
         at_full c lim m b left was at x next (stands_within x next stands) i stands (a was x c left roomy holds is means i (fits x next stands))
 

@@ -1,4 +1,4 @@
-use Rattle.lists.proofs.Kit.{rules, not-false}
+use Rattle.lists.proofs.Kit.{not-false}
 use Rattle.requests.proofs.part.copy_for.Goals as goal
 
 pub returns : goal.returns

@@ -1,4 +1,4 @@
-use Rattle.lists.proofs.Kit.{rules, false≢true}
+use Rattle.lists.proofs.Kit.{false≢true}
 use Rattle.requests.proofs.KindLaws.{spare_room}
 use Rattle.requests.proofs.part.has_spare.Goals as goal
 

@@ -1,4 +1,3 @@
-use Rattle.lists.proofs.Kit.{rules, ◌∙◌}
 use Rattle.requests.proofs.PartRuns.{beside_placed, beside_shared}
 use Rattle.requests.proofs.part.limits_beside.Goals as goal
 
@@ -10,4 +9,4 @@ returns-in-Placed c =
 pub returns-in-Shared : goal.returns-in-Shared
 returns-in-Shared c =
     let a = c.args in
-    beside_shared a.limits a.others _ c.less.result c.in-Shared.is c.less.ensures
+    beside_shared a.limits a.others _ c.saturating_sub.result c.in-Shared.is c.saturating_sub.ensures

@@ -1,4 +1,4 @@
-use Rattle.lists.proofs.Kit.{rules, subst⁻¹}
+use Rattle.lists.proofs.Kit.{subst⁻¹}
 use Rattle.settings.specs.declared.settings.Setting.{Setting as Read}
 use Rattle.requests.specs.Running.{FlagsAre}
 use Rattle.requests.proofs.Steps.{flags_last, flags_none}

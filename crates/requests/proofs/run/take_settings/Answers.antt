@@ -1,4 +1,3 @@
-use Rattle.lists.proofs.Kit.{rules}
 use Rattle.requests.proofs.TryLaws.{run_counted}
 use Rattle.requests.proofs.run.take_settings.Goals as goal
 
@@ -7,4 +6,4 @@ returns c =
     let a = c.args in
     let k = c.all_bytes-held in
     let t = c.take_settings_from in
-    run_counted a.coding a.limits a.count a.m.now a.at k.result a.work.now t.new.work t.result k.ensures t.ensures
+    run_counted a.request.coding a.limits a.request.count a.m.now a.request.at k.result a.work.now t.new.work t.result k.ensures t.ensures

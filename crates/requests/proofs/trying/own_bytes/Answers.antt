@@ -1,4 +1,3 @@
-use Rattle.lists.proofs.Kit.{rules}
 use Rattle.requests.proofs.TryLaws.{not_shared, where_shared}
 use Rattle.requests.proofs.trying.own_bytes.Goals as goal
 

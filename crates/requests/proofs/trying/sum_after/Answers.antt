@@ -1,4 +1,3 @@
-use Rattle.lists.proofs.Kit.{rules}
 use Rattle.requests.proofs.TryLaws.{held_placed, held_shared}
 use Rattle.requests.proofs.trying.sum_after.Goals as goal
 
