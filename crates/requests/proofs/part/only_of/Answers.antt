@@ -11,8 +11,6 @@ loop-seen-init c =
     let a = c.args in
     (omega arith, λ o. subst (λ (n : ℕ). OnlyOf a.request.coding a.kind n (drop a.request.at a.m.now)) (sub-zero a.request.count) o)
 
-pub returns-then-not-is_copied : goal.returns-then-not-is_copied
-returns-then-not-is_copied c = λ e. absurd (false≢true e)
 
 pub returns-in-Missing : goal.returns-in-Missing
 returns-in-Missing c =
