@@ -8,7 +8,7 @@ use Rattle.writing.specs.Carrier.{result_number}
 use Rattle.writing.specs.Settings.{Setting}
 use Rattle.tables.specs.declared.limits.Limits.{Limits}
 use Rattle.tables.specs.declared.limits.Texts.{Texts}
-use Rattle.tables.specs.declared.limits.Texts.TheVariants.{Placed, Shared}
+use Rattle.tables.specs.declared.limits.Texts.TheVariants.{Shared}
 use Rattle.tables.specs.Allowed.{Allowed}
 use Rattle.tables.specs.Forms.{Roomy, AreaFits}
 use Rattle.tables.specs.Layout.{placed_layout}
@@ -119,23 +119,3 @@ part_from c lim k count m at held took s t lim' (Err x) e r = λ was a shared ro
     (subst (λ (l : Limits). RunFrom c l count m at took s t (Err x)) (e a shared) r (part_of k was)
     (smaller c lim k count m at held took s t was a shared roomy ok works sum took_is only) (part_ok c lim k count m at held took s t was a shared roomy ok works sum took_is only)
     (part_works c lim k count m at held took s t was a shared roomy ok works sum took_is only) (sym (part_took c lim k count m at held took s t was a shared roomy ok works sum took_is only)))
-
--- the limits that leave the others' texts alone
-pub beside_placed : (lim : Limits) (others : ℕ) → lim.texts ≡ Placed → (a : ℕ) → lim.texts ≡ Shared a → lim ≡ with_area lim (a - others)
-beside_placed lim others p a e = absurd (placed_ne_shared (sym p ∙ e))
-  where
-    is_placed : Texts → Type 0
-    is_placed Placed = Unit {0}
-    is_placed (Shared a) = ⊥
-
-    placed_ne_shared : Placed ≡ Shared a → ⊥
-    placed_ne_shared e = subst is_placed e tt
-
-pub beside_shared : (lim : Limits) (others b n : ℕ) → lim.texts ≡ Shared b → n ≡ b - others → (a : ℕ) → lim.texts ≡ Shared a → with_area lim n ≡ with_area lim (a - others)
-beside_shared lim others b n p e a q =
-    let f : b ≡ a = ap area_of (sym p ∙ q) in
-    ap (with_area lim) (e ∙ ap (λ (x : ℕ). x - others) f)
-  where
-    area_of : Texts → ℕ
-    area_of Placed = 0
-    area_of (Shared a) = a

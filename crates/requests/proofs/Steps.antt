@@ -1,7 +1,5 @@
 -- One setting of a request after another, as the code takes them on its working copy. Assumes nothing.
-use Rattle.lists.proofs.Kit.{ℕ, suc, ◌+◌, ◌-◌, ◌≤◌, ◌<◌, ◌≡◌, refl, sym, ap, ◌∙◌, subst, List, [], ◌∷◌, ◌++◌, Option, none, arith, length, drop, length-append, length-drop, drop_of_length-le, drop-cons}
-use denote.Enum.Declared.{tag_of}
-use types.Run.{OneOf, miss}
+use Rattle.lists.proofs.Kit.{ℕ, suc, ◌+◌, ◌-◌, ◌≤◌, ◌<◌, ◌≡◌, refl, sym, ap, ◌∙◌, subst, List, [], ◌∷◌, ◌++◌, arith, length, drop, length-append, length-drop, drop_of_length-le, drop-cons}
 use Rattle.lists.specs.Bytes.{Bytes}
 use Rattle.std.specs.Prelude.{Some, None, Ok, Err}
 use Rattle.writing.specs.declared.Coding.{Coding}
@@ -11,11 +9,8 @@ use Rattle.writing.specs.Canonical.{Fits}
 use Rattle.writing.specs.Settings.{Setting}
 use Rattle.writing.proofs.CanonicalLaws.{has_writing}
 use Rattle.writing.proofs.Whole.{length_written}
-use Rattle.read_fields.specs.declared.hashes.HashPlace.{HashPlace}
 use Rattle.read_setting.specs.declared.reader.SettingRead.TheVariants.{Taken}
 use Rattle.settings.specs.declared.settings.Setting.{Setting as Read}
-use Rattle.settings.specs.contracts.settings.Setting.{the_type}
-use Rattle.settings.specs.declared.settings.Setting.TheVariants.{GroupContacts, IndividualContacts, Lines, Key, QuickTexts, Home, Channels, System, StatusTexts, Group, Individual, LineSlot, Last}
 use Rattle.read_fields.specs.Places.{StandsAt}
 use Rattle.read_setting.specs.SettingAt.{SettingAt}
 use Rattle.tables.specs.declared.limits.Limits.{Limits}
@@ -25,33 +20,9 @@ use Rattle.tables.specs.Tables.{Tables}
 use Rattle.tables.proofs.AllowedLaws.{allowed_within, apply_room}
 use Rattle.requests.specs.Judge.{done, taken, over, fault, refused}
 use Rattle.requests.specs.Running.{FlagsAre, Stepped, StepIs, Ran}
-use Rattle.requests.specs.Requests.{Runs, Fault, Judged, item_of, or_else, LastItem, last_item}
+use Rattle.requests.specs.Requests.{Runs, Fault, Judged, LastItem, last_item}
 use Rattle.requests.specs.Trying.{SumIs, TryIs}
 use Rattle.requests.proofs.RunLaws.{one_more, item_end, stands_in, at_full}
-
--- ---- FF's bits of a setting that was read
-
--- another setting than FF says no and no
-said_none : {s t : Setting} → s ≡ t → item_of t ≡ none → (last_item []).flags ≡ (or_else (item_of s) (last_item [])).flags
-said_none e n = sym (ap (λ x. (or_else (item_of x) (last_item [])).flags) e ∙ ap (λ (x : Option LastItem). (or_else x (last_item [])).flags) n)
-
-pub flags_last : (f : LastFlags) (p : HashPlace) → FlagsAre (Last f p) f
-flags_last f p m s (v, e, _, _) = sym (ap (λ x. (or_else (item_of x) (last_item [])).flags) e)
-
-pub flags_none : (r : Read) → OneOf (0 ∷ 1 ∷ 2 ∷ 3 ∷ 4 ∷ 5 ∷ 6 ∷ 7 ∷ 8 ∷ 9 ∷ 10 ∷ 11 ∷ []) (tag_of the_type r) → FlagsAre r (last_item []).flags
-flags_none (GroupContacts o f p) k m s (es, e, _) = said_none e refl
-flags_none (IndividualContacts o f p) k m s (es, e, _) = said_none e refl
-flags_none (Lines o f p) k m s (es, e, _) = said_none e refl
-flags_none (Key t f) k m s e = said_none e refl
-flags_none (QuickTexts o p) k m s (es, e, _) = said_none e refl
-flags_none (Home h) k m s e = said_none e refl
-flags_none (Channels o p) k m s (es, e, _) = said_none e refl
-flags_none (System x) k m s e = said_none e refl
-flags_none (StatusTexts o p) k m s (es, e, _) = said_none e refl
-flags_none (Group o f p) k m s (es, e, _) = said_none e refl
-flags_none (Individual o f p) k m s (es, e, _) = said_none e refl
-flags_none (LineSlot o f p) k m s (x, e, _) = said_none e refl
-flags_none (Last f p) k m s x = absurd (miss (0 ∷ 1 ∷ 2 ∷ 3 ∷ 4 ∷ 5 ∷ 6 ∷ 7 ∷ 8 ∷ 9 ∷ 10 ∷ 11 ∷ []) 12 tt k)
 
 module _ (c : Coding) (lim : Limits) (m : List ℕ) where
   -- ---- one setting

@@ -46,14 +46,6 @@ both_then : (x : Texts) {P Q R : Type 0} → (P → Q → R) → WhereShared x P
 both_then Placed f p q = tt
 both_then (Shared a) f p q = f p q
 
--- nothing is counted where each text has a place of its own
-pub not_shared : (x : Texts) (P : Type 0) → x ≡ Placed → WhereShared x P
-not_shared x P e = subst⁻¹ (λ (y : Texts). WhereShared y P) e tt
-
--- and else it is
-pub where_shared : (x : Texts) (P : Type 0) (a : ℕ) → x ≡ Shared a → P → WhereShared x P
-where_shared x P a e p = subst⁻¹ (λ (y : Texts). WhereShared y P) e p
-
 -- FIRST-SUM: the bytes of a working copy's texts are those of its tables
 pub first_sum : (lim : Limits) (w : List ℕ) (n : ℕ) (t : Tables) → WhereShared lim.texts (WorkSum lim w n) → Roomy lim → Works lim t w → SumIs lim n t
 first_sum lim w n t p room h = shared_then lim.texts (λ (f : WorkSum lim w n). f t room h) p
@@ -73,14 +65,6 @@ shared_room (Shared a) n k e r = subst⁻¹ (TextRoom (Shared a)) e r
 shared_passes : (x : Texts) (n k : ℕ) → WhereShared x (k ≡ n) → Passes x n → Passes x k
 shared_passes Placed n k e r = r
 shared_passes (Shared a) n k e r = subst⁻¹ (Passes (Shared a)) e r
-
--- where each text has a place of its own, no sum binds
-pub held_placed : (x : Texts) (n : ℕ) → x ≡ Placed → HeldAfter x n (Some 0)
-held_placed x n e = subst⁻¹ (λ (y : Texts). HeldAfter y n (Some 0)) e (tt, tt)
-
--- the answer for an area is that for the texts that share it
-pub held_shared : (x : Texts) (n a : ℕ) (r : Option ℕ) → x ≡ Shared a → HeldAfter (Shared a) n r → HeldAfter x n r
-held_shared x n a r e h = subst⁻¹ (λ (y : Texts). HeldAfter y n r) e h
 
 module _ (lim : Limits) (m : List ℕ) (r : Read) (sum : ℕ) (s t : List ℕ) (k : Bool) (a : Applied lim m r s t k) where
   -- no place for an entry

@@ -1,4 +1,4 @@
-use Rattle.lists.proofs.Kit.{rules, ℕ, ◌-◌, sym, ap, ◌∙◌, subst, arith, drop, false≢true, not-false}
+use Rattle.lists.proofs.Kit.{rules, ℕ, ◌-◌, sym, ap, ◌∙◌, subst, arith, drop, not-false}
 use native.Mathlib.Nat.{sub-zero}
 use Rattle.read_setting.specs.SettingAt.{SettingAt}
 use Rattle.working.specs.Parts.{copied?}
@@ -10,7 +10,6 @@ pub loop-seen-init : goal.loop-seen-init
 loop-seen-init c =
     let a = c.args in
     (omega arith, λ o. subst (λ (n : ℕ). OnlyOf a.request.coding a.kind n (drop a.request.at a.m.now)) (sub-zero a.request.count) o)
-
 
 pub returns-in-Missing : goal.returns-in-Missing
 returns-in-Missing c =
