@@ -1,5 +1,5 @@
 // A message committed: it is judged again, and the store changes only where a request was taken.
-ghost use Rattle.std.specs.Prelude.{◌≡◌, length, replicate};
+ghost use Rattle.std.specs.Prelude.{◌<◌, ◌≡◌, length, replicate};
 ghost use Rattle.lists.specs.Ladder.{Answers};
 ghost use Rattle.station.specs.Handling.{Keeps};
 ghost use Rattle.station.specs.Taking.{leaves, taken};
@@ -14,10 +14,8 @@ use working::copies::save_copy;
 fn keep(verdict: Verdict, store: &mut [u8], limits: Limits, work: &mut [u8])
     ensures { Keeps verdict limits work.old store.old store.new }
 {
-    match verdict {
-        Verdict::Untouched(_) => {}
-        Verdict::Answered(_) => {}
-        Verdict::Taken(_, copy) => save_copy(store, work, limits, copy),
+    if let Ok((_, Some(copy))) = verdict {
+        save_copy(store, work, limits, copy);
     }
 }
 
@@ -35,6 +33,20 @@ pub(crate) fn commit_in(
     let verdict = judge_in(m, store, reply, limits, work);
     keep(verdict, store, limits, work);
     answer_of(verdict)
+}
+
+// The same for a set that owns the working copy.
+pub(crate) fn commit_on<const SIZE: usize>(
+    m: &[u8],
+    store: &mut [u8],
+    reply: &mut [u8],
+    limits: Limits,
+) -> Answer
+    requires { (limits.size ≡ SIZE) × (SIZE < 65536) }
+    ensures { Answers (taken limits m.now store.old reply.old) (leaves result store.new reply.new) }
+{
+    let mut work = [0u8; SIZE];
+    commit_in(m, store, reply, limits, &mut work)
 }
 
 // The same for any other crate: nothing is done where what is lent to work in has another size than a store.

@@ -12,14 +12,7 @@ use writing::Result;
 pub fn result_number(res: Result) -> u8
     ensures { result ≡ result_number res }
 {
-    match res {
-        Result::Taken => 0,
-        Result::OtherVersion => 1,
-        Result::NoRoom => 2,
-        Result::UnknownType => 3,
-        Result::BadField => 4,
-        Result::NoMatch => 5,
-    }
+    res as u8
 }
 
 // The reply with this result and failed ID that carries the hash kept in these 11 bytes; its length, or 0 where a buffer is too short for it.
