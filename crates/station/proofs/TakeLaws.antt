@@ -23,7 +23,7 @@ use Rattle.tables.specs.Limits.{placed}
 use Rattle.tables.specs.Store.{StoreOf, Holds, Works}
 use Rattle.tables.specs.Tables.{Tables, no_hash}
 use Rattle.tables.proofs.AllowedLaws.{forget_allowed}
-use Rattle.tables.proofs.Frames.{hash_get, hash_put}
+use Rattle.tables.proofs.Frames.{hash_put}
 use Rattle.tables.proofs.LayoutLaws.{placed_length}
 use Rattle.shared_texts.proofs.FormFrames.{hash_stands}
 use Rattle.station.specs.declared.answers.Answer.{Answer}

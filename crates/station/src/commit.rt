@@ -6,7 +6,6 @@ ghost use Rattle.station.specs.Taking.{leaves, taken};
 
 use super::answers::{Answer, Refusal};
 use super::judge::{Verdict, answer_of, judge_in};
-use slots::bytes::wipe;
 use tables::limits::Limits;
 use working::copies::save_copy;
 
@@ -62,6 +61,6 @@ pub fn commit_for(
     if work.len() != limits.size {
         return Answer::Untouched(Refusal::NotAStore);
     }
-    wipe(work);
+    work.fill(0);
     commit_in(m, store, reply, limits, work)
 }

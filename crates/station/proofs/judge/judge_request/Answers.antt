@@ -1,4 +1,4 @@
-use Rattle.lists.proofs.Kit.{rules, subst, put_mid}
+use Rattle.lists.proofs.Kit.{subst, put_mid}
 use Rattle.tables.specs.Layout.{hash_size}
 use Rattle.tables.specs.Store.{Works}
 use Rattle.tables.specs.Tables.{Tables}
