@@ -16,7 +16,7 @@ use Rattle.tables.specs.Tables.{Tables}
 use Rattle.tables.specs.Texts.{text_size, text_sum}
 use Rattle.shared_texts.proofs.RoomLaws.{no_room_exactly, apply_exactly, sum_changed}
 use Rattle.shared_texts.proofs.Sums.{size_part}
-use Rattle.requests.specs.declared.trying.Held.TheVariants.{Bytes as HeldBytes, NoRoom as HeldNoRoom}
+use Rattle.std.specs.Prelude.{Some, None}
 use Rattle.requests.specs.Trying.{read_kind, HeldAfter}
 use Rattle.requests.proofs.TryLaws.{meant_kind}
 use Rattle.events.specs.Deeds.{deeds}
@@ -115,13 +115,13 @@ module _ (log m : List ℕ) (b : Before) (x : SettingRead) (ws : List ℕ) (n : 
           (u, q, y, z, sum_is s t u means ok q (ap (λ (v : Known.Weight). v.bytes) y))
 
       -- TRIED-OVER: the texts held after it pass the area
-      pub tried_over : (vs : List ℕ) → HeldAfter (Shared 4096) (get_or ws 26 0 - was.bytes + w.bytes) HeldNoRoom → TryIs log m b x ws vs NoRoom
+      pub tried_over : (vs : List ℕ) → HeldAfter (Shared 4096) (get_or ws 26 0 - was.bytes + w.bytes) None → TryIs log m b x ws vs NoRoom
       tried_over vs over L M s c left t r tells ok means i f =
           let (u, q, y, z, sum) = tried_room L M s c left t r tells ok means i f in
           (no_room_exactly handheld s t).1 (inr (u, q, subst (λ (k : ℕ). 4096 < k) sum over))
 
       -- TRIED-DONE: there is room, and the numbers are those of the tables after it
-      pub tried_done : (vs : List ℕ) (sum : ℕ) → HeldAfter (Shared 4096) (get_or ws 26 0 - was.bytes + w.bytes) (HeldBytes sum) → WeightPut ws n w sum vs
+      pub tried_done : (vs : List ℕ) (sum : ℕ) → HeldAfter (Shared 4096) (get_or ws 26 0 - was.bytes + w.bytes) (Some sum) → WeightPut ws n w sum vs
           → TryIs log m b x ws vs (Passed p)
       tried_done vs sum (is, room) puts L M s c left t r tells ok means i f =
           let (u, q, y, z, total) = tried_room L M s c left t r tells ok means i f in

@@ -6,7 +6,7 @@ use plain_look::known::kind_number;
 use plain_weigh::weighing::{Before, Tried, weigh_setting};
 use plain_weigh::weights::Weight;
 use read_deeds::beginnings::begin;
-use requests::trying::{Held, kind_of, sum_after};
+use requests::trying::{kind_of, sum_after};
 use settings::settings::Setting;
 use tables::limits::{HANDHELD, Limits};
 
@@ -83,9 +83,7 @@ pub(crate) fn try_setting(
         return Deeds::NoRoom;
     };
     let limits: Limits = HANDHELD;
-    let texts = limits.texts;
-    let held = sum_after(texts, weights[SUM], was.bytes, weight.bytes);
-    let Held::Bytes(sum) = held else {
+    let Some(sum) = sum_after(limits.texts, weights[SUM], was.bytes, weight.bytes) else {
         return Deeds::NoRoom;
     };
     put_weight(weights, k, weight, sum);

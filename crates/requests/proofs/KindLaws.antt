@@ -1,40 +1,19 @@
 -- Which working copy a request needs: the kinds of the settings that stand in its bytes. Assumes nothing.
-use Rattle.lists.proofs.Kit.{ℕ, zero, suc, ◌+◌, ◌-◌, ◌≤◌, ◌<◌, ◌≡◌, refl, sym, ap, ◌∙◌, subst, List, [], ◌∷◌, ◌++◌, Bool, true, false, ◌||◌, leb, leb-true, arith, length, get_or, drop, length-append, length-drop, drop-cons, drop-drop, drop_at}
+use Rattle.lists.proofs.Kit.{ℕ, suc, ◌+◌, ◌-◌, ◌≤◌, ◌<◌, ◌≡◌, refl, sym, ap, ◌∙◌, subst, List, ◌++◌, true, arith, length, get_or, drop, length-append, length-drop, drop-cons, drop-drop, drop_at}
 use Rattle.lists.proofs.Bytes.{bytes_all}
 use Rattle.writing.specs.declared.Coding.{Coding}
 use Rattle.writing.specs.declared.Kind.{Kind}
-use Rattle.writing.specs.Ranges.{text_limits, InRange}
 use Rattle.writing.specs.Settings.{Setting, kind}
-use Rattle.writing.specs.Writing.{type_byte}
 use Rattle.writing.proofs.Unique.{unique}
 use Rattle.writing.proofs.Whole.{length_written, headed}
 use Rattle.read_fields.specs.Places.{StandsAt}
 use Rattle.read_setting.specs.SettingAt.{SettingAt}
 use Rattle.read_setting.specs.declared.reader.SettingRead.TheVariants.{Taken, Missing, Unknown, Field as BadField}
 use Rattle.settings.specs.declared.settings.Setting.{Setting as Read}
-use Rattle.tables.specs.declared.limits.Limits.{Limits}
-use Rattle.tables.specs.Layout.{used_size}
-use Rattle.tables.specs.Owns.{only}
-use Rattle.working.specs.Parts.{fixed?, copied?}
+use Rattle.working.specs.Parts.{copied?}
 use Rattle.requests.specs.Parts.{OnlyOf}
-use Rattle.requests.specs.Requests.{WrittenIn}
 use Rattle.requests.specs.Trying.{read_kind}
 use Rattle.requests.proofs.TryLaws.{meant_kind}
-
--- the area is no longer than the bytes that no table uses
-pub spare_room : (lim : Limits) (a : ℕ) → used_size lim ≤ lim.size → leb a (lim.size - used_size lim) ≡ true → used_size lim + a ≤ lim.size
-spare_room lim a h e = omega (arith, h, leb-true a (lim.size - used_size lim) e)
-
--- a kind that is fixed, or the kind itself, is copied
-pub copied_fixed : (k j : Kind) → fixed? j ≡ true → copied? k j ≡ true
-copied_fixed k j e = ap (λ (b : Bool). only k j || b) e ∙ or-true (only k j)
-  where
-    or-true : (b : Bool) → (b || true) ≡ true
-    or-true true = refl
-    or-true false = refl
-
-pub copied_same : (k j : Kind) → only k j ≡ true → copied? k j ≡ true
-copied_same k j e = ap (λ (b : Bool). b || fixed? j) e
 
 -- ---- the kinds of a request's settings
 

@@ -1,20 +1,14 @@
 -- A setting, and settings in turn, on part of the tables: what they come to there they come to on all. Assumes nothing.
-use Rattle.lists.proofs.Kit.{ℕ, zero, suc, ◌+◌, ◌-◌, ◌≤◌, ◌<◌, ◌≡◌, refl, sym, ap, ◌∙◌, subst, subst⁻¹, List, [], ◌∷◌, ◌++◌, Bool, true, false, cond, true≢false, Option, none, some, option_some_ne_none, inl, inr, ◌⊎◌, arith, length, drop}
+use Rattle.lists.proofs.Kit.{ℕ, suc, ◌+◌, ◌≤◌, ◌<◌, ◌≡◌, refl, sym, ap, ◌∙◌, subst, subst⁻¹, List, Bool, true, false, cond, true≢false, Option, none, some, option_some_ne_none, inl, inr, ◌⊎◌, arith, length}
 use Rattle.writing.specs.declared.Coding.{Coding}
 use Rattle.writing.specs.declared.Kind.{Kind}
 use Rattle.writing.specs.declared.Kind.TheVariants.{GroupContacts, IndividualContacts, Lines, Key, QuickTexts, Home, Channels, System, StatusTexts, Group, Individual, LineSlot, Last}
-use Rattle.writing.specs.Ranges.{text_limits, InRange}
 use Rattle.writing.specs.Settings.{Setting, kind, group_contacts, individual_contacts, lines, key, quick_texts, home, channels, system, status_texts, group, individual, line_slot, last}
 use Rattle.tables.specs.declared.limits.Limits.{Limits}
 use Rattle.tables.specs.declared.limits.Texts.{Texts}
 use Rattle.tables.specs.declared.limits.Texts.TheVariants.{Shared}
-use Rattle.tables.specs.Allowed.{Allowed}
 use Rattle.tables.specs.Apply.{apply, change, own_after, with_room}
-use Rattle.tables.specs.Forms.{Roomy}
-use Rattle.tables.specs.Layout.{placed_layout}
-use Rattle.tables.specs.Limits.{placed}
-use Rattle.tables.specs.Owns.{Own, own, mix, only, put_own}
-use Rattle.tables.specs.Store.{Works}
+use Rattle.tables.specs.Owns.{Own, own, only, put_own}
 use Rattle.tables.specs.Tables.{Tables, fresh}
 use Rattle.tables.specs.Texts.{text_sum, text_size, TextRoom, Passes}
 use Rattle.tables.proofs.Owns.{own_mix, alike, own_other, own_put, same_kind}

@@ -1,5 +1,6 @@
 -- Settings run on a working copy of part of the tables, with an area that the texts of the others leave. Assumes nothing.
-use Rattle.lists.proofs.Kit.{ℕ, ◌+◌, ◌-◌, ◌≤◌, ◌≡◌, refl, sym, ap, ap₂, ◌∙◌, subst, subst₂, List, Bool, true, false, cond, arith, drop}
+use Rattle.lists.proofs.Kit.{ℕ, ◌+◌, ◌-◌, ◌≤◌, ◌≡◌, refl, sym, ap, ◌∙◌, subst, subst₂, List, Bool, true, false, arith, drop}
+use Rattle.std.specs.Prelude.{Result, Ok, Err}
 use Rattle.writing.specs.declared.Coding.{Coding}
 use Rattle.writing.specs.declared.Kind.{Kind}
 use Rattle.writing.specs.declared.LastFlags.{LastFlags}
@@ -7,7 +8,7 @@ use Rattle.writing.specs.Carrier.{result_number}
 use Rattle.writing.specs.Settings.{Setting}
 use Rattle.tables.specs.declared.limits.Limits.{Limits}
 use Rattle.tables.specs.declared.limits.Texts.{Texts}
-use Rattle.tables.specs.declared.limits.Texts.TheVariants.{Placed, Shared}
+use Rattle.tables.specs.declared.limits.Texts.TheVariants.{Shared}
 use Rattle.tables.specs.Allowed.{Allowed}
 use Rattle.tables.specs.Forms.{Roomy, AreaFits}
 use Rattle.tables.specs.Layout.{placed_layout}
@@ -19,15 +20,13 @@ use Rattle.tables.specs.Tables.{Tables}
 use Rattle.tables.specs.Texts.{text_sum, text_size, TextRoom}
 use Rattle.tables.proofs.AllowedLaws.{OwnOk, own_ok, all_ok, allowed_placed, allowed_within}
 use Rattle.shared_texts.proofs.Sums.{size_part}
-use Rattle.working.specs.Parts.{copied?, part_of, rejoined}
+use Rattle.working.specs.Parts.{copied?, part_of}
 use Rattle.working.proofs.CopyLaws.{part_allowed}
-use Rattle.requests.specs.declared.run.Run.{Run}
-use Rattle.requests.specs.declared.run.Run.TheVariants.{Good, Fault as RunFault}
+use Rattle.requests.specs.declared.run.Fault.{Fault as RunFault}
 use Rattle.requests.specs.Judge.{Outcome, kept, refused}
 use Rattle.requests.specs.Parts.{OnlyOf, with_area, PartRan, PartFrom}
 use Rattle.requests.specs.Requests.{Judged, last_item}
 use Rattle.requests.specs.Running.{Ran, RunFrom}
-use Rattle.requests.specs.Trying.{SumIs}
 use Rattle.requests.proofs.PartLaws.{part_own, part_sum, Beside, Stay, stay_joined, Lifted, judged_too}
 
 -- how large the area is does not show in a working copy
@@ -81,7 +80,7 @@ module _ (c : Coding) (lim : Limits) (k : Kind) (count : ℕ) (m : List ℕ) (at
       go j false e = subst (OwnOk (placed lim) j) (sym (y j e)) (own_ok (placed lim) was (allowed_placed lim was ok) j)
 
   -- GOOD: a run on the copy is one on all tables
-  pub part_good : (f : LastFlags) → RunFrom c (with_area lim left) count m at took s t (Good f) → PartRan c lim k count m at was t f
+  pub part_good : (f : LastFlags) → RunFrom c (with_area lim left) count m at took s t (Ok f) → PartRan c lim k count m at was t f
   part_good f r =
       let x = r (part_of k was) smaller part_ok part_works (sym part_took) in
       let (q, j, l) = judged_too lim k a left rest shared split c beside only x.judged in
@@ -111,32 +110,12 @@ module _ (c : Coding) (lim : Limits) (k : Kind) (count : ℕ) (m : List ℕ) (at
       go (refused n g) j (d, e) = subst₂ (λ (x y : ℕ). Judged c lim count was (drop at m) (refused x y)) (sym d) (sym e) j
 
 -- PART-FROM: what the run with these limits answers is what taking the settings on the copy answers
-pub part_from : (c : Coding) (lim : Limits) (k : Kind) (count : ℕ) (m : List ℕ) (at held took : ℕ) (s t : List ℕ) (lim' : Limits) (run : Run)
+pub part_from : (c : Coding) (lim : Limits) (k : Kind) (count : ℕ) (m : List ℕ) (at held took : ℕ) (s t : List ℕ) (lim' : Limits) (run : Result LastFlags RunFault)
     → ((a : ℕ) → lim.texts ≡ Shared a → lim' ≡ with_area lim (a - (held - took))) → RunFrom c lim' count m at took s t run → PartFrom c lim k count m at held took s t run
-part_from c lim k count m at held took s t lim' (Good f) e r = λ was a shared roomy ok works sum took_is only.
-    part_good c lim k count m at held took s t was a shared roomy ok works sum took_is only f (subst (λ (l : Limits). RunFrom c l count m at took s t (Good f)) (e a shared) r)
-part_from c lim k count m at held took s t lim' (RunFault result failed) e r = λ was a shared roomy ok works sum took_is only.
-    part_bad c lim k count m at held took s t was a shared roomy ok works sum took_is only (result_number result) failed
-    (subst (λ (l : Limits). RunFrom c l count m at took s t (RunFault result failed)) (e a shared) r (part_of k was)
+part_from c lim k count m at held took s t lim' (Ok f) e r = λ was a shared roomy ok works sum took_is only.
+    part_good c lim k count m at held took s t was a shared roomy ok works sum took_is only f (subst (λ (l : Limits). RunFrom c l count m at took s t (Ok f)) (e a shared) r)
+part_from c lim k count m at held took s t lim' (Err x) e r = λ was a shared roomy ok works sum took_is only.
+    part_bad c lim k count m at held took s t was a shared roomy ok works sum took_is only (result_number x.result) x.failed
+    (subst (λ (l : Limits). RunFrom c l count m at took s t (Err x)) (e a shared) r (part_of k was)
     (smaller c lim k count m at held took s t was a shared roomy ok works sum took_is only) (part_ok c lim k count m at held took s t was a shared roomy ok works sum took_is only)
     (part_works c lim k count m at held took s t was a shared roomy ok works sum took_is only) (sym (part_took c lim k count m at held took s t was a shared roomy ok works sum took_is only)))
-
--- the limits that leave the others' texts alone
-pub beside_placed : (lim : Limits) (others : ℕ) → lim.texts ≡ Placed → (a : ℕ) → lim.texts ≡ Shared a → lim ≡ with_area lim (a - others)
-beside_placed lim others p a e = absurd (placed_ne_shared (sym p ∙ e))
-  where
-    is_placed : Texts → Type 0
-    is_placed Placed = Unit {0}
-    is_placed (Shared a) = ⊥
-
-    placed_ne_shared : Placed ≡ Shared a → ⊥
-    placed_ne_shared e = subst is_placed e tt
-
-pub beside_shared : (lim : Limits) (others b n : ℕ) → lim.texts ≡ Shared b → n ≡ b - others → (a : ℕ) → lim.texts ≡ Shared a → with_area lim n ≡ with_area lim (a - others)
-beside_shared lim others b n p e a q =
-    let f : b ≡ a = ap area_of (sym p ∙ q) in
-    ap (with_area lim) (e ∙ ap (λ (x : ℕ). x - others) f)
-  where
-    area_of : Texts → ℕ
-    area_of Placed = 0
-    area_of (Shared a) = a

@@ -12,7 +12,7 @@ use Rattle.read_fields.proofs.Parts.{bytes_left}
 use Rattle.tables.specs.declared.limits.Limits.{Limits}
 use Rattle.tables.specs.Apply.{apply}
 use Rattle.tables.specs.Tables.{Tables}
-use Rattle.requests.specs.Judge.{done, step, missing, unknown, field, room, taken, fault}
+use Rattle.requests.specs.Judge.{done, step, missing, unknown, field, room}
 use Rattle.requests.specs.Requests.{WrittenIn, Known, Runs, Fault, item_of, or_else, LastItem, last_item}
 use Rattle.requests.proofs.Joining.{then_run}
 

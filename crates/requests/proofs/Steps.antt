@@ -1,8 +1,7 @@
 -- One setting of a request after another, as the code takes them on its working copy. Assumes nothing.
-use Rattle.lists.proofs.Kit.{ℕ, suc, ◌+◌, ◌-◌, ◌≤◌, ◌<◌, ◌≡◌, refl, sym, ap, ◌∙◌, subst, List, [], ◌∷◌, ◌++◌, Option, none, arith, length, drop, length-append, length-drop, drop_of_length-le, drop-cons}
-use denote.Enum.Declared.{tag_of}
-use types.Run.{OneOf, miss}
+use Rattle.lists.proofs.Kit.{ℕ, suc, ◌+◌, ◌-◌, ◌≤◌, ◌<◌, ◌≡◌, refl, sym, ap, ◌∙◌, subst, List, [], ◌∷◌, ◌++◌, arith, length, drop, length-append, length-drop, drop_of_length-le, drop-cons}
 use Rattle.lists.specs.Bytes.{Bytes}
+use Rattle.std.specs.Prelude.{Some, None, Ok, Err}
 use Rattle.writing.specs.declared.Coding.{Coding}
 use Rattle.writing.specs.declared.LastFlags.{LastFlags}
 use Rattle.writing.specs.declared.Result.TheVariants.{NoRoom}
@@ -10,11 +9,8 @@ use Rattle.writing.specs.Canonical.{Fits}
 use Rattle.writing.specs.Settings.{Setting}
 use Rattle.writing.proofs.CanonicalLaws.{has_writing}
 use Rattle.writing.proofs.Whole.{length_written}
-use Rattle.read_fields.specs.declared.hashes.HashPlace.{HashPlace}
 use Rattle.read_setting.specs.declared.reader.SettingRead.TheVariants.{Taken}
 use Rattle.settings.specs.declared.settings.Setting.{Setting as Read}
-use Rattle.settings.specs.contracts.settings.Setting.{the_type}
-use Rattle.settings.specs.declared.settings.Setting.TheVariants.{GroupContacts, IndividualContacts, Lines, Key, QuickTexts, Home, Channels, System, StatusTexts, Group, Individual, LineSlot, Last}
 use Rattle.read_fields.specs.Places.{StandsAt}
 use Rattle.read_setting.specs.SettingAt.{SettingAt}
 use Rattle.tables.specs.declared.limits.Limits.{Limits}
@@ -22,37 +18,11 @@ use Rattle.tables.specs.Allowed.{Allowed}
 use Rattle.tables.specs.Store.{Works}
 use Rattle.tables.specs.Tables.{Tables}
 use Rattle.tables.proofs.AllowedLaws.{allowed_within, apply_room}
-use Rattle.requests.specs.declared.run.Step.TheVariants.{Next, Fault as StepFault}
-use Rattle.requests.specs.declared.trying.Held.TheVariants.{Bytes as HeldBytes, NoRoom as HeldNoRoom}
 use Rattle.requests.specs.Judge.{done, taken, over, fault, refused}
 use Rattle.requests.specs.Running.{FlagsAre, Stepped, StepIs, Ran}
-use Rattle.requests.specs.Requests.{Runs, Fault, Judged, item_of, or_else, LastItem, last_item}
+use Rattle.requests.specs.Requests.{Runs, Fault, Judged, LastItem, last_item}
 use Rattle.requests.specs.Trying.{SumIs, TryIs}
 use Rattle.requests.proofs.RunLaws.{one_more, item_end, stands_in, at_full}
-
--- ---- FF's bits of a setting that was read
-
--- another setting than FF says no and no
-said_none : {s t : Setting} → s ≡ t → item_of t ≡ none → (last_item []).flags ≡ (or_else (item_of s) (last_item [])).flags
-said_none e n = sym (ap (λ x. (or_else (item_of x) (last_item [])).flags) e ∙ ap (λ (x : Option LastItem). (or_else x (last_item [])).flags) n)
-
-pub flags_last : (f : LastFlags) (p : HashPlace) → FlagsAre (Last f p) f
-flags_last f p m s (v, e, _, _) = sym (ap (λ x. (or_else (item_of x) (last_item [])).flags) e)
-
-pub flags_none : (r : Read) → OneOf (0 ∷ 1 ∷ 2 ∷ 3 ∷ 4 ∷ 5 ∷ 6 ∷ 7 ∷ 8 ∷ 9 ∷ 10 ∷ 11 ∷ []) (tag_of the_type r) → FlagsAre r (last_item []).flags
-flags_none (GroupContacts o f p) k m s (es, e, _) = said_none e refl
-flags_none (IndividualContacts o f p) k m s (es, e, _) = said_none e refl
-flags_none (Lines o f p) k m s (es, e, _) = said_none e refl
-flags_none (Key t f) k m s e = said_none e refl
-flags_none (QuickTexts o p) k m s (es, e, _) = said_none e refl
-flags_none (Home h) k m s e = said_none e refl
-flags_none (Channels o p) k m s (es, e, _) = said_none e refl
-flags_none (System x) k m s e = said_none e refl
-flags_none (StatusTexts o p) k m s (es, e, _) = said_none e refl
-flags_none (Group o f p) k m s (es, e, _) = said_none e refl
-flags_none (Individual o f p) k m s (es, e, _) = said_none e refl
-flags_none (LineSlot o f p) k m s (x, e, _) = said_none e refl
-flags_none (Last f p) k m s x = absurd (miss (0 ∷ 1 ∷ 2 ∷ 3 ∷ 4 ∷ 5 ∷ 6 ∷ 7 ∷ 8 ∷ 9 ∷ 10 ∷ 11 ∷ []) 12 tt k)
 
 module _ (c : Coding) (lim : Limits) (m : List ℕ) where
   -- ---- one setting
@@ -70,12 +40,12 @@ module _ (c : Coding) (lim : Limits) (m : List ℕ) where
     fits x next y = has_writing c x y.bytes y.written
 
     pub step_taken : (r : Read) (next sum n : ℕ) (f : LastFlags) → SettingAt c left m at (Taken r next) → FlagsAre r f
-        → TryIs lim m r sum s t (HeldBytes n) → StepIs c lim left m at sum s t (Next next f n)
+        → TryIs lim m r sum s t (Some n) → StepIs c lim left m at sum s t (Ok (record { next = next; flags = f; sum = n }))
     step_taken r next sum n f (x, means, i, stands) g a was roomy holds is =
         let (u, q, h, e) = a was x c left roomy holds is means i (fits x next stands) in
         record { setting = x; tables = u; range = i; stands = stands; applied = q; holds = h; summed = e; flags = g m x means }
 
-    pub step_full : (r : Read) (next sum : ℕ) → SettingAt c left m at (Taken r next) → TryIs lim m r sum s t HeldNoRoom → StepIs c lim left m at sum s t (StepFault NoRoom)
+    pub step_full : (r : Read) (next sum : ℕ) → SettingAt c left m at (Taken r next) → TryIs lim m r sum s t None → StepIs c lim left m at sum s t (Err NoRoom)
     step_full r next sum (x, means, i, stands) a was roomy holds is =
         at_full c lim m b left was at x next (stands_within x next stands) i stands (a was x c left roomy holds is means i (fits x next stands))
 

@@ -1,7 +1,9 @@
 -- A setting tried on a working copy, and the bytes that the texts held take after it. Assumes nothing.
-use Rattle.lists.proofs.Kit.{ℕ, ◌+◌, ◌-◌, ◌≡◌, sym, ap, ap₂, ◌∙◌, subst, subst⁻¹, List, Bool, true, false, some, inl, inr}
+use Rattle.lists.proofs.Kit.{ℕ, ◌+◌, ◌-◌, ◌≡◌, sym, ap, ap₂, ◌∙◌, subst⁻¹, List, Bool, true, false, some, inl, inr}
+use Rattle.std.specs.Prelude.{Option, Some, None, Result, Ok, Err}
 use Rattle.writing.specs.declared.Coding.{Coding}
 use Rattle.writing.specs.declared.Kind.{Kind}
+use Rattle.writing.specs.declared.LastFlags.{LastFlags}
 use Rattle.writing.specs.Settings.{Setting, kind}
 use Rattle.settings.specs.declared.settings.Setting.{Setting as Read}
 use Rattle.settings.specs.declared.settings.Setting.TheVariants.{GroupContacts, IndividualContacts, Lines, Key, QuickTexts, Home, Channels, System, StatusTexts, Group, Individual, LineSlot, Last}
@@ -17,10 +19,7 @@ use Rattle.tables.specs.Tables.{Tables}
 use Rattle.tables.specs.Texts.{text_sum, text_size, TextRoom, Passes, WhereShared}
 use Rattle.tables.proofs.FormLaws.{shared_then}
 use Rattle.shared_texts.proofs.RoomLaws.{no_room_exactly, apply_exactly, sum_changed}
-use Rattle.requests.specs.declared.trying.Held.{Held}
-use Rattle.requests.specs.declared.trying.Held.TheVariants.{Bytes, NoRoom}
-use Rattle.requests.specs.declared.run.Run.{Run}
-use Rattle.requests.specs.declared.run.Run.TheVariants.{Good, Fault}
+use Rattle.requests.specs.declared.run.Fault.{Fault}
 use Rattle.requests.specs.Running.{RunIs, RunFrom}
 use Rattle.requests.specs.Trying.{read_kind, SumIs, HeldAfter, TryIs}
 
@@ -47,22 +46,14 @@ both_then : (x : Texts) {P Q R : Type 0} → (P → Q → R) → WhereShared x P
 both_then Placed f p q = tt
 both_then (Shared a) f p q = f p q
 
--- nothing is counted where each text has a place of its own
-pub not_shared : (x : Texts) (P : Type 0) → x ≡ Placed → WhereShared x P
-not_shared x P e = subst⁻¹ (λ (y : Texts). WhereShared y P) e tt
-
--- and else it is
-pub where_shared : (x : Texts) (P : Type 0) (a : ℕ) → x ≡ Shared a → P → WhereShared x P
-where_shared x P a e p = subst⁻¹ (λ (y : Texts). WhereShared y P) e p
-
 -- FIRST-SUM: the bytes of a working copy's texts are those of its tables
 pub first_sum : (lim : Limits) (w : List ℕ) (n : ℕ) (t : Tables) → WhereShared lim.texts (WorkSum lim w n) → Roomy lim → Works lim t w → SumIs lim n t
 first_sum lim w n t p room h = shared_then lim.texts (λ (f : WorkSum lim w n). f t room h) p
 
 -- RUN-COUNTED: settings taken from the sum that was counted are taken
-pub run_counted : (c : Coding) (lim : Limits) (count : ℕ) (m : List ℕ) (at n : ℕ) (s t : List ℕ) (r : Run) → WhereShared lim.texts (WorkSum lim s n) → RunFrom c lim count m at n s t r → RunIs c lim count m at s t r
-run_counted c lim count m at n s t (Good f) w g = λ was roomy ok h. g was roomy ok h (first_sum lim s n was w roomy h)
-run_counted c lim count m at n s t (Fault result failed) w g = λ was roomy ok h. g was roomy ok h (first_sum lim s n was w roomy h)
+pub run_counted : (c : Coding) (lim : Limits) (count : ℕ) (m : List ℕ) (at n : ℕ) (s t : List ℕ) (r : Result LastFlags Fault) → WhereShared lim.texts (WorkSum lim s n) → RunFrom c lim count m at n s t r → RunIs c lim count m at s t r
+run_counted c lim count m at n s t (Ok f) w g = λ was roomy ok h. g was roomy ok h (first_sum lim s n was w roomy h)
+run_counted c lim count m at n s t (Err e) w g = λ was roomy ok h. g was roomy ok h (first_sum lim s n was w roomy h)
 
 -- ---- the sum after a setting
 
@@ -75,17 +66,9 @@ shared_passes : (x : Texts) (n k : ℕ) → WhereShared x (k ≡ n) → Passes x
 shared_passes Placed n k e r = r
 shared_passes (Shared a) n k e r = subst⁻¹ (Passes (Shared a)) e r
 
--- where each text has a place of its own, no sum binds
-pub held_placed : (x : Texts) (n : ℕ) → x ≡ Placed → HeldAfter x n (Bytes 0)
-held_placed x n e = subst⁻¹ (λ (y : Texts). HeldAfter y n (Bytes 0)) e (tt, tt)
-
--- the answer for an area is that for the texts that share it
-pub held_shared : (x : Texts) (n a : ℕ) (r : Held) → x ≡ Shared a → HeldAfter (Shared a) n r → HeldAfter x n r
-held_shared x n a r e h = subst⁻¹ (λ (y : Texts). HeldAfter y n r) e h
-
 module _ (lim : Limits) (m : List ℕ) (r : Read) (sum : ℕ) (s t : List ℕ) (k : Bool) (a : Applied lim m r s t k) where
   -- no place for an entry
-  pub tried_full : k ≡ false → TryIs lim m r sum s t NoRoom
+  pub tried_full : k ≡ false → TryIs lim m r sum s t None
   tried_full e was set c left room works is means i f =
       (no_room_exactly lim set was).1 (inl ((a was set c left room works means i f).full e))
 
@@ -104,8 +87,8 @@ module _ (lim : Limits) (m : List ℕ) (r : Read) (sum : ℕ) (s t : List ℕ) (
         ∙ sym (sum_changed lim set was u e)) x y)
 
     -- TRIED: a setting that had a place for each entry has room exactly if the texts held after it have
-    pub tried : (n : Held) → k ≡ true → HeldAfter lim.texts (sum - before + after) n → TryIs lim m r sum s t n
-    tried (Bytes n) e h = λ was set c left room works is means i f.
+    pub tried : (n : Option ℕ) → k ≡ true → HeldAfter lim.texts (sum - before + after) n → TryIs lim m r sum s t n
+    tried (Some n) e h = λ was set c left room works is means i f.
         let (u, q, w) = (a was set c left room works means i f).room e in
         let z : SumIs lim (sum - before + after) u = sum_is was u set room works w is means q in (
           u,
@@ -113,7 +96,7 @@ module _ (lim : Limits) (m : List ℕ) (r : Read) (sum : ℕ) (s t : List ℕ) (
           w,
           both_then lim.texts (λ (x : n ≡ sum - before + after) (y : sum - before + after ≡ text_sum u). x ∙ y) h.0 z,
         )
-    tried NoRoom e h = λ was set c left room works is means i f.
+    tried None e h = λ was set c left room works is means i f.
         let (u, q, w) = (a was set c left room works means i f).room e in
         let z : SumIs lim (sum - before + after) u = sum_is was u set room works w is means q in
         (no_room_exactly lim set was).1 (inr (u, q, shared_passes lim.texts (sum - before + after) (text_sum u) (shared_then lim.texts sym z) h))

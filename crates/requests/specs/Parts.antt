@@ -1,5 +1,5 @@
 -- Requests whose settings touch few tables, run on a working copy of those alone. No promise cites these.
-use Rattle.std.specs.Prelude.{ℕ, zero, suc, ◌≡◌, true, List, ◌++◌, drop}
+use Rattle.std.specs.Prelude.{ℕ, zero, suc, ◌≡◌, true, List, ◌++◌, drop, Result, Ok, Err}
 use Rattle.writing.specs.declared.Coding.{Coding}
 use Rattle.writing.specs.declared.Kind.{Kind}
 use Rattle.writing.specs.declared.LastFlags.{LastFlags}
@@ -18,8 +18,7 @@ use Rattle.working.specs.Copies.{Sparing}
 use Rattle.working.specs.Parts.{copied?, part_of, rejoined}
 use Rattle.working.specs.declared.copies.Copy.{Copy}
 use Rattle.working.specs.declared.copies.Copy.TheVariants.{Whole, Part}
-use Rattle.requests.specs.declared.run.Run.{Run}
-use Rattle.requests.specs.declared.run.Run.TheVariants.{Good, Fault as RunFault}
+use Rattle.requests.specs.declared.run.Fault.{Fault as RunFault}
 use Rattle.requests.specs.Judge.{kept, refused}
 use Rattle.requests.specs.Requests.{Judged, WrittenIn, last_item}
 use Rattle.requests.specs.Running.{RunFrom}
@@ -50,15 +49,15 @@ pub record PartRan (c : Coding) (lim : Limits) (k : Kind) (count : ℕ) (m : Lis
   pub flags : f ≡ (last_item settings).flags
 
 -- what taking the settings on a copy of part of the tables answers, where the texts of all take sum bytes and those of the kind's table took; the copy was s and becomes t
-abbrev pub PartFrom : Coding → Limits → Kind → ℕ → List ℕ → ℕ → (sum took : ℕ) → List ℕ → List ℕ → Run → Type 0
-PartFrom c lim k count m at sum took s t (Good f) =
+abbrev pub PartFrom : Coding → Limits → Kind → ℕ → List ℕ → ℕ → (sum took : ℕ) → List ℕ → List ℕ → Result LastFlags RunFault → Type 0
+PartFrom c lim k count m at sum took s t (Ok f) =
     (was : Tables) (a : ℕ) → lim.texts ≡ Shared a → Roomy lim → Allowed lim was → Works lim (part_of k was) s → sum ≡ text_sum was → took ≡ text_size k (own k was) → OnlyOf c k count (drop at m)
     → PartRan c lim k count m at was t f
-PartFrom c lim k count m at sum took s t (RunFault result failed) =
+PartFrom c lim k count m at sum took s t (Err e) =
     (was : Tables) (a : ℕ) → lim.texts ≡ Shared a → Roomy lim → Allowed lim was → Works lim (part_of k was) s → sum ≡ text_sum was → took ≡ text_size k (own k was) → OnlyOf c k count (drop at m)
-    → Judged c lim count was (drop at m) (refused (result_number result) failed)
+    → Judged c lim count was (drop at m) (refused (result_number e.result) e.failed)
 
 -- the same on a copy of all tables or of part of them
-abbrev pub CopyFrom : Coding → Limits → Copy → ℕ → List ℕ → ℕ → (sum took : ℕ) → List ℕ → List ℕ → Run → Type 0
+abbrev pub CopyFrom : Coding → Limits → Copy → ℕ → List ℕ → ℕ → (sum took : ℕ) → List ℕ → List ℕ → Result LastFlags RunFault → Type 0
 CopyFrom c lim Whole count m at sum took s t r = RunFrom c lim count m at sum s t r
 CopyFrom c lim (Part k) count m at sum took s t r = PartFrom c lim k count m at sum took s t r

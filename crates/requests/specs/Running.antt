@@ -1,5 +1,5 @@
 -- One setting of a request after another, on a working copy of the store. No promise cites these.
-use Rattle.std.specs.Prelude.{ℕ, ◌≡◌, List, [], drop}
+use Rattle.std.specs.Prelude.{ℕ, ◌≡◌, List, [], drop, Result, Ok, Err}
 use Rattle.std.proofs.Math.Option.{some}
 use Rattle.writing.specs.declared.Coding.{Coding}
 use Rattle.writing.specs.declared.LastFlags.{LastFlags}
@@ -15,10 +15,9 @@ use Rattle.tables.specs.Apply.{apply}
 use Rattle.tables.specs.Forms.{Roomy}
 use Rattle.tables.specs.Store.{Works}
 use Rattle.tables.specs.Tables.{Tables}
-use Rattle.requests.specs.declared.run.Step.{Step}
-use Rattle.requests.specs.declared.run.Step.TheVariants.{Next, Fault as StepFault}
-use Rattle.requests.specs.declared.run.Run.{Run}
-use Rattle.requests.specs.declared.run.Run.TheVariants.{Good, Fault as RunFault}
+use Rattle.writing.specs.declared.Result.{Result as CfgResult}
+use Rattle.requests.specs.declared.run.Taken.{Taken}
+use Rattle.requests.specs.declared.run.Fault.{Fault as RunFault}
 use Rattle.requests.specs.Judge.{kept, refused}
 use Rattle.requests.specs.Requests.{Fault, Judged, item_of, or_else, last_item}
 use Rattle.requests.specs.Trying.{SumIs}
@@ -39,9 +38,9 @@ pub record Stepped (c : Coding) (lim : Limits) (left : ℕ) (m : List ℕ) (at n
   pub flags : f ≡ (or_else (item_of setting) (last_item [])).flags
 
 -- what taking the setting at a place answers, on a copy whose texts take so many bytes, which was s and becomes t
-abbrev pub StepIs : Coding → Limits → ℕ → List ℕ → ℕ → ℕ → List ℕ → List ℕ → Step → Type 0
-StepIs c lim left m at sum s t (Next next f n) = (was : Tables) → Roomy lim → Works lim was s → SumIs lim sum was → Stepped c lim left m at next was t f n
-StepIs c lim left m at sum s t (StepFault result) =
+abbrev pub StepIs : Coding → Limits → ℕ → List ℕ → ℕ → ℕ → List ℕ → List ℕ → Result Taken CfgResult → Type 0
+StepIs c lim left m at sum s t (Ok x) = (was : Tables) → Roomy lim → Works lim was s → SumIs lim sum was → Stepped c lim left m at x.next was t x.flags x.sum
+StepIs c lim left m at sum s t (Err result) =
     (was : Tables) → Roomy lim → Works lim was s → SumIs lim sum was → Fault c lim left was (drop at m) (result_number result)
 
 -- all settings counted were taken, and no byte is left; the tables are such as the store may hold
@@ -54,13 +53,13 @@ pub record Ran (c : Coding) (lim : Limits) (count : ℕ) (m : List ℕ) (at : �
   pub flags : f ≡ (last_item settings).flags
 
 -- what taking the settings from a place on answers, from tables that the store may hold, on a copy that was s and becomes t
-abbrev pub RunIs : Coding → Limits → ℕ → List ℕ → ℕ → List ℕ → List ℕ → Run → Type 0
-RunIs c lim count m at s t (Good f) = (was : Tables) → Roomy lim → Allowed lim was → Works lim was s → Ran c lim count m at was t f
-RunIs c lim count m at s t (RunFault result failed) =
-    (was : Tables) → Roomy lim → Allowed lim was → Works lim was s → Judged c lim count was (drop at m) (refused (result_number result) failed)
+abbrev pub RunIs : Coding → Limits → ℕ → List ℕ → ℕ → List ℕ → List ℕ → Result LastFlags RunFault → Type 0
+RunIs c lim count m at s t (Ok f) = (was : Tables) → Roomy lim → Allowed lim was → Works lim was s → Ran c lim count m at was t f
+RunIs c lim count m at s t (Err e) =
+    (was : Tables) → Roomy lim → Allowed lim was → Works lim was s → Judged c lim count was (drop at m) (refused (result_number e.result) e.failed)
 
 -- the same on a copy whose texts take so many bytes, where they share an area
-abbrev pub RunFrom : Coding → Limits → ℕ → List ℕ → ℕ → ℕ → List ℕ → List ℕ → Run → Type 0
-RunFrom c lim count m at sum s t (Good f) = (was : Tables) → Roomy lim → Allowed lim was → Works lim was s → SumIs lim sum was → Ran c lim count m at was t f
-RunFrom c lim count m at sum s t (RunFault result failed) =
-    (was : Tables) → Roomy lim → Allowed lim was → Works lim was s → SumIs lim sum was → Judged c lim count was (drop at m) (refused (result_number result) failed)
+abbrev pub RunFrom : Coding → Limits → ℕ → List ℕ → ℕ → ℕ → List ℕ → List ℕ → Result LastFlags RunFault → Type 0
+RunFrom c lim count m at sum s t (Ok f) = (was : Tables) → Roomy lim → Allowed lim was → Works lim was s → SumIs lim sum was → Ran c lim count m at was t f
+RunFrom c lim count m at sum s t (Err e) =
+    (was : Tables) → Roomy lim → Allowed lim was → Works lim was s → SumIs lim sum was → Judged c lim count was (drop at m) (refused (result_number e.result) e.failed)

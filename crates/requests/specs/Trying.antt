@@ -1,5 +1,5 @@
 -- A setting tried on a working copy, and the bytes that the texts held take after it. No promise cites these.
-use Rattle.std.specs.Prelude.{ℕ, ◌≡◌, List}
+use Rattle.std.specs.Prelude.{ℕ, ◌≡◌, List, Option, Some, None}
 use Rattle.std.proofs.Math.Option.{none, some}
 use Rattle.writing.specs.declared.Coding.{Coding}
 use Rattle.writing.specs.declared.Kind.{Kind}
@@ -17,8 +17,6 @@ use Rattle.tables.specs.Forms.{Roomy}
 use Rattle.tables.specs.Store.{Works}
 use Rattle.tables.specs.Tables.{Tables}
 use Rattle.tables.specs.Texts.{text_sum, TextRoom, Passes, WhereShared}
-use Rattle.requests.specs.declared.trying.Held.{Held}
-use Rattle.requests.specs.declared.trying.Held.TheVariants.{Bytes, NoRoom}
 
 -- the kind of a setting that was read
 abbrev pub read_kind : Read → Kind
@@ -41,15 +39,15 @@ abbrev pub SumIs : Limits → ℕ → Tables → Type 0
 SumIs lim n t = WhereShared lim.texts (n ≡ text_sum t)
 
 -- what is answered where the texts take n bytes after a setting
-abbrev pub HeldAfter : Texts → ℕ → Held → Type 0
-HeldAfter x n (Bytes k) = WhereShared x (k ≡ n) × TextRoom x n
-HeldAfter x n NoRoom = Passes x n
+abbrev pub HeldAfter : Texts → ℕ → Option ℕ → Type 0
+HeldAfter x n (Some k) = WhereShared x (k ≡ n) × TextRoom x n
+HeldAfter x n None = Passes x n
 
 -- what trying a setting that was read answers, on a copy whose texts take so many bytes, which was s and becomes t
-abbrev pub TryIs : Limits → List ℕ → Read → ℕ → List ℕ → List ℕ → Held → Type 0
-TryIs lim m r sum s t (Bytes n) =
+abbrev pub TryIs : Limits → List ℕ → Read → ℕ → List ℕ → List ℕ → Option ℕ → Type 0
+TryIs lim m r sum s t (Some n) =
     (was : Tables) (set : Setting) (c : Coding) (left : ℕ) → Roomy lim → Works lim was s → SumIs lim sum was → Meant m r set → InRange text_limits left set → Fits c set
     → (u : Tables) × (apply lim set was ≡ some u) × Works lim u t × SumIs lim n u
-TryIs lim m r sum s t NoRoom =
+TryIs lim m r sum s t None =
     (was : Tables) (set : Setting) (c : Coding) (left : ℕ) → Roomy lim → Works lim was s → SumIs lim sum was → Meant m r set → InRange text_limits left set → Fits c set
     → apply lim set was ≡ none

@@ -6,13 +6,13 @@ ghost use Rattle.working.specs.Copies.{Sparing};
 ghost use Rattle.working.specs.Parts.{fixed?, copied?};
 ghost use Rattle.requests.specs.Parts.{OnlyOf, with_area, CopyIs, PartFrom, CopyFrom};
 
-use super::run::{Run, take_settings_from};
-use super::trying::{kind_of, less};
+use super::run::{Fault, Request, take_settings_from};
+use super::trying::kind_of;
 use read_setting::reader::{SettingRead, read_setting};
 use tables::limits::{Limits, Texts};
 use tables::places::{CHANNEL_SLOT, CHANNELS, COUNT, COUNTED, LINE_SLOT, ORDERED};
 use working::copies::Copy;
-use writing::{Coding, Kind};
+use writing::{Coding, Kind, LastFlags};
 
 // The kinds of a longer request are not looked at first: reading many settings twice costs what loading fewer tables saves.
 const FEW: u8 = 8;
@@ -21,21 +21,7 @@ const FEW: u8 = 8;
 fn is_fixed(kind: Kind) -> bool
     ensures { result ≡ fixed? kind }
 {
-    match kind {
-        Kind::GroupContacts => false,
-        Kind::IndividualContacts => false,
-        Kind::Lines => false,
-        Kind::Key => true,
-        Kind::QuickTexts => false,
-        Kind::Home => true,
-        Kind::Channels => false,
-        Kind::System => true,
-        Kind::StatusTexts => false,
-        Kind::Group => false,
-        Kind::Individual => false,
-        Kind::LineSlot => false,
-        Kind::Last => true,
-    }
+    matches!(kind, Kind::Key | Kind::Home | Kind::System | Kind::Last)
 }
 
 // The type byte of a kind, by which two are told apart.
@@ -63,21 +49,17 @@ fn type_of(kind: Kind) -> u8
 fn is_copied(kind: Kind, other: Kind) -> bool
     ensures { result ≡ true → copied? kind other ≡ true }
 {
-    if is_fixed(other) {
-        return true;
-    }
-    type_of(kind) == type_of(other)
+    is_fixed(other) || type_of(kind) == type_of(other)
 }
 
 // Whether a request's settings, as far as they are good, are of kinds that a copy of the part of this kind has.
-fn only_of(m: &[u8], at: usize, count: u8, coding: Coding, kind: Kind) -> bool
-    ensures { result ≡ true → OnlyOf coding kind count (drop at m.now) }
+fn only_of(m: &[u8], request: Request, kind: Kind) -> bool
+    ensures { result ≡ true → OnlyOf request.coding kind request.count (drop request.at m.now) }
 {
-    let mut p = at;
-    let mut seen: u8 = 0;
-    while seen < count {
-        let left = (count - seen - 1) as usize;
-        let read = read_setting(m, p, left, coding);
+    let mut p = request.at;
+    for seen in 0..request.count {
+        let left = (request.count - seen - 1) as usize;
+        let read = read_setting(m, p, left, request.coding);
         match read {
             SettingRead::Taken(setting, next) => {
                 if !is_copied(kind, kind_of(setting)) {
@@ -89,7 +71,6 @@ fn only_of(m: &[u8], at: usize, count: u8, coding: Coding, kind: Kind) -> bool
             SettingRead::Unknown => return true,
             SettingRead::Field => return true,
         }
-        seen += 1;
     }
     true
 }
@@ -122,25 +103,25 @@ fn has_spare(limits: Limits) -> bool
         return false;
     }
     let spare = limits.size - used;
-    let texts = limits.texts;
-    match texts {
+    match limits.texts {
         Texts::Placed => false,
         Texts::Shared(area) => area <= spare,
     }
 }
 
-// Which tables the working copy for a request of so many settings at a place has to have.
-pub fn copy_for(m: &[u8], count: u8, at: usize, coding: Coding, limits: Limits) -> Copy
-    ensures { CopyIs coding limits count m.now at result }
+// Which tables the working copy for a request has to have.
+pub fn copy_for(m: &[u8], request: Request, limits: Limits) -> Copy
+    ensures { CopyIs request.coding limits request.count m.now request.at result }
 {
-    if FEW < count {
+    if FEW < request.count {
         return Copy::Whole;
     }
     if !has_spare(limits) {
         return Copy::Whole;
     }
-    let kind = kind_at(m, at, less(count as usize, 1), coding);
-    if !only_of(m, at, count, coding, kind) {
+    let left = (request.count as usize).saturating_sub(1);
+    let kind = kind_at(m, request.at, left, request.coding);
+    if !only_of(m, request, kind) {
         return Copy::Whole;
     }
     Copy::Part(kind)
@@ -150,35 +131,29 @@ pub fn copy_for(m: &[u8], count: u8, at: usize, coding: Coding, limits: Limits) 
 fn limits_beside(limits: Limits, others: usize) -> Limits
     ensures { (a : ℕ) → limits.texts ≡ Shared a → result ≡ with_area limits (a - others) }
 {
-    let texts = limits.texts;
-    match texts {
+    match limits.texts {
         Texts::Placed => limits,
         Texts::Shared(area) => Limits {
-            lines: limits.lines,
-            channels: limits.channels,
-            message: limits.message,
-            size: limits.size,
-            texts: Texts::Shared(less(area, others)),
+            texts: Texts::Shared(area.saturating_sub(others)),
+            ..limits
         },
     }
 }
 
-// So many settings from a place to the message's end on a copy of part of the tables, where the texts of all take held bytes and those of the kind's table own.
+// A request's settings on a copy of part of the tables, where the texts of all take held bytes and those of the kind's table own.
 fn take_part_from(
     work: &mut [u8],
     limits: Limits,
     m: &[u8],
-    at: usize,
-    count: u8,
-    coding: Coding,
+    request: Request,
     held: usize,
     own: usize,
     kind: Kind,
-) -> Run
-    ensures { PartFrom coding limits kind count m.now at held own work.old work.new result }
+) -> Result<LastFlags, Fault>
+    ensures { PartFrom request.coding limits kind request.count m.now request.at held own work.old work.new result }
 {
-    let beside = limits_beside(limits, less(held, own));
-    take_settings_from(work, beside, m, at, count, coding, own)
+    let beside = limits_beside(limits, held.saturating_sub(own));
+    take_settings_from(work, beside, m, request, own)
 }
 
 // The same on a copy of all tables or of part of them.
@@ -186,17 +161,15 @@ pub fn take_copy_from(
     work: &mut [u8],
     limits: Limits,
     m: &[u8],
-    at: usize,
-    count: u8,
-    coding: Coding,
+    request: Request,
     held: usize,
     own: usize,
     copy: Copy,
-) -> Run
-    ensures { CopyFrom coding limits copy count m.now at held own work.old work.new result }
+) -> Result<LastFlags, Fault>
+    ensures { CopyFrom request.coding limits copy request.count m.now request.at held own work.old work.new result }
 {
     match copy {
-        Copy::Whole => take_settings_from(work, limits, m, at, count, coding, held),
-        Copy::Part(kind) => take_part_from(work, limits, m, at, count, coding, held, own, kind),
+        Copy::Whole => take_settings_from(work, limits, m, request, held),
+        Copy::Part(kind) => take_part_from(work, limits, m, request, held, own, kind),
     }
 }

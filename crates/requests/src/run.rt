@@ -1,25 +1,39 @@
 // The settings of a request, read and applied in turn on a working copy of the store.
 ghost use Rattle.requests.specs.Running.{FlagsAre, StepIs, RunIs, RunFrom};
 
-use super::trying::{Held, all_bytes, try_setting};
+use super::trying::{all_bytes, try_setting};
 use read_setting::reader::{SettingRead, read_setting};
 use settings::settings::Setting;
 use tables::limits::Limits;
-use writing::{Coding, LastFlags, Result};
+use writing::{Coding, LastFlags, Result as CfgResult};
 
-// The place after a setting that was taken, with FF's bits and the bytes that texts take then, or its fault.
+// A request's settings: where they start in the message, how many they are, and how their texts are coded.
 #[derive(Clone, Copy)]
-pub(crate) enum Step {
-    Next(usize, LastFlags, usize),
-    Fault(Result),
+pub struct Request {
+    pub at: usize,
+    pub count: u8,
+    pub coding: Coding,
 }
 
-// FF's bits where all settings were taken, or the first fault and the failed ID.
+// After a setting that was taken: the place of the next, FF's bits, and the bytes that all texts take.
 #[derive(Clone, Copy)]
-pub enum Run {
-    Good(LastFlags),
-    Fault(Result, u8),
+pub(crate) struct Taken {
+    pub next: usize,
+    pub flags: LastFlags,
+    pub sum: usize,
 }
+
+// Why a request is turned down, and the failed ID: the number of the setting at fault, 0 where it is none of them.
+#[derive(Clone, Copy)]
+pub struct Fault {
+    pub result: CfgResult,
+    pub failed: u8,
+}
+
+const NO_FLAGS: LastFlags = LastFlags {
+    reboot: false,
+    reply: false,
+};
 
 // FF's bits, no and no for another setting.
 pub fn flags_of(setting: Setting) -> LastFlags
@@ -27,10 +41,7 @@ pub fn flags_of(setting: Setting) -> LastFlags
 {
     match setting {
         Setting::Last(flags, _) => flags,
-        _ => LastFlags {
-            reboot: false,
-            reply: false,
-        },
+        _ => NO_FLAGS,
     }
 }
 
@@ -43,61 +54,56 @@ fn take_setting(
     left: usize,
     coding: Coding,
     sum: usize,
-) -> Step
+) -> Result<Taken, CfgResult>
     ensures { StepIs coding limits left m.now at sum work.old work.new result }
 {
     let read = read_setting(m, at, left, coding);
     match read {
         SettingRead::Taken(setting, next) => {
             let flags = flags_of(setting);
-            let held = try_setting(work, limits, m, setting, sum);
-            match held {
-                Held::Bytes(bytes) => Step::Next(next, flags, bytes),
-                Held::NoRoom => Step::Fault(Result::NoRoom),
-            }
+            let Some(sum) = try_setting(work, limits, m, setting, sum) else {
+                return Err(CfgResult::NoRoom);
+            };
+            Ok(Taken { next, flags, sum })
         }
-        SettingRead::Missing => Step::Fault(Result::BadField),
-        SettingRead::Unknown => Step::Fault(Result::UnknownType),
-        SettingRead::Field => Step::Fault(Result::BadField),
+        SettingRead::Missing => Err(CfgResult::BadField),
+        SettingRead::Unknown => Err(CfgResult::UnknownType),
+        SettingRead::Field => Err(CfgResult::BadField),
     }
 }
 
-// So many settings from a place to the message's end, their texts coded so, on a copy whose texts take so many bytes.
+// A request's settings, to the message's end, on a copy whose texts take so many bytes: FF's bits where all were taken, or the first fault.
 pub fn take_settings_from(
     work: &mut [u8],
     limits: Limits,
     m: &[u8],
-    at: usize,
-    count: u8,
-    coding: Coding,
+    request: Request,
     held: usize,
-) -> Run
-    ensures { RunFrom coding limits count m.now at held work.old work.new result }
+) -> Result<LastFlags, Fault>
+    ensures { RunFrom request.coding limits request.count m.now request.at held work.old work.new result }
 {
-    let mut sum = held;
-    let mut p = at;
-    let mut taken: u8 = 0;
-    let mut flags = LastFlags {
-        reboot: false,
-        reply: false,
+    let mut last = Taken {
+        next: request.at,
+        flags: NO_FLAGS,
+        sum: held,
     };
-    while taken < count {
-        let left = (count - taken - 1) as usize;
-        let step = take_setting(work, limits, m, p, left, coding, sum);
-        match step {
-            Step::Next(next, said, bytes) => {
-                p = next;
-                flags = said;
-                sum = bytes;
-            }
-            Step::Fault(result) => return Run::Fault(result, taken + 1),
+    for taken in 0..request.count {
+        let left = (request.count - taken - 1) as usize;
+        match take_setting(work, limits, m, last.next, left, request.coding, last.sum) {
+            Ok(after) => last = after,
+            Err(why) => return Err(Fault {
+                result: why,
+                failed: taken + 1,
+            }),
         }
-        taken += 1;
     }
-    if p < m.len() {
-        return Run::Fault(Result::BadField, 0);
+    if last.next < m.len() {
+        return Err(Fault {
+            result: CfgResult::BadField,
+            failed: 0,
+        });
     }
-    Run::Good(flags)
+    Ok(last.flags)
 }
 
 // The same on any copy, whose texts are counted first.
@@ -105,12 +111,10 @@ pub fn take_settings(
     work: &mut [u8],
     limits: Limits,
     m: &[u8],
-    at: usize,
-    count: u8,
-    coding: Coding,
-) -> Run
-    ensures { RunIs coding limits count m.now at work.old work.new result }
+    request: Request,
+) -> Result<LastFlags, Fault>
+    ensures { RunIs request.coding limits request.count m.now request.at work.old work.new result }
 {
     let held = all_bytes(work, limits);
-    take_settings_from(work, limits, m, at, count, coding, held)
+    take_settings_from(work, limits, m, request, held)
 }

@@ -11,13 +11,6 @@ use tables::limits::{Limits, Texts};
 use working::sums::{table_bytes, work_bytes};
 use writing::Kind;
 
-// The bytes that all texts take after a setting, which are not counted where each has a place of its own; or it has no room.
-#[derive(Clone, Copy)]
-pub enum Held {
-    Bytes(usize),
-    NoRoom,
-}
-
 // The kind of a setting.
 pub fn kind_of(setting: Setting) -> Kind
     ensures { result ≡ read_kind setting }
@@ -43,8 +36,7 @@ pub fn kind_of(setting: Setting) -> Kind
 pub(crate) fn all_bytes(work: &[u8], limits: Limits) -> usize
     ensures { WhereShared limits.texts (WorkSum limits work.now result) }
 {
-    let texts = limits.texts;
-    match texts {
+    match limits.texts {
         Texts::Placed => 0,
         Texts::Shared(_) => work_bytes(work, limits),
     }
@@ -54,44 +46,33 @@ pub(crate) fn all_bytes(work: &[u8], limits: Limits) -> usize
 fn own_bytes(work: &[u8], limits: Limits, kind: Kind) -> usize
     ensures { WhereShared limits.texts (TableSum limits kind work.now result) }
 {
-    let texts = limits.texts;
-    match texts {
+    match limits.texts {
         Texts::Placed => 0,
         Texts::Shared(_) => table_bytes(work, limits, kind),
     }
 }
 
-// One number less another, or 0.
-pub(crate) fn less(x: usize, y: usize) -> usize
-    ensures { result ≡ x - y }
-{
-    if x < y {
-        return 0;
-    }
-    x - y
-}
-
-// The bytes of texts that share an area, where one table's took so many before and take so many after.
-fn sum_within(area: usize, sum: usize, before: usize, after: usize) -> Held
+// The bytes of texts that share an area, where one table's took so many before and take so many after; none where they have no room.
+fn sum_within(area: usize, sum: usize, before: usize, after: usize) -> Option<usize>
     ensures { HeldAfter (Shared area) (sum - before + after) result }
 {
-    let others = less(sum, before);
+    let others = sum.saturating_sub(before);
     if area < others {
-        return Held::NoRoom;
+        return None;
     }
     let room = area - others;
     if room < after {
-        return Held::NoRoom;
+        return None;
     }
-    Held::Bytes(others + after)
+    Some(others + after)
 }
 
-// The same however texts are kept: where each has a place of its own, no sum binds them.
-pub fn sum_after(texts: Texts, sum: usize, before: usize, after: usize) -> Held
+// The same however texts are kept: where each has a place of its own, they are not counted and no sum binds them.
+pub fn sum_after(texts: Texts, sum: usize, before: usize, after: usize) -> Option<usize>
     ensures { HeldAfter texts (sum - before + after) result }
 {
     match texts {
-        Texts::Placed => Held::Bytes(0),
+        Texts::Placed => Some(0),
         Texts::Shared(area) => sum_within(area, sum, before, after),
     }
 }
@@ -103,15 +84,14 @@ pub(crate) fn try_setting(
     m: &[u8],
     setting: Setting,
     sum: usize,
-) -> Held
+) -> Option<usize>
     ensures { TryIs limits m.now setting sum work.old work.new result }
 {
     let kind = kind_of(setting);
     let before = own_bytes(work, limits, kind);
     if !apply(work, limits, m, setting) {
-        return Held::NoRoom;
+        return None;
     }
     let after = own_bytes(work, limits, kind);
-    let texts = limits.texts;
-    sum_after(texts, sum, before, after)
+    sum_after(limits.texts, sum, before, after)
 }

@@ -4,7 +4,6 @@ use Rattle.lists.proofs.OneToOne.{decoded}
 use Rattle.writing.specs.declared.Result.{Result}
 use Rattle.writing.specs.declared.Result.TheVariants.{Taken, OtherVersion, NoRoom, UnknownType, BadField, NoMatch}
 use Rattle.writing.specs.Carrier.{result_number}
-use Rattle.station.specs.declared.answers.Refusal.{Refusal}
 use Rattle.station.specs.declared.answers.Refusal.TheVariants.{ReplyBuffer, NotAStore, MessageSize, Carrier, MessageType}
 use Rattle.station.specs.declared.answers.Answer.{Answer}
 use Rattle.station.specs.declared.answers.Answer.TheVariants.{Untouched, Replied}

@@ -1,9 +1,10 @@
 -- A request judged on a working copy of all tables or of part of them. Assumes nothing.
 use Rattle.lists.proofs.Kit.{ℕ, ◌≡◌, refl, sym, ap, ◌∙◌, subst, List, Bool, true, false, cond, ◌||◌, mid_of, length, replicate, length-replicate}
+use Rattle.std.specs.Prelude.{Result, Ok, Err}
 use Rattle.writing.specs.declared.Coding.{Coding}
 use Rattle.writing.specs.declared.Kind.{Kind}
+use Rattle.writing.specs.declared.LastFlags.{LastFlags}
 use Rattle.writing.specs.declared.Kind.TheVariants.{Last}
-use Rattle.writing.specs.Settings.{Hash}
 use Rattle.tables.specs.declared.limits.Limits.{Limits}
 use Rattle.tables.specs.declared.limits.Texts.{Texts}
 use Rattle.tables.specs.Forms.{Roomy}
@@ -20,8 +21,7 @@ use Rattle.working.specs.declared.copies.Copy.TheVariants.{Whole, Part}
 use Rattle.working.specs.Copies.{CopyLoaded, CopySum, Ready}
 use Rattle.working.specs.Parts.{copied?, part_of, rejoined}
 use Rattle.working.specs.Working.{StoreSum}
-use Rattle.requests.specs.declared.run.Run.{Run}
-use Rattle.requests.specs.declared.run.Run.TheVariants.{Good, Fault as RunFault}
+use Rattle.requests.specs.declared.run.Fault.{Fault as RunFault}
 use Rattle.requests.specs.Parts.{CopyIs, CopyFrom}
 use Rattle.requests.specs.Requests.{forget}
 use Rattle.requests.proofs.PartLaws.{part_own}
@@ -76,19 +76,19 @@ size_forgets j t = go (only Last j) refl
     go false e = ap (text_size j) (sym (own_other Last j t no_hash e))
 
 -- REQUEST JUDGED: the settings were run on a copy of the store with no hash kept, from the sum of the store's texts and that of the copied table's
-pub request_judged : (c : Coding) (lim : Limits) (d : Copy) (message : List ℕ) (count at held took : ℕ) (store w v : List ℕ) (run : Run)
+pub request_judged : (c : Coding) (lim : Limits) (d : Copy) (message : List ℕ) (count at held took : ℕ) (store w v : List ℕ) (run : Result LastFlags RunFault)
     → Roomy lim → CopyIs c lim count message at d → ((t : Tables) → Holds lim t store → Works lim (copy_of d (forget t)) w) → StoreSum lim store held → CopySum lim d store took
     → CopyFrom c lim d count message at held took w v run → RequestJudged c lim d message count at store v run
-request_judged c lim Whole message count at held took store w v (Good f) room i h n o r = λ t k.
+request_judged c lim Whole message count at held took store w v (Ok f) room i h n o r = λ t k.
     let z = r (forget t) room (forget_allowed lim t k.0) (h t k) (n t room k) in
     record { settings = z.settings; tables = z.tables; allowed = z.allowed; judged = z.judged; ready = z.holds; flags = z.flags }
-request_judged c lim Whole message count at held took store w v (RunFault result failed) room i h n o r = λ t k. r (forget t) room (forget_allowed lim t k.0) (h t k) (n t room k)
-request_judged c lim (Part j) message count at held took store w v (Good f) room ((a, e, l), Only_of) h n o r = λ t k.
+request_judged c lim Whole message count at held took store w v (Err x) room i h n o r = λ t k. r (forget t) room (forget_allowed lim t k.0) (h t k) (n t room k)
+request_judged c lim (Part j) message count at held took store w v (Ok f) room ((a, e, l), Only_of) h n o r = λ t k.
     let s : held ≡ text_sum t = subst (λ (x : Texts). WhereShared x (held ≡ text_sum t)) e (n t room k) in
     let p : took ≡ text_size j (own j t) = subst (λ (x : Texts). WhereShared x (took ≡ text_size j (own j t))) e (o t room k) in
     let z = r (forget t) a e room (forget_allowed lim t k.0) (h t k) s (p ∙ size_forgets j t) Only_of in
     record { settings = z.settings; tables = z.tables; allowed = z.allowed; judged = z.judged; ready = ((a, e, l), z.holds, z.joined ∙ rejoined_hash j t z.tables); flags = z.flags }
-request_judged c lim (Part j) message count at held took store w v (RunFault result failed) room ((a, e, l), Only_of) h n o r = λ t k.
+request_judged c lim (Part j) message count at held took store w v (Err x) room ((a, e, l), Only_of) h n o r = λ t k.
     let s : held ≡ text_sum t = subst (λ (x : Texts). WhereShared x (held ≡ text_sum t)) e (n t room k) in
     let p : took ≡ text_size j (own j t) = subst (λ (x : Texts). WhereShared x (took ≡ text_size j (own j t))) e (o t room k) in
     r (forget t) a e room (forget_allowed lim t k.0) (h t k) s (p ∙ size_forgets j t) Only_of

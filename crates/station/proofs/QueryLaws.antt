@@ -1,19 +1,23 @@
 -- The hash of a result query and the one kept. Assumes nothing.
-use Rattle.lists.proofs.Kit.{ℕ, zero, suc, ◌+◌, ◌-◌, ◌≤◌, ◌<◌, ◌≡◌, refl, sym, ap, ◌∙◌, subst, ◌≢◌, Bool, true, false, true≢false, List, [], ◌∷◌, map, arith, mid_of, length, get_or, take, drop}
+use Rattle.lists.proofs.Kit.{ℕ, ◌+◌, ◌-◌, ◌≤◌, ◌≡◌, refl, sym, ap, ◌∙◌, subst, Bool, true, false, true≢false, List, [], ◌∷◌, arith, mid_of, length, get_or, take, drop, eqb, ◌&&◌}
+use lib.Pointwise.{pointwise}
 use Rattle.lists.specs.Bytes.{Bytes}
 use Rattle.slots.specs.Slots.{same?}
 use Rattle.slots.proofs.Runs.{same_are, same_refl}
-use Rattle.writing.specs.Fields.{val}
 use Rattle.writing.specs.Ranges.{HashSize}
 use Rattle.writing.specs.Settings.{Hash}
 use Rattle.read_fields.specs.Hashes.{SizeOf}
-use Rattle.read_fields.specs.Places.{FieldsAt}
 use Rattle.read_fields.specs.declared.hashes.HashPlace.{HashPlace}
 use Rattle.read_fields.proofs.HashLaws.{bytes_out, one_size, small_code}
-use Rattle.tables.specs.Allowed.{HashOk}
-use Rattle.tables.specs.Layout.{hash_bytes}
 use Rattle.station.specs.Queries.{SameAs, HashSame}
 use Rattle.station.proofs.ReplyLaws.{kept_length, value_cut}
+
+-- equal in each place is the same
+pointwise_same : (a b : List ℕ) → pointwise eqb a b ≡ same? a b
+pointwise_same [] [] = refl
+pointwise_same [] (y ∷ ys) = refl
+pointwise_same (x ∷ xs) [] = refl
+pointwise_same (x ∷ xs) (y ∷ ys) = ap (λ (q : Bool). eqb x y && q) (pointwise_same xs ys)
 
 module _ (m : List ℕ) (p : HashPlace) (hash : List ℕ) (b : Bytes m) where
   -- other bytes than 11 keep no hash
@@ -38,8 +42,8 @@ module _ (m : List ℕ) (p : HashPlace) (hash : List ℕ) (b : Bytes m) where
 
   -- the values, compared
   pub compared : (size : ℕ) (r : Bool) → SizeOf p.code size → (p.code ≡ 0 → ⊥) → p.code ≡ get_or hash 0 0 → p.start + size ≤ length m
-      → r ≡ same? (mid_of p.start (p.start + size - p.start) m) (mid_of 1 (1 + size - 1) hash) → HashSame m p hash r
-  compared size r s n d l q h k ok e c z x = by r q
+      → r ≡ pointwise eqb (mid_of p.start (p.start + size - p.start) m) (mid_of 1 (1 + size - 1) hash) → HashSame m p hash r
+  compared size r s n d l q h k ok e c z x = by r (q ∙ pointwise_same (mid_of p.start (p.start + size - p.start) m) (mid_of 1 (1 + size - 1) hash))
     where
       t : size ≡ length h.value
       t = let y : HashSize p.code (length h.value) = subst (λ (a : ℕ). HashSize a (length h.value)) c z in one_size (s.0 (small_code y)) y

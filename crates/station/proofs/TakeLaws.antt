@@ -1,9 +1,10 @@
 -- A message handled step by step comes to what the contract of taking says. Assumes nothing.
 use Rattle.lists.proofs.Kit.{ℕ, ◌≤◌, ◌≡◌, refl, sym, ap, ap₂, ◌∙◌, subst, subst⁻¹, subst₂, ◌⊎◌, inl, inr, List, Bool, true, false, arith, mid_of, put_mid, mid_len, length, drop}
+use Rattle.std.specs.Prelude.{Option, Some, None, Result, Ok, Err}
 use Rattle.lists.specs.Ladder.{Ladder, rung, foot, Answers}
 use Rattle.writing.specs.declared.Coding.{Coding}
 use Rattle.writing.specs.declared.LastFlags.{LastFlags}
-use Rattle.writing.specs.declared.Result.{Result}
+use Rattle.writing.specs.declared.Result.{Result as CfgResult}
 use Rattle.writing.specs.declared.Result.TheVariants.{Taken, NoMatch}
 use Rattle.writing.specs.Ranges.{no_hash as of_no_value}
 use Rattle.writing.specs.Settings.{Setting, Hash}
@@ -22,17 +23,15 @@ use Rattle.tables.specs.Limits.{placed}
 use Rattle.tables.specs.Store.{StoreOf, Holds, Works}
 use Rattle.tables.specs.Tables.{Tables, no_hash}
 use Rattle.tables.proofs.AllowedLaws.{forget_allowed}
-use Rattle.tables.proofs.Frames.{hash_get, hash_put}
+use Rattle.tables.proofs.Frames.{hash_put}
 use Rattle.tables.proofs.LayoutLaws.{placed_length}
 use Rattle.shared_texts.proofs.FormFrames.{hash_stands}
 use Rattle.station.specs.declared.answers.Answer.{Answer}
 use Rattle.station.specs.declared.answers.Answer.TheVariants.{Untouched, Replied}
-use Rattle.station.specs.declared.judge.Verdict.{Verdict}
-use Rattle.station.specs.declared.judge.Verdict.TheVariants.{Untouched as NothingTouched, Answered, Taken as IsTaken}
-use Rattle.requests.specs.declared.run.Run.{Run}
-use Rattle.requests.specs.declared.run.Run.TheVariants.{Good, Fault as RunFault}
+use Rattle.station.specs.declared.answers.Reply.{Reply}
+use Rattle.requests.specs.declared.run.Fault.{Fault as RunFault}
 use Rattle.station.specs.Answers.{said}
-use Rattle.station.specs.Handling.{Queried, RequestJudged, Accepted, Weighed, answer_of, VerdictIs, Keeps}
+use Rattle.station.specs.Handling.{Queried, RequestJudged, Accepted, Weighed, answer_of, Verdict, VerdictIs, Keeps}
 use Rattle.station.specs.Judging.{Judges}
 use Rattle.requests.specs.Judge.{Outcome, kept, refused}
 use Rattle.station.specs.Queries.{SameAs, HashSame}
@@ -49,7 +48,7 @@ no_hash_ok = record { size = of_no_value; bytes = tt }
 
 module _ (lim : Limits) (message was reply : List ℕ) where
   -- a reply that was written, with what it says
-  pub replied : (result : Result) (number failed : ℕ) (send reboot : Bool) (h : Hash) (store hash after : List ℕ) (n : ℕ)
+  pub replied : (result : CfgResult) (number failed : ℕ) (send reboot : Bool) (h : Hash) (store hash after : List ℕ) (n : ℕ)
       → number ≡ result_number result → HashOk h → hash ≡ hash_bytes h → ReplyWritten number failed hash reply after n
       → leaves (Replied (record { result = result; failed = failed; send = send; reboot = reboot; length = n })) store after
       ≡ replies lim message was reply (result_number result) failed send reboot h store
@@ -63,7 +62,7 @@ module _ (lim : Limits) (message was reply : List ℕ) where
 
 -- ---- a result query
 
-module _ (message : List ℕ) (place : HashPlace) (store reply after : List ℕ) (result : Result) (number n : ℕ) where
+module _ (message : List ℕ) (place : HashPlace) (store reply after : List ℕ) (result : CfgResult) (number n : ℕ) where
   -- the query matches exactly where the hash is the one kept
   pub queried : (k : Bool) → HashSame message place (mid_of 0 hash_size store) k → ((k ≡ true) × (result ≡ Taken)) ⊎ ((k ≡ false) × (result ≡ NoMatch))
       → number ≡ result_number result → ReplyWritten number 0 (mid_of 0 hash_size store) reply after n
@@ -76,12 +75,12 @@ module _ (message : List ℕ) (place : HashPlace) (store reply after : List ℕ)
       compared : SameAs h t.hash k
       compared = same h t.hash ok.hash kept_bytes code q.in_range stands
 
-      written : (said : Result) → result ≡ said
+      written : (said : CfgResult) → result ≡ said
           → leaves (Replied (record { result = result; failed = 0; send = true; reboot = false; length = n })) store after
           ≡ replies lim message store reply (result_number said) 0 true false t.hash store
       written said e =
           replied lim message store reply result number 0 true false t.hash store (mid_of 0 hash_size store) after n numbered ok.hash kept_bytes w
-          ∙ ap (λ (x : Result). replies lim message store reply (result_number x) 0 true false t.hash store) e
+          ∙ ap (λ (x : CfgResult). replies lim message store reply (result_number x) 0 true false t.hash store) e
 
       by : ((k ≡ true) × (result ≡ Taken)) ⊎ ((k ≡ false) × (result ≡ NoMatch))
           → Asked lim message store reply h t.hash (leaves (Replied (record { result = result; failed = 0; send = true; reboot = false; length = n })) store after)
@@ -176,8 +175,8 @@ module _ (lim : Limits) (message store reply : List ℕ) (x : AfterTaking) (big 
 module _ (lim : Limits) (message store reply after work : List ℕ) where
   -- REQUEST VERDICT: a fault turns the request down, and of a good one the working copy has the tables that the store becomes
   pub request_verdict : (c : Coding) (d : Copy) (count at : ℕ) → 20 ≤ length reply → StoreOf lim store → MessageIs lim.message message (Request count at c)
-      → (run : Run) (v : Verdict) → RequestJudged c lim d message count at store work run → Weighed run d (mid_of 0 hash_size work) reply after v → VerdictIs lim message store reply after work v
-  request_verdict c d count at big s is (Good f) (IsTaken r e) j (same, w) =
+      → (run : Result LastFlags RunFault) (v : Reply × Option Copy) → RequestJudged c lim d message count at store work run → Weighed run d (mid_of 0 hash_size work) reply after v → VerdictIs lim message store reply after work (Ok v)
+  request_verdict c d count at big s is (Ok f) (r, Some e) j (same, w) =
       let a = s.store in
       let h : Holds lim a.tables store = (a.allowed, a.bytes_are) in
       let z = j a.tables h in
@@ -194,18 +193,16 @@ module _ (lim : Limits) (message store reply after work : List ℕ) where
         subst⁻¹ (λ (x : Copy). Ready lim x a.tables z.tables work) same z.ready,
         by_kind lim message store reply _ big s a.tables h (Request count at c) is (kept z.settings z.tables, z.judged, g),
       )
-  request_verdict c d count at big s is (RunFault result failed) (Answered r) j w =
-      handled lim message store reply _ big s (Request count at c) is (λ t h. (refused (result_number result) failed, j t h, w lim message store))
-  request_verdict c d count at big s is (Good f) (Answered r) j w = absurd w
-  request_verdict c d count at big s is (Good f) (NothingTouched r) j w = absurd w
-  request_verdict c d count at big s is (RunFault result failed) (IsTaken r e) j w = absurd w
-  request_verdict c d count at big s is (RunFault result failed) (NothingTouched r) j w = absurd w
+  request_verdict c d count at big s is (Err x) (r, None) j w =
+      handled lim message store reply _ big s (Request count at c) is (λ t h. (refused (result_number x.result) x.failed, j t h, w lim message store))
+  request_verdict c d count at big s is (Ok f) (r, None) j w = absurd w
+  request_verdict c d count at big s is (Err x) (r, Some e) j w = absurd w
 
   -- JUDGED: the answer and the reply of a verdict are those of an outcome that taking allows
   pub judged : (v : Verdict) (a : Answer) → VerdictIs lim message store reply after work v → a ≡ answer_of v → Judges lim message store reply (said a) after
-  judged (NothingTouched r) a d e = record { after = leaves (Untouched r) store after; allowed = d; says = ap said e; writes = refl }
-  judged (Answered r) a d e = record { after = leaves (Replied r) store after; allowed = d; says = ap said e; writes = refl }
-  judged (IsTaken r c) a d e = record { after = leaves (Replied r) (layout lim d.3) after; allowed = d.7; says = ap said e; writes = refl }
+  judged (Err r) a d e = record { after = leaves (Untouched r) store after; allowed = d; says = ap said e; writes = refl }
+  judged (Ok (r, None)) a d e = record { after = leaves (Replied r) store after; allowed = d; says = ap said e; writes = refl }
+  judged (Ok (r, Some c)) a d e = record { after = leaves (Replied r) (layout lim d.3) after; allowed = d.7; says = ap said e; writes = refl }
 
   -- an outcome with this answer and store
   abbrev Left : Answer → List ℕ → Type 0
@@ -214,6 +211,6 @@ module _ (lim : Limits) (message store reply after work : List ℕ) where
   -- COMMITTED: with what committing makes of the store, they are such an outcome
   pub committed : (v : Verdict) (a : Answer) (store_after : List ℕ) → VerdictIs lim message store reply after work v → Keeps v lim work store store_after → a ≡ answer_of v
       → Answers (taken lim message store reply) (leaves a store_after after)
-  committed (NothingTouched r) a store_after d k e = subst₂ Left (sym e) (sym k) d
-  committed (Answered r) a store_after d k e = subst₂ Left (sym e) (sym k) d
-  committed (IsTaken r c) a store_after (size, room, t, u, h, ok, w, d) k e = subst₂ Left (sym e) (sym (k size t u room h ok w).1) d
+  committed (Err r) a store_after d k e = subst₂ Left (sym e) (sym k) d
+  committed (Ok (r, None)) a store_after d k e = subst₂ Left (sym e) (sym k) d
+  committed (Ok (r, Some c)) a store_after (size, room, t, u, h, ok, w, d) k e = subst₂ Left (sym e) (sym (k size t u room h ok w).1) d

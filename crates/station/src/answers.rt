@@ -5,10 +5,10 @@ ghost use Rattle.station.specs.Answers.{refusal_number, said};
 use super::replies::result_number;
 use writing::Result;
 
-// A refusal that touches no byte.
+// A refusal that touches no byte, with its number of document 01.
 #[derive(Clone, Copy)]
 pub enum Refusal {
-    ReplyBuffer,
+    ReplyBuffer = 10,
     NotAStore,
     MessageSize,
     Carrier,
@@ -35,13 +35,7 @@ pub enum Answer {
 pub fn refusal_number(refusal: Refusal) -> u8
     ensures { result ≡ refusal_number refusal }
 {
-    match refusal {
-        Refusal::ReplyBuffer => 10,
-        Refusal::NotAStore => 11,
-        Refusal::MessageSize => 12,
-        Refusal::Carrier => 13,
-        Refusal::MessageType => 14,
-    }
+    refusal as u8
 }
 
 // The number of document 01 for an answer.
@@ -50,10 +44,7 @@ pub fn number(answer: Answer) -> u8
 {
     match answer {
         Answer::Untouched(refusal) => refusal_number(refusal),
-        Answer::Replied(reply) => {
-            let result = reply.result;
-            result_number(result)
-        }
+        Answer::Replied(reply) => result_number(reply.result),
     }
 }
 

@@ -1,12 +1,11 @@
 // A message committed: it is judged again, and the store changes only where a request was taken.
-ghost use Rattle.std.specs.Prelude.{◌≡◌, length, replicate};
+ghost use Rattle.std.specs.Prelude.{◌<◌, ◌≡◌, length, replicate};
 ghost use Rattle.lists.specs.Ladder.{Answers};
 ghost use Rattle.station.specs.Handling.{Keeps};
 ghost use Rattle.station.specs.Taking.{leaves, taken};
 
 use super::answers::{Answer, Refusal};
 use super::judge::{Verdict, answer_of, judge_in};
-use slots::bytes::wipe;
 use tables::limits::Limits;
 use working::copies::save_copy;
 
@@ -14,10 +13,8 @@ use working::copies::save_copy;
 fn keep(verdict: Verdict, store: &mut [u8], limits: Limits, work: &mut [u8])
     ensures { Keeps verdict limits work.old store.old store.new }
 {
-    match verdict {
-        Verdict::Untouched(_) => {}
-        Verdict::Answered(_) => {}
-        Verdict::Taken(_, copy) => save_copy(store, work, limits, copy),
+    if let Ok((_, Some(copy))) = verdict {
+        save_copy(store, work, limits, copy);
     }
 }
 
@@ -37,6 +34,20 @@ pub(crate) fn commit_in(
     answer_of(verdict)
 }
 
+// The same for a set that owns the working copy.
+pub(crate) fn commit_on<const SIZE: usize>(
+    m: &[u8],
+    store: &mut [u8],
+    reply: &mut [u8],
+    limits: Limits,
+) -> Answer
+    requires { (limits.size ≡ SIZE) × (SIZE < 65536) }
+    ensures { Answers (taken limits m.now store.old reply.old) (leaves result store.new reply.new) }
+{
+    let mut work = [0u8; SIZE];
+    commit_in(m, store, reply, limits, &mut work)
+}
+
 // The same for any other crate: nothing is done where what is lent to work in has another size than a store.
 pub fn commit_for(
     m: &[u8],
@@ -50,6 +61,6 @@ pub fn commit_for(
     if work.len() != limits.size {
         return Answer::Untouched(Refusal::NotAStore);
     }
-    wipe(work);
+    work.fill(0);
     commit_in(m, store, reply, limits, work)
 }

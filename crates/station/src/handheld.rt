@@ -7,7 +7,7 @@ ghost use Rattle.station.specs.Judging.{Judges};
 ghost use Rattle.station.specs.Taking.{leaves, taken};
 
 use super::answers::Answer;
-use super::commit::commit_in;
+use super::commit::commit_on;
 use super::judge::judge_for;
 use tables::limits::{HANDHELD, HANDHELD_SIZE};
 use tables::start::{Started, start as start_store};
@@ -23,14 +23,12 @@ pub fn start(store: &mut [u8]) -> Started
 pub fn judge(message: &[u8], store: &[u8], reply: &mut [u8]) -> Answer
     ensures { Judges handheld message.now store.now reply.old (said result) reply.new }
 {
-    let mut work = [0u8; HANDHELD_SIZE];
-    judge_for(message, store, reply, HANDHELD, &mut work)
+    judge_for::<HANDHELD_SIZE>(message, store, reply, HANDHELD)
 }
 
 // Commits a message, which it judges again: the reply is written for 0 to 5, and only a taken request changes the store.
 pub fn commit(message: &[u8], store: &mut [u8], reply: &mut [u8]) -> Answer
     ensures { Answers (taken handheld message.now store.old reply.old) (leaves result store.new reply.new) }
 {
-    let mut work = [0u8; HANDHELD_SIZE];
-    commit_in(message, store, reply, HANDHELD, &mut work)
+    commit_on::<HANDHELD_SIZE>(message, store, reply, HANDHELD)
 }

@@ -1,5 +1,5 @@
 // A message judged against a store, which stays as it is: a request on a working copy, a result query by the hash kept. The reply is written.
-ghost use Rattle.std.specs.Prelude.{◌≤◌, ◌≡◌, length, replicate};
+ghost use Rattle.std.specs.Prelude.{◌≤◌, ◌<◌, ◌≡◌, length, replicate};
 ghost use Rattle.tables.specs.Store.{StoreOf};
 ghost use Rattle.requests.specs.Parts.{CopyIs};
 ghost use Rattle.station.specs.Answers.{said};
@@ -12,25 +12,20 @@ use super::replies::{result_number, write_reply};
 use read_carrier::carrier::{Message, read_message};
 use read_fields::hashes::HashPlace;
 use requests::part::{copy_for, take_copy_from};
-use requests::run::Run;
+use requests::run::{Fault, Request};
 use store_check::checks::is_store;
 use store_places::fixed::clear_hash;
 use tables::limits::Limits;
 use tables::places::{HASH, KEY};
 use working::areas::stored_bytes;
 use working::copies::{Copy, copy_bytes, load_copy};
-use writing::{Coding, LastFlags, Result};
+use writing::{LastFlags, Result as CfgResult};
 
-// What a message comes to: nothing is touched, a reply is written and the store stays, or the working copy of these tables has what the store becomes.
-#[derive(Clone, Copy)]
-pub(crate) enum Verdict {
-    Untouched(Refusal),
-    Answered(Reply),
-    Taken(Reply, Copy),
-}
+// What a message comes to: nothing is touched, or a reply is written and the store stays, or the working copy of these tables has what the store becomes.
+pub(crate) type Verdict = Result<(Reply, Option<Copy>), Refusal>;
 
 // The reply of 1 to 4, which carries no hash.
-fn turn_down(reply: &mut [u8], res: Result, failed: u8) -> Reply
+fn turn_down(reply: &mut [u8], res: CfgResult, failed: u8) -> Reply
     requires { 20 ≤ length reply.old }
     ensures { TurnedDown res failed reply.old reply.new result }
 {
@@ -38,10 +33,10 @@ fn turn_down(reply: &mut [u8], res: Result, failed: u8) -> Reply
     let length = write_reply(reply, result_number(res), failed, &none);
     Reply {
         result: res,
-        failed: failed,
+        failed,
         send: true,
         reboot: false,
-        length: length,
+        length,
     }
 }
 
@@ -51,9 +46,9 @@ fn answer_query(m: &[u8], place: HashPlace, store: &[u8], reply: &mut [u8]) -> R
     ensures { Queried m.now place store.now reply.old reply.new result }
 {
     let result = if same_hash(m, place, &store[HASH..KEY]) {
-        Result::Taken
+        CfgResult::Taken
     } else {
-        Result::NoMatch
+        CfgResult::NoMatch
     };
     let length = write_reply(reply, result_number(result), 0, &store[HASH..KEY]);
     Reply {
@@ -61,29 +56,27 @@ fn answer_query(m: &[u8], place: HashPlace, store: &[u8], reply: &mut [u8]) -> R
         failed: 0,
         send: true,
         reboot: false,
-        length: length,
+        length,
     }
 }
 
 // A request, judged on a working copy of these tables, which has them after all settings where all are good. No reply is written.
 pub(crate) fn judge_request(
     m: &[u8],
-    count: u8,
-    at: usize,
-    coding: Coding,
+    request: Request,
     store: &[u8],
     limits: Limits,
     work: &mut [u8],
     copy: Copy,
-) -> Run
-    requires { StoreOf limits store.now × (length work.old ≡ limits.size) × (work.old ≡ replicate limits.size 0) × CopyIs coding limits count m.now at copy }
-    ensures { RequestJudged coding limits copy m.now count at store.now work.new result }
+) -> Result<LastFlags, Fault>
+    requires { StoreOf limits store.now × (length work.old ≡ limits.size) × (work.old ≡ replicate limits.size 0) × CopyIs request.coding limits request.count m.now request.at copy }
+    ensures { RequestJudged request.coding limits copy m.now request.count request.at store.now work.new result }
 {
     load_copy(work, store, limits, copy);
     clear_hash(&mut work[HASH..KEY]);
     let held = stored_bytes(store, limits);
     let own = copy_bytes(store, limits, copy);
-    take_copy_from(work, limits, m, at, count, coding, held, own, copy)
+    take_copy_from(work, limits, m, request, held, own, copy)
 }
 
 // The reply to a good request, which carries the hash that committing it keeps.
@@ -93,22 +86,27 @@ fn accept(reply: &mut [u8], flags: LastFlags, hash: &[u8]) -> Reply
 {
     let length = write_reply(reply, 0, 0, hash);
     Reply {
-        result: Result::Taken,
+        result: CfgResult::Taken,
         failed: 0,
         send: flags.reply,
         reboot: flags.reboot,
-        length: length,
+        length,
     }
 }
 
 // What a request that was judged on a working copy with this hash comes to.
-fn weigh(run: Run, copy: Copy, reply: &mut [u8], hash: &[u8]) -> Verdict
+fn weigh(
+    run: Result<LastFlags, Fault>,
+    copy: Copy,
+    reply: &mut [u8],
+    hash: &[u8],
+) -> (Reply, Option<Copy>)
     requires { 20 ≤ length reply.old }
     ensures { Weighed run copy hash.now reply.old reply.new result }
 {
     match run {
-        Run::Fault(result, failed) => Verdict::Answered(turn_down(reply, result, failed)),
-        Run::Good(flags) => Verdict::Taken(accept(reply, flags, hash), copy),
+        Err(fault) => (turn_down(reply, fault.result, fault.failed), None),
+        Ok(flags) => (accept(reply, flags, hash), Some(copy)),
     }
 }
 
@@ -124,25 +122,26 @@ pub(crate) fn judge_in(
     ensures { VerdictIs limits m.now store.now reply.old reply.new work.new result }
 {
     if reply.len() < 20 {
-        return Verdict::Untouched(Refusal::ReplyBuffer);
+        return Err(Refusal::ReplyBuffer);
     }
     if !is_store(store, limits) {
-        return Verdict::Untouched(Refusal::NotAStore);
+        return Err(Refusal::NotAStore);
     }
     let message = read_message(m, limits.message);
     match message {
-        Message::Size => Verdict::Untouched(Refusal::MessageSize),
-        Message::Carrier => Verdict::Untouched(Refusal::Carrier),
-        Message::Type => Verdict::Untouched(Refusal::MessageType),
-        Message::Version => Verdict::Answered(turn_down(reply, Result::OtherVersion, 0)),
-        Message::NoRequest => Verdict::Answered(turn_down(reply, Result::BadField, 0)),
-        Message::NoQuery => Verdict::Answered(turn_down(reply, Result::BadField, 0)),
-        Message::Query(place) => Verdict::Answered(answer_query(m, place, store, reply)),
+        Message::Size => Err(Refusal::MessageSize),
+        Message::Carrier => Err(Refusal::Carrier),
+        Message::Type => Err(Refusal::MessageType),
+        Message::Version => Ok((turn_down(reply, CfgResult::OtherVersion, 0), None)),
+        Message::NoRequest => Ok((turn_down(reply, CfgResult::BadField, 0), None)),
+        Message::NoQuery => Ok((turn_down(reply, CfgResult::BadField, 0), None)),
+        Message::Query(place) => Ok((answer_query(m, place, store, reply), None)),
         Message::Request(count, at, coding) => {
-            let copy = copy_for(m, count, at, coding, limits);
-            let run = judge_request(m, count, at, coding, store, limits, work, copy);
+            let request = Request { at, count, coding };
+            let copy = copy_for(m, request, limits);
+            let run = judge_request(m, request, store, limits, work, copy);
             let after = &work[..];
-            weigh(run, copy, reply, &after[HASH..KEY])
+            Ok(weigh(run, copy, reply, &after[HASH..KEY]))
         }
     }
 }
@@ -152,22 +151,21 @@ pub(crate) fn answer_of(verdict: Verdict) -> Answer
     ensures { result ≡ answer_of verdict }
 {
     match verdict {
-        Verdict::Untouched(refusal) => Answer::Untouched(refusal),
-        Verdict::Answered(reply) => Answer::Replied(reply),
-        Verdict::Taken(reply, _) => Answer::Replied(reply),
+        Err(refusal) => Answer::Untouched(refusal),
+        Ok((reply, _)) => Answer::Replied(reply),
     }
 }
 
-// Judging alone, for a set with these limits: the answer that committing would give.
-pub(crate) fn judge_for(
+// Judging alone, for a set with these limits, which owns the working copy: the answer that committing would give.
+pub(crate) fn judge_for<const SIZE: usize>(
     m: &[u8],
     store: &[u8],
     reply: &mut [u8],
     limits: Limits,
-    work: &mut [u8],
 ) -> Answer
-    requires { (length work.old ≡ limits.size) × (work.old ≡ replicate limits.size 0) }
+    requires { (limits.size ≡ SIZE) × (SIZE < 65536) }
     ensures { Judges limits m.now store.now reply.old (said result) reply.new }
 {
-    answer_of(judge_in(m, store, reply, limits, work))
+    let mut work = [0u8; SIZE];
+    answer_of(judge_in(m, store, reply, limits, &mut work))
 }

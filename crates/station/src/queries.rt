@@ -2,7 +2,6 @@
 ghost use Rattle.station.specs.Queries.{HashSame};
 
 use read_fields::hashes::{HashPlace, hash_size};
-use slots::bytes::same;
 
 // Whether the hash at a place of the message is the one kept in these 11 bytes, and not of code 0; no where they are not 11.
 pub fn same_hash(m: &[u8], place: HashPlace, hash: &[u8]) -> bool
@@ -28,5 +27,5 @@ pub fn same_hash(m: &[u8], place: HashPlace, hash: &[u8]) -> bool
     }
     let end = start + size;
     let last = 1 + size;
-    same(&m[start..end], &hash[1..last])
+    m[start..end] == hash[1..last]
 }

@@ -5,21 +5,13 @@ ghost use Rattle.station.specs.Replies.{ReplyWritten};
 
 use read_carrier::carrier::START;
 use read_fields::hashes::hash_size;
-use slots::bytes::copy;
 use writing::Result;
 
 // CfgResult of a result.
 pub fn result_number(res: Result) -> u8
     ensures { result ≡ result_number res }
 {
-    match res {
-        Result::Taken => 0,
-        Result::OtherVersion => 1,
-        Result::NoRoom => 2,
-        Result::UnknownType => 3,
-        Result::BadField => 4,
-        Result::NoMatch => 5,
-    }
+    res as u8
 }
 
 // The reply with this result and failed ID that carries the hash kept in these 11 bytes; its length, or 0 where a buffer is too short for it.
@@ -47,9 +39,9 @@ pub fn write_reply(reply: &mut [u8], res: u8, failed: u8, hash: &[u8]) -> u8
         failed,
         code,
     ];
-    copy(&mut reply[0..10], &head);
+    reply[0..10].copy_from_slice(&head);
     let end = 10 + size;
     let last = 1 + size;
-    copy(&mut reply[10..end], &hash[1..last]);
+    reply[10..end].copy_from_slice(&hash[1..last]);
     10 + length
 }

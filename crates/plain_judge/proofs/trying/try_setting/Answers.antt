@@ -20,15 +20,15 @@ returns-in_default c =
     let tried = c.weigh_setting-tried in
     tried_full a.log.now a.m.now c.args.before a.setting a.weights.now number.result (number.ensures.0 ∙ ap kind_number kind.ensures) was.result was.ensures turn.result turn.ensures tried.result tried.ensures a.weights.now c.in_default.is
 
-pub returns-in_default-held : goal.returns-in_default-held
-returns-in_default-held c =
+pub returns-in_default-sum_after : goal.returns-in_default-sum_after
+returns-in_default-sum_after c =
     let a = c.args in
     let kind = c.kind_of in
     let number = c.kind_number-k in
     let was = c.weight_at-was in
     let turn = c.begin in
     let tried = c.weigh_setting-tried in
-    tried_over a.log.now a.m.now c.args.before a.setting a.weights.now number.result (number.ensures.0 ∙ ap kind_number kind.ensures) was.result was.ensures turn.result turn.ensures tried.result tried.ensures c.in-Room.weight c.in-Room.passed c.in-Room.is a.weights.now (subst (HeldAfter (Shared 4096) (get_or a.weights.now 26 0 - was.result.bytes + c.in-Room.weight.bytes)) c.in_default-held.is c.sum_after-held.ensures)
+    tried_over a.log.now a.m.now c.args.before a.setting a.weights.now number.result (number.ensures.0 ∙ ap kind_number kind.ensures) was.result was.ensures turn.result turn.ensures tried.result tried.ensures c.in-Room.weight c.in-Room.passed c.in-Room.is a.weights.now (subst (HeldAfter (Shared 4096) (get_or a.weights.now 26 0 - was.result.bytes + c.in-Room.weight.bytes)) c.in_default-sum_after.is c.sum_after.ensures)
 
 pub returns : goal.returns
 returns c =
@@ -38,4 +38,4 @@ returns c =
     let was = c.weight_at-was in
     let turn = c.begin in
     let tried = c.weigh_setting-tried in
-    tried_done a.log.now a.m.now c.args.before a.setting a.weights.now number.result (number.ensures.0 ∙ ap kind_number kind.ensures) was.result was.ensures turn.result turn.ensures tried.result tried.ensures c.in-Room.weight c.in-Room.passed c.in-Room.is _ c.in-Bytes.sum (subst (HeldAfter (Shared 4096) (get_or a.weights.now 26 0 - was.result.bytes + c.in-Room.weight.bytes)) c.in-Bytes.is c.sum_after-held.ensures) c.put_weight.ensures
+    tried_done a.log.now a.m.now c.args.before a.setting a.weights.now number.result (number.ensures.0 ∙ ap kind_number kind.ensures) was.result was.ensures turn.result turn.ensures tried.result tried.ensures c.in-Room.weight c.in-Room.passed c.in-Room.is _ c.in-Some.sum (subst (HeldAfter (Shared 4096) (get_or a.weights.now 26 0 - was.result.bytes + c.in-Room.weight.bytes)) c.in-Some.is c.sum_after.ensures) c.put_weight.ensures

@@ -1,24 +1,24 @@
-use Rattle.lists.proofs.Kit.{rules, subst}
+use Rattle.lists.proofs.Kit.{subst}
 use Rattle.read_setting.specs.SettingAt.{SettingAt}
 use Rattle.requests.specs.Trying.{TryIs}
 use Rattle.requests.proofs.RunLaws.{at_end, at_unknown, at_field}
 use Rattle.requests.proofs.Steps.{step_taken, step_full}
 use Rattle.requests.proofs.run.take_setting.Goals as goal
 
-pub returns-in-Bytes : goal.returns-in-Bytes
-returns-in-Bytes c =
+pub returns-in-Some : goal.returns-in-Some
+returns-in-Some c =
     let a = c.args in
-    let k = c.try_setting-held in
+    let k = c.try_setting in
     let z = subst (SettingAt a.coding a.left a.m.now a.at) c.in-Taken.is c.read_setting-read.ensures in
-    let y = subst (TryIs a.limits a.m.now c.in-Taken.setting a.sum a.work.now k.new.work) c.in-Bytes.is k.ensures in
+    let y = subst (TryIs a.limits a.m.now c.in-Taken.setting a.sum a.work.now k.new.work) c.in-Some.is k.ensures in
     step_taken a.coding a.limits a.m.now (λ i. (c.shared_slice_known-1.given i).fits) a.left a.at a.work.now k.new.work c.in-Taken.setting c.in-Taken.next a.sum _ _ z c.flags_of-flags.ensures y
 
-pub returns-in-NoRoom : goal.returns-in-NoRoom
-returns-in-NoRoom c =
+pub returns-in_default : goal.returns-in_default
+returns-in_default c =
     let a = c.args in
-    let k = c.try_setting-held in
+    let k = c.try_setting in
     let z = subst (SettingAt a.coding a.left a.m.now a.at) c.in-Taken.is c.read_setting-read.ensures in
-    let y = subst (TryIs a.limits a.m.now c.in-Taken.setting a.sum a.work.now k.new.work) c.in-NoRoom.is k.ensures in
+    let y = subst (TryIs a.limits a.m.now c.in-Taken.setting a.sum a.work.now k.new.work) c.in_default.is k.ensures in
     step_full a.coding a.limits a.m.now (λ i. (c.shared_slice_known-1.given i).fits) a.left a.at a.work.now k.new.work c.in-Taken.setting c.in-Taken.next a.sum z y
 
 pub returns-in-Missing : goal.returns-in-Missing

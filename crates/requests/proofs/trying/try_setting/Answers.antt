@@ -1,4 +1,4 @@
-use Rattle.lists.proofs.Kit.{rules, not-true, not-false}
+use Rattle.lists.proofs.Kit.{not-true, not-false}
 use Rattle.requests.proofs.TryLaws.{tried_full, tried}
 use Rattle.requests.proofs.trying.try_setting.Goals as goal
 

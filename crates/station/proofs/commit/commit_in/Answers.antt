@@ -1,4 +1,3 @@
-use Rattle.lists.proofs.Kit.{rules}
 use Rattle.station.proofs.TakeLaws.{committed}
 use Rattle.station.proofs.commit.commit_in.Goals as goal
 

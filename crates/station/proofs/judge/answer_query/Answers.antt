@@ -1,4 +1,4 @@
-use Rattle.lists.proofs.Kit.{rules, arith, inl, inr, ⊎_elim}
+use Rattle.lists.proofs.Kit.{arith, inl, inr}
 use Rattle.station.proofs.TakeLaws.{queried}
 use Rattle.station.proofs.judge.answer_query.Goals as goal
 use Rattle.station.proofs.judge.answer_query.Goals.{then-same_hash, else-same_hash}

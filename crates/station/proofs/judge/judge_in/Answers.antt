@@ -1,39 +1,9 @@
-use Rattle.lists.proofs.Kit.{rules, ◌≤◌, ◌≡◌, refl, subst, arith, length, inl, inr}
+use Rattle.lists.proofs.Kit.{refl, subst}
 use Rattle.read_carrier.specs.Message.{MessageIs}
 use Rattle.read_carrier.specs.declared.carrier.Message.TheVariants.{Size, Carrier, «Type» as OtherType, Version, NoRequest, NoQuery, Query as AQuery}
-use Rattle.tables.specs.Layout.{used_size}
-use Rattle.tables.proofs.AnswerLaws.{not_said, was_said}
+use Rattle.tables.proofs.AnswerLaws.{was_said}
 use Rattle.station.proofs.TakeLaws.{handled, request_verdict}
 use Rattle.station.proofs.judge.judge_in.Goals as goal
-
-pub returns-then-reply-lt20 : goal.returns-then-reply-lt20
-returns-then-reply-lt20 c = inl (c.if-reply-lt20.true, refl)
-
-pub returns-then-not-is_store : goal.returns-then-not-is_store
-returns-then-not-is_store c = inr ((λ h. omega (arith, c.if-reply-lt20.false)), inl (not_said c.is_store.result c.is_store.ensures c.if-not-is_store.true-raw, refl))
-
-pub answer_query-requires : goal.answer_query-requires
-answer_query-requires c =
-    let s = was_said c.is_store.result c.is_store.ensures c.if-not-is_store.false-raw in
-    let a = c.args in
-    let e : length a.store.now ≡ a.limits.size = s.size in
-    let r : used_size a.limits ≤ a.limits.size = s.roomy.fits in
-    (c.if-reply-lt20.false, omega arith)
-
-pub judge_request-run-requires : goal.judge_request-run-requires
-judge_request-run-requires c =
-    (was_said c.is_store.result c.is_store.ensures c.if-not-is_store.false-raw, c.requires.0, c.requires.1, c.copy_for-copy.ensures)
-
-pub slice_bounds-weigh-end : goal.slice_bounds-weigh-end
-slice_bounds-weigh-end c =
-    let s = was_said c.is_store.result c.is_store.ensures c.if-not-is_store.false-raw in
-    let a = c.args in
-    let r : used_size a.limits ≤ a.limits.size = s.roomy.fits in
-    let e : length a.work.now ≡ a.limits.size = c.requires.0 in
-    omega (arith, s.size, c.judge_request-run.auto.work)
-
-pub weigh-requires : goal.weigh-requires
-weigh-requires c = c.if-reply-lt20.false
 
 pub returns-in-Size : goal.returns-in-Size
 returns-in-Size c =

@@ -1,4 +1,4 @@
-use Rattle.lists.proofs.Kit.{rules, subst, put_mid}
+use Rattle.lists.proofs.Kit.{subst, put_mid}
 use Rattle.tables.specs.Layout.{hash_size}
 use Rattle.tables.specs.Store.{Works}
 use Rattle.tables.specs.Tables.{Tables}
@@ -15,7 +15,7 @@ returns c =
     let n = c.stored_bytes-held in
     let o = c.copy_bytes-own in
     let k = c.take_copy_from in
-    request_judged a.coding a.limits a.copy a.m.now a.count a.at n.result o.result a.store.now _ k.new.work k.result s.roomy i
+    request_judged a.request.coding a.limits a.copy a.m.now a.request.count a.request.at n.result o.result a.store.now _ k.new.work k.result s.roomy i
     (λ t h. subst (λ (x : Tables). Works a.limits x (put_mid 0 hash_size w.new.work y.new.region)) (copy_forgets a.copy t) (forgotten a.limits (copy_of a.copy t) w.new.work y.new.region s.roomy
-    (copy_loaded a.coding a.limits a.copy a.count a.m.now a.at a.store.now a.work.now w.new.work i l s.roomy w.ensures t h) y.ensures))
+    (copy_loaded a.request.coding a.limits a.copy a.request.count a.m.now a.request.at a.store.now a.work.now w.new.work i l s.roomy w.ensures t h) y.ensures))
     n.ensures o.ensures k.ensures

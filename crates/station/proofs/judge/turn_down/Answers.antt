@@ -1,4 +1,4 @@
-use Rattle.lists.proofs.Kit.{rules, arith, refl, true, false}
+use Rattle.lists.proofs.Kit.{arith, refl, true, false}
 use Rattle.tables.specs.Tables.{no_hash}
 use Rattle.station.proofs.TakeLaws.{no_hash_ok, replied}
 use Rattle.station.proofs.judge.turn_down.Goals as goal
