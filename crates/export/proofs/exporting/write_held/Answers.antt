@@ -1,4 +1,3 @@
-use Rattle.lists.proofs.Kit.{rules}
 use Rattle.export.proofs.exporting.write_held.Goals as goal
 
 pub returns-in-Lines : goal.returns-in-Lines
