@@ -1,6 +1,6 @@
 -- A loop over the slots at the start of a region, as chunks of their width. Assumes nothing.
-use Rattle.lists.proofs.Kit.{ℕ, suc, ◌+◌, ◌-◌, ◌*◌, ◌/◌, ◌≤◌, ◌<◌, ◌≡◌, refl, sym, ap, ◌∙◌, subst, List, ◌++◌, arith, mid_of, length, length-append, length-drop, length-take-le, drop, take, take_all, take_at, take-append-le, drop_at, drop-drop, drop-append-le, take-append-drop, suc-mul, add-one, zero-mul, div-lt_iff_lt-mul}
-use Rattle.std.proofs.Common.{Bor, Some, None}
+use Rattle.lists.proofs.Kit.{ℕ, suc, ◌+◌, ◌-◌, ◌*◌, ◌/◌, ◌≤◌, ◌<◌, ◌≡◌, sym, ap, ◌∙◌, subst, List, ◌++◌, arith, mid_of, length, length-append, length-drop, length-take-le, drop, take, take_all, take_at, take-append-le, drop_at, drop-drop, drop-append-le, take-append-drop, suc-mul, add-one, zero-mul, div-lt_iff_lt-mul}
+use Rattle.std.proofs.Common.{Bor, Some}
 use Rattle.std.specs.declared.iter.Enumerate.{Enumerate}
 use Rattle.std.specs.declared.slice.ChunksExact.{ChunksExact}
 use Rattle.std.specs.Slice.Iter.{chunks_exact_steps}

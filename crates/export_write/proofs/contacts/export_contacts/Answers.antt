@@ -1,4 +1,4 @@
-use Rattle.lists.proofs.Kit.{ℕ, List, length-map, length, [], mul-le-mul_right, rules, ◌≤◌, ◌<◌, ◌-◌, ◌+◌, ◌*◌, ◌/◌, ◌≡◌, refl, arith, subst}
+use Rattle.lists.proofs.Kit.{ℕ, List, length-map, length, [], mul-le-mul_right, ◌≤◌, ◌<◌, ◌+◌, ◌/◌, refl, arith, subst}
 use Rattle.writing.specs.declared.Operation.TheVariants.{Replace}
 use Rattle.tables.specs.Layout.{member_width}
 use Rattle.tables.specs.Members.{member_ok, member_bytes}

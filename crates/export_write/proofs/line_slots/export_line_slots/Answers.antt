@@ -1,4 +1,4 @@
-use Rattle.lists.proofs.Kit.{ℕ, List, rules, ◌≤◌, ◌<◌, ◌-◌, ◌+◌, ◌*◌, ◌/◌, ◌≡◌, refl, sym, ap, ◌∙◌, arith, subst, length, mid_of}
+use Rattle.lists.proofs.Kit.{ℕ, List, ◌≤◌, ◌<◌, ◌-◌, ◌+◌, ◌*◌, refl, sym, ap, ◌∙◌, arith, subst, length, mid_of}
 use Rattle.tables.specs.Layout.{line_width}
 use Rattle.tables.specs.Limits.{slot_places}
 use Rattle.export_write.specs.LineSettings.{line_slot_setting}

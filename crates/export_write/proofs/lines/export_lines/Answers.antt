@@ -1,4 +1,4 @@
-use Rattle.lists.proofs.Kit.{ℕ, List, length-map, length, [], rules, ◌≤◌, ◌<◌, ◌-◌, ◌+◌, ◌*◌, ◌/◌, ◌≡◌, refl, arith, subst, mid_of}
+use Rattle.lists.proofs.Kit.{ℕ, List, length-map, length, [], ◌≤◌, ◌<◌, ◌+◌, ◌/◌, refl, arith, subst}
 use Rattle.tables.specs.Allowed.{LineOk}
 use Rattle.tables.specs.Layout.{line_width, line_bytes}
 use Rattle.export_write.specs.LineSettings.{no_line_flags, line_add}

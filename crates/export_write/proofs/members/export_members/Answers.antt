@@ -1,4 +1,4 @@
-use Rattle.lists.proofs.Kit.{ℕ, List, rules, ◌≤◌, ◌<◌, ◌-◌, ◌+◌, ◌*◌, ◌/◌, ◌≡◌, refl, sym, ap, ◌∙◌, arith, subst, length, mid_of}
+use Rattle.lists.proofs.Kit.{ℕ, List, ◌≤◌, ◌<◌, ◌-◌, ◌+◌, ◌*◌, refl, sym, ap, ◌∙◌, arith, subst, length, mid_of}
 use Rattle.tables.specs.Layout.{member_width}
 use Rattle.tables.specs.Limits.{slot_places}
 use Rattle.export_write.specs.MemberWriters.{member_setting, MemberSlotIn}
