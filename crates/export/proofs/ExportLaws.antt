@@ -1,5 +1,5 @@
 -- What exporting answers, refusal by refusal, and for a request that was written. Assumes nothing.
-use Rattle.lists.proofs.Kit.{ℕ, ◌≤◌, ◌<◌, ◌≡◌, refl, sym, ap, ◌∙◌, inl, inr, List, ◌++◌, none, some, zero-add, arith, length, drop, length-append}
+use Rattle.lists.proofs.Kit.{ℕ, ◌≤◌, ◌<◌, ◌≡◌, refl, sym, ap, ◌∙◌, inl, inr, List, ◌++◌, zero-add, arith, length, drop, length-append}
 use Rattle.lists.specs.Ladder.{Answers}
 use Rattle.writing.specs.Canonical.{canonical_all}
 use Rattle.writing.specs.Settings.{Setting, unicode16}
@@ -11,11 +11,10 @@ use Rattle.export.specs.declared.parts.Export.TheVariants.{Written}
 use Rattle.export.specs.declared.parts.Part.{Part}
 use Rattle.export_write.specs.declared.writers.Settings.{Settings}
 use Rattle.export.specs.Exported.{part_number, exported, request_bytes}
-use Rattle.export.specs.Exporting.{AfterExport, told, exporting, stays, writes}
-use Rattle.export.specs.PartWriters.{part_at, PartWritten, Headed}
+use Rattle.export.specs.Exporting.{AfterExport, told, exporting, stays}
+use Rattle.export.specs.PartWriters.{PartWritten, Headed}
 use Rattle.export_write.specs.Writers.{Wrote}
 use Rattle.export_write.proofs.WroteLaws.{wrote_length}
-use Rattle.export.proofs.PartWriting.{numbered, not_numbered}
 
 module _ (lim : Limits) (part : ℕ) (store buffer : List ℕ) where
   -- "15"
@@ -27,19 +26,18 @@ module _ (lim : Limits) (part : ℕ) (store buffer : List ℕ) where
   says_11 h n = inr (λ l. omega arith, inl (n, refl))
 
   -- "16"
-  pub says_16 : lim.message ≤ length buffer → StoreOf lim store → part_at part ≡ none → Answers (exporting lim part store buffer) (stays lim part store buffer 16)
-  says_16 h s n = inr (λ l. omega arith, inr (λ k. k s, inl (not_numbered part n, refl)))
+  pub says_16 : lim.message ≤ length buffer → StoreOf lim store → ((p : Part) → part_number p ≡ part → ⊥) → Answers (exporting lim part store buffer) (stays lim part store buffer 16)
+  says_16 h s n = inr (λ l. omega arith, inr (λ k. k s, inl (n, refl)))
 
   -- the request was written
-  pub says_0 : (which : Part) (work mid after : List ℕ) (r : Settings) (end : ℕ) → lim.message ≤ length buffer → StoreOf lim store → Seen lim store work → part_at part ≡ some which
+  pub says_0 : (which : Part) (work mid after : List ℕ) (r : Settings) (end : ℕ) → lim.message ≤ length buffer → StoreOf lim store → Seen lim store work → part_number which ≡ part
       → PartWritten lim which work buffer mid r → ((8 ≤ r.end) × (r.end ≤ length mid) × (r.end < 65540) → Headed r.count r.end mid after end)
       → Answers (exporting lim part store buffer) (record { answer = record { number = 0; request_length = end }; buffer = after })
-  says_0 which work mid after r end h s see found w headed =
+  says_0 which work mid after r end h s see n w headed =
       let t : Tables = s.store.tables in
       let held : Holds lim t store = (s.store.allowed, s.store.bytes_are) in
       let works : Works lim t work = see.1 t held in
       let ss : List Setting = exported which t in
-      let n : part_number which ≡ part = numbered part which found in
       let v : Wrote (canonical_all unicode16 ss) 8 buffer mid r.end = w.writes.writes.wrote t works in
       let k = headed (w.writes.writes.from, omega (arith, v.fits, v.next, wrote_length (canonical_all unicode16 ss) 8 r.end buffer mid v), w.small) in
       let z : Wrote (request_bytes ss) 0 buffer after end = k.request ss buffer (sym (w.writes.counted t works)) v in

@@ -1,6 +1,5 @@
 -- A part of a working copy was written as the settings that export it. Assumes nothing.
-use Rattle.lists.proofs.Kit.{ℕ, zero, suc, ◌+◌, ◌-◌, ◌*◌, ◌≤◌, ◌<◌, ◌≡◌, refl, sym, ap, ◌∙◌, subst, subst⁻¹, List, [], ◌∷◌, ◌++◌, map, none, some, arith, mid_of, mid_len, length, get_or, take, drop, list_getD_eq_default, take-add, drop-drop}
-use Rattle.lists.proofs.Seqs.{get_d_map}
+use Rattle.lists.proofs.Kit.{ℕ, zero, suc, ◌+◌, ◌-◌, ◌*◌, ◌≤◌, ◌<◌, ◌≡◌, refl, ap, ◌∙◌, subst, subst⁻¹, List, ◌++◌, arith, mid_of, mid_len, length, get_or, take, drop, take-add, drop-drop}
 use Rattle.slots.specs.Slots.{u16, Listed}
 use Rattle.writing.specs.Canonical.{canonical_all}
 use Rattle.writing.specs.Ranges.{InChannel}
@@ -27,7 +26,7 @@ use Rattle.export.specs.declared.parts.Part.{Part}
 use Rattle.export.specs.declared.parts.Part.TheVariants.{Lines, Fixed, QuickTexts, Channels, StatusTexts, Groups, Individuals, GroupContacts, IndividualContacts, LineSlots}
 use Rattle.export.specs.Exportable.{Exportable}
 use Rattle.export.specs.Exported.{ten, part_number, exported}
-use Rattle.export.specs.PartWriters.{part_at, part_from, part_to, WritesPart, PartWritten}
+use Rattle.export.specs.PartWriters.{part_from, part_to, WritesPart, PartWritten}
 
 -- ---- parts by their number
 
@@ -44,41 +43,6 @@ ten_at (suc (suc (suc (suc (suc (suc (suc zero))))))) h = refl
 ten_at (suc (suc (suc (suc (suc (suc (suc (suc zero)))))))) h = refl
 ten_at (suc (suc (suc (suc (suc (suc (suc (suc (suc zero))))))))) h = refl
 ten_at (suc (suc (suc (suc (suc (suc (suc (suc (suc (suc k)))))))))) h = let l : length ten ≡ 10 = refl in absurd (omega arith)
-
--- a part is found by its number
-pub at_number : (p : Part) → part_at (part_number p) ≡ some p
-at_number Lines = refl
-at_number Fixed = refl
-at_number QuickTexts = refl
-at_number Channels = refl
-at_number StatusTexts = refl
-at_number Groups = refl
-at_number Individuals = refl
-at_number GroupContacts = refl
-at_number IndividualContacts = refl
-at_number LineSlots = refl
-
--- an entry that is found in a list
-found : {A : Type 0} (xs : List A) (k : ℕ) (x d : A) → get_or (map some xs) k none ≡ some x → (k < length xs) × (get_or xs k d ≡ x)
-found [] k x d e = let z : ◌≡◌ {A = ℕ} 0 1 = cc in absurd (omega arith)
-found (y ∷ xs) zero x d e = (omega arith, cc)
-found (y ∷ xs) (suc k) x d e = let (h, q) = found xs k x d e in (omega arith, q)
-
--- what is found has the number
-pub numbered : (n : ℕ) (p : Part) → part_at n ≡ some p → part_number p ≡ n
-numbered zero p e = let z : ◌≡◌ {A = ℕ} 0 1 = cc in absurd (omega arith)
-numbered (suc k) p e = let (h, q) = found ten k p Lines e in ap part_number (sym q) ∙ ten_at k h ∙ omega arith
-
--- where nothing is found, no part has the number
-pub not_numbered : (n : ℕ) → part_at n ≡ none → (p : Part) → part_number p ≡ n → ⊥
-not_numbered n e p h = let q : part_at n ≡ some p = ap part_at (sym h) ∙ at_number p in let z : ◌≡◌ {A = ℕ} 0 1 = cc in omega arith
-
--- the numbers of no part, and those of the parts
-pub past_parts : (n : ℕ) → length ten < n → part_at n ≡ none
-past_parts n h = list_getD_eq_default (none ∷ map some ten) none {n = n} (omega arith)
-
-pub part_within : (n k : ℕ) → n ≡ suc k → k < length ten → part_at n ≡ some (get_or ten k Lines)
-part_within n k e h = ap part_at e ∙ get_d_map some ten k Lines none h
 
 -- ---- what stands in a part of a working copy
 

@@ -1,13 +1,12 @@
 -- Parts by their number, and their settings in the buffer. No promise cites these.
-use Rattle.std.specs.Prelude.{ℕ, ◌+◌, ◌-◌, ◌<◌, ◌≡◌, List, ◌∷◌, map, length, get_or}
-use Rattle.std.proofs.Math.Option.{Option, none, some}
+use Rattle.std.specs.Prelude.{ℕ, ◌+◌, ◌-◌, ◌<◌, ◌≡◌, List, length, Result, MatchResult}
 use Rattle.writing.specs.Canonical.{canonical_all}
 use Rattle.writing.specs.Settings.{Setting, unicode16}
 use Rattle.tables.specs.declared.limits.Limits.{Limits}
 use Rattle.tables.specs.Layout.{count_size, key_at, quick_at, status_at, groups_at, individuals_at, line_slots_at, group_contacts_at, individual_contacts_at, channels_at}
 use Rattle.tables.specs.Store.{Works}
-use Rattle.export.specs.declared.exporting.FoundPart.{FoundPart}
-use Rattle.export.specs.declared.exporting.FoundPart.TheVariants.{Is, NoneSuch}
+use Rattle.export.specs.declared.parts.NoExport.{NoExport}
+use Rattle.export.specs.declared.parts.NoExport.TheVariants.{NoPart}
 use Rattle.export.specs.declared.parts.Part.{Part}
 use Rattle.export.specs.declared.parts.Part.TheVariants.{Lines, Fixed, QuickTexts, Channels, StatusTexts, Groups, Individuals, GroupContacts, IndividualContacts, LineSlots}
 use Rattle.tables.specs.declared.members.Members.TheVariants.{OfGroups, OfIndividuals}
@@ -19,16 +18,11 @@ use Rattle.export_write.specs.FixedWriters.{WritesFixed}
 use Rattle.export_write.specs.LineWriters.{WritesLines, WritesLineSlots}
 use Rattle.export_write.specs.MemberWriters.{WritesMembers}
 use Rattle.export_write.specs.Writers.{Wrote, WritesAll}
-use Rattle.export.specs.Exported.{ten, exported, request_bytes}
+use Rattle.export.specs.Exported.{part_number, exported, request_bytes}
 
--- the part with this number, if there is one
-abbrev pub part_at : ℕ → Option Part
-part_at n = get_or (none ∷ map some ten) n none
-
--- it, or that there is none
-abbrev pub FoundAs : ℕ → FoundPart → Type 0
-FoundAs n (Is p) = part_at n ≡ some p
-FoundAs n NoneSuch = part_at n ≡ none
+-- the part with this number, or that there is none
+abbrev pub Numbered : ℕ → Result Part NoExport → Type 0
+Numbered n r = MatchResult r (λ p. part_number p ≡ n) (λ e. (e ≡ NoPart) × ((p : Part) → part_number p ≡ n → ⊥))
 
 -- where a part's slots stand in a working copy whose lines' region and whose order of the lines start here, behind a list's count: from this byte on
 abbrev pub part_from : (lines order : ℕ) → Part → ℕ

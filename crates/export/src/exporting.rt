@@ -6,9 +6,9 @@ ghost use Rattle.tables.specs.Layout.{count_size, channels_at};
 ghost use Rattle.working.specs.Seen.{Lends};
 ghost use Rattle.export.specs.Exportable.{Exportable};
 ghost use Rattle.export.specs.Exporting.{exporting, told};
-ghost use Rattle.export.specs.PartWriters.{FoundAs, part_from, part_to, WritesPart, PartWritten, Headed};
+ghost use Rattle.export.specs.PartWriters.{part_from, part_to, WritesPart, PartWritten, Headed};
 
-use super::parts::{Export, NoExport, PARTS, Part};
+use super::parts::{Export, NoExport, Part};
 use export_write::channels::export_channels;
 use export_write::contacts::export_contacts;
 use export_write::fixed::export_fixed;
@@ -30,41 +30,6 @@ use working::seen::seen;
 
 // OTAPVer 1 and MsgType 0.
 const REQUEST: u8 = 0b0000_1000;
-
-// The parts in the order of their numbers.
-const IN_ORDER: [Part; 10] = [
-    Part::Lines,
-    Part::Fixed,
-    Part::QuickTexts,
-    Part::Channels,
-    Part::StatusTexts,
-    Part::Groups,
-    Part::Individuals,
-    Part::GroupContacts,
-    Part::IndividualContacts,
-    Part::LineSlots,
-];
-
-// A part by its number.
-#[derive(Clone, Copy)]
-pub(crate) enum FoundPart {
-    Is(Part),
-    NoneSuch,
-}
-
-fn part_of(number: u32) -> FoundPart
-    ensures { FoundAs number result }
-{
-    if number < 1 {
-        return FoundPart::NoneSuch;
-    }
-    if PARTS < number {
-        return FoundPart::NoneSuch;
-    }
-    let place = (number - 1) as usize;
-    let which = IN_ORDER[place];
-    FoundPart::Is(which)
-}
 
 // Where a part's slots stand in a working copy whose lines' region and whose order of the lines start here, behind a list's count: from this byte up to that one. docs/STORE.md.
 #[derive(Clone, Copy)]
@@ -160,7 +125,7 @@ pub fn export_in(
     if !is_store(store, limits) {
         return Export::Untouched(NoExport::NotAStore);
     }
-    let FoundPart::Is(which) = part_of(part) else {
+    let Ok(which) = Part::try_from(part) else {
         return Export::Untouched(NoExport::NoPart);
     };
     let from = seen(store, work, limits);

@@ -1,5 +1,6 @@
 pub mod AddressedWriting
 pub mod ChannelWriting
+pub mod ChunkWalk
 pub mod ContactWriting
 pub mod EntryWriting
 pub mod FixedWriting

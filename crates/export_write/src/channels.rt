@@ -30,11 +30,9 @@ fn write_packed(buffer: &mut [u8], at: usize, region: &[u8], count: usize) -> us
 {
     let pairs = count / 2;
     let mut to = at;
-    let mut i = 0;
-    while i < pairs {
+    for i in 0..pairs {
         let bytes = three(two_channels(region, i));
         to = write_bytes(buffer, to, &bytes);
-        i += 1;
     }
     if count % 2 == 0 {
         return to;

@@ -95,16 +95,12 @@ pub fn export_contacts(buffer: &mut [u8], which: Members, region: &[u8]) -> Sett
         return NOTHING;
     }
     let mut end = write_clearing(buffer, FIRST, which);
-    let count = used(region, MEMBER_SLOT) / MEMBER_SLOT;
-    let mut i = 0;
-    while i < count {
-        let a = i * MEMBER_SLOT;
-        let e = a + MEMBER_SLOT;
-        end = write_contact(buffer, end, which, &region[a..e]);
-        i += 1;
+    let contacts = used(region, MEMBER_SLOT);
+    for slot in region[0..contacts].chunks_exact(MEMBER_SLOT) {
+        end = write_contact(buffer, end, which, slot);
     }
     Settings {
         end,
-        count: 1 + count as u8,
+        count: 1 + (contacts / MEMBER_SLOT) as u8,
     }
 }

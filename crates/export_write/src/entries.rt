@@ -52,8 +52,7 @@ pub(crate) fn write_entries(
 {
     let mut end = at;
     let mut count = 0;
-    let mut next = 0;
-    while next < table.places {
+    for next in 0..table.places {
         if count == table.most {
             return Entries { end, count, next };
         }
@@ -64,7 +63,10 @@ pub(crate) fn write_entries(
             end = write_entry(buffer, end, index, &region[a..e], table.skip);
             count += 1;
         }
-        next += 1;
     }
-    Entries { end, count, next }
+    Entries {
+        end,
+        count,
+        next: table.places,
+    }
 }

@@ -36,12 +36,8 @@ pub fn export_line_slots(buffer: &mut [u8], region: &[u8]) -> Settings
         return NOTHING;
     }
     let mut end = FIRST;
-    let mut index = 0;
-    while index < SLOT_PLACES {
-        let a = index * LINE_SLOT;
-        let e = a + LINE_SLOT;
-        end = write_line_slot(buffer, end, index as u8, &region[a..e]);
-        index += 1;
+    for (index, slot) in region.chunks_exact(LINE_SLOT).enumerate() {
+        end = write_line_slot(buffer, end, index as u8, slot);
     }
     Settings {
         end,

@@ -54,16 +54,12 @@ pub fn export_lines(buffer: &mut [u8], region: &[u8]) -> Settings
     }
     let replace = [0xCA, 0, 4, 0xC0, 0];
     let mut end = write_bytes(buffer, FIRST, &replace);
-    let count = used(region, LINE_SLOT) / LINE_SLOT;
-    let mut i = 0;
-    while i < count {
-        let a = i * LINE_SLOT;
-        let e = a + LINE_SLOT;
-        end = write_line(buffer, end, &region[a..e]);
-        i += 1;
+    let lines = used(region, LINE_SLOT);
+    for slot in region[0..lines].chunks_exact(LINE_SLOT) {
+        end = write_line(buffer, end, slot);
     }
     Settings {
         end,
-        count: 1 + count as u8,
+        count: 1 + (lines / LINE_SLOT) as u8,
     }
 }

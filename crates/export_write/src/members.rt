@@ -75,12 +75,8 @@ pub fn export_members(buffer: &mut [u8], which: Members, region: &[u8]) -> Setti
         return NOTHING;
     }
     let mut end = FIRST;
-    let mut index = 0;
-    while index < SLOT_PLACES {
-        let a = index * MEMBER_SLOT;
-        let e = a + MEMBER_SLOT;
-        end = write_member(buffer, end, which, index as u8, &region[a..e]);
-        index += 1;
+    for (index, slot) in region.chunks_exact(MEMBER_SLOT).enumerate() {
+        end = write_member(buffer, end, which, index as u8, slot);
     }
     Settings {
         end,

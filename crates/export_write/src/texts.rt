@@ -36,10 +36,8 @@ pub(crate) fn write_number(buffer: &mut [u8], at: usize, digits: &[u8]) -> usize
     ensures { WritesNumber digits.now at buffer.old buffer.new result }
 {
     let pairs = used(digits, 1) / 2;
-    let mut i = 0;
-    while i < pairs {
+    for i in 0..pairs {
         buffer[at + i] = digit(digits, 2 * i) * 16 + digit(digits, 2 * i + 1);
-        i += 1;
     }
     buffer[at + pairs] = digit(digits, 2 * pairs) * 16 + 15;
     at + pairs + 1

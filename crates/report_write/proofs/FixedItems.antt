@@ -21,7 +21,7 @@ use Rattle.export_write.proofs.FixedWriting.{home_three, system_three}
 use Rattle.export_write.proofs.PlainLaws.{plain_byte}
 use Rattle.export_write.proofs.WroteLaws.{wrote_both, wrote_length}
 use Rattle.reports.specs.declared.Asked.TheVariants.{Key as AKey, Home, System, Hash as AHash}
-use Rattle.reports.specs.Items.{key, home, system, hash, item_bytes}
+use Rattle.reports.specs.Items.{key, hash, item_bytes}
 use Rattle.reports.proofs.Sizes.{item_fits}
 use Rattle.report_write.specs.ItemWriters.{WritesEntry, ValueEnd, item_most}
 use Rattle.report_write.proofs.HeadLaws.{headed_plain, three_plain, bits_plain, bytes_writes}

@@ -37,28 +37,16 @@ fn width_of(asked: Asked) -> usize
 fn can_be_empty(asked: Asked) -> bool
     ensures { result ≡ may_be_empty asked }
 {
-    match asked {
-        Asked::Groups => true,
-        Asked::Individuals => true,
-        Asked::Lines => true,
-        Asked::Key => false,
-        Asked::QuickTexts => true,
-        Asked::Home => false,
-        Asked::Channels => true,
-        Asked::System => false,
-        Asked::StatusTexts => true,
-        Asked::Hash => false,
-    }
+    !matches!(
+        asked,
+        Asked::Key | Asked::Home | Asked::System | Asked::Hash
+    )
 }
 
 fn is_empty(asked: Asked, slot: &[u8]) -> bool
     ensures { result ≡ (may_be_empty asked && zeros? slot.now) }
 {
-    if can_be_empty(asked) {
-        is_zeros(slot)
-    } else {
-        false
-    }
+    can_be_empty(asked) && is_zeros(slot)
 }
 
 // The parameter of the entry that a slot keeps.

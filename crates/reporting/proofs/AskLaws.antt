@@ -11,7 +11,7 @@ use Rattle.read_carrier.proofs.KindLaws.{other_kind, other_version}
 use Rattle.reports.specs.Reports.{query_head, TypesOf}
 use Rattle.reports.specs.Types.{asked_by}
 use Rattle.reporting.specs.declared.answers.NoReport.TheVariants.{OtherType, Version, BadQuery}
-use Rattle.reporting.specs.declared.asking.Query.TheVariants.{Refused}
+use Rattle.std.specs.Prelude.{Err}
 use Rattle.reporting.specs.Asking.{TypesIs, QueryIs}
 
 -- a byte that is none of the ten asks for nothing
@@ -69,13 +69,13 @@ module _ (most : ℕ) (m : List ℕ) {version kind coding : ℕ} (i : InSize mos
   carried : NothingCarried m → ⊥
   carried n = n coding (drop 6 m) o.carried
 
-  pub query_other : kind ≢ 2 → QueryIs most m (Refused OtherType)
+  pub query_other : kind ≢ 2 → QueryIs most m (Err OtherType)
   query_other n = (i, carried, other_kind o (◌≡ 2) n)
 
-  pub query_version : kind ≡ 2 → version ≢ 1 → QueryIs most m (Refused Version)
+  pub query_version : kind ≡ 2 → version ≢ 1 → QueryIs most m (Err Version)
   query_version e n = (i, carried, λ k. k version kind coding (drop 6 m) e o, other_version o n)
 
-  pub query_none : kind ≡ 2 → version ≡ 1 → TypesIs m false → QueryIs most m (Refused BadQuery)
+  pub query_none : kind ≡ 2 → version ≡ 1 → TypesIs m false → QueryIs most m (Err BadQuery)
   query_none e v n = (i, carried, λ k. k version kind coding (drop 6 m) e o, λ k. k kind coding (drop 6 m) (opens_as v refl o), n)
 
 -- the part of a query behind its head

@@ -1,20 +1,17 @@
 -- What the reader of a query promises. No promise of the call cites these.
-use Rattle.std.specs.Prelude.{ℕ, ◌≤◌, ◌≡◌, Bool, true, false, List, length, drop}
+use Rattle.std.specs.Prelude.{ℕ, ◌≤◌, ◌≡◌, Bool, true, false, List, length, drop, Option, Some, None, Result, Ok, Err, ⊤}
 use Rattle.std.proofs.Math.Option.{none, some}
 use Rattle.writing.specs.Carrier.{InSize, NothingCarried, OtherKind, OtherVersion}
+use Rattle.reports.specs.declared.Asked.{Asked}
 use Rattle.reports.specs.Reports.{TypesOf, NoTypes}
 use Rattle.reports.specs.Types.{asked_by}
 use Rattle.reporting.specs.declared.answers.NoReport.{NoReport}
 use Rattle.reporting.specs.declared.answers.NoReport.TheVariants.{Buffer, NotAStore, Size, Carrier, OtherType, Version, BadQuery, NoMessage}
-use Rattle.reporting.specs.declared.asking.Asks.{Asks}
-use Rattle.reporting.specs.declared.asking.Asks.TheVariants.{Known, Unknown}
-use Rattle.reporting.specs.declared.asking.Query.{Query}
-use Rattle.reporting.specs.declared.asking.Query.TheVariants.{Types, Refused}
 
 -- a byte asks for this type, or for none
-abbrev pub AskedIs : ℕ → Asks → Type 0
-AskedIs b (Known a) = asked_by b ≡ some a
-AskedIs b Unknown = asked_by b ≡ none
+abbrev pub AskedIs : ℕ → Option Asked → Type 0
+AskedIs b (Some a) = asked_by b ≡ some a
+AskedIs b None = asked_by b ≡ none
 
 -- the types stand from byte 8 on, or there are none
 abbrev pub TypesIs : List ℕ → Bool → Type 0
@@ -32,6 +29,6 @@ RefusedAs most m Buffer = ⊥
 RefusedAs most m NotAStore = ⊥
 RefusedAs most m NoMessage = ⊥
 
-abbrev pub QueryIs : ℕ → List ℕ → Query → Type 0
-QueryIs most m Types = InSize most m × TypesIs m true
-QueryIs most m (Refused why) = RefusedAs most m why
+abbrev pub QueryIs : ℕ → List ℕ → Result ⊤ NoReport → Type 0
+QueryIs most m (Ok u) = InSize most m × TypesIs m true
+QueryIs most m (Err why) = RefusedAs most m why

@@ -15,34 +15,21 @@ const QUERY: u8 = 2;
 pub(crate) const TYPES: usize = 8;
 
 // The type that a byte asks for.
-#[derive(Clone, Copy)]
-pub(crate) enum Asks {
-    Known(Asked),
-    Unknown,
-}
-
-// The message asks for the types that stand from byte 8 on, or it is refused.
-#[derive(Clone, Copy)]
-pub(crate) enum Query {
-    Types,
-    Refused(NoReport),
-}
-
-pub(crate) fn asked_by(byte: u8) -> Asks
+pub(crate) fn asked_by(byte: u8) -> Option<Asked>
     ensures { AskedIs byte result }
 {
     match byte {
-        0xC8 => Asks::Known(Asked::Groups),
-        0xC9 => Asks::Known(Asked::Individuals),
-        0xCA => Asks::Known(Asked::Lines),
-        0xCB => Asks::Known(Asked::Key),
-        0xCC => Asks::Known(Asked::QuickTexts),
-        0xCD => Asks::Known(Asked::Home),
-        0xCE => Asks::Known(Asked::Channels),
-        0xCF => Asks::Known(Asked::System),
-        0xD0 => Asks::Known(Asked::StatusTexts),
-        0xFF => Asks::Known(Asked::Hash),
-        _ => Asks::Unknown,
+        0xC8 => Some(Asked::Groups),
+        0xC9 => Some(Asked::Individuals),
+        0xCA => Some(Asked::Lines),
+        0xCB => Some(Asked::Key),
+        0xCC => Some(Asked::QuickTexts),
+        0xCD => Some(Asked::Home),
+        0xCE => Some(Asked::Channels),
+        0xCF => Some(Asked::System),
+        0xD0 => Some(Asked::StatusTexts),
+        0xFF => Some(Asked::Hash),
+        _ => None,
     }
 }
 
@@ -61,25 +48,25 @@ fn has_types(m: &[u8]) -> bool
     count == (m.len() - TYPES) as u64
 }
 
-// The query, where at most so many bytes are taken.
-pub(crate) fn read_query(m: &[u8], most: usize) -> Query
+// Whether the message, of at most so many bytes, asks for the types that stand from byte 8 on; or why it is refused.
+pub(crate) fn read_query(m: &[u8], most: usize) -> Result<(), NoReport>
     ensures { QueryIs most m.now result }
 {
     let opened = open_message(m, most);
     match opened {
-        Opened::Size => Query::Refused(NoReport::Size),
-        Opened::Carrier => Query::Refused(NoReport::Carrier),
+        Opened::Size => Err(NoReport::Size),
+        Opened::Carrier => Err(NoReport::Carrier),
         Opened::Open(version, kind, _) => {
             if kind != QUERY {
-                return Query::Refused(NoReport::OtherType);
+                return Err(NoReport::OtherType);
             }
             if version != VERSION {
-                return Query::Refused(NoReport::Version);
+                return Err(NoReport::Version);
             }
             if !has_types(m) {
-                return Query::Refused(NoReport::BadQuery);
+                return Err(NoReport::BadQuery);
             }
-            Query::Types
+            Ok(())
         }
     }
 }

@@ -5,7 +5,7 @@ ghost use Rattle.reports.specs.TableSlots.{slot_count};
 ghost use Rattle.reporting.specs.Plans.{Ranked};
 ghost use Rattle.reporting.specs.Written.{PlacePut, TablePut, TypePut, ItemsPut, Headed};
 
-use super::asking::{Asks, asked_by};
+use super::asking::asked_by;
 use super::planning::Walk;
 use super::walk::{places_of, write_place};
 use export_write::fields::put_bytes;
@@ -68,6 +68,7 @@ fn put_table(buffer: &mut [u8], spot: Spot, asked: Asked, work: &[u8], limits: L
 {
     let places = places_of(asked, limits);
     let mut s = spot;
+    // The spot moves from place to place, so that no index is counted here.
     while s.place < places {
         if s.left == 0 {
             return Spot {
@@ -92,7 +93,7 @@ fn put_type(buffer: &mut [u8], spot: Spot, byte: u8, work: &[u8], limits: Limits
     requires { Roomy limits × (length work.now ≡ limits.size) × (spot.rank ≤ spot.place) × (0 < spot.left) }
     ensures { TypePut limits byte work.now spot buffer.old buffer.new result }
 {
-    let Asks::Known(asked) = asked_by(byte) else {
+    let Some(asked) = asked_by(byte) else {
         let error = [byte, NOT_SUPPORTED];
         let end = put_bytes(buffer, spot.end, &error);
         // An error ends the report.
@@ -119,20 +120,17 @@ pub(crate) fn put_items(
     ensures { ItemsPut limits types.now work.now plan buffer.old buffer.new result }
 {
     let from = plan.from;
-    let mut ask = from.ask;
     let mut spot = Spot {
         end: FIRST,
         place: from.place,
         rank: from.rank,
         left: plan.own,
     };
-    while ask < types.len() {
+    for ask in from.ask..types.len() {
         if spot.left == 0 {
             return spot.end;
         }
-        let byte = types[ask];
-        spot = put_type(buffer, spot, byte, work, limits);
-        ask += 1;
+        spot = put_type(buffer, spot, types[ask], work, limits);
     }
     spot.end
 }

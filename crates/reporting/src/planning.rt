@@ -3,7 +3,7 @@ ghost use Rattle.std.specs.Prelude.{◌≡◌, ◌≤◌, ◌<◌, length};
 ghost use Rattle.tables.specs.Forms.{Roomy};
 ghost use Rattle.reporting.specs.Plans.{FitsIs, Steps, TableWalked, PlanIs};
 
-use super::asking::{Asks, asked_by};
+use super::asking::asked_by;
 use super::walk::{place_size, places_of};
 use reports::Asked;
 use tables::limits::Limits;
@@ -107,15 +107,13 @@ fn plan_table(
     let places = places_of(asked, limits);
     let mut w = walk;
     let mut rank: usize = 0;
-    let mut place: usize = 0;
-    while place < places {
+    for place in 0..places {
         let size = place_size(asked, work, limits, place, rank);
         if size != 0 {
             let here = Cursor { ask, place, rank };
             w = step(w, size, here, room, j);
             rank += 1;
         }
-        place += 1;
     }
     w
 }
@@ -137,9 +135,8 @@ pub(crate) fn plan_report(types: &[u8], work: &[u8], limits: Limits, room: usize
         own: 0,
         from: start,
     };
-    let mut ask: usize = 0;
-    while ask < types.len() {
-        let Asks::Known(asked) = asked_by(types[ask]) else {
+    for (ask, byte) in types.iter().enumerate() {
+        let Some(asked) = asked_by(*byte) else {
             let here = Cursor {
                 ask,
                 place: 0,
@@ -148,7 +145,6 @@ pub(crate) fn plan_report(types: &[u8], work: &[u8], limits: Limits, room: usize
             return step(w, ERROR, here, room, j);
         };
         w = plan_table(w, asked, work, limits, ask, room, j);
-        ask += 1;
     }
     w
 }

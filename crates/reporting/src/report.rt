@@ -10,7 +10,7 @@ ghost use Rattle.reporting.specs.Told.{told};
 ghost use Rattle.reporting.specs.Written.{answering};
 
 use super::answers::{NoReport, Report};
-use super::asking::{Query, TYPES, read_query};
+use super::asking::{TYPES, read_query};
 use super::message::{FIRST, put_items, start_report};
 use super::planning::plan_report;
 use store_check::checks::is_store;
@@ -77,16 +77,13 @@ pub fn report_in(
     if !is_store(store, limits) {
         return Report::Untouched(NoReport::NotAStore);
     }
-    let read = read_query(query, limits.message);
-    match read {
-        Query::Refused(why) => Report::Untouched(why),
-        Query::Types => {
-            let from = seen(store, work, limits);
-            // What is lent to work in has another size.
-            if from.len() != limits.size {
-                return Report::Untouched(NoReport::NotAStore);
-            }
-            report_types(&query[TYPES..], index, from, buffer, limits)
-        }
+    if let Err(why) = read_query(query, limits.message) {
+        return Report::Untouched(why);
     }
+    let from = seen(store, work, limits);
+    // What is lent to work in has another size.
+    if from.len() != limits.size {
+        return Report::Untouched(NoReport::NotAStore);
+    }
+    report_types(&query[TYPES..], index, from, buffer, limits)
 }

@@ -1,5 +1,5 @@
-use Rattle.export.specs.PartWriters.{FoundAs}
-use Rattle.lists.proofs.Kit.{subst, rules, arith}
+use Rattle.export.specs.PartWriters.{Numbered}
+use Rattle.lists.proofs.Kit.{subst, arith}
 use Rattle.tables.proofs.AnswerLaws.{not_said, was_said}
 use Rattle.export.proofs.ExportLaws.{says_15, says_11, says_16, says_0}
 use Rattle.export.proofs.exporting.export_in.Goals as goal
@@ -17,7 +17,7 @@ pub returns-in_default : goal.returns-in_default
 returns-in_default c =
     let a = c.args in
     let k = c.is_store in
-    (omega arith, λ x l. says_16 a.limits a.part a.store.now a.buffer.now (omega arith) (was_said k.result k.ensures c.if-not-is_store.false-raw) (subst (FoundAs a.part) c.in_default.is c.part_of.ensures))
+    (omega arith, λ x l. says_16 a.limits a.part a.store.now a.buffer.now (omega arith) (was_said k.result k.ensures c.if-not-is_store.false-raw) (subst (Numbered a.part) c.in_default.is c.try_from.ensures).1)
 
 pub returns-then-from-limits : goal.returns-then-from-limits
 returns-then-from-limits c =
@@ -40,6 +40,6 @@ returns c =
     let w = c.write_part-settings in
     let z = c.start_request in (
       z.ensures.0,
-      λ x l. says_0 a.limits a.part a.store.now a.buffer.now c.in-Is.which v.result.now w.new.buffer z.new.buffer w.result z.result (omega (arith, c.if-buffer-limits.false)) s (v.ensures s l)
-          (subst (FoundAs a.part) c.in-Is.is c.part_of.ensures) (w.ensures x) z.ensures.1,
+      λ x l. says_0 a.limits a.part a.store.now a.buffer.now c.in-Ok.which v.result.now w.new.buffer z.new.buffer w.result z.result (omega (arith, c.if-buffer-limits.false)) s (v.ensures s l)
+          (subst (Numbered a.part) c.in-Ok.is c.try_from.ensures) (w.ensures x) z.ensures.1,
     )

@@ -1,4 +1,4 @@
-use Rattle.lists.proofs.Kit.{rules, arith, refl}
+use Rattle.lists.proofs.Kit.{arith, refl}
 use Rattle.export.proofs.exporting.span_of.Goals as goal
 
 pub returns-in-Lines : goal.returns-in-Lines

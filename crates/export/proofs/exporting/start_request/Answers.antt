@@ -1,6 +1,6 @@
 use Rattle.export_write.proofs.WroteLaws.{wrote_copied}
 use Rattle.export.proofs.RequestLaws.{request_headed}
-use Rattle.lists.proofs.Kit.{rules, arith}
+use Rattle.lists.proofs.Kit.{arith}
 use Rattle.export.proofs.exporting.start_request.Goals as goal
 
 pub returns-then-end-lt-FIRST : goal.returns-then-end-lt-FIRST

@@ -1,5 +1,5 @@
 use Rattle.export.proofs.PartWriting.{part_written}
-use Rattle.lists.proofs.Kit.{rules, arith}
+use Rattle.lists.proofs.Kit.{arith}
 use Rattle.export.proofs.exporting.write_part.Goals as goal
 
 pub returns : goal.returns

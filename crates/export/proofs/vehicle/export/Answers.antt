@@ -1,4 +1,3 @@
-use Rattle.lists.proofs.Kit.{rules}
 use Rattle.export.proofs.RequestLaws.{vehicle_exportable}
 use Rattle.export.proofs.vehicle.export.Goals as goal
 

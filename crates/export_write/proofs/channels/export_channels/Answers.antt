@@ -2,7 +2,7 @@ use Rattle.writing.specs.declared.Operation.TheVariants.{Replace}
 use Rattle.writing.specs.Settings.{channels}
 use Rattle.export_write.proofs.ChannelWriting.{channels_wrote}
 use Rattle.export_write.proofs.StartLaws.{setting_writes, one_writes}
-use Rattle.lists.proofs.Kit.{rules, arith}
+use Rattle.lists.proofs.Kit.{arith}
 use Rattle.export_write.proofs.channels.export_channels.Goals as goal
 
 pub returns-then-region-gt2046 : goal.returns-then-region-gt2046

@@ -1,4 +1,4 @@
-use Rattle.lists.proofs.Kit.{subst, ◌≡◌, refl, ℕ, ◌≤◌, ◌-◌, ◌+◌, ◌*◌, ◌/◌, arith, length, rules}
+use Rattle.lists.proofs.Kit.{subst, ◌≡◌, refl, ℕ, ◌/◌, arith}
 use Rattle.writing.specs.Canonical.{plain}
 use Rattle.export_write.proofs.WroteLaws.{writing_start}
 use Rattle.export_write.specs.ChannelWriters.{packed}

@@ -1,4 +1,4 @@
-use Rattle.lists.proofs.Kit.{rules, refl, arith}
+use Rattle.lists.proofs.Kit.{refl, arith}
 use Rattle.export_write.proofs.contacts.room_for.Goals as goal
 
 pub returns-in-OfGroups : goal.returns-in-OfGroups

@@ -1,4 +1,4 @@
-use Rattle.lists.proofs.Kit.{◌+◌, ◌≤◌, subst, rules, arith, length}
+use Rattle.lists.proofs.Kit.{◌+◌, ◌≤◌, subst, arith, length}
 use Rattle.tables.specs.declared.members.Members.{Members}
 use Rattle.export_write.specs.ContactWriters.{clear_room}
 use Rattle.export_write.proofs.contacts.write_clearing.Goals as goal

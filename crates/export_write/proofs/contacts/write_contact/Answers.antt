@@ -1,4 +1,4 @@
-use Rattle.lists.proofs.Kit.{mid_len, rules, sym, ◌∙◌, arith}
+use Rattle.lists.proofs.Kit.{mid_len, sym, ◌∙◌, arith}
 use Rattle.export_write.specs.ContactSettings.{contact_add}
 use Rattle.export_write.specs.ContactWriters.{contact_room}
 use Rattle.export_write.proofs.ContactWriting.{contact_wrote, flag_few}

@@ -1,7 +1,7 @@
 use Rattle.export_write.specs.EntryWriters.{entry_size}
-use Rattle.lists.proofs.Kit.{not-true, not-false, ⊎_elim, sym, refl, ◌∙◌, rules, ◌-◌, ◌+◌, ◌*◌, arith, length}
+use Rattle.lists.proofs.Kit.{subst, sym, refl, ◌∙◌, ◌+◌, ◌*◌, arith, length}
 use Rattle.slots.proofs.Tables.{slot_wide}
-use Rattle.export_write.proofs.EntryWriting.{Turn, turn_start, turn_as, turn_none, turn_some, entered_most, entered_all, place_inside}
+use Rattle.export_write.proofs.EntryWriting.{Walked, turn_start, turn_as, turn_none, turn_some, entered_most, entered_all, place_inside}
 use Rattle.export_write.proofs.entries.write_entries.Goals as goal
 use Rattle.export_write.proofs.entries.write_entries.Goals.{then-not-is_zeros, else-not-is_zeros}
 
@@ -70,5 +70,6 @@ returns c =
       passed = omega arith;
       within = omega arith;
       full = λ h. absurd (omega arith);
-      entered = entered_all a.table a.region.now a.buffer.now l.buffer a.at l.end l.count l.next l.invariant.walked (omega arith) (omega arith);
+      entered = entered_all a.table a.region.now a.buffer.now l.buffer a.at l.end l.count a.table.places
+          (subst (Walked a.table a.region.now a.buffer.now l.buffer a.at l.end l.count) (omega arith) l.invariant.walked) (omega arith) (omega arith);
     }

@@ -1,4 +1,4 @@
-use Rattle.lists.proofs.Kit.{length-drop, length, drop, take_all, mid_len, rules, ◌-◌, sym, arith}
+use Rattle.lists.proofs.Kit.{length-drop, length, drop, take_all, mid_len, ◌-◌, sym, arith}
 use Rattle.export_write.proofs.EntryWriting.{entry_wrote}
 use Rattle.export_write.proofs.entries.write_entry.Goals as goal
 

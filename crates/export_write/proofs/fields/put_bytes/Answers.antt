@@ -1,4 +1,4 @@
-use Rattle.lists.proofs.Kit.{rules, arith}
+use Rattle.lists.proofs.Kit.{arith}
 use Rattle.export_write.proofs.fields.put_bytes.Goals as goal
 
 pub returns-then-buffer-at : goal.returns-then-buffer-at

@@ -1,4 +1,4 @@
-use Rattle.lists.proofs.Kit.{rules, arith}
+use Rattle.lists.proofs.Kit.{arith}
 use Rattle.export_write.proofs.fields.put_number.Goals as goal
 
 pub returns-then-digits-ne-DIGITS : goal.returns-then-digits-ne-DIGITS

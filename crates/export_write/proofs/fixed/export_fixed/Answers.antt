@@ -1,7 +1,7 @@
 use Rattle.export_write.specs.FixedWriters.{key_setting}
 use Rattle.writing.specs.Settings.{home, system}
 use Rattle.export_write.proofs.FixedWriting.{three_wrote, home_three, system_three}
-use Rattle.lists.proofs.Kit.{ℕ, refl, ap, List, arith, drop, take, rules}
+use Rattle.lists.proofs.Kit.{ℕ, refl, ap, List, arith, drop, take}
 use Rattle.export_write.proofs.fixed.export_fixed.Goals as goal
 
 pub returns-then-region-ne11 : goal.returns-then-region-ne11

@@ -1,7 +1,7 @@
 use Rattle.writing.specs.Settings.{key}
 use Rattle.export_write.proofs.FixedWriting.{key_wrote}
 use Rattle.export_write.proofs.StartLaws.{setting_writes}
-use Rattle.lists.proofs.Kit.{rules, arith}
+use Rattle.lists.proofs.Kit.{arith}
 use Rattle.export_write.proofs.fixed.write_key.Goals as goal
 
 pub returns : goal.returns

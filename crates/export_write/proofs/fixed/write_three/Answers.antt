@@ -1,5 +1,4 @@
 use Rattle.export_write.proofs.FixedWriting.{bits_wrote}
-use Rattle.lists.proofs.Kit.{rules}
 use Rattle.export_write.proofs.fixed.write_three.Goals as goal
 
 pub returns : goal.returns

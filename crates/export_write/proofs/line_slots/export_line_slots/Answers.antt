@@ -1,8 +1,12 @@
-use Rattle.lists.proofs.Kit.{rules, ◌≤◌, ◌-◌, ◌+◌, ◌*◌, ◌≡◌, refl, sym, ◌∙◌, arith, length}
-use Rattle.export_write.specs.LineSettings.{line_slot_setting}
-use Rattle.export_write.proofs.LineWriting.{line_slotted}
-use Rattle.export_write.proofs.SlotWriting.{slots_length, Placing, placing_start, placing_more, placing_end}
+use Rattle.lists.proofs.Kit.{ℕ, List, ◌≤◌, ◌<◌, ◌-◌, ◌+◌, ◌*◌, refl, sym, ap, ◌∙◌, arith, subst, length, mid_of}
+use Rattle.tables.specs.Layout.{line_width}
 use Rattle.tables.specs.Limits.{slot_places}
+use Rattle.export_write.specs.LineSettings.{line_slot_setting}
+use Rattle.export_write.specs.LineWriters.{LineSlotIn}
+use Rattle.export_write.specs.Writers.{WritesSetting}
+use Rattle.export_write.proofs.ChunkWalk.{counted_start, chunk_long, chunk_in, chunk_is, chunk_more, chunked_end}
+use Rattle.export_write.proofs.LineWriting.{line_slotted}
+use Rattle.export_write.proofs.SlotWriting.{slots_length, placing_start, placing_more, placing_end}
 use Rattle.export_write.proofs.line_slots.export_line_slots.Goals as goal
 
 pub returns-then-region-ne-LINE_SLOTS_SIZE : goal.returns-then-region-ne-LINE_SLOTS_SIZE
@@ -14,29 +18,58 @@ returns-then-buffer c = λ h. absurd (omega (arith, h.1))
 pub loop-index-init : goal.loop-index-init
 loop-index-init c =
     let a = c.args in
-    (refl, omega arith, omega arith, omega arith, placing_start line_slotted line_slot_setting slot_places _ a.buffer.now 8 (omega arith))
+    let q = c.chunks_exact in
+    let e = c.enumerate-index-items in
+    let t = c.into_iter-index-iterator in
+    let (z, k) = counted_start a.region.now line_width q.result e.result t.result t.ensures.into_iter_gives e.ensures.source e.ensures.count q.ensures.rest q.ensures.size in
+    (0, z, k, refl, omega arith, omega arith, placing_start line_slotted line_slot_setting slot_places a.region.now a.buffer.now 8 (omega arith))
+
+pub write_line_slot-end-requires : goal.write_line_slot-end-requires
+write_line_slot-end-requires c =
+    let a = c.args in
+    let l = c.loop-index in
+    let s = c.in-Some.ensures.steps.0 in
+    let i = l.invariant.0 in
+    let k = l.invariant.2 in
+    let h = chunk_in a.region.now (length a.region.now) line_width l.index-iterator.iter i k c.in-Some.slot c.next.new.self.iter s in
+    (chunk_long a.region.now (length a.region.now) line_width l.index-iterator.iter i k c.in-Some.slot c.next.new.self.iter s, omega (arith, h, l.invariant.3, l.invariant.5), omega (arith, h, l.invariant.1, c.in-Some.ensures.steps.1))
 
 pub loop-index-preserved : goal.loop-index-preserved
 loop-index-preserved c =
     let a = c.args in
     let l = c.loop-index in
-    let w = c.write_line_slot-end in (
-      omega arith,
-      omega arith,
-      omega arith,
-      omega arith,
-      placing_more line_slotted line_slot_setting slot_places a.region.now a.buffer.now 8 l.buffer w.new.buffer l.end l.index 49 w.result (omega arith) l.invariant.4 w.ensures,
+    let w = c.write_line_slot-end in
+    let s = c.in-Some.ensures.steps.0 in
+    let i = l.invariant.0 in
+    let k = l.invariant.2 in
+    let h = chunk_in a.region.now (length a.region.now) line_width l.index-iterator.iter i k c.in-Some.slot c.next.new.self.iter s in
+    let e = chunk_is a.region.now (length a.region.now) line_width l.index-iterator.iter i k c.in-Some.slot c.next.new.self.iter s in
+    let j = c.in-Some.ensures.steps.1 ∙ l.invariant.1 in
+    let n : i < slot_places = omega (arith, h) in (
+      i + 1,
+      c.in-Some.ensures.steps.2 ∙ ap (λ (n : ℕ). n + 1) l.invariant.1,
+      chunk_more a.region.now (length a.region.now) line_width l.index-iterator.iter i k c.in-Some.slot c.next.new.self.iter s,
+      omega (arith, l.invariant.3),
+      omega (arith, l.invariant.4, w.ensures.from),
+      omega (arith, l.invariant.5, w.ensures.most),
+      placing_more line_slotted line_slot_setting slot_places a.region.now a.buffer.now 8 l.buffer w.new.buffer l.end i 49 w.result n l.invariant.6
+          (subst (λ (j : ℕ). WritesSetting ((LineSlotIn (mid_of (i * line_width) (i * line_width + line_width - i * line_width) a.region.now))) (line_slot_setting j) l.end 49 l.buffer w.new.buffer w.result) j
+          (subst (λ (x : List ℕ). WritesSetting (LineSlotIn x) (line_slot_setting c.in-Some.index) l.end 49 l.buffer w.new.buffer w.result) e w.ensures)),
     )
 
 pub returns : goal.returns
 returns c =
     let a = c.args in
     let l = c.loop-index in
+    let i = l.invariant.0 in
+    let k = l.invariant.2 in
+    let n = chunked_end a.region.now (length a.region.now) line_width l.index-iterator.iter i k c.in-None.ensures.steps.0.1.0 in
+    let m : i ≤ slot_places = omega (arith, k.low) in
     λ h. record {
       writes = record {
-        from = omega arith;
-        most = omega arith;
-        wrote = placing_end line_slotted line_slot_setting slot_places a.region.now a.buffer.now 8 l.buffer l.end l.index (omega arith) l.invariant.4;
+        from = omega (arith, l.invariant.4);
+        most = omega (arith, l.invariant.5, m);
+        wrote = placing_end line_slotted line_slot_setting slot_places a.region.now a.buffer.now 8 l.buffer l.end i (omega (arith, n)) l.invariant.6;
       };
       counted = λ os t. sym (slots_length line_slot_setting 0 os ∙ t.many);
     }

@@ -1,4 +1,4 @@
-use Rattle.lists.proofs.Kit.{rules, sym, ◌∙◌, arith}
+use Rattle.lists.proofs.Kit.{sym, ◌∙◌, arith}
 use Rattle.export_write.specs.LineSettings.{line_slot_setting}
 use Rattle.export_write.proofs.LineWriting.{delete_wrote, slot_wrote}
 use Rattle.export_write.proofs.StartLaws.{setting_writes}

@@ -1,4 +1,4 @@
-use Rattle.lists.proofs.Kit.{mid_len, rules, arith}
+use Rattle.lists.proofs.Kit.{mid_len, arith}
 use Rattle.export_write.proofs.LineWriting.{fields_wrote}
 use Rattle.tables.specs.Layout.{line_width}
 use Rattle.export_write.proofs.lines.write_fields.Goals as goal

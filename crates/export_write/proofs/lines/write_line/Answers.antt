@@ -1,7 +1,7 @@
 use Rattle.export_write.specs.LineSettings.{line_add}
 use Rattle.export_write.proofs.LineWriting.{line_wrote}
 use Rattle.export_write.proofs.StartLaws.{setting_writes}
-use Rattle.lists.proofs.Kit.{rules, arith}
+use Rattle.lists.proofs.Kit.{arith}
 use Rattle.export_write.proofs.lines.write_line.Goals as goal
 
 pub returns : goal.returns

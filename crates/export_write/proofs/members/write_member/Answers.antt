@@ -1,4 +1,4 @@
-use Rattle.lists.proofs.Kit.{mid_len, rules, sym, ◌∙◌, arith}
+use Rattle.lists.proofs.Kit.{mid_len, sym, ◌∙◌, arith}
 use Rattle.export_write.specs.MemberWriters.{member_setting}
 use Rattle.export_write.proofs.MemberWriting.{member_wrote}
 use Rattle.export_write.proofs.StartLaws.{setting_writes}

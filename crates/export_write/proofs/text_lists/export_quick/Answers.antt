@@ -1,5 +1,5 @@
 use Rattle.export_write.proofs.TextSettings.{quick_wrote, quick_done, quick_more}
-use Rattle.lists.proofs.Kit.{◌≤◌, rules, arith}
+use Rattle.lists.proofs.Kit.{◌≤◌, arith}
 use Rattle.export_write.proofs.text_lists.export_quick.Goals as goal
 
 pub returns-then-region-ne-QUICK_SIZE : goal.returns-then-region-ne-QUICK_SIZE

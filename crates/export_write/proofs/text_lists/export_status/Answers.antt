@@ -3,7 +3,7 @@ use Rattle.writing.specs.Settings.{status_texts}
 use Rattle.export_write.specs.EntrySettings.{entries}
 use Rattle.export_write.proofs.TextSettings.{status_wrote}
 use Rattle.export_write.proofs.StartLaws.{setting_writes, one_writes}
-use Rattle.lists.proofs.Kit.{rules, arith}
+use Rattle.lists.proofs.Kit.{arith}
 use Rattle.export_write.proofs.text_lists.export_status.Goals as goal
 
 pub returns-then-region-ne-STATUS_SIZE : goal.returns-then-region-ne-STATUS_SIZE

@@ -1,5 +1,5 @@
 use Rattle.export_write.proofs.TextSettings.{last_none, last_some}
-use Rattle.lists.proofs.Kit.{rules, sym, ◌∙◌, arith}
+use Rattle.lists.proofs.Kit.{sym, ◌∙◌, arith}
 use Rattle.export_write.proofs.text_lists.write_last_quick.Goals as goal
 
 pub returns-then-is_zeros : goal.returns-then-is_zeros

@@ -1,5 +1,5 @@
 use Rattle.export_write.proofs.NumberWriting.{digit_past, digit_none, digit_some}
-use Rattle.lists.proofs.Kit.{rules, arith}
+use Rattle.lists.proofs.Kit.{arith}
 use Rattle.export_write.proofs.texts.digit.Goals as goal
 
 pub returns-then-digits-i : goal.returns-then-digits-i

@@ -1,4 +1,4 @@
-use Rattle.lists.proofs.Kit.{subst, ◌≡◌, refl, length-set, length, rules, ℕ, ◌≤◌, ◌-◌, ◌/◌, arith}
+use Rattle.lists.proofs.Kit.{subst, ◌≡◌, refl, length-set, ℕ, ◌/◌, arith}
 use Rattle.export_write.proofs.NumberWriting.{numbered_start, Numbered, numbered_more, numbered_end}
 use Rattle.export_write.proofs.texts.write_number.Goals as goal
 

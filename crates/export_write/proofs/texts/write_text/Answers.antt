@@ -1,4 +1,4 @@
-use Rattle.lists.proofs.Kit.{mid_len, rules, arith}
+use Rattle.lists.proofs.Kit.{mid_len, arith}
 use Rattle.export_write.proofs.TextWriting.{text_wrote}
 use Rattle.export_write.proofs.texts.write_text.Goals as goal
 

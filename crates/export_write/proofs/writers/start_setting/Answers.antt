@@ -1,5 +1,5 @@
 use Rattle.export_write.proofs.StartLaws.{setting_started}
-use Rattle.lists.proofs.Kit.{rules, arith}
+use Rattle.lists.proofs.Kit.{arith}
 use Rattle.export_write.proofs.writers.start_setting.Goals as goal
 
 pub returns : goal.returns

@@ -1,4 +1,4 @@
-use Rattle.lists.proofs.Kit.{refl, tail-eq_of_cons-eq, rules}
+use Rattle.lists.proofs.Kit.{refl, tail-eq_of_cons-eq}
 use Rattle.tables.proofs.HeadLaws.{address_cut}
 use Rattle.export_write.proofs.writers.three.Goals as goal
 

@@ -1,5 +1,5 @@
 use Rattle.export_write.proofs.WroteLaws.{wrote_copied}
-use Rattle.lists.proofs.Kit.{rules, arith}
+use Rattle.lists.proofs.Kit.{arith}
 use Rattle.export_write.proofs.writers.write_bytes.Goals as goal
 
 pub returns : goal.returns

@@ -1,4 +1,4 @@
-use Rattle.lists.proofs.Kit.{ℕ, ◌+◌, ◌*◌, ◌%◌, ap₂, rules}
+use Rattle.lists.proofs.Kit.{ℕ, ◌+◌, ◌*◌, ◌%◌, ap₂}
 use Rattle.report_write.proofs.FixedItems.{home_writes}
 use Rattle.report_write.proofs.fixed.write_home.Goals as goal
 

@@ -1,4 +1,4 @@
-use Rattle.lists.proofs.Kit.{rules, arith}
+use Rattle.lists.proofs.Kit.{arith}
 use Rattle.report_write.proofs.FixedItems.{key_writes}
 use Rattle.report_write.proofs.fixed.write_key.Goals as goal
 

@@ -1,4 +1,4 @@
-use Rattle.lists.proofs.Kit.{ℕ, ◌+◌, ◌*◌, ◌%◌, ap, rules, get_or}
+use Rattle.lists.proofs.Kit.{ℕ, ◌+◌, ◌*◌, ◌%◌, ap, get_or}
 use Rattle.report_write.proofs.FixedItems.{system_writes}
 use Rattle.report_write.proofs.fixed.write_system.Goals as goal
 

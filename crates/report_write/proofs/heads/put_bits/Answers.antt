@@ -1,4 +1,4 @@
-use Rattle.lists.proofs.Kit.{rules, arith}
+use Rattle.lists.proofs.Kit.{arith}
 use Rattle.report_write.proofs.heads.put_bits.Goals as goal
 
 pub returns : goal.returns

@@ -1,4 +1,3 @@
-use Rattle.lists.proofs.Kit.{rules}
 use Rattle.report_write.proofs.HeadLaws.{headed_wrote}
 use Rattle.report_write.proofs.heads.put_headed.Goals as goal
 

@@ -1,4 +1,4 @@
-use Rattle.lists.proofs.Kit.{sym, ◌∙◌, rules, arith}
+use Rattle.lists.proofs.Kit.{sym, ◌∙◌, arith}
 use Rattle.report_write.proofs.SlotLaws.{no_room, no_slot, none_wrote, one_wrote}
 use Rattle.report_write.proofs.items.write_item.Goals as goal
 

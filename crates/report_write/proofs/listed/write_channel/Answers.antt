@@ -1,4 +1,3 @@
-use Rattle.lists.proofs.Kit.{rules}
 use Rattle.report_write.proofs.ListedItems.{channel_writes}
 use Rattle.report_write.proofs.listed.write_channel.Goals as goal
 

@@ -1,4 +1,4 @@
-use Rattle.lists.proofs.Kit.{rules, arith}
+use Rattle.lists.proofs.Kit.{arith}
 use Rattle.report_write.proofs.ListedItems.{group_writes}
 use Rattle.report_write.proofs.listed.write_group.Goals as goal
 

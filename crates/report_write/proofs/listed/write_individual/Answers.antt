@@ -1,4 +1,3 @@
-use Rattle.lists.proofs.Kit.{rules}
 use Rattle.report_write.proofs.ListedItems.{individual_writes}
 use Rattle.report_write.proofs.listed.write_individual.Goals as goal
 

@@ -1,4 +1,3 @@
-use Rattle.lists.proofs.Kit.{rules}
 use Rattle.report_write.proofs.ListedItems.{quick_writes}
 use Rattle.report_write.proofs.listed.write_quick.Goals as goal
 

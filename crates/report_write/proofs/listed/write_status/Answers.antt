@@ -1,4 +1,3 @@
-use Rattle.lists.proofs.Kit.{rules}
 use Rattle.report_write.proofs.ListedItems.{status_writes}
 use Rattle.report_write.proofs.listed.write_status.Goals as goal
 

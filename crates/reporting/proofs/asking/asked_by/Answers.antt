@@ -1,4 +1,3 @@
-use Rattle.lists.proofs.Kit.{rules}
 use Rattle.reporting.proofs.AskLaws.{asks_nothing}
 use Rattle.lists.proofs.Kit.{arith}
 use Rattle.reporting.proofs.asking.asked_by.Goals as goal

@@ -1,4 +1,4 @@
-use Rattle.lists.proofs.Kit.{rules, arith, refl}
+use Rattle.lists.proofs.Kit.{arith, refl}
 use Rattle.reporting.proofs.AskLaws.{types_short, types_none, types_by}
 use Rattle.reporting.proofs.asking.has_types.Goals as goal
 

@@ -1,4 +1,4 @@
-use Rattle.lists.proofs.Kit.{rules, subst, not-true, not-false}
+use Rattle.lists.proofs.Kit.{subst, not-true, not-false}
 use Rattle.read_carrier.specs.Message.{OpenedIs}
 use Rattle.read_carrier.proofs.CarrierLaws.{opens_as}
 use Rattle.reporting.specs.Asking.{TypesIs}

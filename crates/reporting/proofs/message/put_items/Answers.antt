@@ -1,5 +1,5 @@
-use Rattle.lists.proofs.Kit.{rules, arith, ◌≤◌, ◌-◌, ◌≡◌, refl, length}
-use Rattle.reporting.proofs.PutLaws.{Putting, putting_start, putting_full, putting_more, putting_end}
+use Rattle.lists.proofs.Kit.{arith, refl}
+use Rattle.reporting.proofs.PutLaws.{putting_start, putting_full, putting_more, putting_end}
 use Rattle.reporting.proofs.message.put_items.Goals as goal
 
 pub loop-ask-init : goal.loop-ask-init

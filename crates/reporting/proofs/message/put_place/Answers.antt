@@ -1,4 +1,4 @@
-use Rattle.lists.proofs.Kit.{rules, arith}
+use Rattle.lists.proofs.Kit.{arith}
 use Rattle.reporting.proofs.PutLaws.{put_empty, put_used}
 use Rattle.reporting.proofs.TableLaws.{few_places}
 use Rattle.reporting.proofs.message.put_place.Goals as goal

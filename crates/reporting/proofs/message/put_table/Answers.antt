@@ -1,5 +1,5 @@
-use Rattle.lists.proofs.Kit.{rules, arith, ◌≤◌, ◌-◌, ◌≡◌, refl, length}
-use Rattle.reporting.proofs.PutLaws.{Passing, passing_start, passing_full, passing_more, passing_end}
+use Rattle.lists.proofs.Kit.{arith, refl}
+use Rattle.reporting.proofs.PutLaws.{passing_start, passing_full, passing_more, passing_end}
 use Rattle.reporting.proofs.message.put_table.Goals as goal
 
 pub loop-s-init : goal.loop-s-init

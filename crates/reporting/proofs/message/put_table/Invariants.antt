@@ -1,5 +1,5 @@
-use Rattle.lists.proofs.Kit.{rules, arith, ◌≤◌, ◌-◌, ◌≡◌, refl, length}
-use Rattle.reporting.proofs.PutLaws.{Passing, passing_start, passing_full, passing_more, passing_end}
+use Rattle.lists.proofs.Kit.{◌≤◌, ◌-◌, ◌≡◌, length}
+use Rattle.reporting.proofs.PutLaws.{Passing}
 use Rattle.reporting.proofs.message.put_table.Given as goal
 
 abbrev pub invariant-loop-s : goal.invariant-loop-s

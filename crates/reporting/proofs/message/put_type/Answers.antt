@@ -1,4 +1,4 @@
-use Rattle.lists.proofs.Kit.{rules, arith, subst}
+use Rattle.lists.proofs.Kit.{arith, subst}
 use Rattle.reporting.specs.Asking.{AskedIs}
 use Rattle.reporting.proofs.PutLaws.{type_put, error_put}
 use Rattle.reporting.proofs.message.put_type.Goals as goal
@@ -13,4 +13,4 @@ pub returns : goal.returns
 returns c =
     let a = c.args in
     let w = c.put_table in
-    type_put a.limits a.byte a.work.now a.spot a.buffer.now w.new.buffer _ w.result (subst (AskedIs a.byte) c.in-Known.is c.asked_by.ensures) w.ensures
+    type_put a.limits a.byte a.work.now a.spot a.buffer.now w.new.buffer _ w.result (subst (AskedIs a.byte) c.in-Some.is c.asked_by.ensures) w.ensures

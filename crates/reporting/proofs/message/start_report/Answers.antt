@@ -1,4 +1,4 @@
-use Rattle.lists.proofs.Kit.{rules, arith}
+use Rattle.lists.proofs.Kit.{arith}
 use Rattle.export_write.proofs.WroteLaws.{wrote_copied}
 use Rattle.reporting.proofs.HeadLaws.{report_headed}
 use Rattle.reporting.proofs.message.start_report.Goals as goal

@@ -1,4 +1,4 @@
-use Rattle.lists.proofs.Kit.{rules, arith, refl}
+use Rattle.lists.proofs.Kit.{arith, refl}
 use Rattle.reporting.proofs.StepLaws.{fits_by}
 use Rattle.reporting.proofs.planning.fits.Goals as goal
 

@@ -1,6 +1,6 @@
-use Rattle.lists.proofs.Kit.{rules, arith, ◌≤◌, ◌-◌, subst, length}
+use Rattle.lists.proofs.Kit.{arith, subst}
 use Rattle.reporting.specs.Asking.{AskedIs}
-use Rattle.reporting.proofs.PlanTurns.{Planning, planning_start, planning_turn, planning_end, planning_unknown}
+use Rattle.reporting.proofs.PlanTurns.{planning_start, planning_turn, planning_end, planning_unknown}
 use Rattle.lists.proofs.Kit.{get_or}
 use Rattle.reporting.proofs.planning.plan_report.Goals as goal
 
@@ -31,7 +31,7 @@ pub loop-ask-preserved : goal.loop-ask-preserved
 loop-ask-preserved c =
     let a = c.args in
     let l = c.loop-ask in
-    (omega arith, planning_turn a.limits a.types.now a.work.now a.room a.j l.ask l.w c.plan_table-w.result _ (omega arith) l.invariant.1 (subst (AskedIs (get_or a.types.now l.ask 0)) c.in-Known.is c.asked_by.ensures) c.plan_table-w.ensures)
+    (omega arith, planning_turn a.limits a.types.now a.work.now a.room a.j l.ask l.w c.plan_table-w.result _ (omega arith) l.invariant.1 (subst (AskedIs (get_or a.types.now l.ask 0)) c.in-Some.is c.asked_by.ensures) c.plan_table-w.ensures)
 
 pub returns : goal.returns
 returns c =

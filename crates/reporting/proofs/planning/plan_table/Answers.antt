@@ -1,7 +1,7 @@
-use Rattle.lists.proofs.Kit.{rules, arith, ◌≤◌, ◌<◌, ◌-◌, ⊎_elim}
+use Rattle.lists.proofs.Kit.{arith, ◌<◌}
 use Rattle.reports.specs.TableSlots.{slot_count}
 use Rattle.reporting.proofs.PlanTurns.{walked_as}
-use Rattle.reporting.proofs.PlanTurns.{WalkedTo, walked_start, walked_empty, walked_item, walked_end}
+use Rattle.reporting.proofs.PlanTurns.{walked_start, walked_empty, walked_item, walked_end}
 use Rattle.reporting.proofs.TableLaws.{few_places}
 use Rattle.reporting.proofs.planning.plan_table.Goals as goal
 use Rattle.reporting.proofs.planning.plan_table.Goals.{then-size-ne0, else-size-ne0}

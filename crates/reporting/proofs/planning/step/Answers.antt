@@ -1,4 +1,4 @@
-use Rattle.lists.proofs.Kit.{rules, arith, subst}
+use Rattle.lists.proofs.Kit.{arith, subst}
 use Rattle.reporting.specs.Plans.{FitsIs}
 use Rattle.reporting.proofs.StepLaws.{step_own, step_other, new_own, new_other}
 use Rattle.reporting.proofs.planning.step.Goals as goal

@@ -1,4 +1,4 @@
-use Rattle.lists.proofs.Kit.{rules, arith, ℕ, ap, subst, subst⁻¹, List, length, drop}
+use Rattle.lists.proofs.Kit.{arith, ℕ, ap, subst, subst⁻¹, List, length, drop}
 use Rattle.tables.proofs.AnswerLaws.{not_said, was_said}
 use Rattle.reporting.specs.Asking.{QueryIs}
 use Rattle.reports.specs.Reports.{TypesOf}
@@ -26,39 +26,39 @@ returns-then-from-limits c =
 pub slice_bounds-report_types-count : goal.slice_bounds-report_types-count
 slice_bounds-report_types-count c =
     let a = c.args in
-    let q = subst (QueryIs a.limits.message a.query.now) c.in-Types.is c.read_query-read.ensures in
+    let q = subst (QueryIs a.limits.message a.query.now) c.in_default.is c.read_query.ensures in
     omega (arith, query_long a.query.now q.1)
 
 pub slice_bounds-report_types-start : goal.slice_bounds-report_types-start
 slice_bounds-report_types-start c =
     let a = c.args in
-    let q = subst (QueryIs a.limits.message a.query.now) c.in-Types.is c.read_query-read.ensures in
+    let q = subst (QueryIs a.limits.message a.query.now) c.in_default.is c.read_query.ensures in
     omega (arith, query_long a.query.now q.1)
 
 pub slice_bounds-report_types-end : goal.slice_bounds-report_types-end
 slice_bounds-report_types-end c =
     let a = c.args in
-    let q = subst (QueryIs a.limits.message a.query.now) c.in-Types.is c.read_query-read.ensures in
+    let q = subst (QueryIs a.limits.message a.query.now) c.in_default.is c.read_query.ensures in
     omega (arith, query_long a.query.now q.1)
 
 pub report_types-requires : goal.report_types-requires
 report_types-requires c =
     let a = c.args in
-    let q = subst (QueryIs a.limits.message a.query.now) c.in-Types.is c.read_query-read.ensures in
+    let q = subst (QueryIs a.limits.message a.query.now) c.in_default.is c.read_query.ensures in
     let k = c.is_store in
     let s = was_said k.result k.ensures c.if-not-is_store.false-raw in
     (s.roomy, omega arith, omega (arith, ap length (types_are a.query.now q.1), q.1.1), omega arith)
 
-pub returns-in-Refused : goal.returns-in-Refused
-returns-in-Refused c =
+pub returns-in-Err : goal.returns-in-Err
+returns-in-Err c =
     let a = c.args in
     let k = c.is_store in
-    λ x l. says_refused a.limits a.query.now a.index a.store.now a.buffer.now (omega arith) (was_said k.result k.ensures c.if-not-is_store.false-raw) c.in-Refused.why (subst (QueryIs a.limits.message a.query.now) c.in-Refused.is c.read_query-read.ensures)
+    λ x l. says_refused a.limits a.query.now a.index a.store.now a.buffer.now (omega arith) (was_said k.result k.ensures c.if-not-is_store.false-raw) c.in-Err.why (subst (QueryIs a.limits.message a.query.now) c.in-Err.is c.read_query.ensures)
 
-pub returns-else-from-limits : goal.returns-else-from-limits
-returns-else-from-limits c =
+pub returns : goal.returns
+returns c =
     let a = c.args in
-    let q = subst (QueryIs a.limits.message a.query.now) c.in-Types.is c.read_query-read.ensures in
+    let q = subst (QueryIs a.limits.message a.query.now) c.in_default.is c.read_query.ensures in
     let k = c.is_store in
     let s = was_said k.result k.ensures c.if-not-is_store.false-raw in
     let v = c.seen-from in

@@ -1,4 +1,4 @@
-use Rattle.lists.proofs.Kit.{rules, arith}
+use Rattle.lists.proofs.Kit.{arith}
 use Rattle.lists.proofs.Bytes.{bytes_all}
 use Rattle.reporting.proofs.ReportLaws.{plan_as, says_many, says_none, says_0}
 use Rattle.reporting.proofs.report.report_types.Goals as goal

@@ -1,4 +1,3 @@
-use Rattle.lists.proofs.Kit.{rules}
 use Rattle.reporting.proofs.ReportLaws.{vehicle_reportable}
 use Rattle.reporting.proofs.vehicle.report.Goals as goal
 

@@ -1,4 +1,4 @@
-use Rattle.lists.proofs.Kit.{rules, arith}
+use Rattle.lists.proofs.Kit.{arith}
 use Rattle.reporting.proofs.TableLaws.{size_is}
 use Rattle.reporting.proofs.walk.place_size.Goals as goal
 

@@ -1,4 +1,4 @@
-use Rattle.lists.proofs.Kit.{rules, refl}
+use Rattle.lists.proofs.Kit.{refl}
 use Rattle.reporting.proofs.walk.start_of.Goals as goal
 
 pub returns-in-Lines : goal.returns-in-Lines

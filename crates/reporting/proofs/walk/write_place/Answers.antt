@@ -1,4 +1,4 @@
-use Rattle.lists.proofs.Kit.{rules, arith}
+use Rattle.lists.proofs.Kit.{arith}
 use Rattle.reporting.proofs.TableLaws.{place_within, place_written}
 use Rattle.reporting.proofs.walk.write_place.Goals as goal
 
