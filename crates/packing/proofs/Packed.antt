@@ -1,27 +1,17 @@
 -- A packed answer by its case. Assumes nothing.
-use Rattle.lists.proofs.Kit.{ℕ, ◌+◌, ◌*◌, ◌<◌, ◌≡◌, refl, sym, subst, List, arith}
+use Rattle.lists.proofs.Kit.{ℕ, ◌<◌, ◌≡◌, refl, sym, subst, List, arith}
 use Rattle.lists.specs.Ladder.{Answers}
 use Rattle.plan.specs.declared.numbers.IndividualAddress.{IndividualAddress}
 use Rattle.plan.specs.declared.numbers.GroupAddress.{GroupAddress}
-use Rattle.plan.specs.Answers.{Said, Answer, answer, Answered, individual, group, dialled, frequency, channel, refused}
+use Rattle.plan.specs.Answers.{Answer, answer, Answered, individual, group, dialled, frequency, channel}
 use Rattle.tables.specs.declared.start.Started.{Started}
 use Rattle.tables.specs.declared.limits.Limits.{Limits}
 use Rattle.tables.specs.Store.{started, begins, starting}
 use Rattle.station.specs.Answers.{Said as Told, refused_with}
-use Rattle.menu.specs.declared.counting.Counts.{Counts as Menu}
 use Rattle.std.specs.Prelude.{Option, Some, None, option_map}
-use Rattle.menu.specs.Menu.{told}
-use Rattle.packing.specs.Packing.{Starts, Packs, PacksCounts, PacksValue, Converts, value_or}
+use Rattle.packing.specs.Packing.{Starts, Packs, PacksValue, Converts, value_or}
 
 -- ---- conversions
-
--- a number that packs one case packs the answer that is that case
-pub packed_case : (refusal : ℕ) (a b : Option ℕ) (r : ℕ) → a ≡ b → PacksValue (value_or refusal b) r → PacksValue (value_or refusal a) r
-packed_case refusal a b r e p = subst (λ x. PacksValue (value_or refusal x) r) (sym e) p
-
--- a refusal is its number
-pub value_refused : (n : ℕ) → n < 256 → PacksValue (refused n) n
-value_refused n h = record { number = h; value = omega arith; bits = omega arith }
 
 -- each conversion's answer is its value, or its refusal
 pub individual_or : (a : Option IndividualAddress) → answer (individual a) ≡ value_or 20 (option_map (λ (x : IndividualAddress). x.0) a)
@@ -64,13 +54,3 @@ said_case say a b r e p = subst (λ x. Packs (say x) r) (sym e) p
 pub packed_refusal : (n r : ℕ) → r ≡ n → r < 256 → Packs (refused_with n) r
 packed_refusal n r e h = record { number = omega arith; failed = omega arith; reply_length = omega arith; bits = omega arith }
 
--- ---- the menu's counts
-
--- both counts
-pub counts_packed : (a : Option Menu) (c : Menu) → a ≡ Some c → c.lines < 65536 → c.channels < 65536 → PacksCounts (told a) (c.lines * 65536 + c.channels * 4294967296)
-counts_packed a c e p q =
-    subst (λ x. PacksCounts (told x) (c.lines * 65536 + c.channels * 4294967296)) (sym e) (record { number = omega arith; lines = p; channels = q; bits = omega arith })
-
--- the number alone, where there are none
-pub no_counts_packed : (a : Option Menu) → a ≡ None → PacksCounts (told a) 11
-no_counts_packed a e = subst (λ x. PacksCounts (told x) 11) (sym e) (record { number = omega arith; lines = omega arith; channels = omega arith; bits = omega arith })

@@ -31,10 +31,6 @@ use Rattle.packing.specs.declared.entries.EntryValues.{EntryValues}
 use Rattle.packing.specs.declared.fixed.KeyValues.{KeyValues}
 use Rattle.packing.specs.PackedValues.{Packed, WhereFit, entry_values, entry_bits, entry_fields, Enters, digits_fields, WritesDigits, channel_fields, Tunes, calls, key_values, key_bits, key_fields, AnswersKey, home_fields, AnswersHome, system_fields, AnswersSystem}
 
--- a number that packs one case packs the answer that is that case
-pub case_packed : {A : Type 0} (fields : A → List Field) (a b : A) (r : ℕ) → a ≡ b → WhereFit (fields b) r → WhereFit (fields a) r
-case_packed fields a b r e p = subst (λ x. WhereFit (fields x) r) (sym e) p
-
 -- ---- an entry of a table
 
 -- what stands in a place is in range
