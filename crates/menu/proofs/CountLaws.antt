@@ -10,8 +10,6 @@ use Rattle.tables.specs.Allowed.{LineOk}
 use Rattle.tables.specs.Forms.{Roomy, region_start, slot_width, line_as}
 use Rattle.tables.specs.Heads.{line_own}
 use Rattle.tables.specs.Layout.{count_size, channel_width, channels_size}
-use Rattle.tables.specs.Store.{Holds}
-use Rattle.tables.specs.Tables.{Tables}
 use Rattle.shared_texts.proofs.FormLists.{channels_counted, lines_counted}
 use Rattle.menu.specs.Menu.{Told, Reads}
 

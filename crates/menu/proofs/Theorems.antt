@@ -14,7 +14,7 @@ use Rattle.tables.specs.Tables.{Line, line_key, Tables}
 use Rattle.shared_texts.proofs.Forms.{layout_one, holds_store}
 use Rattle.tables.proofs.Sentences.{key_is_both}
 use Rattle.menu.specs.declared.counting.Counts.{Counts}
-use Rattle.menu.specs.declared.counting.Counts.TheVariants.{Held, NotAStore}
+use Rattle.std.specs.Prelude.{Some, None, Option as Option'}
 use Rattle.menu.specs.Menu.{Told, told, counts_of, counting}
 
 -- two tables of one store are the same
@@ -26,15 +26,15 @@ pub counts_one : (lim : Limits) (store : List ℕ) (a b : Told) → Answers (cou
 counts_one lim store = one_answer (counting lim store) (one_foot lim store)
 
 -- the number of an answer says which case it is
-abbrev answer_of : Told → Counts
-answer_of a = get_or (Held a.lines a.channels ∷ []) a.number NotAStore
+abbrev answer_of : Told → Option' Counts
+answer_of a = get_or (Some (record { lines = a.lines; channels = a.channels }) ∷ []) a.number None
 
-answer_back : (a : Counts) → answer_of (told a) ≡ a
-answer_back (Held l c) = refl
-answer_back NotAStore = refl
+answer_back : (a : Option' Counts) → answer_of (told a) ≡ a
+answer_back (Some c) = refl
+answer_back None = refl
 
 -- COUNTS-DETERMINED: the contract of the counts' call allows one answer of the code
-pub counts_determined : (lim : Limits) (store : List ℕ) (a b : Counts) → Answers (counting lim store) (told a) → Answers (counting lim store) (told b) → a ≡ b
+pub counts_determined : (lim : Limits) (store : List ℕ) (a b : Option' Counts) → Answers (counting lim store) (told a) → Answers (counting lim store) (told b) → a ≡ b
 counts_determined lim store a b x y = decoded told answer_of answer_back a b (counts_one lim store (told a) (told b) x y)
 
 -- COUNTS-ARE: of a store of tables t it is 0 and the lengths of the two lists

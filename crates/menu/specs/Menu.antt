@@ -1,11 +1,10 @@
 -- How many line contacts and channels a store holds: document 02, A1.
-use Rattle.std.specs.Prelude.{ℕ, ◌≡◌, List, length}
+use Rattle.std.specs.Prelude.{ℕ, ◌≡◌, List, length, Option, Some, None}
 use Rattle.lists.specs.Ladder.{Ladder, rung, foot}
 use Rattle.tables.specs.declared.limits.Limits.{Limits}
 use Rattle.tables.specs.Store.{StoreOf, Holds}
 use Rattle.tables.specs.Tables.{Tables}
 use Rattle.menu.specs.declared.counting.Counts.{Counts}
-use Rattle.menu.specs.declared.counting.Counts.TheVariants.{Held, NotAStore}
 
 -- the number that the call answers, and both counts
 pub record Told : Type 0 where
@@ -14,9 +13,9 @@ pub record Told : Type 0 where
   pub channels : ℕ
 
 -- "11 .. returns 0 and 0"
-abbrev pub told : Counts → Told
-told (Held lines channels) = record { number = 0; lines = lines; channels = channels }
-told NotAStore = record { number = 11; lines = 0; channels = 0 }
+abbrev pub told : Option Counts → Told
+told (Some c) = record { number = 0; lines = c.lines; channels = c.channels }
+told None = record { number = 11; lines = 0; channels = 0 }
 
 -- the counts of tables: of entries held, not of what is free
 abbrev pub counts_of : Tables → Told

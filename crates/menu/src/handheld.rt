@@ -7,7 +7,7 @@ use super::counting::{Counts, counts_in};
 use tables::limits::HANDHELD;
 
 // How many lines and channels the store holds.
-pub fn counts(store: &[u8]) -> Counts
+pub fn counts(store: &[u8]) -> Option<Counts>
     ensures { Answers (counting handheld store.now) (told result) }
 {
     counts_in(store, HANDHELD)

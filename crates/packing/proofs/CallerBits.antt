@@ -1,38 +1,30 @@
 -- What looking a caller up answers, packed: a row has 16 bits. Assumes nothing.
-use Rattle.lists.proofs.Kit.{ℕ, ◌+◌, ◌*◌, ◌<◌, ◌≡◌, refl, sym, ap, subst, List, none, arith}
+use Rattle.lists.proofs.Kit.{ℕ, ◌<◌, refl, List, arith}
 use Rattle.lists.specs.Ladder.{Answers}
 use Rattle.tables.specs.declared.limits.Limits.{Limits}
-use Rattle.callers.specs.declared.lookup.Caller.{Caller}
-use Rattle.callers.specs.declared.lookup.Caller.TheVariants.{Row, NoRow, NotAStore, NotANumber}
+use Rattle.std.specs.Prelude.{Option as Maybe, Some, None, Result, Ok, Err}
+use Rattle.callers.specs.declared.lookup.NoCaller.{NoCaller}
+use Rattle.callers.specs.declared.lookup.NoCaller.TheVariants.{NotAStore, NotANumber}
 use Rattle.callers.specs.Callers.{told, looking_up}
 use Rattle.callers.proofs.Theorems.{row_small}
-use Rattle.packing.specs.Packing.{found_of, row_of, PacksCaller, LooksUp}
+use Rattle.packing.specs.Packing.{row_of, PacksCaller, LooksUp}
 
 -- ---- an answer by its case
 
 -- the number r packs the answer where its row fits
-abbrev Packed : Caller → ℕ → Type 0
+abbrev Packed : Result (Maybe ℕ) NoCaller → ℕ → Type 0
 Packed a r = row_of (told a).row < 65536 → PacksCaller (told a) r
-
--- a row, with the bit that says that there is one
-pub row_packed : (a : Caller) (row low r : ℕ) → a ≡ Row row → (row < 65536 → low ≡ row) → r ≡ 256 + low * 65536 → Packed a r
-row_packed a row low r e p q = subst (λ (x : Caller). Packed x r) (sym e) (λ h. record { number = omega arith; row = h; bits = omega (arith, p h) })
-
--- the number alone, where there is none
-pub bare_packed : (a b : Caller) (r : ℕ) → a ≡ b → (told b).row ≡ none → (told b).number < 256 → r ≡ (told b).number → Packed a r
-bare_packed a b r e o n q =
-    subst (λ (x : Caller). Packed x r) (sym e) (λ h. record { number = n; row = h; bits = omega (arith, ap found_of o, ap row_of o) })
 
 -- ---- what the call answers
 
 module _ (lim : Limits) (idtype : ℕ) (digits store : List ℕ) where
   -- a row that is answered fits a byte
-  fits : (a : Caller) → Answers (looking_up lim idtype digits store) (told a) → row_of (told a).row < 65536
-  fits (Row row) x = omega (arith, row_small lim idtype digits store (Row row) row x refl)
-  fits NoRow x = omega arith
-  fits NotAStore x = omega arith
-  fits NotANumber x = omega arith
+  fits : (a : Result (Maybe ℕ) NoCaller) → Answers (looking_up lim idtype digits store) (told a) → row_of (told a).row < 65536
+  fits (Ok (Some row)) x = omega (arith, row_small lim idtype digits store (Ok (Some row)) row x refl)
+  fits (Ok None) x = omega arith
+  fits (Err NotAStore) x = omega arith
+  fits (Err NotANumber) x = omega arith
 
   -- LOOKS UP: what the call answers is packed whole
-  pub looks_packed : (a : Caller) (r : ℕ) → Answers (looking_up lim idtype digits store) (told a) → Packed a r → LooksUp lim idtype digits store r
+  pub looks_packed : (a : Result (Maybe ℕ) NoCaller) (r : ℕ) → Answers (looking_up lim idtype digits store) (told a) → Packed a r → LooksUp lim idtype digits store r
   looks_packed a r x packs = record { answer = told a; allowed = x; packs = packs (fits a x) }

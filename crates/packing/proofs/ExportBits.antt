@@ -1,36 +1,13 @@
 -- What exporting answers, packed: the length of a request that was exported has 16 bits. Assumes nothing.
-use Rattle.lists.proofs.Kit.{ℕ, ◌*◌, ◌≤◌, ◌<◌, ◌≡◌, sym, ap, subst, inl, inr, List, arith, length}
+use Rattle.lists.proofs.Kit.{ℕ, ◌≤◌, ◌<◌, ◌≡◌, ap, inl, inr, List, arith, length}
 use Rattle.lists.specs.Ladder.{Answers}
 use Rattle.tables.specs.declared.limits.Limits.{Limits}
 use Rattle.export.specs.declared.parts.Export.{Export}
-use Rattle.export.specs.declared.parts.Export.TheVariants.{Written, Untouched}
-use Rattle.export.specs.declared.parts.NoExport.{NoExport}
-use Rattle.export.specs.declared.parts.NoExport.TheVariants.{Buffer, NotAStore, NoPart}
 use Rattle.export.specs.Exported.{exported, request_bytes}
-use Rattle.export.specs.Exporting.{AfterExport, Told, told, no_export, exporting}
+use Rattle.export.specs.Exporting.{AfterExport, Told, told, exporting}
 use Rattle.restore.specs.Restored.{longest}
 use Rattle.restore.proofs.Requests.{exported_length, longest_fits}
 use Rattle.packing.specs.Packing.{Packable, PacksExport, Exports}
-
--- ---- an answer by its case
-
--- a request that was written, where its length fits
-pub written_packed : (x : Export) (n r : ℕ) → x ≡ Written n → (n < 65536 → r ≡ n) → (told x).request_length < 65536 → PacksExport (told x) (r * 65536)
-written_packed x n r e p = subst (λ (y : Export). (told y).request_length < 65536 → PacksExport (told y) (r * 65536)) (sym e) packs
-  where
-    packs : n < 65536 → PacksExport (told (Written n)) (r * 65536)
-    packs h = record { number = omega arith; request_length = h; bits = omega (arith, p h) }
-
--- a refusal's number has its bits
-refusal_small : (why : NoExport) → no_export why < 256
-refusal_small Buffer = omega arith
-refusal_small NotAStore = omega arith
-refusal_small NoPart = omega arith
-
--- a refusal is its number
-pub refusal_packed : (x : Export) (why : NoExport) (r : ℕ) → x ≡ Untouched why → r ≡ no_export why → PacksExport (told x) r
-refusal_packed x why r e p =
-    subst (λ (y : Export). PacksExport (told y) r) (sym e) (record { number = refusal_small why; request_length = omega arith; bits = omega (arith, p) })
 
 -- ---- what the call answers
 

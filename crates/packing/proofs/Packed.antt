@@ -1,25 +1,42 @@
 -- A packed answer by its case. Assumes nothing.
-use Rattle.lists.proofs.Kit.{ℕ, ◌+◌, ◌*◌, ◌<◌, ◌≡◌, sym, subst, List, arith}
+use Rattle.lists.proofs.Kit.{ℕ, ◌<◌, ◌≡◌, refl, sym, subst, List, arith}
 use Rattle.lists.specs.Ladder.{Answers}
-use Rattle.plan.specs.Answers.{Said, answer, refused}
+use Rattle.plan.specs.declared.numbers.IndividualAddress.{IndividualAddress}
+use Rattle.plan.specs.declared.numbers.GroupAddress.{GroupAddress}
+use Rattle.plan.specs.Answers.{Answer, answer, Answered, individual, group, dialled, frequency, channel}
 use Rattle.tables.specs.declared.start.Started.{Started}
 use Rattle.tables.specs.declared.limits.Limits.{Limits}
 use Rattle.tables.specs.Store.{started, begins, starting}
 use Rattle.station.specs.Answers.{Said as Told, refused_with}
-use Rattle.menu.specs.declared.counting.Counts.{Counts as Menu}
-use Rattle.menu.specs.declared.counting.Counts.TheVariants.{Held, NotAStore}
-use Rattle.menu.specs.Menu.{told}
-use Rattle.packing.specs.Packing.{Starts, Packs, PacksCounts, PacksValue}
+use Rattle.std.specs.Prelude.{Option, Some, None, option_map}
+use Rattle.packing.specs.Packing.{Starts, Packs, PacksValue, Converts, value_or}
 
 -- ---- conversions
 
--- a number that packs one case packs the answer that is that case
-pub packed_case : {A : Type 0} (say : A → Said) (a b : A) (r : ℕ) → a ≡ b → PacksValue (answer (say b)) r → PacksValue (answer (say a)) r
-packed_case say a b r e p = subst (λ x. PacksValue (answer (say x)) r) (sym e) p
+-- each conversion's answer is its value, or its refusal
+pub individual_or : (a : Option IndividualAddress) → answer (individual a) ≡ value_or 20 (option_map (λ (x : IndividualAddress). x.0) a)
+individual_or (Some a) = refl
+individual_or None = refl
 
--- a refusal is its number
-pub value_refused : (n : ℕ) → n < 256 → PacksValue (refused n) n
-value_refused n h = record { number = h; value = omega arith; bits = omega arith }
+pub group_or : (a : Option GroupAddress) → answer (group a) ≡ value_or 20 (option_map (λ (x : GroupAddress). x.0) a)
+group_or (Some a) = refl
+group_or None = refl
+
+pub dialled_or : (a : Option ℕ) → answer (dialled a) ≡ value_or 21 a
+dialled_or (Some d) = refl
+dialled_or None = refl
+
+pub frequency_or : (a : Option ℕ) → answer (frequency a) ≡ value_or 22 a
+frequency_or (Some f) = refl
+frequency_or None = refl
+
+pub channel_or : (a : Option ℕ) → answer (channel a) ≡ value_or 22 a
+channel_or (Some n) = refl
+channel_or None = refl
+
+-- CONVERTS: what a conversion answers, packed
+pub converts : {Has : ℕ → ℕ → Type 0} {refusal x r : ℕ} (a b : Answer) → a ≡ b → Answered Has refusal x a → PacksValue b r → Converts Has refusal x r
+converts {Has} {refusal} {x} a b e p q = record { answer = b; allowed = subst (Answered Has refusal x) e p; packs = q }
 
 -- ---- starting
 
@@ -37,13 +54,3 @@ said_case say a b r e p = subst (λ x. Packs (say x) r) (sym e) p
 pub packed_refusal : (n r : ℕ) → r ≡ n → r < 256 → Packs (refused_with n) r
 packed_refusal n r e h = record { number = omega arith; failed = omega arith; reply_length = omega arith; bits = omega arith }
 
--- ---- the menu's counts
-
--- both counts
-pub counts_packed : (a : Menu) (l c : ℕ) → a ≡ Held l c → l < 65536 → c < 65536 → PacksCounts (told a) (l * 65536 + c * 4294967296)
-counts_packed a l c e p q =
-    subst (λ x. PacksCounts (told x) (l * 65536 + c * 4294967296)) (sym e) (record { number = omega arith; lines = p; channels = q; bits = omega arith })
-
--- the number alone, where there are none
-pub no_counts_packed : (a : Menu) → a ≡ NotAStore → PacksCounts (told a) 11
-no_counts_packed a e = subst (λ x. PacksCounts (told x) 11) (sym e) (record { number = omega arith; lines = omega arith; channels = omega arith; bits = omega arith })

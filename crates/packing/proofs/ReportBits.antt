@@ -1,5 +1,5 @@
 -- What the report call answers, packed: one number and one buffer, and its bits give the values back. Assumes nothing.
-use Rattle.lists.proofs.Kit.{ℕ, ◌+◌, ◌*◌, ◌/◌, ◌%◌, ◌<◌, ◌≡◌, refl, sym, ap, ◌∙◌, subst, List, arith}
+use Rattle.lists.proofs.Kit.{ℕ, ◌/◌, ◌%◌, ◌<◌, ◌≡◌, sym, ap, ◌∙◌, List, arith}
 use Rattle.lists.specs.Every.{All}
 use Rattle.lists.specs.Ladder.{Answers}
 use Rattle.writing.specs.Canonical.{side_by_side, FitsField}
@@ -7,21 +7,11 @@ use Rattle.tables.specs.declared.limits.Limits.{Limits}
 use Rattle.reports.specs.Reporting.{After, Told, Reportable, reporting}
 use Rattle.reports.proofs.Determined.{report_determined}
 use Rattle.reports.proofs.Theorems.{report_small}
-use Rattle.reporting.specs.declared.answers.NoReport.{NoReport}
 use Rattle.reporting.specs.declared.answers.Report.{Report}
-use Rattle.reporting.specs.declared.answers.Report.TheVariants.{Written, Untouched}
-use Rattle.reporting.specs.Told.{no_report, told}
+use Rattle.reporting.specs.Told.{told}
 use Rattle.packing.specs.PackedReports.{report_fields, AnswersReport}
 use Rattle.packing.specs.PackedValues.{PacksFields, WhereFit}
 use Rattle.packing.proofs.SideBySide.{read_back}
-
--- ---- an answer by its case
-
-pub written_packed : (x : Report) (total n r : ℕ) → x ≡ Written total n → (n < 65536 → r ≡ n) → WhereFit (report_fields (told x)) (total * 256 + r * 65536)
-written_packed x total n r e p = subst (λ (y : Report). WhereFit (report_fields (told y)) (total * 256 + r * 65536)) (sym e) (λ f. omega (arith, p f.0))
-
-pub refusal_packed : (x : Report) (why : NoReport) (r : ℕ) → x ≡ Untouched why → r ≡ no_report why → WhereFit (report_fields (told x)) r
-refusal_packed x why r e p = subst (λ (y : Report). WhereFit (report_fields (told y)) r) (sym e) (λ f. omega (arith, p))
 
 -- ---- what the call answers
 

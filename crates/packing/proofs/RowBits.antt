@@ -1,8 +1,7 @@
 -- What a row answers, packed: where its part starts and how long it is have 16 bits each. Assumes nothing.
-use Rattle.lists.proofs.Kit.{ℕ, ◌+◌, ◌*◌, ◌<◌, ◌≡◌, sym, subst, List, arith}
+use Rattle.lists.proofs.Kit.{ℕ, ◌<◌, ◌≡◌, sym, subst, List, arith}
 use Rattle.lists.specs.Ladder.{Answers}
 use Rattle.tables.specs.declared.limits.Limits.{Limits}
-use Rattle.screen.specs.declared.rows.Refusal.{Refusal}
 use Rattle.screen.specs.declared.rows.Row.{Row}
 use Rattle.screen.specs.Rows.{row_named}
 use Rattle.screen.specs.declared.answers.Answer.{Answer}
@@ -17,21 +16,6 @@ use Rattle.packing.specs.Packing.{Packable, part_of, start_of, length_of, PacksP
 -- the number r packs the place where its values fit
 abbrev Packed : Place → ℕ → Type 0
 Packed p r = start_of (part_of p) < 65536 → length_of (part_of p) < 65536 → PacksPart (part_of p) r
-
-pub store_packed : (p : Place) (start bytes s b : ℕ) → p ≡ Store start bytes → (start < 65536 → s ≡ start) → (bytes < 65536 → b ≡ bytes) → Packed p (s * 65536 + b * 4294967296)
-store_packed p start bytes s b e i j = subst (λ (q : Place). Packed q (s * 65536 + b * 4294967296)) (sym e) packs
-  where
-    packs : Packed (Store start bytes) (s * 65536 + b * 4294967296)
-    packs h k = record { start = h; bytes = k; bits = omega (arith, i h, j k) }
-
-pub scratch_packed : (p : Place) (bytes b : ℕ) → p ≡ Scratch bytes → (bytes < 65536 → b ≡ bytes) → Packed p (1 + b * 4294967296)
-scratch_packed p bytes b e j = subst (λ (q : Place). Packed q (1 + b * 4294967296)) (sym e) packs
-  where
-    packs : Packed (Scratch bytes) (1 + b * 4294967296)
-    packs h k = record { start = h; bytes = k; bits = omega (arith, j k) }
-
-pub nothing_packed : (p : Place) (why : Refusal) → p ≡ NoPlace why → Packed p 0
-nothing_packed p why e = subst (λ (q : Place). Packed q 0) (sym e) (λ h k. record { start = h; bytes = k; bits = omega arith })
 
 -- ---- what the calls answer
 

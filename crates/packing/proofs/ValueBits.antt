@@ -19,23 +19,17 @@ use Rattle.tables.proofs.EntryCodes.{bit_small}
 use Rattle.screen.specs.declared.rows.Row.{Row}
 use Rattle.screen.specs.declared.rows.Row.TheVariants.{Line, QuickText, StatusText, Group, Individual, GroupContact, IndividualContact, LineSlot, NoTable}
 use Rattle.screen.specs.Rows.{of, row_named}
-use Rattle.values.specs.declared.answers.Channel.{Channel}
-use Rattle.values.specs.declared.answers.Digits.{Digits}
-use Rattle.values.specs.declared.answers.Digits.TheVariants.{Written, Absent, NotAStore, BufferSize}
-use Rattle.values.specs.declared.answers.Entry.{Entry}
-use Rattle.values.specs.declared.answers.Home.{Home}
-use Rattle.values.specs.declared.answers.Key.{Key}
-use Rattle.values.specs.declared.answers.System.{System}
+use Rattle.std.specs.Prelude.{Result, Ok, Err}
+use Rattle.writing.specs.declared.HomeNumbers.{HomeNumbers}
+use Rattle.writing.specs.declared.SystemCode.{SystemCode}
+use Rattle.values.specs.declared.answers.EmergencyKey.{EmergencyKey}
+use Rattle.values.specs.declared.answers.NoValue.{NoValue}
 use Rattle.values.specs.declared.answers.Target.{Target}
 use Rattle.values.specs.Digits.{AfterDigits, number_at, digits_told, writing_digits}
-use Rattle.values.specs.Values.{Asked, refused, given, asking, line_target, group_target, individual_target, entry_at, entry_told, entering, channel_at, channel_told, tuning, key_told, key_asked, home_told, home_asked, system_told, system_asked}
+use Rattle.values.specs.Values.{Asked, refused, given, asking, line_target, group_target, individual_target, entry_at, told, entering, channel_at, tuning, key_asked, home_asked, system_asked}
 use Rattle.packing.specs.declared.entries.EntryValues.{EntryValues}
 use Rattle.packing.specs.declared.fixed.KeyValues.{KeyValues}
 use Rattle.packing.specs.PackedValues.{Packed, WhereFit, entry_values, entry_bits, entry_fields, Enters, digits_fields, WritesDigits, channel_fields, Tunes, calls, key_values, key_bits, key_fields, AnswersKey, home_fields, AnswersHome, system_fields, AnswersSystem}
-
--- a number that packs one case packs the answer that is that case
-pub case_packed : {A : Type 0} (fields : A → List Field) (a b : A) (r : ℕ) → a ≡ b → WhereFit (fields b) r → WhereFit (fields a) r
-case_packed fields a b r e p = subst (λ x. WhereFit (fields x) r) (sym e) p
 
 -- ---- an entry of a table
 
@@ -137,12 +131,12 @@ module _ {A : Type 0} (lim : Limits) (what : Tables → Option A) (store : List 
 module _ (lim : Limits) where
   module _ (table index : ℕ) (store : List ℕ) (which : Row) (named : which ≡ row_named table index) where
     -- ENTERS: what stands behind a row
-    pub entry_packed : (a : Entry) (r : ℕ) → Answers (entering lim which store) (entry_told a) → WhereFit (entry_fields (entry_told a)) r → Enters lim table index store r
+    pub entry_packed : (a : Result Target NoValue) (r : ℕ) → Answers (entering lim which store) (told a) → WhereFit (entry_fields (told a)) r → Enters lim table index store r
     entry_packed a r x p =
         asked_packed lim (λ t. entry_at t (row_named table index)) store entry_fields
         (λ n h. entry_bits_fit (entry_values none) n (omega arith) (omega arith) (omega arith) h)
         (λ t ok v e. entry_fits lim t ok (row_named table index) v e)
-        (entry_told a) r (subst (λ (w : Row). Answers (entering lim w store) (entry_told a)) named x) p
+        (told a) r (subst (λ (w : Row). Answers (entering lim w store) (told a)) named x) p
 
     module _ (buffer after : List ℕ) where
       -- a number, and at most 18 digits
@@ -156,14 +150,12 @@ module _ (lim : Limits) where
       digits_small a (inr (_, inr (_, inr (_, (t, h, ds, there, e))))) = subst Small (sym e) (omega arith, digits_short lim t h.0 which ds there)
 
       -- an answer with the buffer that it left is packed as with any other
-      left : (a : Digits) → (digits_fields (digits_told a []) ≡ digits_fields (digits_told a after)) × (after ≡ (digits_told a after).buffer)
-      left (Written n) = (refl, refl)
-      left Absent = (refl, refl)
-      left NotAStore = (refl, refl)
-      left BufferSize = (refl, refl)
+      left : (a : Result ℕ NoValue) → (digits_fields (digits_told a []) ≡ digits_fields (digits_told a after)) × (after ≡ (digits_told a after).buffer)
+      left (Ok n) = (refl, refl)
+      left (Err why) = (refl, refl)
 
       -- WRITES DIGITS: the digits behind a row
-      pub digits_packed : (a : Digits) (r : ℕ) → Answers (writing_digits lim which store buffer) (digits_told a after) → WhereFit (digits_fields (digits_told a [])) r
+      pub digits_packed : (a : Result ℕ NoValue) (r : ℕ) → Answers (writing_digits lim which store buffer) (digits_told a after) → WhereFit (digits_fields (digits_told a [])) r
           → WritesDigits lim table index store buffer after r
       digits_packed a r x p =
           let (n, k) = digits_small (digits_told a after) x in
@@ -173,30 +165,30 @@ module _ (lim : Limits) where
           record { packed = record { answer = digits_told a after; allowed = y; packs = record { fits = f; bits = q f } }; leaves = (left a).1 }
 
   -- TUNES: the channel at a position
-  pub channel_packed : (position : ℕ) (store : List ℕ) (a : Channel) (r : ℕ) → Answers (tuning lim position store) (channel_told a) → WhereFit (channel_fields (channel_told a)) r → Tunes lim position store r
+  pub channel_packed : (position : ℕ) (store : List ℕ) (a : Result ℕ NoValue) (r : ℕ) → Answers (tuning lim position store) (told a) → WhereFit (channel_fields (told a)) r → Tunes lim position store r
   channel_packed position store a r x p =
       asked_packed lim (λ t. channel_at t position) store channel_fields (λ n h. (omega arith, (h, tt)))
       (λ t ok v e.
       let i : InChannel v = at_place InChannel (map some t.channels) position v (all_map InChannel (Present InChannel) some (λ c q. q) t.channels ok.channels.1) e in
       (omega (arith, i.1), (omega arith, tt)))
-      (channel_told a) r x p
+      (told a) r x p
 
   -- KEY: the emergency key
-  pub key_packed : (store : List ℕ) (a : Key) (r : ℕ) → Answers (key_asked lim store) (key_told a) → WhereFit (key_fields (key_told a)) r → AnswersKey lim store r
+  pub key_packed : (store : List ℕ) (a : Result EmergencyKey NoValue) (r : ℕ) → Answers (key_asked lim store) (told a) → WhereFit (key_fields (told a)) r → AnswersKey lim store r
   key_packed store a r x p = asked_packed lim _ store key_fields
       (λ n h. key_bits_fit (key_values none) n (omega arith) h)
       (λ t ok v e. subst (λ k. All FitsField (key_fields (given k))) (option_some_injective _ v e) (key_fits t.key.target t.key.flags ok.key))
-      (key_told a) r x p
+      (told a) r x p
 
   -- HOME: the home numbers
-  pub home_packed : (store : List ℕ) (a : Home) (r : ℕ) → Answers (home_asked lim store) (home_told a) → WhereFit (home_fields (home_told a)) r → AnswersHome lim store r
+  pub home_packed : (store : List ℕ) (a : Result HomeNumbers NoValue) (r : ℕ) → Answers (home_asked lim store) (told a) → WhereFit (home_fields (told a)) r → AnswersHome lim store r
   home_packed store a r x p = asked_packed lim _ store home_fields (λ n h. (omega arith, (omega arith, (h, tt))))
       (λ t ok v e. subst (λ k. All FitsField (home_fields (given k))) (option_some_injective _ v e) (omega (arith, ok.home.np), (ok.home.nzi, (omega arith, tt))))
-      (home_told a) r x p
+      (told a) r x p
 
   -- SYSTEM: the system code
-  pub system_packed : (store : List ℕ) (a : System) (r : ℕ) → Answers (system_asked lim store) (system_told a) → WhereFit (system_fields (system_told a)) r → AnswersSystem lim store r
+  pub system_packed : (store : List ℕ) (a : Result SystemCode NoValue) (r : ℕ) → Answers (system_asked lim store) (told a) → WhereFit (system_fields (told a)) r → AnswersSystem lim store r
   system_packed store a r x p = asked_packed lim _ store system_fields (λ n h. (one_bit false, (omega arith, (omega arith, (omega arith, (h, tt))))))
       (λ t ok v e. subst (λ k. All FitsField (system_fields (given k))) (option_some_injective _ v e)
       (one_bit t.system.par, (omega (arith, ok.system.roaming), (omega (arith, ok.system.la), (ok.system.lai, (omega arith, tt))))))
-      (system_told a) r x p
+      (told a) r x p

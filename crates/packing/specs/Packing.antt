@@ -1,8 +1,8 @@
 -- How an answer is packed in one number for C, and what each C function of a set with limits lim answers.
-use Rattle.std.specs.Prelude.{ℕ, ◌+◌, ◌*◌, ◌≤◌, ◌<◌, ◌≡◌, List, []}
+use Rattle.std.specs.Prelude.{ℕ, ◌+◌, ◌*◌, ◌≤◌, ◌<◌, ◌≡◌, List, [], Option as Maybe, Some, None}
 use Rattle.std.proofs.Math.Option.{Option, none, some}
 use Rattle.lists.specs.Ladder.{Answers}
-use Rattle.plan.specs.Answers.{Answer, Answered}
+use Rattle.plan.specs.Answers.{Answer, Answered, given, refused}
 use Rattle.writing.specs.Writing.{bit}
 use Rattle.tables.specs.declared.limits.Limits.{Limits}
 use Rattle.tables.specs.Forms.{Roomy}
@@ -155,6 +155,11 @@ pub record AnswersPart (lim : Limits) (table row : ℕ) (store scratch scratch_a
   pub packs : PacksPart part r
 
 -- ---- conversions
+
+-- a value, or a refusal where there is none
+abbrev pub value_or : ℕ → Maybe ℕ → Answer
+value_or refusal (Some v) = given v
+value_or refusal None = refused refusal
 
 -- bits 0-7 number, 8-39 value
 abbrev pub packed_value : Answer → ℕ

@@ -5,7 +5,7 @@ ghost use Rattle.writing.specs.Writing.{bit};
 pub fn bit_of(said: bool) -> u64
     ensures { (result ≡ bit said) × (result ≤ 1) }
 {
-    if said { 1 } else { 0 }
+    said as u64
 }
 
 // The lowest 16 bits: no place and no length that a call answers has more.

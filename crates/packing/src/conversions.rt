@@ -1,57 +1,19 @@
 // What converting dialled numbers, addresses and channels answers. Bits 0 to 7 are the number, 8 to 39 the value.
-ghost use Rattle.plan.specs.Answers.{given, answer as plan_answer, individual, group, dialled, frequency, channel};
-ghost use Rattle.packing.specs.Packing.{PacksValue};
+ghost use Rattle.packing.specs.Packing.{PacksValue, value_or};
 
-use plan::frequencies::{ChannelAnswer, FrequencyAnswer};
-use plan::numbers::{DialledAnswer, GroupAnswer, IndividualAnswer};
+// C's numbers of the conversions that have no answer: of a dialled number, of an address, of a channel or a frequency.
+pub const OUTSIDE_PLAN: u8 = 20;
 
-fn pack(value: u32) -> u64
-    ensures { PacksValue (given value) result }
-{
-    value as u64 * 256
-}
+pub const OUTSIDE_KIND: u8 = 21;
 
-pub fn pack_individual(answer: IndividualAnswer) -> u64
-    ensures { PacksValue (plan_answer (individual answer)) result }
+pub const NO_CHANNEL: u8 = 22;
+
+// The value, or the number that is answered where there is none.
+pub fn pack_value(answer: Option<u32>, refusal: u8) -> u64
+    ensures { PacksValue (value_or refusal answer) result }
 {
     match answer {
-        IndividualAnswer::Address(address) => pack(address.0),
-        IndividualAnswer::OutsidePlan => 20,
-    }
-}
-
-pub fn pack_group(answer: GroupAnswer) -> u64
-    ensures { PacksValue (plan_answer (group answer)) result }
-{
-    match answer {
-        GroupAnswer::Address(address) => pack(address.0),
-        GroupAnswer::OutsidePlan => 20,
-    }
-}
-
-pub fn pack_dialled(answer: DialledAnswer) -> u64
-    ensures { PacksValue (plan_answer (dialled answer)) result }
-{
-    match answer {
-        DialledAnswer::Dialled(number) => pack(number),
-        DialledAnswer::OutsideKind => 21,
-    }
-}
-
-pub fn pack_frequency(answer: FrequencyAnswer) -> u64
-    ensures { PacksValue (plan_answer (frequency answer)) result }
-{
-    match answer {
-        FrequencyAnswer::Frequency(f) => pack(f),
-        FrequencyAnswer::NoChannel => 22,
-    }
-}
-
-pub fn pack_channel(answer: ChannelAnswer) -> u64
-    ensures { PacksValue (plan_answer (channel answer)) result }
-{
-    match answer {
-        ChannelAnswer::Channel(n) => pack(n),
-        ChannelAnswer::NoChannel => 22,
+        Some(value) => value as u64 * 256,
+        None => refusal as u64,
     }
 }

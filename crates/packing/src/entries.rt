@@ -1,11 +1,11 @@
 // What stands behind a row.
 ghost use Rattle.std.specs.Prelude.{◌≡◌};
 ghost use Rattle.std.proofs.Math.Option.{some};
-ghost use Rattle.values.specs.Values.{entry_told};
+ghost use Rattle.values.specs.Values.{told};
 ghost use Rattle.packing.specs.PackedValues.{entry_values, entry_bits, entry_fields, WhereFit};
 
 use super::bits::bit_of;
-use values::answers::{Entry, Target};
+use values::answers::{NoValue, Target};
 
 // All that an entry of any kind has, 0 where its kind has none.
 #[derive(Clone, Copy)]
@@ -20,40 +20,42 @@ pub struct EntryValues {
     pub ovcm: bool,
 }
 
-fn values_of(target: Target) -> EntryValues
-    ensures { result ≡ entry_values (some target) }
-{
-    match target {
-        Target::Line(f) => EntryValues {
-            address: 0,
-            idtype: f.pabx,
-            encryption: f.encryption,
-            emergency: f.emergency,
-            priority: f.priority,
-            attribute: 0,
-            broadcast: false,
-            ovcm: false,
-        },
-        Target::Group(f, a) => EntryValues {
-            address: a.0,
-            idtype: false,
-            encryption: f.encryption,
-            emergency: f.emergency,
-            priority: f.priority,
-            attribute: f.attribute,
-            broadcast: f.broadcast,
-            ovcm: f.ovcm,
-        },
-        Target::Individual(f, a) => EntryValues {
-            address: a.0,
-            idtype: false,
-            encryption: f.encryption,
-            emergency: f.emergency,
-            priority: f.priority,
-            attribute: 0,
-            broadcast: false,
-            ovcm: false,
-        },
+impl From<Target> for EntryValues {
+    ghost from_gives = { λ target r. r ≡ entry_values (some target) };
+
+    fn from(target: Target) -> EntryValues {
+        match target {
+            Target::Line(f) => EntryValues {
+                address: 0,
+                idtype: f.pabx,
+                encryption: f.encryption,
+                emergency: f.emergency,
+                priority: f.priority,
+                attribute: 0,
+                broadcast: false,
+                ovcm: false,
+            },
+            Target::Group(f, a) => EntryValues {
+                address: a.0,
+                idtype: false,
+                encryption: f.encryption,
+                emergency: f.emergency,
+                priority: f.priority,
+                attribute: f.attribute,
+                broadcast: f.broadcast,
+                ovcm: f.ovcm,
+            },
+            Target::Individual(f, a) => EntryValues {
+                address: a.0,
+                idtype: false,
+                encryption: f.encryption,
+                emergency: f.emergency,
+                priority: f.priority,
+                attribute: 0,
+                broadcast: false,
+                ovcm: false,
+            },
+        }
     }
 }
 
@@ -72,15 +74,11 @@ fn pack_values(v: EntryValues) -> u64
 }
 
 // Bits 0 to 7 number, and above them what stands there.
-pub fn pack_entry(answer: Entry) -> u64
-    ensures { WhereFit (entry_fields (entry_told answer)) result }
+pub fn pack_entry(answer: Result<Target, NoValue>) -> u64
+    ensures { WhereFit (entry_fields (told answer)) result }
 {
     match answer {
-        Entry::There(target) => {
-            let v = values_of(target);
-            pack_values(v)
-        }
-        Entry::Absent => 17,
-        Entry::NotAStore => 11,
+        Ok(target) => pack_values(EntryValues::from(target)),
+        Err(why) => why as u64,
     }
 }

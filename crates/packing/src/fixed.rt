@@ -1,11 +1,11 @@
 // The emergency key, the home numbers and the system code.
 ghost use Rattle.std.specs.Prelude.{◌≡◌};
 ghost use Rattle.std.proofs.Math.Option.{some};
-ghost use Rattle.values.specs.Values.{home_told, key_told, system_told};
+ghost use Rattle.values.specs.Values.{told};
 ghost use Rattle.packing.specs.PackedValues.{home_bits, home_fields, key_bits, key_fields, key_values, system_bits, system_fields, WhereFit};
 
 use super::bits::bit_of;
-use values::answers::{EmergencyKey, Home, Key, System};
+use values::answers::{EmergencyKey, NoValue};
 use writing::{HomeNumbers, KeyTarget, SystemCode};
 
 // All that the key has, whatever it calls; no address with the current place.
@@ -19,36 +19,23 @@ pub struct KeyValues {
     pub siren: bool,
 }
 
-fn values_of(key: EmergencyKey) -> KeyValues
-    ensures { result ≡ key_values (some key) }
-{
-    let f = key.flags;
-    let target = key.target;
-    match target {
-        KeyTarget::Current(group) => KeyValues {
-            address: 0,
-            current: true,
-            group: group,
-            voice: f.voice,
-            status: f.status,
-            siren: f.siren,
-        },
-        KeyTarget::ToGroup(a) => KeyValues {
-            address: a.0,
-            current: false,
-            group: true,
-            voice: f.voice,
-            status: f.status,
-            siren: f.siren,
-        },
-        KeyTarget::ToIndividual(a) => KeyValues {
-            address: a.0,
-            current: false,
-            group: false,
-            voice: f.voice,
-            status: f.status,
-            siren: f.siren,
-        },
+impl From<EmergencyKey> for KeyValues {
+    ghost from_gives = { λ key r. r ≡ key_values (some key) };
+
+    fn from(key: EmergencyKey) -> KeyValues {
+        let (address, current, group) = match key.target {
+            KeyTarget::Current(group) => (0, true, group),
+            KeyTarget::ToGroup(a) => (a.0, false, true),
+            KeyTarget::ToIndividual(a) => (a.0, false, false),
+        };
+        KeyValues {
+            address,
+            current,
+            group,
+            voice: key.flags.voice,
+            status: key.flags.status,
+            siren: key.flags.siren,
+        }
     }
 }
 
@@ -65,15 +52,12 @@ fn pack_calls(v: KeyValues) -> u64
 }
 
 // Bits 0 to 7 number, and above them where the key calls, and how.
-pub fn pack_key(answer: Key) -> u64
-    ensures { WhereFit (key_fields (key_told answer)) result }
+pub fn pack_key(answer: Result<EmergencyKey, NoValue>) -> u64
+    ensures { WhereFit (key_fields (told answer)) result }
 {
     match answer {
-        Key::Armed(key) => {
-            let v = values_of(key);
-            pack_calls(v)
-        }
-        Key::NotAStore => 11,
+        Ok(key) => pack_calls(KeyValues::from(key)),
+        Err(why) => why as u64,
     }
 }
 
@@ -85,12 +69,12 @@ fn pack_numbers(h: HomeNumbers) -> u64
 }
 
 // Bits 0 to 7 number, and above them the home numbers.
-pub fn pack_home(answer: Home) -> u64
-    ensures { WhereFit (home_fields (home_told answer)) result }
+pub fn pack_home(answer: Result<HomeNumbers, NoValue>) -> u64
+    ensures { WhereFit (home_fields (told answer)) result }
 {
     match answer {
-        Home::Numbers(h) => pack_numbers(h),
-        Home::NotAStore => 11,
+        Ok(h) => pack_numbers(h),
+        Err(why) => why as u64,
     }
 }
 
@@ -105,11 +89,11 @@ fn pack_code(c: SystemCode) -> u64
 }
 
 // Bits 0 to 7 number, and above them the system code.
-pub fn pack_system(answer: System) -> u64
-    ensures { WhereFit (system_fields (system_told answer)) result }
+pub fn pack_system(answer: Result<SystemCode, NoValue>) -> u64
+    ensures { WhereFit (system_fields (told answer)) result }
 {
     match answer {
-        System::Code(c) => pack_code(c),
-        System::NotAStore => 11,
+        Ok(c) => pack_code(c),
+        Err(why) => why as u64,
     }
 }

@@ -1,7 +1,7 @@
 -- Which answers are right: one at most, and the same under another name of the question. Assumes nothing.
 use Rattle.lists.proofs.Kit.{ℕ, ◌≡◌, sym, ap, ◌∙◌, [], ◌∷◌, get_or}
 use Rattle.lists.proofs.OneToOne.{decoded}
-use Rattle.plan.specs.Answers.{Said, Answer, answer, Answered, has, none, given, refused, Back, BothWays}
+use Rattle.plan.specs.Answers.{Said, Answer, answer, Answered, has, none, given, Back, BothWays}
 
 -- x has one value at most
 abbrev pub One : (ℕ → ℕ → Type 0) → Type 0

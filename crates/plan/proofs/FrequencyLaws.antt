@@ -1,5 +1,5 @@
 -- Channels and frequencies: one each way, and what the code's parts of a frequency are. Assumes nothing.
-use Rattle.lists.proofs.Kit.{ℕ, ◌+◌, ◌-◌, ◌≤◌, ◌<◌, ◌≡◌, arith}
+use Rattle.lists.proofs.Kit.{ℕ, ◌-◌, ◌≤◌, ◌<◌, arith}
 use Rattle.plan.specs.Answers.{Back}
 use Rattle.plan.specs.Frequencies.{Transmits, simplex, paired, Receives, both_ways, above}
 use Rattle.plan.specs.Frequencies.{Steps}

@@ -1,9 +1,6 @@
 -- The promises of the crate: each conversion has one right answer, and channels go both ways. Assumes nothing.
 use Rattle.lists.proofs.Kit.{ℕ, ◌≡◌, refl, arith}
-use Rattle.plan.specs.declared.frequencies.FrequencyAnswer.{FrequencyAnswer}
-use Rattle.plan.specs.declared.frequencies.FrequencyAnswer.TheVariants.{Frequency, NoChannel as NoFrequency}
-use Rattle.plan.specs.declared.frequencies.ChannelAnswer.{ChannelAnswer}
-use Rattle.plan.specs.declared.frequencies.ChannelAnswer.TheVariants.{Channel, NoChannel}
+use Rattle.std.specs.Prelude.{Option, Some, None}
 use Rattle.plan.specs.Answers.{answer, frequency, channel, Answered, Back, BothWays}
 use Rattle.plan.proofs.AnswerLaws.{case_of, case_determined, both_ways}
 use Rattle.plan.specs.Frequencies.{Transmits, Receives}
@@ -11,22 +8,22 @@ use Rattle.plan.proofs.FrequencyLaws.{one_transmit, one_channel, one_receive}
 
 -- ---- two answers that a contract of this crate allows for one input are the same case with the same value
 
-frequency_back : (a : FrequencyAnswer) → case_of Frequency NoFrequency (answer (frequency a)) ≡ a
-frequency_back (Frequency f) = refl
-frequency_back NoFrequency = refl
+frequency_back : (a : Option ℕ) → case_of Some None (answer (frequency a)) ≡ a
+frequency_back (Some f) = refl
+frequency_back None = refl
 
-channel_back : (a : ChannelAnswer) → case_of Channel NoChannel (answer (channel a)) ≡ a
-channel_back (Channel n) = refl
-channel_back NoChannel = refl
+channel_back : (a : Option ℕ) → case_of Some None (answer (channel a)) ≡ a
+channel_back (Some n) = refl
+channel_back None = refl
 
-pub transmit_determined : (n : ℕ) (a b : FrequencyAnswer) → Answered Transmits 22 n (answer (frequency a)) → Answered Transmits 22 n (answer (frequency b)) → a ≡ b
-transmit_determined = case_determined Transmits one_transmit 22 frequency Frequency NoFrequency frequency_back
+pub transmit_determined : (n : ℕ) (a b : Option ℕ) → Answered Transmits 22 n (answer (frequency a)) → Answered Transmits 22 n (answer (frequency b)) → a ≡ b
+transmit_determined = case_determined Transmits one_transmit 22 frequency Some None frequency_back
 
-pub receive_determined : (n : ℕ) (a b : FrequencyAnswer) → Answered Receives 22 n (answer (frequency a)) → Answered Receives 22 n (answer (frequency b)) → a ≡ b
-receive_determined = case_determined Receives one_receive 22 frequency Frequency NoFrequency frequency_back
+pub receive_determined : (n : ℕ) (a b : Option ℕ) → Answered Receives 22 n (answer (frequency a)) → Answered Receives 22 n (answer (frequency b)) → a ≡ b
+receive_determined = case_determined Receives one_receive 22 frequency Some None frequency_back
 
-pub channel_determined : (f : ℕ) (a b : ChannelAnswer) → Answered (Back Transmits) 22 f (answer (channel a)) → Answered (Back Transmits) 22 f (answer (channel b)) → a ≡ b
-channel_determined = case_determined (Back Transmits) one_channel 22 channel Channel NoChannel channel_back
+pub channel_determined : (f : ℕ) (a b : Option ℕ) → Answered (Back Transmits) 22 f (answer (channel a)) → Answered (Back Transmits) 22 f (answer (channel b)) → a ≡ b
+channel_determined = case_determined (Back Transmits) one_channel 22 channel Some None channel_back
 
 -- "Numbers and channels convert, both ways": channels
 pub channels_both_ways : BothWays Transmits 22 22

@@ -1,14 +1,9 @@
 -- The number plan: its bounds, that it goes both ways, and what the code's parts of a number are. Assumes nothing.
-use Rattle.lists.proofs.Kit.{ℕ, ◌+◌, ◌*◌, ◌-◌, ◌/◌, ◌%◌, ◌≤◌, ◌<◌, ◌≡◌, refl, sym, ◌∙◌, subst, subst₂, arith}
-use Rattle.plan.specs.Answers.{Answer, Answered, has, none, given, refused, Back, answer, dialled}
-use Rattle.plan.specs.Numbers.{IndividualShort, of_700, of_350, GroupShort, of_100, Numbered, Individual, Group}
-use Rattle.plan.specs.Inner.{ShortIs, MemberIs, ShortFits, MemberFits, AddressOf, DialledOf}
-use Rattle.plan.specs.declared.numbers.Short.{Short as Short'}
-use Rattle.plan.specs.declared.numbers.Short.TheVariants.{Is, Nothing}
-use Rattle.plan.specs.declared.numbers.Member.{Member}
-use Rattle.plan.specs.declared.numbers.Member.TheVariants.{Of, Nobody}
-use Rattle.plan.specs.declared.numbers.DialledAnswer.{DialledAnswer}
-use Rattle.plan.specs.declared.numbers.DialledAnswer.TheVariants.{Dialled, OutsideKind}
+use Rattle.lists.proofs.Kit.{ℕ, ◌+◌, ◌/◌, ◌%◌, ◌≤◌, ◌<◌, ◌≡◌, refl, sym, ◌∙◌, subst, subst₂, arith}
+use Rattle.plan.specs.Answers.{Answered, has, none, Back, answer, dialled}
+use Rattle.plan.specs.Numbers.{IndividualShort, of_700, of_350, GroupShort, of_100, Numbered}
+use Rattle.plan.specs.Inner.{AddressOf, DialledOf}
+use Rattle.std.specs.Prelude.{Option, Some, None}
 use Rattle.plan.proofs.AnswerLaws.{One}
 
 -- ---- a kind's plan: what fleets, members and short addresses it has
@@ -90,11 +85,6 @@ no_group h s (of_100 a b c d e) = h a b c d
 
 -- ---- numbers and addresses of a sound plan
 
--- an address that was found, as an answer
-abbrev pub found : Short' → Answer
-found (Is a) = given a
-found Nothing = refused 20
-
 module _ (Short : ℕ → ℕ → ℕ → Type 0) (sound : Sound Short) where
   -- the parts of a dialled number are its digits
   pub digits : {d a : ℕ} (n : Numbered Short d a) → (n.NP ≡ d / 100000) × (n.fleet ≡ d / 1000 % 100) × (n.member ≡ d % 1000)
@@ -128,18 +118,17 @@ module _ (Short : ℕ → ℕ → ℕ → Type 0) (sound : Sound Short) where
 
   -- ---- what the code answers, by the parts that it cuts and what the plan said of them
 
-  -- a short address that the plan gave fits its 15 bits
-  pub short_fits : (f m : ℕ) (r : Short') → ShortIs Short f m r → ShortFits r
-  short_fits f m (Is s) p = (sound.bounds p).fits_15
-  short_fits f m Nothing p = tt
+  -- no address where the plan has no short address for the number's member
+  pub no_address : (d : ℕ) → ((s : ℕ) → Short (d / 1000 % 100) (d % 1000) s → ⊥) → (a : ℕ) → Numbered Short d a → ⊥
+  no_address d h a n = let (_, f, m) = digits n in h n.short (subst₂ (λ (x y : ℕ). Short x y n.short) f m n.in_plan)
 
-  -- a fleet and a member that the plan gave fit their digits
-  pub member_fits : (s : ℕ) (r : Member) → MemberIs Short s r → MemberFits r
-  member_fits s (Of f m) p = let b = sound.bounds p in (b.two_digits, b.three_digits)
-  member_fits s Nobody p = tt
+  -- nor outside the areas
+  pub no_area : (d : ℕ) → (328 ≤ d / 100000 → d / 100000 ≤ 806 → ⊥) → (a : ℕ) → Numbered Short d a → ⊥
+  no_area d h a n = let (e, f, m) = digits n in let l = n.from_328 in let k = n.to_806 in h (omega arith) (omega arith)
 
-  numbered_as : (d : ℕ) (s r : Short') → ShortIs Short (d / 1000 % 100) (d % 1000) s → AddressOf (d / 100000) s r → Answered (Numbered Short) 20 d (found r)
-  numbered_as d (Is s) (Is a) p (l, h, e) = has a (record {
+  -- the address of a dialled number's member in its area is the number's
+  pub numbered : (d s a : ℕ) → Short (d / 1000 % 100) (d % 1000) s → AddressOf (d / 100000) s (Some a) → Numbered Short d a
+  numbered d s a p (l, h, e) = record {
     NP = d / 100000;
     fleet = d / 1000 % 100;
     member = d % 1000;
@@ -149,22 +138,16 @@ module _ (Short : ℕ → ℕ → ℕ → Type 0) (sound : Sound Short) where
     in_plan = p;
     eight_digits = omega arith;
     address = e;
-  }) refl
-  numbered_as d (Is s) Nothing p h =
-      none (λ a n. let (e, f, m) = digits n in let l = n.from_328 in let k = n.to_806 in h (omega arith) (omega arith)) refl
-  numbered_as d Nothing (Is a) p h = absurd h
-  numbered_as d Nothing Nothing p h =
-      none (λ a n. let (_, f, m) = digits n in p n.short (subst₂ (λ (x y : ℕ). Short x y n.short) f m n.in_plan)) refl
+  }
 
-  -- the address of a dialled number's member in its area is the number's, or it has none
-  pub numbered : (d : ℕ) (s r : Short') {r' : Short'} → r ≡ r' → ShortIs Short (d / 1000 % 100) (d % 1000) s → AddressOf (d / 100000) s r
-      → Answered (Numbered Short) 20 d (found r')
-  numbered d s r e p q = subst (λ (x : Short'). Answered (Numbered Short) 20 d (found x)) e (numbered_as d s r p q)
+  -- no number where nobody has the address's short address
+  pub no_member : (a : ℕ) → ((f m : ℕ) → Short f m (a % 32768) → ⊥) → (d : ℕ) → Numbered Short d a → ⊥
+  no_member a h d n = let (_, s) = halves n in h n.fleet n.member (subst (λ (x : ℕ). Short n.fleet n.member x) s n.in_plan)
 
   -- the digits of an address's member in its area are the address's, or it has none
-  pub addressed : (a : ℕ) (m : Member) (r : DialledAnswer) → MemberIs Short (a % 32768) m → DialledOf (a / 32768) m r
+  pub addressed : (a f m : ℕ) (r : Option ℕ) → Short f m (a % 32768) → DialledOf (a / 32768) f m r
       → Answered (Back (Numbered Short)) 21 a (answer (dialled r))
-  addressed a (Of f m) (Dialled d) p (l, h, e) = has d (record {
+  addressed a f m (Some d) p (l, h, e) = has d (record {
     NP = a / 32768 + 296;
     fleet = f;
     member = m;
@@ -175,8 +158,5 @@ module _ (Short : ℕ → ℕ → ℕ → Type 0) (sound : Sound Short) where
     eight_digits = e;
     address = omega arith;
   }) refl
-  addressed a (Of f m) OutsideKind p h =
+  addressed a f m None p h =
       none (λ d n. let (e, s) = halves n in let l = n.from_328 in let k = n.to_806 in h (omega arith) (omega arith)) refl
-  addressed a Nobody (Dialled d) p h = absurd h
-  addressed a Nobody OutsideKind p h =
-      none (λ d n. let (_, s) = halves n in p n.fleet n.member (subst (λ (x : ℕ). Short n.fleet n.member x) s n.in_plan)) refl

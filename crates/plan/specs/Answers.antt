@@ -1,15 +1,7 @@
 -- What a conversion answers, in document 01's numbers and values, and which answer is right.
-use Rattle.std.specs.Prelude.{ℕ, ◌≡◌}
-use Rattle.plan.specs.declared.numbers.IndividualAnswer.{IndividualAnswer}
-use Rattle.plan.specs.declared.numbers.IndividualAnswer.TheVariants.{Address as AnIndividual, OutsidePlan as NoIndividual}
-use Rattle.plan.specs.declared.numbers.GroupAnswer.{GroupAnswer}
-use Rattle.plan.specs.declared.numbers.GroupAnswer.TheVariants.{Address as AGroup, OutsidePlan as NoGroup}
-use Rattle.plan.specs.declared.numbers.DialledAnswer.{DialledAnswer}
-use Rattle.plan.specs.declared.numbers.DialledAnswer.TheVariants.{Dialled, OutsideKind}
-use Rattle.plan.specs.declared.frequencies.FrequencyAnswer.{FrequencyAnswer}
-use Rattle.plan.specs.declared.frequencies.FrequencyAnswer.TheVariants.{Frequency, NoChannel as NoFrequency}
-use Rattle.plan.specs.declared.frequencies.ChannelAnswer.{ChannelAnswer}
-use Rattle.plan.specs.declared.frequencies.ChannelAnswer.TheVariants.{Channel, NoChannel}
+use Rattle.std.specs.Prelude.{ℕ, ◌≡◌, Option, Some, None}
+use Rattle.plan.specs.declared.numbers.IndividualAddress.{IndividualAddress}
+use Rattle.plan.specs.declared.numbers.GroupAddress.{GroupAddress}
 
 -- "Numbers returned": a number, and a value
 pub record Answer : Type 0 where
@@ -26,24 +18,24 @@ refused n = record { number = n; value = 0 }
 
 -- the answers of the calls
 pub data Said : Type 0 where
-  individual : IndividualAnswer → Said
-  group : GroupAnswer → Said
-  dialled : DialledAnswer → Said
-  frequency : FrequencyAnswer → Said
-  channel : ChannelAnswer → Said
+  individual : Option IndividualAddress → Said
+  group : Option GroupAddress → Said
+  dialled : Option ℕ → Said
+  frequency : Option ℕ → Said
+  channel : Option ℕ → Said
 
 -- each case's number and value: 20 dialled number outside the plan, 21 address outside its kind's plan, 22 no channel
 abbrev pub answer : Said → Answer
-answer (individual (AnIndividual a)) = given a.0
-answer (individual NoIndividual) = refused 20
-answer (group (AGroup a)) = given a.0
-answer (group NoGroup) = refused 20
-answer (dialled (Dialled d)) = given d
-answer (dialled OutsideKind) = refused 21
-answer (frequency (Frequency f)) = given f
-answer (frequency NoFrequency) = refused 22
-answer (channel (Channel n)) = given n
-answer (channel NoChannel) = refused 22
+answer (individual (Some a)) = given a.0
+answer (individual None) = refused 20
+answer (group (Some a)) = given a.0
+answer (group None) = refused 20
+answer (dialled (Some d)) = given d
+answer (dialled None) = refused 21
+answer (frequency (Some f)) = given f
+answer (frequency None) = refused 22
+answer (channel (Some n)) = given n
+answer (channel None) = refused 22
 
 -- 0 with a value that x has, or the refusal's number where it has none
 pub data Answered (Has : ℕ → ℕ → Type 0) (refusal x : ℕ) (a : Answer) : Type 0 where

@@ -3,8 +3,6 @@ ghost use Rattle.std.specs.Prelude.{◌≤◌};
 ghost use Rattle.plan.specs.Frequencies.{Transmits, Receives, Steps};
 ghost use Rattle.plan.specs.Answers.{Answered, Back, answer, frequency, channel};
 
-use super::frequencies::{ChannelAnswer, FrequencyAnswer};
-
 // The transmit frequency of a channel of the plan.
 fn transmit_value(n: u32) -> u32
     requires { (1 ≤ n) × (n ≤ 640) }
@@ -16,42 +14,42 @@ fn transmit_value(n: u32) -> u32
     }
 }
 
-pub fn transmit(n: u32) -> FrequencyAnswer
+pub fn transmit(n: u32) -> Option<u32>
     ensures { Answered Transmits 22 n (answer (frequency result)) }
 {
     match n {
-        1..=640 => FrequencyAnswer::Frequency(transmit_value(n)),
-        _ => FrequencyAnswer::NoChannel,
+        1..=640 => Some(transmit_value(n)),
+        _ => None,
     }
 }
 
-pub fn receive(n: u32) -> FrequencyAnswer
+pub fn receive(n: u32) -> Option<u32>
     ensures { Answered Receives 22 n (answer (frequency result)) }
 {
     match n {
-        1..=240 => FrequencyAnswer::Frequency(transmit_value(n)),
-        241..=640 => FrequencyAnswer::Frequency(transmit_value(n) + 100_000),
-        _ => FrequencyAnswer::NoChannel,
+        1..=240 => Some(transmit_value(n)),
+        241..=640 => Some(transmit_value(n) + 100_000),
+        _ => None,
     }
 }
 
 // The channel that stands so far above its band's channel 0, where 125 divides it.
-fn channel_above(rest: u32) -> ChannelAnswer
+fn channel_above(rest: u32) -> Option<u32>
     ensures { Answered Steps 22 rest (answer (channel result)) }
 {
     if rest % 125 == 0 {
-        ChannelAnswer::Channel(rest / 125)
+        Some(rest / 125)
     } else {
-        ChannelAnswer::NoChannel
+        None
     }
 }
 
-pub fn channel_of_transmit(f: u32) -> ChannelAnswer
+pub fn channel_of_transmit(f: u32) -> Option<u32>
     ensures { Answered (Back Transmits) 22 f (answer (channel result)) }
 {
     match f {
         3_510_125..=3_560_000 => channel_above(f - 3_480_000),
         3_580_125..=3_610_000 => channel_above(f - 3_580_000),
-        _ => ChannelAnswer::NoChannel,
+        _ => None,
     }
 }

@@ -2,5 +2,4 @@
 #![tactic(auto)]
 
 pub mod channels;
-pub mod frequencies;
 pub mod numbers;

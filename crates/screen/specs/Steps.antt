@@ -1,9 +1,7 @@
 -- How a number is written, a row placed and its part picked: inner steps, no promise cites these.
-use Rattle.std.specs.Prelude.{ℕ, ◌+◌, ◌*◌, ◌≤◌, ◌≡◌, List, ◌++◌, map, length, drop}
+use Rattle.std.specs.Prelude.{ℕ, ◌+◌, ◌*◌, ◌≤◌, ◌≡◌, List, ◌++◌, map, length, drop, Option, Some, None}
 use Rattle.std.specs.Borrow.{Bor}
 use Rattle.lists.specs.Ladder.{Answers}
-use Rattle.plan.specs.declared.numbers.DialledAnswer.{DialledAnswer}
-use Rattle.plan.specs.declared.numbers.DialledAnswer.TheVariants.{Dialled, OutsideKind}
 use Rattle.writing.specs.Ranges.{InNumber}
 use Rattle.writing.specs.Settings.{Text, Number}
 use Rattle.tables.specs.declared.limits.Limits.{Limits}
@@ -26,9 +24,9 @@ abbrev pub DigitsWritten : List ℕ → List ℕ → List ℕ → ℕ → Type 0
 DigitsWritten kept s t r = (ds : Number) → InNumber ds → kept ≡ digit_bytes ds → Written (map ascii ds) s t r
 
 -- the digits of an address: dialled ones, or its own where its plan has none
-abbrev pub dialled_digits : DialledAnswer → ℕ → List ℕ
-dialled_digits (Dialled d) address = digits 10 8 d
-dialled_digits OutsideKind address = digits 16 6 address
+abbrev pub dialled_digits : Option ℕ → ℕ → List ℕ
+dialled_digits (Some d) address = digits 10 8 d
+dialled_digits None address = digits 16 6 address
 
 -- ---- places and parts
 

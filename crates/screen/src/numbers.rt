@@ -6,7 +6,6 @@ ghost use Rattle.writing.specs.Ranges.{InNumber};
 ghost use Rattle.screen.specs.Rows.{ascii, digits};
 ghost use Rattle.screen.specs.Steps.{Written, DigitsWritten, dialled_digits};
 
-use plan::numbers::DialledAnswer;
 
 // 0 to 9, then A to F.
 fn code(digit: u8) -> u8
@@ -60,18 +59,18 @@ pub(crate) fn write_line(scratch: &mut [u8], kept: &[u8]) -> usize
 }
 
 // Eight dialled digits, or six of the address where its plan has none.
-pub(crate) fn write_address(scratch: &mut [u8], dialled: DialledAnswer, address: u32) -> usize
+pub(crate) fn write_address(scratch: &mut [u8], dialled: Option<u32>, address: u32) -> usize
     requires { 36 ≤ length scratch.old }
     ensures { Written (map ascii (dialled_digits dialled address)) scratch.old scratch.new result }
 {
     match dialled {
-        DialledAnswer::Dialled(d) => write_digits(scratch, d as u64, 10, 8),
-        DialledAnswer::OutsideKind => write_digits(scratch, address as u64, 16, 6),
+        Some(d) => write_digits(scratch, d as u64, 10, 8),
+        None => write_digits(scratch, address as u64, 16, 6),
     }
 }
 
 // The same for any other crate: nothing is written where the scratch has no room for the longest number.
-pub fn write_dialled(scratch: &mut [u8], dialled: DialledAnswer, address: u32) -> usize
+pub fn write_dialled(scratch: &mut [u8], dialled: Option<u32>, address: u32) -> usize
     ensures { 36 ≤ length scratch.old → Written (map ascii (dialled_digits dialled address)) scratch.old scratch.new result }
 {
     if scratch.len() < 36 {

@@ -18,8 +18,9 @@ use Rattle.screen.specs.declared.rows.Row.{Row}
 use Rattle.screen.specs.declared.rows.Row.TheVariants.{Line, QuickText, StatusText, Group, Individual, GroupContact, IndividualContact, LineSlot, NoTable}
 use Rattle.screen.specs.Rows.{of}
 use Rattle.screen.proofs.NumberLaws.{kept_here, more_digits}
-use Rattle.values.specs.declared.answers.Digits.{Digits}
-use Rattle.values.specs.declared.answers.Digits.TheVariants.{Written, Absent}
+use Rattle.std.specs.Prelude.{Result, Ok, Err}
+use Rattle.values.specs.declared.answers.NoValue.{NoValue}
+use Rattle.values.specs.declared.answers.NoValue.TheVariants.{Absent}
 use Rattle.values.specs.Digits.{number_at, digits_told, writing_digits}
 use Rattle.values.specs.Entries.{line, group, individual, standing, number_of, kind_of, text, entry, Filled, DigitsWritten, digits_said, DigitsAre}
 use Rattle.values.proofs.EntryLaws.{own_part, answered, seen_of}
@@ -55,7 +56,7 @@ module _ (kept before : List ℕ) (ds : Number) (ok : InNumber ds) (e : kept ≡
 -- ---- a slot's digits
 
 -- a line's slot
-pub line_digits : (row : Row) (slot before after : List ℕ) (n : ℕ) → kind_of row ≡ 1 → DigitsWritten (mid_of digits_at 18 slot) before after n → DigitsAre row slot before after (Written n)
+pub line_digits : (row : Row) (slot before after : List ℕ) (n : ℕ) → kind_of row ≡ 1 → DigitsWritten (mid_of digits_at 18 slot) before after n → DigitsAre row slot before after (Ok n)
 line_digits row slot before after n k w o (text z) = absurd (omega arith)
 line_digits row slot before after n k w o (entry (line l) e ok b) =
     let (p, q) = w l.number ok.number (ap (mid_of digits_at 18) b ∙ take_all 18 (digit_bytes l.number) (omega (arith, digits_length l.number))) in
@@ -64,7 +65,7 @@ line_digits row slot before after n k w o (entry (group g) e ok b) = absurd (ome
 line_digits row slot before after n k w o (entry (individual x) e ok b) = absurd (omega arith)
 
 -- any other
-pub no_digits : (row : Row) (slot buffer : List ℕ) → (kind_of row ≡ 1 → ⊥) → DigitsAre row slot buffer buffer Absent
+pub no_digits : (row : Row) (slot buffer : List ℕ) → (kind_of row ≡ 1 → ⊥) → DigitsAre row slot buffer buffer (Err Absent)
 no_digits row slot buffer k o (text z) = refl
 no_digits row slot buffer k o (entry (line l) e ok b) = absurd (k e)
 no_digits row slot buffer k o (entry (group g) e ok b) = refl
@@ -84,14 +85,14 @@ number_stands t (LineSlot n) = seen_of line (of (λ (l : LineEntry). l.number)) 
 number_stands t NoTable = refl
 
 module _ {lim : Limits} {s : List ℕ} (row : Row) (before : List ℕ) (big : 18 ≤ length before) (store : StoreOf lim s) (place : SlotPlace) (f : Filled lim s row place) where
-  told_digits : (r : Digits) (after : List ℕ) → ((t : Tables) → Holds lim t s → digits_told r after ≡ digits_said before (and_then (standing t row) number_of)) → Answers (writing_digits lim row s before) (digits_told r after)
+  told_digits : (r : Result ℕ NoValue) (after : List ℕ) → ((t : Tables) → Holds lim t s → digits_told r after ≡ digits_said before (and_then (standing t row) number_of)) → Answers (writing_digits lim row s before) (digits_told r after)
   told_digits r after is =
       inr (λ h. omega arith, inr (λ m. m store, answered lim (λ t. number_at t row) s store _ _ (digits_told r after) (λ t h. is t h ∙ ap (digits_said before) (sym (number_stands t row)))))
 
   -- DIGITS-NONE: nothing stands there
-  pub digits_none : place ≡ Beyond → Answers (writing_digits lim row s before) (digits_told Absent before)
-  digits_none e = let g = subst (Filled lim s row) e f in told_digits Absent before (λ t h. ap (λ o. digits_said before (and_then o number_of)) (sym (g t h)))
+  pub digits_none : place ≡ Beyond → Answers (writing_digits lim row s before) (digits_told (Err Absent) before)
+  digits_none e = let g = subst (Filled lim s row) e f in told_digits (Err Absent) before (λ t h. ap (λ o. digits_said before (and_then o number_of)) (sym (g t h)))
 
   -- DIGITS-THERE: what was written of the slot
-  pub digits_there : (slot : Slot) → place ≡ At slot → (r : Digits) (after : List ℕ) → DigitsAre row (own_part slot s) before after r → Answers (writing_digits lim row s before) (digits_told r after)
+  pub digits_there : (slot : Slot) → place ≡ At slot → (r : Result ℕ NoValue) (after : List ℕ) → DigitsAre row (own_part slot s) before after r → Answers (writing_digits lim row s before) (digits_told r after)
   digits_there slot e r after is = let g = subst (Filled lim s row) e f in told_digits r after (λ t h. is (standing t row) (g.2 t h))

@@ -34,12 +34,13 @@ use Rattle.screen.proofs.EntryLaws.{slot_entry, slot_none, listed_placed, none_p
 use Rattle.screen.proofs.NameLaws.{Here, at_case, found_fits}
 use Rattle.screen.proofs.SeenLaws.{front_get}
 use Rattle.screen.specs.contracts.rows.Row.{the_type}
-use Rattle.values.specs.declared.answers.Entry.{Entry}
-use Rattle.values.specs.declared.answers.Entry.TheVariants.{There, Absent}
+use Rattle.std.specs.Prelude.{Result, Ok, Err}
+use Rattle.values.specs.declared.answers.NoValue.{NoValue}
+use Rattle.values.specs.declared.answers.NoValue.TheVariants.{Absent}
 use Rattle.values.specs.declared.answers.Target.{Target}
 use Rattle.values.specs.declared.answers.Target.TheVariants.{Line as ToLine, Group as ToGroup, Individual as ToIndividual}
 use Rattle.values.specs.Entries.{LineFlagsAre, GroupFlagsAre, IndividualFlagsAre, Standing, line, group, individual, standing, target_of, line_own_bytes, group_own_bytes, individual_own_bytes, own_bytes, EntryOk, kind_is, kind_of, own_of, Kept, text, entry, Filled, Reads, either, said, TargetIs}
-use Rattle.values.specs.Values.{line_target, group_target, individual_target, entry_at, entering, entry_told}
+use Rattle.values.specs.Values.{line_target, group_target, individual_target, entry_at, entering, told}
 
 -- ---- a row's slot
 
@@ -261,11 +262,11 @@ individual_reads slot f a is read g ok e =
     ap₂ (λ x y. ToIndividual x (record { 0 = y })) (is g.flags ok.priority (ap (λ x. get_or x 0 0) e)) (read g.address.0 (ap (mid_of 1 3) e))
 
 -- KIND-READ: what reads the entries of a row's kind reads what its slot keeps
-kind_read : (row : Row) (slot : List ℕ) (r : Target) → ((x : Standing) → kind_of row ≡ kind_is x → EntryOk x → slot ≡ own_bytes x → r ≡ target_of x) → (kind_of row ≡ 0 → ⊥) → TargetIs row slot (There r)
+kind_read : (row : Row) (slot : List ℕ) (r : Target) → ((x : Standing) → kind_of row ≡ kind_is x → EntryOk x → slot ≡ own_bytes x → r ≡ target_of x) → (kind_of row ≡ 0 → ⊥) → TargetIs row slot (Ok r)
 kind_read row slot r read some_kind o (text k) = absurd (some_kind k)
-kind_read row slot r read some_kind o (entry x k ok b) = ap (λ v. entry_told (There v)) (read x k ok b)
+kind_read row slot r read some_kind o (entry x k ok b) = ap (λ v. told (Ok v)) (read x k ok b)
 
-pub line_read : (row : Row) (slot : List ℕ) (r : Target) → kind_of row ≡ 1 → Reads LineOk line_own_bytes line_target slot r → TargetIs row slot (There r)
+pub line_read : (row : Row) (slot : List ℕ) (r : Target) → kind_of row ≡ 1 → Reads LineOk line_own_bytes line_target slot r → TargetIs row slot (Ok r)
 line_read row slot r k read = kind_read row slot r by (λ z. omega arith)
   where
     by : (x : Standing) → kind_of row ≡ kind_is x → EntryOk x → slot ≡ own_bytes x → r ≡ target_of x
@@ -273,7 +274,7 @@ line_read row slot r k read = kind_read row slot r by (λ z. omega arith)
     by (group g) e ok b = absurd (omega arith)
     by (individual i) e ok b = absurd (omega arith)
 
-pub group_read : (row : Row) (slot : List ℕ) (r : Target) → kind_of row ≡ 2 → Reads GroupOk group_own_bytes group_target slot r → TargetIs row slot (There r)
+pub group_read : (row : Row) (slot : List ℕ) (r : Target) → kind_of row ≡ 2 → Reads GroupOk group_own_bytes group_target slot r → TargetIs row slot (Ok r)
 group_read row slot r k read = kind_read row slot r by (λ z. omega arith)
   where
     by : (x : Standing) → kind_of row ≡ kind_is x → EntryOk x → slot ≡ own_bytes x → r ≡ target_of x
@@ -281,7 +282,7 @@ group_read row slot r k read = kind_read row slot r by (λ z. omega arith)
     by (line l) e ok b = absurd (omega arith)
     by (individual i) e ok b = absurd (omega arith)
 
-pub individual_read : (row : Row) (slot : List ℕ) (r : Target) → kind_of row ≡ 3 → Reads IndividualOk individual_own_bytes individual_target slot r → TargetIs row slot (There r)
+pub individual_read : (row : Row) (slot : List ℕ) (r : Target) → kind_of row ≡ 3 → Reads IndividualOk individual_own_bytes individual_target slot r → TargetIs row slot (Ok r)
 individual_read row slot r k read = kind_read row slot r by (λ z. omega arith)
   where
     by : (x : Standing) → kind_of row ≡ kind_is x → EntryOk x → slot ≡ own_bytes x → r ≡ target_of x
@@ -289,7 +290,7 @@ individual_read row slot r k read = kind_read row slot r by (λ z. omega arith)
     by (line l) e ok b = absurd (omega arith)
     by (group g) e ok b = absurd (omega arith)
 
-pub text_read : (row : Row) (slot : List ℕ) → kind_of row ≡ 0 → TargetIs row slot Absent
+pub text_read : (row : Row) (slot : List ℕ) → kind_of row ≡ 0 → TargetIs row slot (Err Absent)
 text_read row slot k o (text z) = refl
 text_read row slot k o (entry (line l) e ok b) = absurd (omega arith)
 text_read row slot k o (entry (group g) e ok b) = absurd (omega arith)
@@ -332,13 +333,13 @@ entry_stands t (LineSlot n) = seen_of line (of line_target) (of target_of) refl 
 entry_stands t NoTable = refl
 
 module _ {lim : Limits} {s : List ℕ} (row : Row) (store : StoreOf lim s) (place : SlotPlace) (f : Filled lim s row place) where
-  entered : (r : Entry) → ((t : Tables) → Holds lim t s → entry_told r ≡ said (of target_of (standing t row))) → Answers (entering lim row s) (entry_told r)
-  entered r is = inr (λ m. m store, answered lim (λ t. entry_at t row) s store _ _ (entry_told r) (λ t h. is t h ∙ ap said (sym (entry_stands t row))))
+  entered : (r : Result Target NoValue) → ((t : Tables) → Holds lim t s → told r ≡ said (of target_of (standing t row))) → Answers (entering lim row s) (told r)
+  entered r is = inr (λ m. m store, answered lim (λ t. entry_at t row) s store _ _ (told r) (λ t h. is t h ∙ ap said (sym (entry_stands t row))))
 
   -- ENTRY-NONE: nothing stands there
-  pub entry_none : place ≡ Beyond → Answers (entering lim row s) (entry_told Absent)
-  entry_none e = let g = subst (Filled lim s row) e f in entered Absent (λ t h. ap (λ o. said (of target_of o)) (sym (g t h)))
+  pub entry_none : place ≡ Beyond → Answers (entering lim row s) (told (Err Absent))
+  entry_none e = let g = subst (Filled lim s row) e f in entered (Err Absent) (λ t h. ap (λ o. said (of target_of o)) (sym (g t h)))
 
   -- ENTRY-THERE: what was read of the slot
-  pub entry_there : (slot : Slot) → place ≡ At slot → (r : Entry) → TargetIs row (own_part slot s) r → Answers (entering lim row s) (entry_told r)
+  pub entry_there : (slot : Slot) → place ≡ At slot → (r : Result Target NoValue) → TargetIs row (own_part slot s) r → Answers (entering lim row s) (told r)
   entry_there slot e r is = let g = subst (Filled lim s row) e f in entered r (λ t h. is (standing t row) (g.2 t h))

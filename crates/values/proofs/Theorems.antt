@@ -19,21 +19,12 @@ use Rattle.screen.specs.declared.rows.Row.{Row}
 use Rattle.screen.specs.declared.rows.Row.TheVariants.{Line, QuickText, StatusText, Group, Individual, GroupContact, IndividualContact, LineSlot, NoTable}
 use Rattle.screen.specs.Rows.{of}
 use Rattle.values.specs.declared.answers.Target.{Target}
-use Rattle.values.specs.declared.answers.Entry.{Entry}
-use Rattle.values.specs.declared.answers.Entry.TheVariants.{There, Absent, NotAStore}
-use Rattle.values.specs.declared.answers.Channel.{Channel}
-use Rattle.values.specs.declared.answers.Channel.TheVariants.{Tuned, Absent as NoChannel, NotAStore as NoChannelStore}
+use Rattle.std.specs.Prelude.{Result, Ok, Err}
 use Rattle.values.specs.declared.answers.EmergencyKey.{EmergencyKey}
-use Rattle.values.specs.declared.answers.Key.{Key}
-use Rattle.values.specs.declared.answers.Key.TheVariants.{Armed, NotAStore as NoKeyStore}
-use Rattle.values.specs.declared.answers.Home.{Home}
-use Rattle.values.specs.declared.answers.Home.TheVariants.{Numbers, NotAStore as NoHomeStore}
-use Rattle.values.specs.declared.answers.System.{System}
-use Rattle.values.specs.declared.answers.System.TheVariants.{Code, NotAStore as NoSystemStore}
-use Rattle.values.specs.declared.answers.Digits.{Digits}
-use Rattle.values.specs.declared.answers.Digits.TheVariants.{Written, Absent as NoDigits, NotAStore as NoDigitsStore, BufferSize}
+use Rattle.values.specs.declared.answers.NoValue.{NoValue}
+use Rattle.values.specs.declared.answers.NoValue.TheVariants.{NotAStore, BufferSize, Absent}
 use Rattle.values.specs.Digits.{number_at, AfterDigits, digits_told, stays, writing_digits}
-use Rattle.values.specs.Values.{line_target, group_target, individual_target, entry_at, channel_at, key_of, Asked, refused, given, asking, entry_told, entering, channel_told, tuning, key_told, key_asked, home_told, home_asked, system_told, system_asked}
+use Rattle.values.specs.Values.{line_target, group_target, individual_target, entry_at, channel_at, key_of, Asked, refused, given, refusal, asking, told, entering, tuning, key_asked, home_asked, system_asked}
 use Rattle.values.proofs.AskLaws.{is_given, is_absent}
 use Rattle.values.proofs.TuningLaws.{at_some}
 
@@ -42,6 +33,27 @@ use Rattle.values.proofs.TuningLaws.{at_some}
 -- two tables of one store are the same
 one_tables : (lim : Limits) (store : List ℕ) (t u : Tables) → Holds lim t store → Holds lim u store → t ≡ u
 one_tables lim store t u h k = layout_one lim t u h.0 k.0 (sym h.1 ∙ k.1)
+
+-- the refusal of a number
+abbrev why_of : ℕ → NoValue
+why_of n = cond (eqb n 17) Absent (cond (eqb n 11) NotAStore BufferSize)
+
+why_read : (why : NoValue) → why_of (refusal why) ≡ why
+why_read NotAStore = refl
+why_read BufferSize = refl
+why_read Absent = refl
+
+-- an answer's value says which case it is, and without one its number
+abbrev valued : {A : Type 0} → ℕ → Option A → Result A NoValue
+valued n none = Err (why_of n)
+valued n (some a) = Ok a
+
+abbrev told_back : {A : Type 0} → Asked A → Result A NoValue
+told_back a = valued a.number a.value
+
+told_read : {A : Type 0} (a : Result A NoValue) → told_back (told a) ≡ a
+told_read (Ok v) = refl
+told_read (Err why) = ap Err (why_read why)
 
 module _ {A : Type 0} (lim : Limits) (what : Tables → Option A) (store : List ℕ) where
   one_foot : (a b : Asked A) → (t : Tables) × Holds lim t store × (v : A) × (what t ≡ some v) × (a ≡ given v) → (t : Tables) × Holds lim t store × (v : A) × (what t ≡ some v) × (b ≡ given v) → a ≡ b
@@ -53,72 +65,29 @@ module _ {A : Type 0} (lim : Limits) (what : Tables → Option A) (store : List 
   asked_one = one_answer (asking lim what store) one_foot
 
   -- and so one answer of the code, which is read back from them
-  told_one : {B : Type 0} (told : B → Asked A) (back : Asked A → B) → ((b : B) → back (told b) ≡ b) → (a b : B) → Answers (asking lim what store) (told a) → Answers (asking lim what store) (told b) → a ≡ b
-  told_one told back h a b x y = decoded told back h a b (asked_one (told a) (told b) x y)
-
--- what is made of a value, or else of none
-abbrev valued : {A B : Type 0} → (A → B) → B → Option A → B
-valued f d none = d
-valued f d (some a) = f a
-
--- an answer's value says which case it is, and without one its number
-abbrev entry_back : Asked Target → Entry
-entry_back a = valued There (cond (eqb a.number 17) Absent NotAStore) a.value
-
-entry_read : (a : Entry) → entry_back (entry_told a) ≡ a
-entry_read (There x) = refl
-entry_read Absent = refl
-entry_read NotAStore = refl
-
-abbrev channel_back : Asked ℕ → Channel
-channel_back a = valued Tuned (cond (eqb a.number 17) NoChannel NoChannelStore) a.value
-
-channel_read : (a : Channel) → channel_back (channel_told a) ≡ a
-channel_read (Tuned c) = refl
-channel_read NoChannel = refl
-channel_read NoChannelStore = refl
-
-abbrev key_back : Asked EmergencyKey → Key
-key_back a = valued Armed NoKeyStore a.value
-
-key_read : (a : Key) → key_back (key_told a) ≡ a
-key_read (Armed k) = refl
-key_read NoKeyStore = refl
-
-abbrev home_back : Asked HomeNumbers → Home
-home_back a = valued Numbers NoHomeStore a.value
-
-home_read : (a : Home) → home_back (home_told a) ≡ a
-home_read (Numbers h) = refl
-home_read NoHomeStore = refl
-
-abbrev system_back : Asked SystemCode → System
-system_back a = valued Code NoSystemStore a.value
-
-system_read : (a : System) → system_back (system_told a) ≡ a
-system_read (Code c) = refl
-system_read NoSystemStore = refl
+  told_one : (a b : Result A NoValue) → Answers (asking lim what store) (told a) → Answers (asking lim what store) (told b) → a ≡ b
+  told_one a b x y = decoded told told_back told_read a b (asked_one (told a) (told b) x y)
 
 module _ (lim : Limits) (store : List ℕ) where
   -- ENTRY-DETERMINED: the contract of the call for a row's entry allows one answer of the code
-  pub entry_determined : (row : Row) (a b : Entry) → Answers (entering lim row store) (entry_told a) → Answers (entering lim row store) (entry_told b) → a ≡ b
-  entry_determined row = told_one lim (λ t. entry_at t row) store entry_told entry_back entry_read
+  pub entry_determined : (row : Row) (a b : Result Target NoValue) → Answers (entering lim row store) (told a) → Answers (entering lim row store) (told b) → a ≡ b
+  entry_determined row = told_one lim (λ t. entry_at t row) store
 
   -- CHANNEL-DETERMINED: and that of the call for a channel
-  pub channel_determined : (n : ℕ) (a b : Channel) → Answers (tuning lim n store) (channel_told a) → Answers (tuning lim n store) (channel_told b) → a ≡ b
-  channel_determined n = told_one lim (λ t. channel_at t n) store channel_told channel_back channel_read
+  pub channel_determined : (n : ℕ) (a b : Result ℕ NoValue) → Answers (tuning lim n store) (told a) → Answers (tuning lim n store) (told b) → a ≡ b
+  channel_determined n = told_one lim (λ t. channel_at t n) store
 
   -- KEY-DETERMINED: and that of the call for the emergency key
-  pub key_determined : (a b : Key) → Answers (key_asked lim store) (key_told a) → Answers (key_asked lim store) (key_told b) → a ≡ b
-  key_determined = told_one lim (λ t. some (key_of t.key)) store key_told key_back key_read
+  pub key_determined : (a b : Result EmergencyKey NoValue) → Answers (key_asked lim store) (told a) → Answers (key_asked lim store) (told b) → a ≡ b
+  key_determined = told_one lim (λ t. some (key_of t.key)) store
 
   -- HOME-DETERMINED: and that of the call for the home numbers
-  pub home_determined : (a b : Home) → Answers (home_asked lim store) (home_told a) → Answers (home_asked lim store) (home_told b) → a ≡ b
-  home_determined = told_one lim (λ t. some t.home) store home_told home_back home_read
+  pub home_determined : (a b : Result HomeNumbers NoValue) → Answers (home_asked lim store) (told a) → Answers (home_asked lim store) (told b) → a ≡ b
+  home_determined = told_one lim (λ t. some t.home) store
 
   -- SYSTEM-DETERMINED: and that of the call for the system code
-  pub system_determined : (a b : System) → Answers (system_asked lim store) (system_told a) → Answers (system_asked lim store) (system_told b) → a ≡ b
-  system_determined = told_one lim (λ t. some t.system) store system_told system_back system_read
+  pub system_determined : (a b : Result SystemCode NoValue) → Answers (system_asked lim store) (told a) → Answers (system_asked lim store) (told b) → a ≡ b
+  system_determined = told_one lim (λ t. some t.system) store
 
 -- ---- one answer with one buffer
 
@@ -128,20 +97,18 @@ with_digits buffer none = stays 17 buffer
 with_digits buffer (some ds) = record { number = 0; count = length ds; buffer = written_over ds buffer }
 
 -- the number says which case it is
-abbrev digits_back : AfterDigits → Digits
-digits_back a = cond (eqb a.number 0) (Written a.count) (cond (eqb a.number 17) NoDigits (cond (eqb a.number 11) NoDigitsStore BufferSize))
+abbrev digits_back : AfterDigits → Result ℕ NoValue
+digits_back a = cond (eqb a.number 0) (Ok a.count) (Err (why_of a.number))
 
-digits_read : (a : Digits) (x : List ℕ) → digits_back (digits_told a x) ≡ a
-digits_read (Written n) x = refl
-digits_read NoDigits x = refl
-digits_read NoDigitsStore x = refl
-digits_read BufferSize x = refl
+digits_read : (a : Result ℕ NoValue) (x : List ℕ) → digits_back (digits_told a x) ≡ a
+digits_read (Ok n) x = refl
+digits_read (Err NotAStore) x = refl
+digits_read (Err BufferSize) x = refl
+digits_read (Err Absent) x = refl
 
-buffer_read : (a : Digits) (x : List ℕ) → (digits_told a x).buffer ≡ x
-buffer_read (Written n) x = refl
-buffer_read NoDigits x = refl
-buffer_read NoDigitsStore x = refl
-buffer_read BufferSize x = refl
+buffer_read : (a : Result ℕ NoValue) (x : List ℕ) → (digits_told a x).buffer ≡ x
+buffer_read (Ok n) x = refl
+buffer_read (Err why) x = refl
 
 module _ (lim : Limits) (row : Row) (store buffer : List ℕ) where
   abbrev DigitsFoot : AfterDigits → Type 0
@@ -156,7 +123,7 @@ module _ (lim : Limits) (row : Row) (store buffer : List ℕ) where
   digits_one = one_answer (writing_digits lim row store buffer) digits_foot
 
   -- DIGITS-DETERMINED: the contract of the call for a row's digits allows one answer of the code, and one buffer afterwards
-  pub digits_determined : (a b : Digits) (x y : List ℕ) → Answers (writing_digits lim row store buffer) (digits_told a x) → Answers (writing_digits lim row store buffer) (digits_told b y) → (a ≡ b) × (x ≡ y)
+  pub digits_determined : (a b : Result ℕ NoValue) (x y : List ℕ) → Answers (writing_digits lim row store buffer) (digits_told a x) → Answers (writing_digits lim row store buffer) (digits_told b y) → (a ≡ b) × (x ≡ y)
   digits_determined a b x y p q =
       let e = digits_one (digits_told a x) (digits_told b y) p q in
       (sym (digits_read a x) ∙ ap digits_back e ∙ digits_read b y, sym (buffer_read a x) ∙ ap (λ (r : AfterDigits). r.buffer) e ∙ buffer_read b y)

@@ -15,8 +15,9 @@ use Rattle.tables.specs.Tables.{Tables}
 use Rattle.shared_texts.proofs.FormLists.{channels_counted, channels_listed}
 use Rattle.screen.proofs.SeenLaws.{part_part, front_get}
 use Rattle.screen.proofs.SlotLaws.{slot_within}
-use Rattle.values.specs.declared.answers.Channel.TheVariants.{Tuned, Absent}
-use Rattle.values.specs.Values.{channel_at, channel_told, tuning}
+use Rattle.std.specs.Prelude.{Ok, Err}
+use Rattle.values.specs.declared.answers.NoValue.TheVariants.{Absent}
+use Rattle.values.specs.Values.{channel_at, told, tuning}
 use Rattle.values.proofs.AskLaws.{is_given, is_absent}
 
 -- two bytes are the number that they were made of
@@ -58,17 +59,17 @@ channel_slot lim t ok n h =
 -- ---- the answer
 
 -- the count of the channels' region, which starts at `from` and ends at `to`, was read
-module _ (lim : Limits) (store : List ℕ) (s : StoreOf lim store) (from to : ℕ) (at : from ≡ region_start lim 11) (behind : to ≡ region_start lim 11 + channels_size lim) (r : ℕ) (told : Told (mid_of from (to - from) store) r) where
+module _ (lim : Limits) (store : List ℕ) (s : StoreOf lim store) (from to : ℕ) (at : from ≡ region_start lim 11) (behind : to ≡ region_start lim 11 + channels_size lim) (r : ℕ) (counted : Told (mid_of from (to - from) store) r) where
   -- it is how many there are
   count_is : (t : Tables) → Holds lim t store → r ≡ length t.channels
   count_is t h =
       let size : to - from ≡ channels_size lim = omega arith in
       entries_count InChannel channel_width u16 lim.channels t.channels _ (channels_counted lim t h.0 s.roomy) r
-      (subst (λ (x : List ℕ). Told x r) (λ i. mid_of (at i) (size i) (h.1 i)) told)
+      (subst (λ (x : List ℕ). Told x r) (λ i. mid_of (at i) (size i) (h.1 i)) counted)
 
   module _ (n : ℕ) where
     -- behind the last there is none
-    pub channel_absent : r ≤ n → Answers (tuning lim n store) (channel_told Absent)
+    pub channel_absent : r ≤ n → Answers (tuning lim n store) (told (Err Absent))
     channel_absent h = is_absent lim (λ t. channel_at t n) store s (λ t o. at_none t.channels n (omega (arith, count_is t o)))
 
     -- where its slot starts
@@ -82,7 +83,7 @@ module _ (lim : Limits) (store : List ℕ) (s : StoreOf lim store) (from to : �
           omega (arith, count_is s.store.tables (s.store.allowed, s.store.bytes_are), s.store.allowed.channels.0)
 
       -- and has the channel
-      pub channel_there : (c : ℕ) → ((a : ℕ) → mid_of start (start + channel_width - start) store ≡ u16 a → c ≡ a) → Answers (tuning lim n store) (channel_told (Tuned c))
+      pub channel_there : (c : ℕ) → ((a : ℕ) → mid_of start (start + channel_width - start) store ≡ u16 a → c ≡ a) → Answers (tuning lim n store) (told (Ok c))
       channel_there c read =
           is_given lim (λ t. channel_at t n) store s c (λ t o.
           let (a, e, b) = channel_slot lim t o.0 n (omega (arith, count_is t o)) in

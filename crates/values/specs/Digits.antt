@@ -1,5 +1,5 @@
 -- The digits behind a row, and the call that writes them.
-use Rattle.std.specs.Prelude.{ℕ, ◌<◌, ◌≡◌, List, map, get_or, length}
+use Rattle.std.specs.Prelude.{ℕ, ◌<◌, ◌≡◌, List, map, get_or, length, Result, Ok, Err}
 use Rattle.std.proofs.Math.Option.{Option, none, some}
 use Rattle.lists.specs.Ladder.{Ladder, rung, foot}
 use Rattle.slots.specs.Slots.{written_over}
@@ -10,8 +10,8 @@ use Rattle.tables.specs.Tables.{Line as LineEntry, Tables}
 use Rattle.screen.specs.declared.rows.Row.{Row}
 use Rattle.screen.specs.declared.rows.Row.TheVariants.{Line, QuickText, StatusText, Group, Individual, GroupContact, IndividualContact, LineSlot, NoTable}
 use Rattle.screen.specs.Rows.{of}
-use Rattle.values.specs.declared.answers.Digits.{Digits}
-use Rattle.values.specs.declared.answers.Digits.TheVariants.{Written, Absent, NotAStore, BufferSize}
+use Rattle.values.specs.declared.answers.NoValue.{NoValue}
+use Rattle.values.specs.Values.{refusal}
 
 -- the number of a line contact or a line slot; no other row has digits
 abbrev pub number_at : Tables → Row → Option Number
@@ -31,16 +31,14 @@ pub record AfterDigits : Type 0 where
   pub count : ℕ
   pub buffer : List ℕ
 
--- an answer of the code, with the buffer that it left
-abbrev pub digits_told : Digits → List ℕ → AfterDigits
-digits_told (Written n) buffer = record { number = 0; count = n; buffer = buffer }
-digits_told Absent buffer = record { number = 17; count = 0; buffer = buffer }
-digits_told NotAStore buffer = record { number = 11; count = 0; buffer = buffer }
-digits_told BufferSize buffer = record { number = 15; count = 0; buffer = buffer }
-
 -- a refusal touches no byte
 abbrev pub stays : ℕ → List ℕ → AfterDigits
 stays n buffer = record { number = n; count = 0; buffer = buffer }
+
+-- an answer of the code, with the buffer that it left
+abbrev pub digits_told : Result ℕ NoValue → List ℕ → AfterDigits
+digits_told (Ok n) buffer = record { number = 0; count = n; buffer = buffer }
+digits_told (Err why) buffer = stays (refusal why) buffer
 
 -- "15 (a digits buffer under 18 bytes), 11, 17 (nothing stands there)"; else "one digit a byte at the buffer's start, bytes past them stay"
 abbrev pub writing_digits : Limits → Row → List ℕ → List ℕ → Ladder AfterDigits

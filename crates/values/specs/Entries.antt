@@ -1,5 +1,5 @@
 -- How what stands behind a row is found: inner steps, no promise cites these.
-use Rattle.std.specs.Prelude.{ℕ, ◌+◌, ◌-◌, ◌≤◌, ◌<◌, ◌≡◌, List, ◌∷◌, map, get_or, length, take, drop}
+use Rattle.std.specs.Prelude.{ℕ, ◌+◌, ◌-◌, ◌≤◌, ◌<◌, ◌≡◌, List, ◌∷◌, map, get_or, length, take, drop, Result}
 use Rattle.std.proofs.Math.Option.{Option, none, some}
 use Rattle.slots.specs.Slots.{u24, written_over}
 use Rattle.writing.specs.declared.LineFlags.{LineFlags}
@@ -21,11 +21,10 @@ use Rattle.screen.specs.declared.names.SlotPlace.TheVariants.{At, Beyond}
 use Rattle.screen.specs.declared.rows.Row.{Row}
 use Rattle.screen.specs.declared.rows.Row.TheVariants.{Line, QuickText, StatusText, Group, Individual, GroupContact, IndividualContact, LineSlot, NoTable}
 use Rattle.screen.specs.Rows.{of}
-use Rattle.values.specs.declared.answers.Digits.{Digits}
-use Rattle.values.specs.declared.answers.Entry.{Entry}
+use Rattle.values.specs.declared.answers.NoValue.{NoValue}
 use Rattle.values.specs.declared.answers.Target.{Target}
 use Rattle.values.specs.Digits.{AfterDigits, digits_told, stays}
-use Rattle.values.specs.Values.{Asked, refused, given, line_target, group_target, individual_target, entry_told}
+use Rattle.values.specs.Values.{Asked, refused, given, line_target, group_target, individual_target, told}
 
 -- ---- flags
 
@@ -147,8 +146,8 @@ abbrev pub said : {A : Type 0} → Option A → Asked A
 said o = either (refused 17) given o
 
 -- the target that the bytes of a row's slot keep
-abbrev pub TargetIs : Row → List ℕ → Entry → Type 0
-TargetIs row slot r = (o : Option Standing) → Kept row slot o → entry_told r ≡ said (of target_of o)
+abbrev pub TargetIs : Row → List ℕ → Result Target NoValue → Type 0
+TargetIs row slot r = (o : Option Standing) → Kept row slot o → told r ≡ said (of target_of o)
 
 -- ---- digits
 
@@ -161,5 +160,5 @@ abbrev pub digits_said : List ℕ → Option Number → AfterDigits
 digits_said buffer o = either (stays 17 buffer) (λ ds. record { number = 0; count = length ds; buffer = written_over ds buffer }) o
 
 -- the digits that they keep
-abbrev pub DigitsAre : Row → List ℕ → List ℕ → List ℕ → Digits → Type 0
+abbrev pub DigitsAre : Row → List ℕ → List ℕ → List ℕ → Result ℕ NoValue → Type 0
 DigitsAre row slot before after r = (o : Option Standing) → Kept row slot o → digits_told r after ≡ digits_said before (and_then o number_of)

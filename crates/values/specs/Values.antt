@@ -1,5 +1,5 @@
 -- What stands behind a row, and the settings that the radio works by, as the tables have them; and what the calls answer of a store.
-use Rattle.std.specs.Prelude.{ℕ, ◌≡◌, List, map, get_or}
+use Rattle.std.specs.Prelude.{ℕ, ◌≡◌, List, map, get_or, Result, Ok, Err}
 use Rattle.std.proofs.Math.Option.{Option, none, some}
 use Rattle.lists.specs.Ladder.{Ladder, rung, foot}
 use Rattle.writing.specs.declared.HomeNumbers.{HomeNumbers}
@@ -12,17 +12,9 @@ use Rattle.screen.specs.declared.rows.Row.TheVariants.{Line, QuickText, StatusTe
 use Rattle.screen.specs.Rows.{of}
 use Rattle.values.specs.declared.answers.Target.{Target}
 use Rattle.values.specs.declared.answers.Target.TheVariants.{Line as ToLine, Group as ToGroup, Individual as ToIndividual}
-use Rattle.values.specs.declared.answers.Entry.{Entry}
-use Rattle.values.specs.declared.answers.Entry.TheVariants.{There, Absent, NotAStore}
-use Rattle.values.specs.declared.answers.Channel.{Channel}
-use Rattle.values.specs.declared.answers.Channel.TheVariants.{Tuned, Absent as NoChannel, NotAStore as NoChannelStore}
 use Rattle.values.specs.declared.answers.EmergencyKey.{EmergencyKey}
-use Rattle.values.specs.declared.answers.Key.{Key as KeyAnswer}
-use Rattle.values.specs.declared.answers.Key.TheVariants.{Armed, NotAStore as NoKeyStore}
-use Rattle.values.specs.declared.answers.Home.{Home}
-use Rattle.values.specs.declared.answers.Home.TheVariants.{Numbers, NotAStore as NoHomeStore}
-use Rattle.values.specs.declared.answers.System.{System}
-use Rattle.values.specs.declared.answers.System.TheVariants.{Code, NotAStore as NoSystemStore}
+use Rattle.values.specs.declared.answers.NoValue.{NoValue}
+use Rattle.values.specs.declared.answers.NoValue.TheVariants.{NotAStore, BufferSize, Absent}
 
 -- ---- what stands there
 
@@ -70,6 +62,17 @@ refused n = record { number = n; value = none }
 abbrev pub given : {A : Type 0} → A → Asked A
 given v = record { number = 0; value = some v }
 
+-- the number of each refusal
+abbrev pub refusal : NoValue → ℕ
+refusal NotAStore = 11
+refusal BufferSize = 15
+refusal Absent = 17
+
+-- an answer of the code
+abbrev pub told : {A : Type 0} → Result A NoValue → Asked A
+told (Ok v) = given v
+told (Err why) = refused (refusal why)
+
 -- "11, 17 (nothing stands there)"; else what the tables of the store have there
 abbrev pub asking : {A : Type 0} → Limits → (Tables → Option A) → List ℕ → Ladder (Asked A)
 asking lim what store =
@@ -79,40 +82,18 @@ asking lim what store =
 
 -- ---- the calls
 
-abbrev pub entry_told : Entry → Asked Target
-entry_told (There x) = given x
-entry_told Absent = refused 17
-entry_told NotAStore = refused 11
-
 abbrev pub entering : Limits → Row → List ℕ → Ladder (Asked Target)
 entering lim row store = asking lim (λ t. entry_at t row) store
 
-abbrev pub channel_told : Channel → Asked ℕ
-channel_told (Tuned c) = given c
-channel_told NoChannel = refused 17
-channel_told NoChannelStore = refused 11
-
 abbrev pub tuning : Limits → ℕ → List ℕ → Ladder (Asked ℕ)
 tuning lim n store = asking lim (λ t. channel_at t n) store
-
-abbrev pub key_told : KeyAnswer → Asked EmergencyKey
-key_told (Armed k) = given k
-key_told NoKeyStore = refused 11
 
 -- these three are always there
 abbrev pub key_asked : Limits → List ℕ → Ladder (Asked EmergencyKey)
 key_asked lim store = asking lim (λ t. some (key_of t.key)) store
 
-abbrev pub home_told : Home → Asked HomeNumbers
-home_told (Numbers h) = given h
-home_told NoHomeStore = refused 11
-
 abbrev pub home_asked : Limits → List ℕ → Ladder (Asked HomeNumbers)
 home_asked lim store = asking lim (λ t. some t.home) store
-
-abbrev pub system_told : System → Asked SystemCode
-system_told (Code c) = given c
-system_told NoSystemStore = refused 11
 
 abbrev pub system_asked : Limits → List ℕ → Ladder (Asked SystemCode)
 system_asked lim store = asking lim (λ t. some t.system) store

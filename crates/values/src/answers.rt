@@ -1,8 +1,6 @@
 // What the calls answer.
 use plan::numbers::{GroupAddress, IndividualAddress};
-use writing::{
-    GroupFlags, HomeNumbers, IndividualFlags, KeyFlags, KeyTarget, LineFlags, SystemCode,
-};
+use writing::{GroupFlags, IndividualFlags, KeyFlags, KeyTarget, LineFlags};
 
 // What stands behind a row, by kind; a line's digits are asked for apart.
 #[derive(Clone, Copy)]
@@ -12,49 +10,17 @@ pub enum Target {
     Individual(IndividualFlags, IndividualAddress),
 }
 
-#[derive(Clone, Copy)]
-pub enum Entry {
-    There(Target),
-    Absent,
-    NotAStore,
-}
-
-// How many digits were written.
-#[derive(Clone, Copy)]
-pub enum Digits {
-    Written(usize),
-    Absent,
-    NotAStore,
-    BufferSize,
-}
-
-#[derive(Clone, Copy)]
-pub enum Channel {
-    Tuned(u16),
-    Absent,
-    NotAStore,
-}
-
+// Where the emergency key calls, and how.
 #[derive(Clone, Copy)]
 pub struct EmergencyKey {
     pub target: KeyTarget,
     pub flags: KeyFlags,
 }
 
-#[derive(Clone, Copy)]
-pub enum Key {
-    Armed(EmergencyKey),
-    NotAStore,
-}
-
-#[derive(Clone, Copy)]
-pub enum Home {
-    Numbers(HomeNumbers),
-    NotAStore,
-}
-
-#[derive(Clone, Copy)]
-pub enum System {
-    Code(SystemCode),
-    NotAStore,
+// Why a call has no value: C's numbers.
+#[derive(Clone, Copy, PartialEq, Eq)]
+pub enum NoValue {
+    NotAStore = 11,
+    BufferSize = 15,
+    Absent = 17,
 }

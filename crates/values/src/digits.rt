@@ -4,7 +4,7 @@ ghost use Rattle.lists.specs.Ladder.{Answers};
 ghost use Rattle.values.specs.Digits.{digits_told, writing_digits};
 ghost use Rattle.values.specs.Entries.{DigitsAre, DigitsWritten, own_of};
 
-use super::answers::Digits;
+use super::answers::NoValue;
 use super::entries::filled_slot;
 use screen::names::SlotPlace;
 use screen::rows::Row;
@@ -20,45 +20,44 @@ fn write_kept(kept: &[u8], buffer: &mut [u8]) -> usize
     requires { (18 ≤ length kept.now) × (18 ≤ length buffer.old) }
     ensures { DigitsWritten kept.now buffer.old buffer.new result }
 {
-    let mut i = 0;
-    while i < MOST {
+    for i in 0..MOST {
         let digit = kept[i];
         if digit == 0 {
             return i;
         }
         buffer[i] = digit - 1;
-        i += 1;
     }
-    i
+    MOST
 }
 
 // Writes the digits that the bytes before the text keep in a row's slot, where the row is a line's.
-fn digits_of(row: Row, slot: &[u8], buffer: &mut [u8]) -> Digits
+fn digits_of(row: Row, slot: &[u8], buffer: &mut [u8]) -> Result<usize, NoValue>
     requires { (own_of row ≤ length slot.now) × (18 ≤ length buffer.old) }
     ensures { DigitsAre row slot.now buffer.old buffer.new result }
 {
     match row {
-        Row::Line(_) | Row::LineSlot(_) => {
-            Digits::Written(write_kept(&slot[LINE_DIGITS..LINE_TEXT], buffer))
-        }
-        _ => Digits::Absent,
+        Row::Line(_) | Row::LineSlot(_) => { Ok(write_kept(&slot[LINE_DIGITS..LINE_TEXT], buffer)) }
+        _ => Err(NoValue::Absent),
     }
 }
 
 // The digits behind a row, at the buffer's start, in a store of a set with these limits.
-pub fn digits_in(row: Row, store: &[u8], buffer: &mut [u8], limits: Limits) -> Digits
+pub fn digits_in(
+    row: Row,
+    store: &[u8],
+    buffer: &mut [u8],
+    limits: Limits,
+) -> Result<usize, NoValue>
     ensures { Answers (writing_digits limits row store.now buffer.old) (digits_told result buffer.new) }
 {
     if buffer.len() < MOST {
-        return Digits::BufferSize;
+        return Err(NoValue::BufferSize);
     }
     if !is_store(store, limits) {
-        return Digits::NotAStore;
+        return Err(NoValue::NotAStore);
     }
     let SlotPlace::At(slot) = filled_slot(row, store, limits) else {
-        return Digits::Absent;
+        return Err(NoValue::Absent);
     };
-    let start = slot.start;
-    let text = slot.text;
-    digits_of(row, &store[start..text], buffer)
+    digits_of(row, &store[slot.start..slot.text], buffer)
 }

@@ -5,9 +5,9 @@ ghost use Rattle.tables.specs.Allowed.{GroupOk, IndividualOk, LineOk};
 ghost use Rattle.tables.specs.Heads.{line_own, member_own};
 ghost use Rattle.tables.specs.Store.{StoreOf};
 ghost use Rattle.values.specs.Entries.{Filled, Reads, TargetIs, group_own_bytes, individual_own_bytes, line_own_bytes, own_of};
-ghost use Rattle.values.specs.Values.{entering, entry_told, group_target, individual_target, line_target};
+ghost use Rattle.values.specs.Values.{entering, told, group_target, individual_target, line_target};
 
-use super::answers::{Entry, Target};
+use super::answers::{NoValue, Target};
 use super::flags::{group_flags_of, individual_flags_of, line_flags_of};
 use plan::numbers::{GroupAddress, IndividualAddress};
 use screen::names::{SlotPlace, address_of, row_slot};
@@ -47,15 +47,15 @@ fn individual_at(slot: &[u8]) -> Target
 }
 
 // What these bytes of a row's slot keep, by the row's kind; a text is no target.
-fn target_of(row: Row, slot: &[u8]) -> Entry
+fn target_of(row: Row, slot: &[u8]) -> Result<Target, NoValue>
     requires { own_of row ≤ length slot.now }
     ensures { TargetIs row slot.now result }
 {
     match row {
-        Row::Line(_) | Row::LineSlot(_) => Entry::There(line_at(slot)),
-        Row::Group(_) | Row::GroupContact(_) => Entry::There(group_at(slot)),
-        Row::Individual(_) | Row::IndividualContact(_) => Entry::There(individual_at(slot)),
-        _ => Entry::Absent,
+        Row::Line(_) | Row::LineSlot(_) => Ok(line_at(slot)),
+        Row::Group(_) | Row::GroupContact(_) => Ok(group_at(slot)),
+        Row::Individual(_) | Row::IndividualContact(_) => Ok(individual_at(slot)),
+        _ => Err(NoValue::Absent),
     }
 }
 
@@ -67,25 +67,21 @@ pub(crate) fn filled_slot(row: Row, store: &[u8], limits: Limits) -> SlotPlace
     let SlotPlace::At(slot) = row_slot(row, limits) else {
         return SlotPlace::Beyond;
     };
-    let start = slot.start;
-    let end = slot.end;
-    if is_zeros(&store[start..end]) {
+    if is_zeros(&store[slot.start..slot.end]) {
         return SlotPlace::Beyond;
     }
     SlotPlace::At(slot)
 }
 
 // What stands behind a row, in a store of a set with these limits.
-pub fn entry_in(row: Row, store: &[u8], limits: Limits) -> Entry
-    ensures { Answers (entering limits row store.now) (entry_told result) }
+pub fn entry_in(row: Row, store: &[u8], limits: Limits) -> Result<Target, NoValue>
+    ensures { Answers (entering limits row store.now) (told result) }
 {
     if !is_store(store, limits) {
-        return Entry::NotAStore;
+        return Err(NoValue::NotAStore);
     }
     let SlotPlace::At(slot) = filled_slot(row, store, limits) else {
-        return Entry::Absent;
+        return Err(NoValue::Absent);
     };
-    let start = slot.start;
-    let text = slot.text;
-    target_of(row, &store[start..text])
+    target_of(row, &store[slot.start..slot.text])
 }

@@ -5,9 +5,9 @@ ghost use Rattle.writing.specs.Writing.{bit, current, to_group};
 ghost use Rattle.tables.specs.Allowed.{SystemOk};
 ghost use Rattle.tables.specs.Layout.{home_bytes, home_size, key_address, key_bytes, key_size, system_bytes, system_size};
 ghost use Rattle.tables.specs.Tables.{Key as KeyEntry};
-ghost use Rattle.values.specs.Values.{home_asked, home_told, key_asked, key_of, key_told, system_asked, system_told};
+ghost use Rattle.values.specs.Values.{home_asked, key_asked, key_of, system_asked, told};
 
-use super::answers::{EmergencyKey, Home, Key, System};
+use super::answers::{EmergencyKey, NoValue};
 use super::tuning::pair_of;
 use plan::numbers::{GroupAddress, IndividualAddress};
 use screen::names::address_of;
@@ -61,10 +61,7 @@ fn key_of(s: &[u8]) -> EmergencyKey
         status: odd(bits / 2),
         siren: odd(bits),
     };
-    EmergencyKey {
-        target: target,
-        flags: flags,
-    }
+    EmergencyKey { target, flags }
 }
 
 // The home numbers of their bytes.
@@ -93,31 +90,31 @@ fn system_of(s: &[u8]) -> SystemCode
 }
 
 // Where the emergency key calls, and how, in a store of a set with these limits.
-pub fn key_in(store: &[u8], limits: Limits) -> Key
-    ensures { Answers (key_asked limits store.now) (key_told result) }
+pub fn key_in(store: &[u8], limits: Limits) -> Result<EmergencyKey, NoValue>
+    ensures { Answers (key_asked limits store.now) (told result) }
 {
     if !is_store(store, limits) {
-        return Key::NotAStore;
+        return Err(NoValue::NotAStore);
     }
-    Key::Armed(key_of(&store[KEY..HOME]))
+    Ok(key_of(&store[KEY..HOME]))
 }
 
 // NZI and NP.
-pub fn home_in(store: &[u8], limits: Limits) -> Home
-    ensures { Answers (home_asked limits store.now) (home_told result) }
+pub fn home_in(store: &[u8], limits: Limits) -> Result<HomeNumbers, NoValue>
+    ensures { Answers (home_asked limits store.now) (told result) }
 {
     if !is_store(store, limits) {
-        return Home::NotAStore;
+        return Err(NoValue::NotAStore);
     }
-    Home::Numbers(home_of(&store[HOME..SYSTEM]))
+    Ok(home_of(&store[HOME..SYSTEM]))
 }
 
 // LAI, LA, roaming and PAR.
-pub fn system_in(store: &[u8], limits: Limits) -> System
-    ensures { Answers (system_asked limits store.now) (system_told result) }
+pub fn system_in(store: &[u8], limits: Limits) -> Result<SystemCode, NoValue>
+    ensures { Answers (system_asked limits store.now) (told result) }
 {
     if !is_store(store, limits) {
-        return System::NotAStore;
+        return Err(NoValue::NotAStore);
     }
-    System::Code(system_of(&store[SYSTEM..QUICK]))
+    Ok(system_of(&store[SYSTEM..QUICK]))
 }

@@ -3,9 +3,9 @@ ghost use Rattle.std.specs.Prelude.{ℕ, ◌<◌, ◌≡◌, length};
 ghost use Rattle.lists.specs.Ladder.{Answers};
 ghost use Rattle.slots.specs.Slots.{u16};
 ghost use Rattle.tables.specs.Store.{StoreOf};
-ghost use Rattle.values.specs.Values.{channel_told, tuning};
+ghost use Rattle.values.specs.Values.{told, tuning};
 
-use super::answers::Channel;
+use super::answers::NoValue;
 use counted_lists::counts::count;
 use store_check::checks::is_store;
 use tables::limits::Limits;
@@ -28,26 +28,26 @@ pub(crate) fn pair_of(s: &[u8]) -> u16
 }
 
 // The channel at a position of a store.
-fn tuned(position: usize, store: &[u8], limits: Limits) -> Channel
+fn tuned(position: usize, store: &[u8], limits: Limits) -> Result<u16, NoValue>
     requires { StoreOf limits store.now }
-    ensures { Answers (tuning limits position store.now) (channel_told result) }
+    ensures { Answers (tuning limits position store.now) (told result) }
 {
     let channels = channels_at(limits);
     let lines = lines_at(limits);
     if count(&store[channels..lines]) <= position {
-        return Channel::Absent;
+        return Err(NoValue::Absent);
     }
     let start = channels + COUNT + position * CHANNEL_SLOT;
     let end = start + CHANNEL_SLOT;
-    Channel::Tuned(pair_of(&store[start..end]))
+    Ok(pair_of(&store[start..end]))
 }
 
 // The channel at a position, in a store of a set with these limits.
-pub fn channel_in(position: usize, store: &[u8], limits: Limits) -> Channel
-    ensures { Answers (tuning limits position store.now) (channel_told result) }
+pub fn channel_in(position: usize, store: &[u8], limits: Limits) -> Result<u16, NoValue>
+    ensures { Answers (tuning limits position store.now) (told result) }
 {
     if !is_store(store, limits) {
-        return Channel::NotAStore;
+        return Err(NoValue::NotAStore);
     }
     tuned(position, store, limits)
 }

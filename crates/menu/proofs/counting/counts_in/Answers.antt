@@ -1,4 +1,4 @@
-use Rattle.lists.proofs.Kit.{rules, refl, inl, inr}
+use Rattle.lists.proofs.Kit.{refl, inl, inr}
 use Rattle.tables.proofs.AnswerLaws.{not_said, was_said}
 use Rattle.menu.proofs.counting.counts_in.Goals as goal
 

@@ -1,4 +1,4 @@
-use Rattle.lists.proofs.Kit.{rules, arith, ◌+◌, ◌-◌}
+use Rattle.lists.proofs.Kit.{arith, ◌+◌, ◌-◌}
 use Rattle.tables.specs.Layout.{count_size}
 use Rattle.menu.proofs.CountLaws.{counts_read}
 use Rattle.menu.proofs.counting.read_counts.Goals as goal

@@ -1,8 +1,7 @@
-use Rattle.lists.proofs.Kit.{rules, arith, refl}
+use Rattle.lists.proofs.Kit.{arith, refl}
 use Rattle.plan.specs.Answers.{none}
 use Rattle.plan.proofs.AnswerLaws.{carried}
 use Rattle.plan.proofs.FrequencyLaws.{paired_steps, steps_paired, simplex_steps, steps_simplex, no_band}
-use Rattle.plan.proofs.channels.channel_above.Reads as channel-above-reads
 use Rattle.plan.proofs.channels.channel_of_transmit.Goals as goal
 
 pub returns-in-3510125-to-3560000 : goal.returns-in-3510125-to-3560000

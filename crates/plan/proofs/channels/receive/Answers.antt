@@ -1,8 +1,7 @@
-use Rattle.lists.proofs.Kit.{rules, ◌+◌, arith, refl}
+use Rattle.lists.proofs.Kit.{◌+◌, arith, refl}
 use Rattle.plan.specs.Answers.{has, none}
 use Rattle.plan.specs.Frequencies.{both_ways, above}
 use Rattle.plan.proofs.FrequencyLaws.{transmits_in, receives_in}
-use Rattle.plan.proofs.channels.transmit_value.Reads as transmit-value-reads
 use Rattle.plan.proofs.channels.receive.Goals as goal
 
 pub overflow_add-result : goal.overflow_add-result

@@ -1,7 +1,6 @@
-use Rattle.lists.proofs.Kit.{rules, arith, refl}
+use Rattle.lists.proofs.Kit.{arith, refl}
 use Rattle.plan.specs.Answers.{has, none}
 use Rattle.plan.proofs.FrequencyLaws.{transmits_in}
-use Rattle.plan.proofs.channels.transmit_value.Reads as transmit-value-reads
 use Rattle.plan.proofs.channels.transmit.Goals as goal
 
 pub returns-in-1-to-640 : goal.returns-in-1-to-640

@@ -1,4 +1,4 @@
-use Rattle.lists.proofs.Kit.{rules, arith}
+use Rattle.lists.proofs.Kit.{arith}
 use Rattle.plan.specs.Frequencies.{simplex, paired}
 use Rattle.plan.proofs.channels.transmit_value.Goals as goal
 

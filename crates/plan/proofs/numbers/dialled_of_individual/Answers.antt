@@ -1,12 +1,11 @@
-use Rattle.lists.proofs.Kit.{rules, ◌%◌}
+use Rattle.lists.proofs.Kit.{refl}
 use Rattle.plan.specs.Numbers.{IndividualShort}
-use Rattle.plan.proofs.NumberLaws.{individuals, member_fits, addressed}
-use Rattle.plan.proofs.numbers.area_dialled.Reads as area-dialled-reads
-use Rattle.plan.proofs.numbers.individual_member.Reads as individual-member-reads
+use Rattle.plan.specs.Answers.{none}
+use Rattle.plan.proofs.NumberLaws.{individuals, no_member, addressed}
 use Rattle.plan.proofs.numbers.dialled_of_individual.Goals as goal
 
-pub area_dialled-requires : goal.area_dialled-requires
-area_dialled-requires c = member_fits IndividualShort individuals (c.args.a.0 % 32768) c.individual_member.result c.individual_member.ensures
+pub returns-in_err-fleet : goal.returns-in_err-fleet
+returns-in_err-fleet c = rw c.from_residual.ensures (none (no_member IndividualShort individuals _ c.in_err-fleet.ensures) refl)
 
 pub returns : goal.returns
-returns c = addressed IndividualShort individuals c.args.a.0 c.individual_member.result c.area_dialled.result c.individual_member.ensures c.area_dialled.ensures
+returns c = addressed IndividualShort individuals _ _ _ _ c.in_ok-fleet.ensures c.area_dialled.ensures

@@ -1,4 +1,4 @@
-use Rattle.lists.proofs.Kit.{rules, arith}
+use Rattle.lists.proofs.Kit.{arith}
 use Rattle.plan.specs.Numbers.{of_100}
 use Rattle.plan.proofs.NumberLaws.{group_to}
 use Rattle.plan.proofs.numbers.group_member.Goals as goal

@@ -1,4 +1,4 @@
-use Rattle.lists.proofs.Kit.{rules, arith}
+use Rattle.lists.proofs.Kit.{arith}
 use Rattle.plan.specs.Numbers.{of_700, of_350}
 use Rattle.plan.proofs.NumberLaws.{individual_to}
 use Rattle.plan.proofs.numbers.individual_member.Goals as goal

@@ -1,4 +1,4 @@
-use Rattle.lists.proofs.Kit.{rules, arith, refl, inl, inr}
+use Rattle.lists.proofs.Kit.{arith, refl, inl, inr}
 use Rattle.tables.specs.Store.{StoreOf}
 use Rattle.tables.proofs.AnswerLaws.{not_said, was_said}
 use Rattle.values.proofs.DigitLaws.{digits_none, digits_there}

@@ -1,4 +1,4 @@
-use Rattle.lists.proofs.Kit.{rules, arith, mid_len, length}
+use Rattle.lists.proofs.Kit.{arith, mid_len, length}
 use Rattle.values.proofs.DigitLaws.{line_digits, no_digits}
 use Rattle.values.proofs.EntryLaws.{line_kind, no_line, kind_wide}
 use borrow.Enum.Refused.{opened as is_one_of}

@@ -1,4 +1,4 @@
-use Rattle.lists.proofs.Kit.{rules, arith, refl, inl}
+use Rattle.lists.proofs.Kit.{arith, refl, inl}
 use Rattle.tables.specs.Store.{StoreOf}
 use Rattle.tables.proofs.AnswerLaws.{not_said, was_said}
 use Rattle.values.proofs.EntryLaws.{SlotIn, slot_in, entry_none, entry_there}

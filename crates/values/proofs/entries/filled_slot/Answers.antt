@@ -1,4 +1,4 @@
-use Rattle.lists.proofs.Kit.{rules, arith, sym, ◌∙◌}
+use Rattle.lists.proofs.Kit.{arith, sym, ◌∙◌}
 use Rattle.screen.proofs.NameLaws.{Here, here, found_fits}
 use Rattle.values.proofs.EntryLaws.{filled_beyond, filled_gone, filled_here}
 use Rattle.values.proofs.entries.filled_slot.Goals as goal

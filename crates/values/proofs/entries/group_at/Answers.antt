@@ -1,4 +1,3 @@
-use Rattle.lists.proofs.Kit.{rules}
 use Rattle.values.proofs.EntryLaws.{group_reads}
 use Rattle.values.proofs.entries.group_at.Goals as goal
 

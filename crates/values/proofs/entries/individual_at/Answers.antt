@@ -1,4 +1,3 @@
-use Rattle.lists.proofs.Kit.{rules}
 use Rattle.values.proofs.EntryLaws.{individual_reads}
 use Rattle.values.proofs.entries.individual_at.Goals as goal
 

@@ -1,4 +1,3 @@
-use Rattle.lists.proofs.Kit.{rules}
 use Rattle.values.proofs.EntryLaws.{line_reads}
 use Rattle.values.proofs.entries.line_at.Goals as goal
 

@@ -1,4 +1,4 @@
-use Rattle.lists.proofs.Kit.{rules, length}
+use Rattle.lists.proofs.Kit.{length}
 use Rattle.values.proofs.EntryLaws.{line_kind, group_kind, individual_kind, text_kind, kind_wide, line_read, group_read, individual_read, text_read}
 use Rattle.values.proofs.entries.target_of.Goals as goal
 

@@ -1,4 +1,3 @@
-use Rattle.lists.proofs.Kit.{rules}
 use Rattle.values.proofs.FixedLaws.{home_read}
 use Rattle.values.proofs.fixed.home_of.Goals as goal
 

@@ -1,4 +1,3 @@
-use Rattle.lists.proofs.Kit.{rules}
 use Rattle.values.proofs.FixedLaws.{key_read}
 use Rattle.values.proofs.fixed.key_of.Goals as goal
 

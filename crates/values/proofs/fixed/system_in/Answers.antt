@@ -1,4 +1,4 @@
-use Rattle.lists.proofs.Kit.{rules, arith, refl, inl}
+use Rattle.lists.proofs.Kit.{arith, refl, inl}
 use Rattle.tables.proofs.AnswerLaws.{not_said, was_said}
 use Rattle.values.proofs.FixedLaws.{system_answered}
 use Rattle.values.proofs.fixed.system_in.Goals as goal

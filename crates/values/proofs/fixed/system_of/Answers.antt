@@ -1,4 +1,3 @@
-use Rattle.lists.proofs.Kit.{rules}
 use Rattle.values.proofs.FixedLaws.{system_read}
 use Rattle.values.proofs.fixed.system_of.Goals as goal
 

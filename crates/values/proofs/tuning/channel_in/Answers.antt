@@ -1,4 +1,4 @@
-use Rattle.lists.proofs.Kit.{rules, refl, inl}
+use Rattle.lists.proofs.Kit.{refl, inl}
 use Rattle.tables.proofs.AnswerLaws.{not_said, was_said}
 use Rattle.values.proofs.tuning.channel_in.Goals as goal
 

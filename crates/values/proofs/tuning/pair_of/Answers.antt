@@ -1,4 +1,3 @@
-use Rattle.lists.proofs.Kit.{rules}
 use Rattle.values.proofs.TuningLaws.{pair_is}
 use Rattle.values.proofs.tuning.pair_of.Goals as goal
 

@@ -1,4 +1,4 @@
-use Rattle.lists.proofs.Kit.{rules, arith}
+use Rattle.lists.proofs.Kit.{arith}
 use Rattle.values.proofs.TuningLaws.{channel_absent, channel_within, channel_there}
 use Rattle.values.proofs.tuning.tuned.Goals as goal
 
