@@ -24,7 +24,7 @@ fn few_flags<W: Write>(
 ) -> io::Result<()> {
     flag(out, b" encryption ", encryption)?;
     flag(out, b" emergency ", emergency)?;
-    labelled(out, b" priority ", priority as u64)
+    labelled(out, b" priority ", priority)
 }
 
 pub(crate) fn group<W: Write>(
@@ -35,14 +35,14 @@ pub(crate) fn group<W: Write>(
     a: GroupAddress,
     name: TextPlace,
 ) -> io::Result<()> {
-    head(out, b"group contact ", index as u64)?;
+    head(out, b"group contact ", index)?;
     addressed(out, m, a.0, name)?;
-    labelled(out, b" attribute ", flags.attribute as u64)?;
+    labelled(out, b" attribute ", flags.attribute)?;
     flag(out, b" broadcast ", flags.broadcast)?;
     flag(out, b" encryption ", flags.encryption)?;
     flag(out, b" OVCM ", flags.ovcm)?;
     flag(out, b" emergency ", flags.emergency)?;
-    labelled(out, b" priority ", flags.priority as u64)
+    labelled(out, b" priority ", flags.priority)
 }
 
 pub(crate) fn individual<W: Write>(
@@ -53,7 +53,7 @@ pub(crate) fn individual<W: Write>(
     a: IndividualAddress,
     name: TextPlace,
 ) -> io::Result<()> {
-    head(out, b"individual contact ", index as u64)?;
+    head(out, b"individual contact ", index)?;
     addressed(out, m, a.0, name)?;
     few_flags(out, flags.encryption, flags.emergency, flags.priority)
 }
@@ -66,7 +66,7 @@ pub(crate) fn line<W: Write>(
     number: NumberPlace,
     name: TextPlace,
 ) -> io::Result<()> {
-    head(out, b"line contact ", index as u64)?;
+    head(out, b"line contact ", index)?;
     if flags.pabx {
         text(out, b"PABX ")?;
     } else {

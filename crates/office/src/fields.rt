@@ -4,40 +4,37 @@ use printing::utf8::show_text;
 use read_fields::bytes::number;
 use read_fields::numbers::NumberPlace;
 use read_fields::texts::TextPlace;
+use std::fmt::Display;
 use std::io;
 use std::io::Write;
 
 // A number behind a word.
-pub(crate) fn labelled<W: Write>(out: &mut W, label: &[u8], n: u64) -> io::Result<()> {
+pub(crate) fn labelled<W: Write, N: Display + Drop>(
+    out: &mut W,
+    label: &[u8],
+    n: N,
+) -> io::Result<()> {
     text(out, label)?;
     decimal(out, n)
 }
 
 // What a parameter is and its index or code.
-pub(crate) fn head<W: Write>(out: &mut W, what: &[u8], n: u64) -> io::Result<()> {
+pub(crate) fn head<W: Write, N: Display + Drop>(out: &mut W, what: &[u8], n: N) -> io::Result<()> {
     labelled(out, what, n)?;
     text(out, b": ")
 }
 
 // A flag behind a word, as 0 or 1.
 pub(crate) fn flag<W: Write>(out: &mut W, label: &[u8], set: bool) -> io::Result<()> {
-    text(out, label)?;
-    if set {
-        text(out, b"1")
-    } else {
-        text(out, b"0")
-    }
+    labelled(out, label, u8::from(set))
 }
 
 // The units of a text; none where they would not stand in the message, which is so of no text that was read.
 fn units_of(m: &[u8], place: TextPlace) -> &[u8] {
     let start = place.start;
     let units = place.units;
-    if m.len() < start {
-        return &m[0..0];
-    }
-    if (m.len() - start) / 2 < units {
-        return &m[0..0];
+    if m.len() < start || (m.len() - start) / 2 < units {
+        return b"";
     }
     let end = start + units * 2;
     &m[start..end]
@@ -57,14 +54,12 @@ pub(crate) fn hex_run<W: Write>(
     start: usize,
     count: usize,
 ) -> io::Result<usize> {
-    let mut at = start;
-    let mut left = count;
-    while at < m.len() && 0 < left {
-        hex_pair(out, m[at])?;
-        left -= 1;
-        at += 1;
+    let rest = m.get(start..).unwrap_or(b"");
+    let bytes = &rest[..count.min(rest.len())];
+    for b in bytes {
+        hex_pair(out, *b)?;
     }
-    Ok(at)
+    Ok(start + bytes.len())
 }
 
 // A number's digits, two in a byte; of the last byte of an odd number only the first.

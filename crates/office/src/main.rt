@@ -8,37 +8,20 @@ mod parameters;
 
 use messages::{refused, show_message};
 use printing::output::text;
-use records::{Record, read_record};
+use records::each_record;
 use std::io;
-use std::io::{Read, Write};
-
-// Shows the message of the next record: is there another?
-fn next<R: Read, W: Write>(input: &mut R, out: &mut W, buffer: &mut [u8]) -> io::Result<bool> {
-    let record = read_record(input, buffer)?;
-    match record {
-        Record::End => Ok(false),
-        Record::Cut => {
-            text(out, b"cut\n")?;
-            Ok(false)
-        }
-        Record::TooLong(_) => {
-            refused(out, 12)?;
-            Ok(true)
-        }
-        Record::Whole(_, length) => {
-            show_message(out, &buffer[0..length])?;
-            Ok(true)
-        }
-    }
-}
+use std::io::Write;
 
 fn main(rt: HostRuntime) -> io::Result<()> {
     let mut input = rt.reader();
     let mut out = rt.stdout();
     let mut buffer = [0u8; 4096];
-    let mut turns = u64::MAX;
-    while turns > 0 && next(&mut input, &mut out, &mut buffer)? {
-        turns -= 1;
+    let whole = each_record(&mut input, &mut buffer, |_, _, message| match message {
+        Some(message) => show_message(&mut out, message),
+        None => refused(&mut out, 12),
+    })?;
+    if !whole {
+        text(&mut out, b"cut\n")?;
     }
     out.flush()
 }

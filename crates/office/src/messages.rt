@@ -12,7 +12,7 @@ use std::io::Write;
 // The place of the first parameter.
 const FIRST: usize = 10;
 
-pub(crate) fn refused<W: Write>(out: &mut W, number: u64) -> io::Result<()> {
+pub(crate) fn refused<W: Write>(out: &mut W, number: u8) -> io::Result<()> {
     labelled(out, b"refused ", number)?;
     text(out, b"\n")
 }
@@ -20,23 +20,21 @@ pub(crate) fn refused<W: Write>(out: &mut W, number: u64) -> io::Result<()> {
 // The lines of so many parameters.
 fn parameters<W: Write>(out: &mut W, m: &[u8], count: u8) -> io::Result<()> {
     let mut at = FIRST;
-    let mut left = count;
-    while 0 < left {
+    for _ in 0..count {
         let here = read_item(m, at);
         let ItemRead::Item(item, next) = here else {
             return Ok(());
         };
         show_parameter(out, m, item)?;
         at = next;
-        left -= 1;
     }
     Ok(())
 }
 
 fn report<W: Write>(out: &mut W, m: &[u8], total: u8, index: u8, count: u8) -> io::Result<()> {
-    labelled(out, b"message ", index as u64)?;
-    labelled(out, b" of ", total as u64)?;
-    labelled(out, b", ", count as u64)?;
+    labelled(out, b"message ", index)?;
+    labelled(out, b" of ", total)?;
+    labelled(out, b", ", count)?;
     text(out, b" parameters\n")?;
     parameters(out, m, count)
 }

@@ -17,24 +17,24 @@ fn text_entry<W: Write>(
     n: u8,
     words: TextPlace,
 ) -> io::Result<()> {
-    head(out, what, n as u64)?;
+    head(out, what, n)?;
     quoted(out, m, words)
 }
 
 fn home<W: Write>(out: &mut W, numbers: HomeNumbers) -> io::Result<()> {
-    labelled(out, b"home numbers: NZI ", numbers.nzi as u64)?;
-    labelled(out, b" NP ", numbers.np as u64)
+    labelled(out, b"home numbers: NZI ", numbers.nzi)?;
+    labelled(out, b" NP ", numbers.np)
 }
 
 fn channel<W: Write>(out: &mut W, n: u16, index: u16) -> io::Result<()> {
-    head(out, b"scan channel ", index as u64)?;
-    decimal(out, n as u64)
+    head(out, b"scan channel ", index)?;
+    decimal(out, n)
 }
 
 fn system<W: Write>(out: &mut W, code: SystemCode) -> io::Result<()> {
-    labelled(out, b"system code: LAI ", code.lai as u64)?;
-    labelled(out, b" LA ", code.la as u64)?;
-    labelled(out, b" roaming ", code.roaming as u64)?;
+    labelled(out, b"system code: LAI ", code.lai)?;
+    labelled(out, b" LA ", code.la)?;
+    labelled(out, b" roaming ", code.roaming)?;
     flag(out, b" PAR ", code.par)
 }
 
@@ -44,7 +44,7 @@ fn unknown<W: Write>(out: &mut W, b: u8) -> io::Result<()> {
 }
 
 fn kept<W: Write>(out: &mut W, m: &[u8], place: HashPlace) -> io::Result<()> {
-    labelled(out, b"kept hash: code ", place.code as u64)?;
+    labelled(out, b"kept hash: code ", place.code)?;
     text(out, b" value ")?;
     hex_run(out, m, place.start, hash_size(place.code))?;
     Ok(())

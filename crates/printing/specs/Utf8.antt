@@ -1,5 +1,6 @@
 -- The characters of a text of 16-bit units, and their bytes in UTF-8.
 use Rattle.std.specs.Prelude.{ℕ, ◌+◌, ◌*◌, ◌/◌, ◌%◌, Bool, false, cond, List, [], ◌∷◌, eqb, ltb}
+use Rattle.std.specs.List.{flat_map}
 
 -- ---- characters
 
@@ -40,3 +41,7 @@ utf8 c =
     (cond (ltb c 0x800) ((0xC0 + c / 64) ∷ following c ∷ [])
     (cond (ltb c 0x10000) ((0xE0 + c / 4096) ∷ following (c / 64) ∷ following c ∷ [])
     ((0xF0 + c / 262144) ∷ following (c / 4096) ∷ following (c / 64) ∷ following c ∷ [])))
+
+-- the bytes that show a text
+abbrev pub shown : List ℕ → List ℕ
+shown bytes = flat_map utf8 (characters (units bytes))

@@ -1,5 +1,6 @@
 // A text of 16-bit units as UTF-8.
-ghost use Rattle.std.specs.Prelude.{◌+◌, ◌≤◌, ◌<◌, ◌≡◌, ◌∷◌, length, take, drop};
+ghost use Rattle.std.specs.Prelude.{◌+◌, ◌≤◌, ◌<◌, ◌≡◌, ◌∷◌, length, take, drop, OnOk};
+ghost use Rattle.std.specs.Io.KnownBytes.{Appends};
 ghost use Rattle.printing.specs.Utf8 as utf;
 
 use super::output::text;
@@ -128,15 +129,16 @@ fn encode(code: u32) -> Utf8
 
 fn show_character<W: Write>(out: &mut W, code: u32) -> io::Result<()>
     requires { code < 0x110000 }
+    ensures { OnOk result (Appends (W.contents out.old) (W.contents out.new) (utf.utf8 code)) }
 {
-    let encoded = encode(code);
-    let bytes = encoded.bytes;
-    let length = encoded.length;
+    let Utf8 { bytes, length } = encode(code);
     text(out, &bytes[0..length])
 }
 
 // Writes a text's characters one by one.
-pub fn show_text<W: Write>(out: &mut W, units: &[u8]) -> io::Result<()> {
+pub fn show_text<W: Write>(out: &mut W, units: &[u8]) -> io::Result<()>
+    ensures { OnOk result (Appends (W.contents out.old) (W.contents out.new) (utf.shown units.now)) }
+{
     let mut at = 0;
     while 2 <= units.len() - at {
         let c = character_at(units, at);

@@ -5,7 +5,7 @@
 
 use export::parts::PARTS;
 use printing::output::{decimal, hex, text};
-use records::{Record, read_record};
+use records::{Record, each_record, read_record};
 use station::answers::number;
 use station::handheld::{commit, start};
 use std::io;
@@ -21,10 +21,16 @@ fn refusal<W: Write>(out: &mut W, set: &[u8], kind: u16, number: u8) -> io::Resu
     }
     text(out, set)?;
     text(out, b" set, kind ")?;
-    decimal(out, kind as u64)?;
+    decimal(out, kind)?;
     text(out, b": refused ")?;
-    decimal(out, number as u64)?;
+    decimal(out, number)?;
     text(out, b"\n")
+}
+
+// Takes a message of a set: its number.
+fn take(message: &[u8], store: &mut [u8]) -> u8 {
+    let mut reply = [0u8; 20];
+    number(commit(message, store, &mut reply))
 }
 
 // Takes the next record of a set: is it there?
@@ -35,21 +41,13 @@ fn take_record<R: Read, W: Write>(
     buffer: &mut [u8],
     store: &mut [u8],
 ) -> io::Result<bool> {
-    let record = read_record(input, buffer)?;
-    match record {
-        Record::End => Ok(false),
-        Record::Cut => Ok(false),
-        Record::TooLong(kind) => {
-            refusal(out, set, kind, 12)?;
-            Ok(true)
-        }
-        Record::Whole(kind, length) => {
-            let mut reply = [0u8; 20];
-            let answer = commit(&buffer[0..length], store, &mut reply);
-            refusal(out, set, kind, number(answer))?;
-            Ok(true)
-        }
-    }
+    let (kind, number) = match read_record(input, buffer)? {
+        None | Some(Record::Cut) => return Ok(false),
+        Some(Record::TooLong(kind)) => (kind, 12),
+        Some(Record::Whole(kind, length)) => (kind, take(&buffer[0..length], store)),
+    };
+    refusal(out, set, kind, number)?;
+    Ok(true)
 }
 
 // Takes all records of a set, from a fresh store: are they all there?
@@ -61,13 +59,11 @@ fn take_set<R: Read, W: Write>(
     store: &mut [u8],
 ) -> io::Result<bool> {
     start(store);
-    let mut left = PARTS;
-    while left > 0 {
+    for _ in 0..PARTS {
         if !take_record(input, out, set, buffer, store)? {
             text(out, b"cut\n")?;
             return Ok(false);
         }
-        left -= 1;
     }
     Ok(true)
 }
@@ -110,32 +106,6 @@ fn show_check<W: Write>(
     }
 }
 
-// Checks the request of the next record: is there another?
-fn check_record<R: Read, W: Write>(
-    input: &mut R,
-    out: &mut W,
-    first: &[u8],
-    second: &[u8],
-    buffer: &mut [u8],
-) -> io::Result<bool> {
-    let record = read_record(input, buffer)?;
-    match record {
-        Record::End => Ok(false),
-        Record::Cut => {
-            text(out, b"cut\n")?;
-            Ok(false)
-        }
-        Record::TooLong(_) => {
-            text(out, b"no\n")?;
-            Ok(true)
-        }
-        Record::Whole(_, length) => {
-            show_check(out, first, second, &buffer[0..length])?;
-            Ok(true)
-        }
-    }
-}
-
 // What is proposed, and each record behind the sets'.
 fn answer_all<R: Read, W: Write>(
     input: &mut R,
@@ -145,9 +115,12 @@ fn answer_all<R: Read, W: Write>(
     buffer: &mut [u8],
 ) -> io::Result<()> {
     show_proposal(out, first, second, buffer)?;
-    let mut turns = u64::MAX;
-    while turns > 0 && check_record(input, out, first, second, buffer)? {
-        turns -= 1;
+    let whole = each_record(input, buffer, |_, _, message| match message {
+        Some(message) => show_check(out, first, second, message),
+        None => text(out, b"no\n"),
+    })?;
+    if !whole {
+        text(out, b"cut\n")?;
     }
     Ok(())
 }
