@@ -5,7 +5,6 @@ use Rattle.writing.specs.declared.Coding.{Coding}
 use Rattle.writing.specs.declared.Kind.{Kind}
 use Rattle.writing.specs.declared.Kind.TheVariants.{GroupContacts, IndividualContacts, Lines, Key, QuickTexts, Home, Channels, System, StatusTexts, Group, Individual, LineSlot, Last}
 use Rattle.writing.specs.declared.LastFlags.{LastFlags}
-use Rattle.writing.specs.declared.Result.{Result}
 use Rattle.writing.specs.Carrier.{result_number}
 use Rattle.writing.specs.Settings.{Setting, Hash}
 use Rattle.read_carrier.specs.Message.{MessageIs}
@@ -23,11 +22,12 @@ use Rattle.laws_taking.proofs.Demand.{run_written, hash_own}
 use Rattle.station.specs.declared.answers.Reply.{Reply}
 use Rattle.station.specs.Taking.{AfterTaking, stays, replies}
 use Rattle.plain_judge.specs.declared.judge.Item.{Item}
-use Rattle.plain_judge.specs.declared.judge.Judged.TheVariants.{Good, Fault as Faulty}
+use Rattle.std.specs.declared.result.Result.TheVariants.{Ok, Err}
+use Rattle.plain_judge.specs.declared.judge.Fault.{Fault}
 use Rattle.plain_judge.specs.declared.judge.Request.{Request}
 use Rattle.plain_judge.specs.Judging.{Weights, Logged, Ran, RunIs}
 use Rattle.plain_log.specs.declared.checks.Area.{Area}
-use Rattle.plain_log.specs.declared.keeping.Kept.TheVariants.{Kept as IsKept, PastEnd}
+use Rattle.plain_log.specs.declared.keeping.PastEnd.{PastEnd}
 use Rattle.plain_log.specs.Area.{area_size, log_bytes}
 use Rattle.plain_log.specs.Checking.{AreaSeen}
 use Rattle.plain_log.specs.Frames.{KeepIs}
@@ -109,24 +109,24 @@ module _ (m s reply ws : List ℕ) (q : Request) (seen : Area) (a : AreaSeen s w
   }
 
   -- one with a fault is turned down
-  pub fault_asked : (vs after : List ℕ) (result : Result) (failed : ℕ) (r : Reply) → RunIs s seen.deeds m q ws vs (Faulty result failed) → TurnedDown result failed reply after r
+  pub fault_asked : (vs after : List ℕ) (f : Fault) (r : Reply) → RunIs s seen.deeds m q ws vs (Err f) → TurnedDown f.result f.failed reply after r
       → PlainHandled m s reply (plain_leaves (Replied r) s after)
-  fault_asked vs after result failed r run down =
-      asked _ (refused (result_number result) failed) (run a.deeds (forget a.tables) (forget_logged s _ _ _ a.logged) (forget_weights ws _ a.weights)) (down m s)
+  fault_asked vs after f r run down =
+      asked _ (refused (result_number f.result) f.failed) (run a.deeds (forget a.tables) (forget_logged s _ _ _ a.logged) (forget_weights ws _ a.weights)) (down m s)
 
-  module _ (vs : List ℕ) (i : Item) (n : ℕ) (run : RunIs s seen.deeds m q ws vs (Good i n)) where
+  module _ (vs : List ℕ) (i : Item) (n : ℕ) (run : RunIs s seen.deeds m q ws vs (Ok (i, n))) where
     -- what running its settings left
     ran : Ran m q a.deeds (forget a.tables) vs i n
     ran = run a.deeds (forget a.tables) (forget_logged s _ _ _ a.logged) (forget_weights ws _ a.weights)
 
     -- a good one that passes the area's end touches nothing
-    pub full_asked : (t : List ℕ) → KeepIs s seen.used m t PastEnd → PlainHandled m s reply (plain_leaves (Untouched AreaFull) t reply)
-    full_asked t k =
+    pub full_asked : (t : List ℕ) (past : PastEnd) → KeepIs s seen.used m t (Err past) → PlainHandled m s reply (plain_leaves (Untouched AreaFull) t reply)
+    full_asked t past k =
         asked _ (kept ran.settings ran.tables) ran.judged
         (ap (λ (x : List ℕ). plain_leaves (Untouched AreaFull) x reply) k.0 ∙ sym (passes_end m s reply a.log _ (k.1 a.log a.area.bytes a.area.fits a.used)))
 
     -- and is kept otherwise
-    pub kept_asked : (t after : List ℕ) (r : Reply) → KeepIs s seen.used m t IsKept → Accepted m i.flags i.hash reply after r → PlainHandled m s reply (plain_leaves (Replied r) t after)
+    pub kept_asked : (t after : List ℕ) (r : Reply) → KeepIs s seen.used m t (Ok tt) → Accepted m i.flags i.hash reply after r → PlainHandled m s reply (plain_leaves (Replied r) t after)
     kept_asked t after r k acc =
         let (e, f) = k a.log a.area.bytes a.area.fits a.used in
         let l = ran.settings in

@@ -5,15 +5,15 @@ ghost use Rattle.plain.specs.Plain.{refusal_number, plain_said};
 use station::answers::Reply;
 use station::replies::result_number;
 
-// A refusal that touches no byte.
+// A refusal that touches no byte, with its number.
 #[derive(Clone, Copy)]
 pub enum Refusal {
-    ReplyBuffer,
+    ReplyBuffer = 10,
     NotAnArea,
     MessageSize,
     Carrier,
     MessageType,
-    AreaFull,
+    AreaFull = 18,
 }
 
 #[derive(Clone, Copy)]
@@ -26,14 +26,7 @@ pub enum Answer {
 pub fn refusal_number(refusal: Refusal) -> u8
     ensures { result ≡ refusal_number refusal }
 {
-    match refusal {
-        Refusal::ReplyBuffer => 10,
-        Refusal::NotAnArea => 11,
-        Refusal::MessageSize => 12,
-        Refusal::Carrier => 13,
-        Refusal::MessageType => 14,
-        Refusal::AreaFull => 18,
-    }
+    refusal as u8
 }
 
 // The number of an answer.
@@ -42,10 +35,7 @@ pub fn number(answer: Answer) -> u8
 {
     match answer {
         Answer::Untouched(refusal) => refusal_number(refusal),
-        Answer::Replied(reply) => {
-            let result = reply.result;
-            result_number(result)
-        }
+        Answer::Replied(reply) => result_number(reply.result),
     }
 }
 

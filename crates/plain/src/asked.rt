@@ -4,9 +4,9 @@ ghost use Rattle.plain.specs.Steps.{RequestTaken};
 
 use super::answers::{Answer, Refusal};
 use super::replying::{accept, turn_down};
-use plain_judge::judge::{Judged, Request, judge_settings};
+use plain_judge::judge::{Request, judge_settings};
 use plain_log::checks::Area;
-use plain_log::keeping::{Kept, keep};
+use plain_log::keeping::keep;
 
 // It is judged after those that are kept, and kept where it is good and does not pass the area's end.
 pub(crate) fn take_request(
@@ -19,19 +19,11 @@ pub(crate) fn take_request(
 ) -> Answer
     ensures { RequestTaken m.now request area.old seen reply.old weights.old area.new reply.new result }
 {
-    let judged = judge_settings(area, seen.deeds, m, request, weights);
-    match judged {
-        Judged::Fault(result, failed) => Answer::Replied(turn_down(reply, result, failed)),
-        Judged::Good(item, _) => {
-            let kept = keep(area, seen.used, m);
-            match kept {
-                Kept::PastEnd => Answer::Untouched(Refusal::AreaFull),
-                Kept::Kept => {
-                    let flags = item.flags;
-                    let hash = item.hash;
-                    Answer::Replied(accept(m, flags, hash, reply))
-                }
-            }
-        }
+    match judge_settings(area, seen.deeds, m, request, weights) {
+        Err(fault) => Answer::Replied(turn_down(reply, fault.result, fault.failed)),
+        Ok((item, _)) => match keep(area, seen.used, m) {
+            Err(_) => Answer::Untouched(Refusal::AreaFull),
+            Ok(_) => Answer::Replied(accept(m, item.flags, item.hash, reply)),
+        },
     }
 }

@@ -8,9 +8,9 @@ use super::asked::take_request;
 use super::replying::{answer_query, turn_down};
 use plain_judge::judge::Request;
 use plain_log::areas::{Started, start as start_area};
-use plain_log::checks::{AreaRead, check_area};
+use plain_log::checks::check_area;
 use read_carrier::carrier::{Message, read_message};
-use tables::limits::{HANDHELD, Limits};
+use tables::limits::HANDHELD;
 use writing::Result;
 
 // Makes any 32,768 bytes a fresh area.
@@ -28,12 +28,10 @@ pub fn take(m: &[u8], area: &mut [u8], reply: &mut [u8]) -> Answer
         return Answer::Untouched(Refusal::ReplyBuffer);
     }
     let mut weights = [0usize; 27];
-    let read = check_area(area, &mut weights);
-    let AreaRead::Is(seen) = read else {
+    let Some(seen) = check_area(area, &mut weights) else {
         return Answer::Untouched(Refusal::NotAnArea);
     };
-    let limits: Limits = HANDHELD;
-    let message = read_message(m, limits.message);
+    let message = read_message(m, HANDHELD.message);
     match message {
         Message::Size => Answer::Untouched(Refusal::MessageSize),
         Message::Carrier => Answer::Untouched(Refusal::Carrier),
@@ -41,10 +39,7 @@ pub fn take(m: &[u8], area: &mut [u8], reply: &mut [u8]) -> Answer
         Message::Version => Answer::Replied(turn_down(reply, Result::OtherVersion, 0)),
         Message::NoRequest => Answer::Replied(turn_down(reply, Result::BadField, 0)),
         Message::NoQuery => Answer::Replied(turn_down(reply, Result::BadField, 0)),
-        Message::Query(place) => {
-            let kept = seen.hash;
-            Answer::Replied(answer_query(m, place, area, kept, reply))
-        }
+        Message::Query(place) => { Answer::Replied(answer_query(m, place, area, seen.hash, reply)) }
         Message::Request(count, at, coding) => {
             let request = Request { at, count, coding };
             take_request(m, request, area, seen, reply, &mut weights)

@@ -34,8 +34,8 @@ use Rattle.read_deeds.specs.Cursors.{Standing, AtSettings}
 use Rattle.plain_weigh.specs.Weighing.{Short, Read}
 use Rattle.plain_judge.specs.declared.judge.Item.{Item}
 use Rattle.plain_judge.specs.declared.judge.Request.{Request}
-use Rattle.plain_judge.specs.declared.judge.Step.TheVariants.{Next, Fault as StepFault}
-use Rattle.plain_judge.specs.declared.trying.Deeds.TheVariants.{Passed, NoRoom as TriedNoRoom}
+use Rattle.std.specs.declared.option.Option.TheVariants.{Some, None}
+use Rattle.std.specs.declared.result.Result.TheVariants.{Ok, Err}
 use Rattle.plain_judge.specs.Judging.{Weights, Logged, HashStands, ItemIs, Ran, TryIs, HashOf, Along, Stepped, StepIs}
 use Rattle.plain_judge.proofs.SettingDeeds.{deeds_short, deeds_few}
 use Rattle.plain_judge.proofs.Standings.{taken_anywhere, stands_fits, stands_within, standing_end, standing_on, deeds_on, follow_on}
@@ -97,15 +97,15 @@ module _ (log : List ℕ) (n : ℕ) (m : List ℕ) (q : Request) (at so passed :
 
   module _ (x : SettingRead) (next : ℕ) (first : Cursor) (read : SettingAt q.coding (q.count - so - 1) m at (Taken x next)) (e : AtSettings q.at (so + 1) q.coding first) (vs : List ℕ) where
     -- it had room
-    pub step_taken : (i : Item) (k : ℕ) → FlagsAre x i.flags → HashOf x i.hash → TryIs log m (record { logged = n; first = first; passed = passed }) x ws vs (Passed k)
-        → StepIs log n m q at so passed ws vs (Next next i k)
+    pub step_taken : (i : Item) (k : ℕ) → FlagsAre x i.flags → HashOf x i.hash → TryIs log m (record { logged = n; first = first; passed = passed }) x ws vs (Some k)
+        → StepIs log n m q at so passed ws vs (Ok (record { next = next; item = i; deeds = k }))
     step_taken i k flags hash tried ds was l t g a h =
         let (s, means, r, y) = read in
         let (u, p, w, d) = tried ds (all_deeds l) s q.coding (q.count - so - 1) t (before_it ds was l t first s next e g a h r y) a.tells a.weights means r (stands_fits q.coding m at next s y) in
         (s, u, record { range = r; stands = y; applied = p; weights = w; item = record { flags = flags m s means; hash = hash m s means } }, d)
 
     -- or none
-    pub step_full : Bytes m → TryIs log m (record { logged = n; first = first; passed = passed }) x ws vs TriedNoRoom → StepIs log n m q at so passed ws vs (StepFault NoRoom)
+    pub step_full : Bytes m → TryIs log m (record { logged = n; first = first; passed = passed }) x ws vs None → StepIs log n m q at so passed ws vs (Err NoRoom)
     step_full b tried ds was l t g a h =
         let (s, means, r, y) = read in
         at_full q.coding handheld m b (q.count - so - 1) t at s next (stands_within q.coding m at next s y) r y

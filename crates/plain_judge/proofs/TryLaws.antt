@@ -30,11 +30,9 @@ use Rattle.read_deeds.specs.declared.deeds.Turn.{Turn}
 use Rattle.read_deeds.specs.ReadDeeds.{Begins}
 use Rattle.plain_look.specs.Looking.{kind_number}
 use Rattle.plain_weigh.specs.declared.weighing.Before.{Before}
-use Rattle.plain_weigh.specs.declared.weighing.Tried.{Tried}
-use Rattle.plain_weigh.specs.declared.weighing.Tried.TheVariants.{Room, Full}
+use Rattle.std.specs.declared.option.Option.{Option as Maybe}
 use Rattle.plain_weigh.specs.declared.weights.Weight.{Weight}
 use Rattle.plain_weigh.specs.Weighing.{weighs, Read, TriedAs, Weighs}
-use Rattle.plain_judge.specs.declared.trying.Deeds.TheVariants.{Passed, NoRoom}
 use Rattle.plain_judge.specs.Judging.{Weights, WeightAt, WeightPut, TryIs}
 use Rattle.plain_judge.proofs.SettingDeeds.{deeds_few}
 use Rattle.plain_judge.proofs.WeightLaws.{number_small, put_three, weights_put}
@@ -42,22 +40,22 @@ use Rattle.plain_judge.proofs.WeightLaws.{number_small, put_three, weights_put}
 -- ---- what was answered
 
 -- no weight was
-tried_none : (n : ℕ) (k : Kind) (o : Option Tables) → TriedAs n Full (map (weight_of k) o) → o ≡ none
+tried_none : (n : ℕ) (k : Kind) (o : Option Tables) → TriedAs n None (map (weight_of k) o) → o ≡ none
 tried_none n k none h = refl
 tried_none n k (some u) h = absurd h
 
 -- this weight was
-tried_some : (n : ℕ) (k : Kind) (w : Weight) (p : ℕ) (o : Option Tables) → TriedAs n (Room w p) (map (weight_of k) o)
+tried_some : (n : ℕ) (k : Kind) (w : Weight) (p : ℕ) (o : Option Tables) → TriedAs n (Some (w, p)) (map (weight_of k) o)
     → (u : Tables) × (o ≡ some u) × (weighs w ≡ weight_of k u) × (p ≡ n)
 tried_some n k w p none h = absurd h
 tried_some n k w p (some u) h = (u, refl, h.0, h.1)
 
 -- numbers of another length are of no tables
-pub tried_short : (log m : List ℕ) (b : Before) (x : SettingRead) (ws vs : List ℕ) → length ws ≢ 27 → TryIs log m b x ws vs NoRoom
+pub tried_short : (log m : List ℕ) (b : Before) (x : SettingRead) (ws vs : List ℕ) → length ws ≢ 27 → TryIs log m b x ws vs None
 tried_short log m b x ws vs h = λ L M s c left t r tells w means i f. absurd (h w.all)
 
 module _ (log m : List ℕ) (b : Before) (x : SettingRead) (ws : List ℕ) (n : ℕ) (number : n ≡ kind_number (read_kind x)) (was : Weight) (at : WeightAt ws n was)
-    (turn : Turn) (begins : Begins m x turn) (tried : Tried) (weighed : Weighs log m b turn was tried)
+    (turn : Turn) (begins : Begins m x turn) (tried : Maybe (Weight × ℕ)) (weighed : Weighs log m b turn was tried)
   where
     -- the number is that of the setting's kind
     number_of : (s : Setting) → Meant m x s → n ≡ kind_number (kind s)
@@ -93,12 +91,12 @@ module _ (log m : List ℕ) (b : Before) (x : SettingRead) (ws : List ℕ) (n : 
         (weighed L M (deeds s) r (begins s left means i) small few)
 
     -- TRIED-FULL: no place for an entry
-    pub tried_full : (vs : List ℕ) → tried ≡ Full → TryIs log m b x ws vs NoRoom
+    pub tried_full : (vs : List ℕ) → tried ≡ None → TryIs log m b x ws vs None
     tried_full vs e L M s c left t r tells w means i f =
-        let h = subst (λ (z : Tried). TriedAs (b.passed + length (deeds s)) z (map (weight_of (kind s)) (change handheld s t))) e (tried_as L M s c left t r tells w means i f) in
+        let h = subst (λ (z : Maybe (Weight × ℕ)). TriedAs (b.passed + length (deeds s)) z (map (weight_of (kind s)) (change handheld s t))) e (tried_as L M s c left t r tells w means i f) in
         (no_room_exactly handheld s t).1 (inl (tried_none (b.passed + length (deeds s)) (kind s) (change handheld s t) h))
 
-    module _ (w : Weight) (p : ℕ) (e : tried ≡ Room w p) where
+    module _ (w : Weight) (p : ℕ) (e : tried ≡ Some (w, p)) where
       -- the sum that is judged is that of the tables after it
       sum_is : (s : Setting) (t u : Tables) → Meant m x s → Weights ws t → change handheld s t ≡ some u → w.bytes ≡ text_size (kind s) (own (kind s) u)
           → get_or ws 26 0 - was.bytes + w.bytes ≡ text_sum u
@@ -110,19 +108,19 @@ module _ (log m : List ℕ) (b : Before) (x : SettingRead) (ws : List ℕ) (n : 
           → Meant m x s → InRange text_limits left s → Fits c s
           → (u : Tables) × (change handheld s t ≡ some u) × (weighs w ≡ weight_of (kind s) u) × (p ≡ b.passed + length (deeds s)) × (get_or ws 26 0 - was.bytes + w.bytes ≡ text_sum u)
       tried_room L M s c left t r tells ok means i f =
-          let h = subst (λ (z : Tried). TriedAs (b.passed + length (deeds s)) z (map (weight_of (kind s)) (change handheld s t))) e (tried_as L M s c left t r tells ok means i f) in
+          let h = subst (λ (z : Maybe (Weight × ℕ)). TriedAs (b.passed + length (deeds s)) z (map (weight_of (kind s)) (change handheld s t))) e (tried_as L M s c left t r tells ok means i f) in
           let (u, q, y, z) = tried_some _ (kind s) w p (change handheld s t) h in
           (u, q, y, z, sum_is s t u means ok q (ap (λ (v : Known.Weight). v.bytes) y))
 
       -- TRIED-OVER: the texts held after it pass the area
-      pub tried_over : (vs : List ℕ) → HeldAfter (Shared 4096) (get_or ws 26 0 - was.bytes + w.bytes) None → TryIs log m b x ws vs NoRoom
+      pub tried_over : (vs : List ℕ) → HeldAfter (Shared 4096) (get_or ws 26 0 - was.bytes + w.bytes) None → TryIs log m b x ws vs None
       tried_over vs over L M s c left t r tells ok means i f =
           let (u, q, y, z, sum) = tried_room L M s c left t r tells ok means i f in
           (no_room_exactly handheld s t).1 (inr (u, q, subst (λ (k : ℕ). 4096 < k) sum over))
 
       -- TRIED-DONE: there is room, and the numbers are those of the tables after it
       pub tried_done : (vs : List ℕ) (sum : ℕ) → HeldAfter (Shared 4096) (get_or ws 26 0 - was.bytes + w.bytes) (Some sum) → WeightPut ws n w sum vs
-          → TryIs log m b x ws vs (Passed p)
+          → TryIs log m b x ws vs (Some p)
       tried_done vs sum (is, room) puts L M s c left t r tells ok means i f =
           let (u, q, y, z, total) = tried_room L M s c left t r tells ok means i f in
           let d : n ≡ kind_number (kind s) = number_of s means in

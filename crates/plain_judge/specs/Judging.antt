@@ -1,9 +1,14 @@
 -- What judging the settings of a request answers, after the requests of a log whose deeds tell the tables.
-use Rattle.std.specs.Prelude.{ℕ, ◌+◌, ◌*◌, ◌-◌, ◌≤◌, ◌<◌, ◌≡◌, List, [], ◌∷◌, ◌++◌, map, length, get_or, set, drop}
+use Rattle.std.specs.Prelude.{ℕ, ◌+◌, ◌*◌, ◌-◌, ◌≤◌, ◌<◌, ◌≡◌, List, [], ◌++◌, map, length, get_or, set, drop}
 use Rattle.std.proofs.Math.Option.{none, some}
+use Rattle.std.specs.declared.option.Option.{Option as Maybe}
+use Rattle.std.specs.declared.option.Option.TheVariants.{Some, None}
+use Rattle.std.specs.declared.result.Result.{Result as Answer}
+use Rattle.std.specs.declared.result.Result.TheVariants.{Ok, Err}
 use Rattle.lists.specs.Every.{All}
 use Rattle.writing.specs.declared.Coding.{Coding}
 use Rattle.writing.specs.declared.Kind.{Kind}
+use Rattle.writing.specs.declared.Result.{Result as Outcome}
 use Rattle.writing.specs.Canonical.{Fits}
 use Rattle.writing.specs.Carrier.{result_number}
 use Rattle.writing.specs.Fields.{val}
@@ -30,13 +35,9 @@ use Rattle.plain_weigh.specs.declared.weighing.Before.{Before}
 use Rattle.plain_weigh.specs.declared.weights.Weight.{Weight}
 use Rattle.plain_weigh.specs.Weighing.{Short, log_start, Read}
 use Rattle.plain_judge.specs.declared.judge.Item.{Item}
-use Rattle.plain_judge.specs.declared.judge.Judged.{Judged as Answer}
-use Rattle.plain_judge.specs.declared.judge.Judged.TheVariants.{Good, Fault as Faulty}
+use Rattle.plain_judge.specs.declared.judge.Fault.{Fault as Refusal}
 use Rattle.plain_judge.specs.declared.judge.Request.{Request}
 use Rattle.plain_judge.specs.declared.judge.Step.{Step}
-use Rattle.plain_judge.specs.declared.judge.Step.TheVariants.{Next, Fault as StepFault}
-use Rattle.plain_judge.specs.declared.trying.Deeds.{Deeds}
-use Rattle.plain_judge.specs.declared.trying.Deeds.TheVariants.{Passed, NoRoom}
 
 -- ---- the numbers that are kept
 
@@ -86,10 +87,10 @@ pub record Ran (m : List ℕ) (q : Request) (ds : List D.Deed) (was : Tables) (w
   pub item : ItemIs m i (last_item settings)
 
 -- what judging the settings of a request answers, by numbers that were ws and become vs
-abbrev pub RunIs : List ℕ → ℕ → List ℕ → Request → List ℕ → List ℕ → Answer → Type 0
-RunIs log n m q ws vs (Good i k) = (ds : List D.Deed) (was : Tables) → Logged log n ds was → Weights ws was → Ran m q ds was vs i k
-RunIs log n m q ws vs (Faulty result failed) =
-    (ds : List D.Deed) (was : Tables) → Logged log n ds was → Weights ws was → Judged q.coding handheld q.count was (drop q.at m) (refused (result_number result) failed)
+abbrev pub RunIs : List ℕ → ℕ → List ℕ → Request → List ℕ → List ℕ → Answer (Item × ℕ) Refusal → Type 0
+RunIs log n m q ws vs (Ok r) = (ds : List D.Deed) (was : Tables) → Logged log n ds was → Weights ws was → Ran m q ds was vs r.0 r.1
+RunIs log n m q ws vs (Err f) =
+    (ds : List D.Deed) (was : Tables) → Logged log n ds was → Weights ws was → Judged q.coding handheld q.count was (drop q.at m) (refused (result_number f.result) f.failed)
 
 -- ---- inner steps: no promise cites these
 
@@ -101,12 +102,12 @@ abbrev pub WeightPut : List ℕ → ℕ → Weight → ℕ → List ℕ → Type
 WeightPut ws k w sum vs = length ws ≡ 27 → k < 13 → vs ≡ set (set (set ws (2 * k) w.entries) (2 * k + 1) w.bytes) 26 sum
 
 -- what trying a setting answers, after deeds of the log and of the request
-abbrev pub TryIs : List ℕ → List ℕ → Before → SettingRead → List ℕ → List ℕ → Deeds → Type 0
-TryIs log m b x ws vs (Passed n) =
+abbrev pub TryIs : List ℕ → List ℕ → Before → SettingRead → List ℕ → List ℕ → Maybe ℕ → Type 0
+TryIs log m b x ws vs (Some n) =
     (L M : List D.Deed) (s : Setting) (c : Coding) (left : ℕ) (t : Tables) → Read log m b L M (deeds s) → Telling handheld (L ++ M) t → Weights ws t
     → Meant m x s → InRange text_limits left s → Fits c s
     → (u : Tables) × (apply handheld s t ≡ some u) × Weights vs u × (n ≡ b.passed + length (deeds s))
-TryIs log m b x ws vs NoRoom =
+TryIs log m b x ws vs None =
     (L M : List D.Deed) (s : Setting) (c : Coding) (left : ℕ) (t : Tables) → Read log m b L M (deeds s) → Telling handheld (L ++ M) t → Weights ws t
     → Meant m x s → InRange text_limits left s → Fits c s
     → apply handheld s t ≡ none
@@ -135,10 +136,10 @@ pub record Stepped (m : List ℕ) (q : Request) (left at next : ℕ) (t : Tables
   pub item : ItemIs m i (or_else (item_of s) (last_item []))
 
 -- what judging the setting at a place answers
-abbrev pub StepIs : List ℕ → ℕ → List ℕ → Request → ℕ → ℕ → ℕ → List ℕ → List ℕ → Step → Type 0
-StepIs log n m q at taken passed ws vs (Next next i k) =
+abbrev pub StepIs : List ℕ → ℕ → List ℕ → Request → ℕ → ℕ → ℕ → List ℕ → List ℕ → Answer Step Outcome → Type 0
+StepIs log n m q at taken passed ws vs (Ok r) =
     (ds : List D.Deed) (was : Tables) (l : List Setting) (t : Tables) → Logged log n ds was → Along m q ds was at taken passed ws l t → taken < q.count
-    → (s : Setting) × (u : Tables) × Stepped m q (q.count - taken - 1) at next t vs i s u × (k ≡ passed + length (deeds s))
-StepIs log n m q at taken passed ws vs (StepFault result) =
+    → (s : Setting) × (u : Tables) × Stepped m q (q.count - taken - 1) at r.next t vs r.item s u × (r.deeds ≡ passed + length (deeds s))
+StepIs log n m q at taken passed ws vs (Err result) =
     (ds : List D.Deed) (was : Tables) (l : List Setting) (t : Tables) → Logged log n ds was → Along m q ds was at taken passed ws l t → taken < q.count
     → Fault q.coding handheld (q.count - taken - 1) t (drop at m) (result_number result)

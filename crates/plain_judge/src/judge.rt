@@ -2,14 +2,14 @@
 ghost use Rattle.std.specs.Prelude.{◌<◌};
 ghost use Rattle.plain_judge.specs.Judging.{HashOf, StepIs, RunIs};
 
-use super::trying::{Deeds, try_setting};
+use super::trying::try_setting;
 use plain_weigh::weighing::Before;
 use read_deeds::cursors::at_settings;
 use read_fields::hashes::HashPlace;
 use read_setting::reader::{SettingRead, read_setting};
 use requests::run::flags_of;
 use settings::settings::Setting;
-use writing::{Coding, LastFlags, Result};
+use writing::{Coding, LastFlags, Result as Outcome};
 
 // FF's bits and where its hash stands, no and no and a hash of code 0 for another setting.
 #[derive(Clone, Copy)]
@@ -18,18 +18,19 @@ pub struct Item {
     pub hash: HashPlace,
 }
 
-// The place after a setting that was taken, what it says as the last, and how many deeds of the request were read; or its fault.
+// A setting that was taken: the place after it, what it says as the last, and how many deeds of the request were read.
 #[derive(Clone, Copy)]
-pub(crate) enum Step {
-    Next(usize, Item, usize),
-    Fault(Result),
+pub(crate) struct Step {
+    pub next: usize,
+    pub item: Item,
+    pub deeds: usize,
 }
 
-// What the last setting says and how many deeds there are where all settings were taken, or the first fault and the failed ID.
+// The first fault of a request, and the failed ID.
 #[derive(Clone, Copy)]
-pub enum Judged {
-    Good(Item, usize),
-    Fault(Result, u8),
+pub struct Fault {
+    pub result: Outcome,
+    pub failed: u8,
 }
 
 // A request's settings: where they start, how many they are, and their coding.
@@ -58,7 +59,7 @@ fn hash_of(setting: Setting) -> HashPlace
     }
 }
 
-// The setting at a place, after so many that were taken.
+// The setting at a place, after so many that were taken, or its fault.
 fn judge_setting(
     log: &[u8],
     logged: usize,
@@ -68,11 +69,11 @@ fn judge_setting(
     taken: u8,
     passed: usize,
     weights: &mut [usize],
-) -> Step
+) -> Result<Step, Outcome>
     ensures { StepIs log.now logged m.now request at taken passed weights.old weights.new result }
 {
     if request.count <= taken {
-        return Step::Fault(Result::BadField);
+        return Err(Outcome::BadField);
     }
     let left = (request.count - taken - 1) as usize;
     let coding = request.coding;
@@ -84,53 +85,55 @@ fn judge_setting(
                 first: at_settings(request.at, taken as usize + 1, coding),
                 passed,
             };
-            let tried = try_setting(log, m, before, setting, weights);
-            match tried {
-                Deeds::Passed(deeds) => Step::Next(
-                    next,
-                    Item {
-                        flags: flags_of(setting),
-                        hash: hash_of(setting),
-                    },
-                    deeds,
-                ),
-                Deeds::NoRoom => Step::Fault(Result::NoRoom),
-            }
+            let Some(deeds) = try_setting(log, m, before, setting, weights) else {
+                return Err(Outcome::NoRoom);
+            };
+            let item = Item {
+                flags: flags_of(setting),
+                hash: hash_of(setting),
+            };
+            Ok(Step { next, item, deeds })
         }
-        SettingRead::Missing => Step::Fault(Result::BadField),
-        SettingRead::Unknown => Step::Fault(Result::UnknownType),
-        SettingRead::Field => Step::Fault(Result::BadField),
+        SettingRead::Missing => Err(Outcome::BadField),
+        SettingRead::Unknown => Err(Outcome::UnknownType),
+        SettingRead::Field => Err(Outcome::BadField),
     }
 }
 
-// All settings of a request, to the message's end, after so many deeds of the log.
+// All settings of a request, to the message's end, after so many deeds of the log: what the last says and how many deeds there are where all were taken.
 pub fn judge_settings(
     log: &[u8],
     logged: usize,
     m: &[u8],
     request: Request,
     weights: &mut [usize],
-) -> Judged
+) -> Result<(Item, usize), Fault>
     ensures { RunIs log.now logged m.now request weights.old weights.new result }
 {
     let mut p = request.at;
-    let mut taken: u8 = 0;
     let mut passed = 0;
     let mut item = NO_ITEM;
-    while taken < request.count {
+    for taken in 0..request.count {
         let step = judge_setting(log, logged, m, request, p, taken, passed, weights);
         match step {
-            Step::Next(next, said, deeds) => {
-                p = next;
-                item = said;
-                passed = deeds;
+            Ok(step) => {
+                p = step.next;
+                item = step.item;
+                passed = step.deeds;
             }
-            Step::Fault(result) => return Judged::Fault(result, taken + 1),
+            Err(result) => {
+                return Err(Fault {
+                    result,
+                    failed: taken + 1,
+                });
+            }
         }
-        taken += 1;
     }
     if p < m.len() {
-        return Judged::Fault(Result::BadField, 0);
+        return Err(Fault {
+            result: Outcome::BadField,
+            failed: 0,
+        });
     }
-    Judged::Good(item, passed)
+    Ok((item, passed))
 }

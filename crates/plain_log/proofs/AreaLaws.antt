@@ -18,10 +18,9 @@ use Rattle.requests.specs.Requests.{Judged, forget}
 use Rattle.laws_taking.proofs.Determined.{judged_determined}
 use Rattle.read_deeds.specs.Cursors.{log_deeds}
 use Rattle.plain_judge.specs.Judging.{Weights, Logged, HashStands}
-use Rattle.plain_log.specs.declared.checks.AreaRead.TheVariants.{Is, NotOne}
-use Rattle.plain_log.specs.declared.checks.RecordRead.TheVariants.{Taken, Not}
+use Rattle.std.specs.declared.option.Option.TheVariants.{Some, None}
 use Rattle.plain_log.specs.Area.{area_size, record_bytes, log_bytes, area_bytes, TakenFrom, TakenInTurn, none_taken, then_taken, AreaOf, IsArea}
-use Rattle.plain_log.specs.Frames.{UsedIs}
+use Rattle.plain_log.specs.Frames.{UsedRead}
 use Rattle.plain_log.specs.Checking.{AreaSeen, AreaIs, RecordIs}
 use Rattle.plain_log.proofs.FrameLaws.{area_framed, log_more, log_longer}
 use Rattle.plain_log.proofs.RecordLaws.{two_first, frame_one}
@@ -67,7 +66,7 @@ first_of (then_taken {u = u} {message = m} {l = l} {log = rest} k q) h = record 
 
 -- what was found of the frame: its used length, and zeros behind the requests
 pub record Frame (s : List ℕ) (used end : ℕ) : Type 0 where
-  pub used_is : UsedIs s used
+  pub used_is : UsedRead s used
   pub small : used ≤ 32764
   pub ends : end ≡ 4 + used
   pub zeros : zeros? (drop end s) ≡ true
@@ -100,8 +99,8 @@ zeros_behind s log end e h p =
 -- a used length, requests and zeros are an area
 area_made : (s : List ℕ) (used end : ℕ) (log : List (List ℕ)) → Frame s used end → used ≡ length (log_bytes log) → drop 4 s ≡ log_bytes log ++ drop end s → s ≡ area_bytes log
 area_made s used end log f u d =
-    let long : length s ≡ area_size = f.used_is.size (omega (arith, f.small)) in
-    let (a, b, c) = f.used_is.there (omega (arith, f.small)) in
+    let long : length s ≡ area_size = f.used_is.size in
+    let (a, b, c) = f.used_is.there in
     let two : u16 (length (log_bytes log)) ≡ get_or s 2 0 ∷ get_or s 3 0 ∷ [] = ap u16 (sym u ∙ c) ∙ u16_of (get_or s 2 0) (get_or s 3 0) (f.bytes 3) in
     let left : length (drop end s) ≡ area_size - (4 + length (log_bytes log)) = omega (arith, length-drop end s, long, f.ends, u) in
     let tail : drop end s ≡ replicate (area_size - (4 + length (log_bytes log))) 0 = zeros_are (drop end s) f.zeros ∙ ap (λ (i : ℕ). replicate i 0) left in
@@ -195,15 +194,15 @@ module _ (s : List ℕ) (used end at deeds : ℕ) (p : HashPlace) (vs : List ℕ
 
   -- the area's end
   long : end ≤ length s
-  long = omega (arith, f.used_is.size (omega (arith, f.small)), f.small, f.ends)
+  long = omega (arith, f.used_is.size, f.small, f.ends)
 
   -- no request is taken there
-  pub so_none : (us : List ℕ) → RecordIs s at end deeds vs us Not → IsArea s → ⊥
+  pub so_none : (us : List ℕ) → RecordIs s at end deeds vs us None → IsArea s → ⊥
   so_none us r (other, t, a) =
       let n = next_of other t a in
       r (log_deeds h.settings) h.tables found.0 found.1 long n.first.message n.first.settings n.first.tables n.behind n.first.taken n.stands n.inside
 
-  module _ (next k : ℕ) (q : HashPlace) (us : List ℕ) (r : RecordIs s at end deeds vs us (Taken next k q)) where
+  module _ (next k : ℕ) (q : HashPlace) (us : List ℕ) (r : RecordIs s at end deeds vs us (Some (record { next = next; deeds = k; hash = q }))) where
     -- the request read is there and has so many deeds
     pub so_there : (at < next) × (next ≤ end) × (k ≤ 0x40000)
     so_there = let (l, u, m, tk, fr, nx, ne, ra, kk, kf, sh, w, hs) = r (log_deeds h.settings) h.tables found.0 found.1 in (omega (arith, nx), ne, kf)
@@ -249,19 +248,19 @@ abbrev pub Turn : (s ws : List ℕ) (used end at deeds : ℕ) → HashPlace → 
 Turn s ws used end at deeds p vs = Frame s used end × (ws ≡ replicate 27 0 → So s at deeds p vs × (at ≤ end))
 
 -- the frame that was found
-pub frame_here : (s : List ℕ) (used : ℕ) (r : Bool) → UsedIs s used → used ≤ 32764 → Bytes s → r ≡ zeros? (mid_of (4 + used) (length s - (4 + used)) s) → r ≡ true → Frame s used (4 + used)
+pub frame_here : (s : List ℕ) (used : ℕ) (r : Bool) → UsedRead s used → used ≤ 32764 → Bytes s → r ≡ zeros? (mid_of (4 + used) (length s - (4 + used)) s) → r ≡ true → Frame s used (4 + used)
 frame_here s used r u h b e t =
     record { used_is = u; small = h; ends = refl; zeros = ap zeros? (sym (take_all (length s - (4 + used)) (drop (4 + used) s) (omega (arith, length-drop (4 + used) s)))) ∙ sym e ∙ t; bytes = b }
 
 -- other bytes than zeros behind the requests are no area
-pub frame_not : (s ws vs : List ℕ) (used : ℕ) (r : Bool) → UsedIs s used → r ≡ zeros? (mid_of (4 + used) (length s - (4 + used)) s) → r ≡ false → AreaIs s ws vs NotOne
+pub frame_not : (s ws vs : List ℕ) (used : ℕ) (r : Bool) → UsedRead s used → r ≡ zeros? (mid_of (4 + used) (length s - (4 + used)) s) → r ≡ false → AreaIs s ws vs None
 frame_not s ws vs used r u e t z (log, tables, a) =
     let n : 4 + used ≡ 4 + length (log_bytes log) = ap (λ (i : ℕ). 4 + i) (u.used log a.bytes a.fits) in
     let y : zeros? (drop (4 + used) s) ≡ true = zeros_behind s log (4 + used) a.bytes a.fits n in
     true≢false (sym y ∙ ap zeros? (sym (take_all (length s - (4 + used)) (drop (4 + used) s) (omega (arith, length-drop (4 + used) s)))) ∙ sym e ∙ t)
 
 -- nor is a used length past the end
-pub used_not : (s ws vs : List ℕ) (used : ℕ) → UsedIs s used → 32764 < used → AreaIs s ws vs NotOne
+pub used_not : (s ws vs : List ℕ) (used : ℕ) → UsedRead s used → 32764 < used → AreaIs s ws vs None
 used_not s ws vs used u h z (log, tables, a) = omega (arith, h, u.used log a.bytes a.fits, a.fits)
 
 -- before the first request
@@ -270,25 +269,25 @@ turn_start s ws used f = (f, λ z. (so_start s ws z, omega arith))
 
 module _ (s ws : List ℕ) (used end at deeds : ℕ) (p : HashPlace) (vs : List ℕ) (turn : Turn s ws used end at deeds p vs) where
   -- all requests were read
-  pub turn_end : end ≤ at → AreaIs s ws vs (Is (record { used = used; deeds = deeds; hash = p }))
+  pub turn_end : end ≤ at → AreaIs s ws vs (Some (record { used = used; deeds = deeds; hash = p }))
   turn_end h z = let (k, l) = turn.1 z in so_seen s used end at deeds p vs turn.0 k (omega (arith, h, l))
 
   -- there cannot be so many deeds
-  pub turn_many : (us : List ℕ) → 0x100000000 ≤ deeds → AreaIs s ws us NotOne
+  pub turn_many : (us : List ℕ) → 0x100000000 ≤ deeds → AreaIs s ws us None
   turn_many us h z a = omega (arith, h, (turn.1 z).0.logged.few)
 
   module _ (before : at < end) (us : List ℕ) where
     -- no request is taken there
-    pub turn_none : RecordIs s at end deeds vs us Not → AreaIs s ws us NotOne
+    pub turn_none : RecordIs s at end deeds vs us None → AreaIs s ws us None
     turn_none r z a = so_none s used end at deeds p vs turn.0 (turn.1 z).0 before us r a
 
-    module _ (next k : ℕ) (q : HashPlace) (r : RecordIs s at end deeds vs us (Taken next k q)) where
+    module _ (next k : ℕ) (q : HashPlace) (r : RecordIs s at end deeds vs us (Some (record { next = next; deeds = k; hash = q }))) where
       -- the request read has bytes
-      pub turn_stuck : next ≤ at → AreaIs s ws us NotOne
+      pub turn_stuck : next ≤ at → AreaIs s ws us None
       turn_stuck h z a = omega (arith, h, (so_there s used end at deeds p vs turn.0 (turn.1 z).0 before next k q us r).0)
 
       -- and not so many deeds
-      pub turn_much : 0x100000000 ≤ k → AreaIs s ws us NotOne
+      pub turn_much : 0x100000000 ≤ k → AreaIs s ws us None
       turn_much h z a = omega (arith, h, (so_there s used end at deeds p vs turn.0 (turn.1 z).0 before next k q us r).2)
 
       -- one request more was read

@@ -5,7 +5,7 @@ use Rattle.slots.proofs.Pads.{pad_is, pad_length}
 use Rattle.slots.proofs.Parts.{flat_append, put_part, get_part}
 use Rattle.slots.proofs.Runs.{copy_whole}
 use Rattle.plain_log.specs.Area.{area_size, record_bytes, log_bytes, u32, area_bytes}
-use Rattle.plain_log.specs.Frames.{UsedIs, PutNumber}
+use Rattle.plain_log.specs.Frames.{UsedRead, PutNumber}
 
 -- ---- the used length
 
@@ -37,10 +37,6 @@ area_framed log h = frame_of area_size (log_bytes log) h (omega arith)
 pub area_long : (log : List (List ℕ)) → length (area_bytes log) ≡ area_size
 area_long log = pad_length 0 area_size (u32 (length (log_bytes log)) ++ log_bytes log)
 
--- where it cannot be an area
-pub used_none : (s : List ℕ) (r : ℕ) → r ≡ area_size → ((log : List (List ℕ)) → s ≡ area_bytes log → 4 + length (log_bytes log) ≤ area_size → ⊥) → UsedIs s r
-used_none s r e never = record { size = λ h. absurd (omega (arith, e, h)); there = λ h. absurd (omega (arith, e, h)); used = λ log a h. absurd (never log a h) }
-
 -- the first byte of four is 0 in an area
 pub starts_zero : (s : List ℕ) (log : List (List ℕ)) → s ≡ area_bytes log → 4 + length (log_bytes log) ≤ area_size → (get_or s 0 0 ≡ 0) × (get_or s 1 0 ≡ 0) × (get_or s 2 0 * 256 + get_or s 3 0 ≡ length (log_bytes log))
 starts_zero s log a h =
@@ -49,10 +45,10 @@ starts_zero s log a h =
     (ap (λ (l : List ℕ). get_or l 0 0) e, ap (λ (l : List ℕ). get_or l 1 0) e, ap₂ (λ (x y : ℕ). x * 256 + y) (ap (λ (l : List ℕ). get_or l 2 0) e) (ap (λ (l : List ℕ). get_or l 3 0) e) ∙ omega arith)
 
 -- the used length that was read
-pub used_read : (s : List ℕ) (n r : ℕ) → length s ≡ area_size → n ≡ get_or s 0 0 * 256 + get_or s 1 0 → n ≡ 0 → r ≡ get_or s 2 0 * 256 + get_or s 3 0 → UsedIs s r
+pub used_read : (s : List ℕ) (n r : ℕ) → length s ≡ area_size → n ≡ get_or s 0 0 * 256 + get_or s 1 0 → n ≡ 0 → r ≡ get_or s 2 0 * 256 + get_or s 3 0 → UsedRead s r
 used_read s n r l e z f = record {
-  size = λ h. l;
-  there = λ h. (omega (arith, e, z), omega (arith, e, z), f);
+  size = l;
+  there = (omega (arith, e, z), omega (arith, e, z), f);
   used = λ log a h. f ∙ (starts_zero s log a h).2;
 }
 

@@ -23,9 +23,10 @@ use Rattle.laws_taking.proofs.Demand.{run_written, hash_own}
 use Rattle.laws_taking.proofs.Determined.{judged_determined}
 use Rattle.read_deeds.specs.Cursors.{Standing}
 use Rattle.plain_judge.specs.declared.judge.Item.{Item}
-use Rattle.plain_judge.specs.declared.judge.Judged.TheVariants.{Good, Fault as Faulty}
+use Rattle.std.specs.declared.result.Result.TheVariants.{Ok, Err}
 use Rattle.plain_judge.specs.Judging.{RunIs, HashStands}
-use Rattle.plain_log.specs.declared.checks.RecordRead.TheVariants.{Taken, Not}
+use Rattle.std.specs.declared.option.Option.TheVariants.{Some, None}
+use Rattle.plain_judge.specs.declared.judge.Fault.{Fault}
 use Rattle.plain_log.specs.Area.{record_bytes, TakenFrom}
 use Rattle.plain_log.specs.Frames.{NumberAt}
 use Rattle.plain_log.specs.Checking.{RecordIs}
@@ -80,26 +81,26 @@ module _ (s : List ℕ) (at end n size k : ℕ) (ws vs : List ℕ) (number : Num
       (z, ap (λ (i : ℕ). mid_of (at + 2) i s) (all ∙ z) ∙ c)
 
   -- it does not pass the end
-  pub not_there : at + 2 ≤ end → end - (at + 2) < size → RecordIs s at end n ws vs Not
+  pub not_there : at + 2 ≤ end → end - (at + 2) < size → RecordIs s at end n ws vs None
   not_there h z ds t g w long m l u rest tk e fits = omega (arith, h, z, fits, (was_read m rest e).0)
 
   -- it is a request
-  pub not_request : (x : Message) → OneOf (0 ∷ 1 ∷ 2 ∷ 3 ∷ 4 ∷ 6 ∷ 7 ∷ []) (tag_of the_type x) → MessageIs handheld.message (mid_of (at + 2) k s) x → RecordIs s at end n ws vs Not
+  pub not_request : (x : Message) → OneOf (0 ∷ 1 ∷ 2 ∷ 3 ∷ 4 ∷ 6 ∷ 7 ∷ []) (tag_of the_type x) → MessageIs handheld.message (mid_of (at + 2) k s) x → RecordIs s at end n ws vs None
   not_request x i z ds t g w long m l u rest tk e fits =
       no_request handheld.message m x i (subst (λ (y : List ℕ). MessageIs handheld.message y x) (was_read m rest e).1 z) tk.in_size tk.request
 
   module _ (count from : ℕ) (c : Coding) (message : MessageIs handheld.message (mid_of (at + 2) k s) (Request count from c)) where
     -- and its settings are good
-    pub not_good : (result : Result) (failed : ℕ) → RunIs s n (mid_of (at + 2) k s) (record { at = from; count = count; coding = c }) ws vs (Faulty result failed) → RecordIs s at end n ws vs Not
-    not_good result failed j ds t g w long m l u rest tk e fits =
+    pub not_good : (f : Fault) → RunIs s n (mid_of (at + 2) k s) (record { at = from; count = count; coding = c }) ws vs (Err f) → RecordIs s at end n ws vs None
+    not_good f j ds t g w long m l u rest tk e fits =
         let same = (was_read m rest e).1 in
-        taken_kept t m l u c count from (result_number result) failed tk
+        taken_kept t m l u c count from (result_number f.result) f.failed tk
         (subst (λ (y : List ℕ). RequestOf c count (drop from y) y) same (read_request handheld.message (mid_of (at + 2) k s) count from c message))
-        (subst (λ (y : List ℕ). Judged c handheld count (forget t) (drop from y) (refused (result_number result) failed)) same (j ds (forget t) g w))
+        (subst (λ (y : List ℕ). Judged c handheld count (forget t) (drop from y) (refused (result_number f.result) f.failed)) same (j ds (forget t) g w))
 
     -- then it is taken
-    pub is_good : Bytes s → at + 2 + size ≤ end → end ≤ length s → (i : Item) (d next : ℕ) (p : HashPlace) → RunIs s n (mid_of (at + 2) k s) (record { at = from; count = count; coding = c }) ws vs (Good i d)
-        → next ≡ at + 2 + size → p.code ≡ i.hash.code → (i.hash.start ≤ size → p.start ≡ at + 2 + i.hash.start) → RecordIs s at end n ws vs (Taken next d p)
+    pub is_good : Bytes s → at + 2 + size ≤ end → end ≤ length s → (i : Item) (d next : ℕ) (p : HashPlace) → RunIs s n (mid_of (at + 2) k s) (record { at = from; count = count; coding = c }) ws vs (Ok (i, d))
+        → next ≡ at + 2 + size → p.code ≡ i.hash.code → (i.hash.start ≤ size → p.start ≡ at + 2 + i.hash.start) → RecordIs s at end n ws vs (Some (record { next = next; deeds = d; hash = p }))
     is_good b inside long i d next p j nx pc ps ds t g w =
         let m : List ℕ = mid_of (at + 2) k s in
         let z : size ≡ get_or s at 0 * 256 + get_or s (at + 1) 0 = number.0 (omega (arith, inside, long)) in

@@ -1,7 +1,7 @@
 // The frame of an area: how long the requests in it are, and what starting one does.
 ghost use Rattle.lists.specs.Ladder.{Answers};
 ghost use Rattle.plain_log.specs.Area.{area_starting, area_begins};
-ghost use Rattle.plain_log.specs.Frames.{WideIs, NumberAt, UsedIs};
+ghost use Rattle.plain_log.specs.Frames.{NumberAt, UsedIs};
 
 use slots::bytes::wipe;
 
@@ -28,35 +28,25 @@ pub fn start(area: &mut [u8]) -> Started
     Started::Fresh
 }
 
-// A byte as a number.
-fn wide(x: u8) -> usize
-    ensures { WideIs x result }
-{
-    x as usize
-}
-
 // The number of two bytes at a place, high byte first; 0 where they are not there.
 pub(crate) fn number_at(area: &[u8], at: usize) -> usize
     ensures { NumberAt area.now at result }
 {
-    if area.len() < 2 {
+    if area.len() < 2 || area.len() - 2 < at {
         return 0;
     }
-    if area.len() - 2 < at {
-        return 0;
-    }
-    wide(area[at]) * 256 + wide(area[at + 1])
+    area[at] as usize * 256 + area[at + 1] as usize
 }
 
-// How long the requests of an area are; more than an area has where they cannot be.
-pub(crate) fn used_of(area: &[u8]) -> usize
+// How long the requests of an area are; none where they cannot be those of one.
+pub(crate) fn used_of(area: &[u8]) -> Option<usize>
     ensures { UsedIs area.now result }
 {
     if area.len() != AREA {
-        return AREA;
+        return None;
     }
     if number_at(area, 0) != 0 {
-        return AREA;
+        return None;
     }
-    number_at(area, 2)
+    Some(number_at(area, 2))
 }

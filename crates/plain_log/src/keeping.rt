@@ -4,20 +4,15 @@ ghost use Rattle.plain_log.specs.Frames.{PutNumber, KeepIs};
 use super::areas::{AREA, USED};
 use slots::bytes::copy;
 
+// A request would pass the area's end.
 #[derive(Clone, Copy)]
-pub enum Kept {
-    Kept,
-    PastEnd,
-}
+pub struct PastEnd;
 
 // Writes a number of two bytes at a place.
 fn put_number(area: &mut [u8], at: usize, n: usize)
     ensures { PutNumber area.old at n area.new }
 {
-    if area.len() < 2 {
-        return;
-    }
-    if area.len() - 2 < at {
+    if area.len() < 2 || area.len() - 2 < at {
         return;
     }
     area[at] = (n / 256 % 256) as u8;
@@ -25,17 +20,17 @@ fn put_number(area: &mut [u8], at: usize, n: usize)
 }
 
 // Puts a request behind those of an area, which are so long, where it does not pass the area's end.
-pub fn keep(area: &mut [u8], used: usize, m: &[u8]) -> Kept
+pub fn keep(area: &mut [u8], used: usize, m: &[u8]) -> Result<(), PastEnd>
     ensures { KeepIs area.old used m.now area.new result }
 {
     if area.len() != AREA {
-        return Kept::PastEnd;
+        return Err(PastEnd);
     }
     if AREA - USED - 2 < used {
-        return Kept::PastEnd;
+        return Err(PastEnd);
     }
     if AREA - USED - 2 - used < m.len() {
-        return Kept::PastEnd;
+        return Err(PastEnd);
     }
     let at = USED + used;
     let start = at + 2;
@@ -43,5 +38,5 @@ pub fn keep(area: &mut [u8], used: usize, m: &[u8]) -> Kept
     put_number(area, at, m.len());
     copy(&mut area[start..end], m);
     put_number(area, 2, used + 2 + m.len());
-    Kept::Kept
+    Ok(())
 }

@@ -1,12 +1,12 @@
 -- What looking through deeds answers: what is known of a key, and what stands in a row.
-use Rattle.std.specs.Prelude.{ℕ, ◌+◌, ◌≤◌, ◌<◌, ◌≡◌, Bool, true, false, cond, List, [], ◌∷◌, ◌++◌, length}
+use Rattle.std.specs.Prelude.{ℕ, ◌+◌, ◌≤◌, ◌<◌, ◌≡◌, Bool, true, false, cond, List, ◌++◌, length}
 use Rattle.std.proofs.Math.Option.{Option, none, some}
 use Rattle.writing.specs.declared.Kind.{Kind}
 use Rattle.writing.specs.declared.Kind.TheVariants as kinds
 use Rattle.writing.specs.Settings.{Text}
 use Rattle.read_fields.specs.declared.texts.TextPlace.{TextPlace}
 use Rattle.tables.specs.Owns.{only}
-use Rattle.events.specs.Events.{found, entry}
+use Rattle.events.specs.Events.{entry}
 use Rattle.events.specs.Deeds.{Seen}
 use Rattle.events.specs.Deeds as D
 use Rattle.events.specs.Knowing.{Known, put_known, know_step, know_on, know, born_here, row_on, row_seen}

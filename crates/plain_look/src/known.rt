@@ -96,22 +96,17 @@ pub(crate) fn know(kind: Kind, key: u64, number: usize, deed: Deed, known: Looke
         Deed::Nothing => known,
         Deed::Clears(of) => { if same_kind(of, kind) { UNKNOWN } else { known } }
         Deed::Puts(of, put) => {
-            if !same_kind(of, kind) {
-                return known;
-            }
-            if put.key != key {
+            if !same_kind(of, kind) || put.key != key {
                 return known;
             }
             know_put(kind, number, put, known)
         }
         Deed::Removes(of, gone) => {
-            if !same_kind(of, kind) {
-                return known;
+            if same_kind(of, kind) && gone == key {
+                UNKNOWN
+            } else {
+                known
             }
-            if gone != key {
-                return known;
-            }
-            UNKNOWN
         }
     }
 }

@@ -17,21 +17,15 @@ pub fn look(
 ) -> Looked
     ensures { LookIs m.now cursor first count kind key known result }
 {
-    if DEEDS <= first {
-        return known;
-    }
-    if DEEDS <= count {
+    if DEEDS <= first || DEEDS <= count {
         return known;
     }
     let mut here = cursor;
     let mut now_known = known;
-    let mut i = 0;
-    while i < count {
+    for i in 0..count {
         let moved = next_deed(m, here);
-        let deed = moved.deed;
-        now_known = know(kind, key, first + i, deed, now_known);
+        now_known = know(kind, key, first + i, moved.deed, now_known);
         here = moved.cursor;
-        i += 1;
     }
     now_known
 }

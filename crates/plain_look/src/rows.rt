@@ -27,10 +27,7 @@ fn born_here(
         return UNKNOWN;
     }
     let found = look(m, cursor, 0, count, kind, put.key, UNKNOWN);
-    if !found.there {
-        return UNKNOWN;
-    }
-    if found.birth != number {
+    if !found.there || found.birth != number {
         return UNKNOWN;
     }
     found
@@ -45,11 +42,9 @@ fn listed_row(m: &[u8], cursor: Cursor, count: usize, kind: Kind, position: usiz
     }
     let mut here = cursor;
     let mut before = position;
-    let mut i = 0;
-    while i < count {
+    for i in 0..count {
         let moved = next_deed(m, here);
-        let deed = moved.deed;
-        let found = born_here(m, cursor, count, kind, i, deed);
+        let found = born_here(m, cursor, count, kind, i, moved.deed);
         if found.there {
             if before == 0 {
                 return found;
@@ -57,7 +52,6 @@ fn listed_row(m: &[u8], cursor: Cursor, count: usize, kind: Kind, position: usiz
             before -= 1;
         }
         here = moved.cursor;
-        i += 1;
     }
     UNKNOWN
 }

@@ -1,15 +1,15 @@
 -- The tables of an area: the rules allow them, and an area is that of one log and one set of tables. Assumes nothing.
-use Rattle.lists.proofs.Kit.{ℕ, ◌≤◌, ◌+◌, ◌/◌, ◌%◌, ◌≡◌, ◌∙◌, List, [], ◌∷◌, ◌++◌, nil≢cons, cons≢nil}
+use Rattle.lists.proofs.Kit.{ℕ, ◌≡◌, List}
 use Rattle.writing.specs.declared.Coding.{Coding}
 use Rattle.writing.specs.Settings.{Setting}
 use Rattle.tables.specs.declared.limits.Limits.{Limits}
 use Rattle.tables.specs.Allowed.{Allowed}
 use Rattle.tables.specs.Limits.{handheld}
-use Rattle.tables.specs.Tables.{Tables, fresh}
+use Rattle.tables.specs.Tables.{Tables}
 use Rattle.tables.proofs.AllowedLaws.{forget_allowed}
 use Rattle.tables.proofs.FreshLaws.{fresh_allowed}
 use Rattle.requests.specs.Judge.{kept, taken}
-use Rattle.requests.specs.Requests.{Judged, forget}
+use Rattle.requests.specs.Requests.{Judged}
 use Rattle.laws_taking.proofs.Demand.{run_allowed}
 use Rattle.plain_log.proofs.AreaOne.{area_determined}
 use Rattle.plain_log.specs.Area.{TakenInTurn, none_taken, then_taken, AreaOf}

@@ -22,9 +22,8 @@ use Rattle.screen.specs.declared.rows.Row.TheVariants.{Line, QuickText, StatusTe
 use Rattle.screen.specs.Rows.{Caption, text, line, group, individual, line_row, individual_row, group_row, caption, text_of, of}
 use Rattle.screen.specs.contracts.rows.Row.{the_type}
 use Rattle.screen.proofs.EntryLaws.{kind_at, kind_of, none_past}
-use Rattle.plain_rows.specs.declared.spots.Spot.{Spot}
-use Rattle.plain_rows.specs.declared.spots.Spot.TheVariants.{At, Nowhere}
-use Rattle.plain_rows.specs.Naming.{PlacedIn, SpotIs}
+use Rattle.std.specs.declared.option.Option.TheVariants.{Some, None}
+use Rattle.plain_rows.specs.Naming.{Spot, PlacedIn, SpotIs}
 
 -- ---- captions
 
@@ -105,8 +104,8 @@ present_placed P (o ∷ os) (suc n) p = present_placed P os n p.1
 
 -- what the deeds have at a spot
 abbrev pub shown_at : List D.Deed → Spot → Option Shown
-shown_at ds (At k i) = mathlib.Core.Option.map shown_of (row_seen k ds i)
-shown_at ds Nowhere = none
+shown_at ds (Some p) = mathlib.Core.Option.map shown_of (row_seen p.0 ds p.1)
+shown_at ds None = none
 
 -- the kind of a row's captions
 abbrev pub kind_in : Row → ℕ
@@ -114,17 +113,17 @@ kind_in row = kind_at (tag_of the_type row)
 
 module _ (ds : List D.Deed) (t : Tables) (tells : Telling handheld ds t) where
   -- what the table has in a row, the deeds have there
-  listed_at : (row : Row) (k : Kind) (i : ℕ) (p : Spot) → p ≡ At k i → InRow k i → Captioned (caption t row) (kind_in row) (mathlib.Core.Option.map (cell_shown k) (in_row k (own k t) i)) → Captioned (caption t row) (kind_in row) (shown_at ds p)
+  listed_at : (row : Row) (k : Kind) (i : ℕ) (p : Spot) → p ≡ Some (k, i) → InRow k i → Captioned (caption t row) (kind_in row) (mathlib.Core.Option.map (cell_shown k) (in_row k (own k t) i)) → Captioned (caption t row) (kind_in row) (shown_at ds p)
   listed_at row k i p e r c = subst (λ (q : Spot). Captioned (caption t row) (kind_in row) (shown_at ds q)) (sym e) (subst (Captioned (caption t row) (kind_in row)) (row_shown handheld ds t k i tells r) c)
 
   -- and so in a table of places, past which there is none
   placed_at : (row : Row) (k : Kind) (i places : ℕ) (p : Spot) → PlacedIn k i places p → (i < places → InRow k i) → (places ≤ i → caption t row ≡ none)
       → Captioned (caption t row) (kind_in row) (mathlib.Core.Option.map (cell_shown k) (in_row k (own k t) i)) → Captioned (caption t row) (kind_in row) (shown_at ds p)
-  placed_at row k i places (At j n) h r past c =
-      listed_at row j n (At j n) refl (subst (λ (x : Kind). InRow x n) (sym h.0) (subst (InRow k) (sym h.1) (r h.2)))
+  placed_at row k i places (Some (j, n)) h r past c =
+      listed_at row j n (Some (j, n)) refl (subst (λ (x : Kind). InRow x n) (sym h.0) (subst (InRow k) (sym h.1) (r h.2)))
       (subst (λ (x : Kind). Captioned (caption t row) (kind_in row) (mathlib.Core.Option.map (cell_shown x) (in_row x (own x t) n))) (sym h.0)
       (subst (λ (x : ℕ). Captioned (caption t row) (kind_in row) (mathlib.Core.Option.map (cell_shown k) (in_row k (own k t) x))) (sym h.1) c))
-  placed_at row k i places Nowhere h r past c = past h
+  placed_at row k i places None h r past c = past h
 
   -- a status text, whose codes start at 32
   status_at : (ok : Allowed handheld t) (n : ℕ) (p : Spot) → SpotIs (StatusText n) p → Captioned (caption t (StatusText n)) 0 (shown_at ds p)
@@ -137,9 +136,9 @@ module _ (ds : List D.Deed) (t : Tables) (tells : Telling handheld ds t) where
       here e = rw e (text_cell StatusOk (λ us q. omega (arith, q.short)) (get_or t.status (n - 32) none) (present_placed StatusOk t.status (n - 32) ok.status.1))
 
       go : (b : Bool) → ltb n 32 ≡ b → (q : Spot) → SpotIs (StatusText n) q → Captioned (caption t (StatusText n)) 0 (shown_at ds q)
-      go b e (At j i) x = placed_at (StatusText n) kinds.StatusTexts (n - 32) 96 (At j i) x.1 (λ l. l) (λ l. rw (le-ltb n 32 x.0) (past l)) (here (le-ltb n 32 x.0))
-      go true e Nowhere x = rw e
-      go false e Nowhere x = rw e (past (x (ltb-false n 32 e)))
+      go b e (Some (j, i)) x = placed_at (StatusText n) kinds.StatusTexts (n - 32) 96 (Some (j, i)) x.1 (λ l. l) (λ l. rw (le-ltb n 32 x.0) (past l)) (here (le-ltb n 32 x.0))
+      go true e None x = rw e
+      go false e None x = rw e (past (x (ltb-false n 32 e)))
 
   -- ROW-CAPTIONED: what stands in a row of allowed tables is what the deeds have at its spot
   pub row_captioned : Allowed handheld t → (row : Row) (p : Spot) → SpotIs row p → Captioned (caption t row) (kind_in row) (shown_at ds p)

@@ -22,9 +22,9 @@ use Rattle.screen.specs.Steps.{Written, dialled_digits}
 use Rattle.screen.proofs.NumberLaws.{unit_length}
 use Rattle.screen.specs.contracts.answers.Place.{the_type as place_type}
 use Rattle.plain_rows.specs.declared.names.Name.{Name}
-use Rattle.plain_rows.specs.declared.names.Name.TheVariants.{Refused, Text as TextAt, Line as LineNumber, Group as GroupNumber, Individual as IndividualNumber}
-use Rattle.plain_rows.specs.contracts.names.Name.{the_type}
-use Rattle.plain_rows.specs.Naming.{Named, plain_naming, LineWritten, TextWritten, ScratchPicked}
+use Rattle.plain_rows.specs.declared.names.Name.TheVariants.{Text as TextAt, Line as LineNumber}
+use Rattle.std.specs.declared.result.Result.TheVariants.{Ok, Err}
+use Rattle.plain_rows.specs.Naming.{Naming, Named, plain_naming, LineWritten, TextWritten, ScratchPicked}
 use Rattle.plain_rows.specs.PlainRows.{PlainShown, plain_showing, plain_numbering, part_bytes, PlainPart, bytes_in, PlainPlaced}
 use Rattle.plain_rows.proofs.AreaTables.{area_tables}
 
@@ -38,31 +38,25 @@ address_text Plan OutsideKind x (none k e) = outside k refl
 -- ---- the tests
 
 -- the number of what was found
-abbrev name_number : Name → ℕ
-name_number (Refused why) = refusal why
-name_number (TextAt p) = 0
-name_number (LineNumber n) = 0
-name_number (GroupNumber a) = 0
-name_number (IndividualNumber a) = 0
+abbrev name_number : Naming → ℕ
+name_number (Err why) = refusal why
+name_number (Ok x) = 0
 
 -- a name that is not a refusal
-abbrev pub Kept : Name → Type 0
-Kept (Refused why) = ⊥
-Kept (TextAt p) = Unit {0}
-Kept (LineNumber n) = Unit {0}
-Kept (GroupNumber a) = Unit {0}
-Kept (IndividualNumber a) = Unit {0}
+abbrev pub Kept : Naming → Type 0
+Kept (Err why) = ⊥
+Kept (Ok x) = Unit {0}
 
--- a name with another tag is no refusal
-kept_tag : (x : Name) → OneOf (1 ∷ 2 ∷ 3 ∷ 4 ∷ []) (tag_of the_type x) → {why : Refusal} → x ≡ Refused why → ⊥
-kept_tag x k e = miss (1 ∷ 2 ∷ 3 ∷ 4 ∷ []) 0 tt (subst (λ (y : Name). OneOf (1 ∷ 2 ∷ 3 ∷ 4 ∷ []) (tag_of the_type y)) e k)
+-- a name is no refusal
+kept_name : (x : Naming) (n : Name) → x ≡ Ok n → {why : Refusal} → x ≡ Err why → ⊥
+kept_name x n k e = subst Kept (sym k ∙ e) tt
 
 module _ (s scratch : List ℕ) (row : Row) where
   -- a row that is refused
-  refused_as : (why : Refusal) → Answers (plain_naming s (length scratch) row) (Refused why) → Answers (plain_showing s scratch row) (refused (refusal why) scratch)
-  refused_as why (inl (h, e)) = inl (h, ap (λ (x : Name). refused (name_number x) scratch) e)
-  refused_as why (inr (h, inl (k, e))) = inr (h, inl (k, ap (λ (x : Name). refused (name_number x) scratch) e))
-  refused_as why (inr (h, inr (k, inl (l, e)))) = inr (h, inr (k, inl (l, ap (λ (x : Name). refused (name_number x) scratch) e)))
+  refused_as : (why : Refusal) → Answers (plain_naming s (length scratch) row) (Err why) → Answers (plain_showing s scratch row) (refused (refusal why) scratch)
+  refused_as why (inl (h, e)) = inl (h, ap (λ (x : Naming). refused (name_number x) scratch) e)
+  refused_as why (inr (h, inl (k, e))) = inr (h, inl (k, ap (λ (x : Naming). refused (name_number x) scratch) e))
+  refused_as why (inr (h, inr (k, inl (l, e)))) = inr (h, inr (k, inl (l, ap (λ (x : Naming). refused (name_number x) scratch) e)))
   refused_as ScratchSize (inr (h, inr (k, inr (l, (log, t, area, y))))) = absurd y
   refused_as NotAStore (inr (h, inr (k, inr (l, (log, t, area, y))))) = absurd y
   refused_as Absent (inr (h, inr (k, inr (l, (log, t, area, y))))) =
@@ -76,22 +70,22 @@ module _ (s scratch : List ℕ) (row : Row) where
   number_as why (inr (l, inr (n, inr (k, p)))) = inr (l, inr (n, inr (k, ap (λ (x : AfterRow). x.number) p.after)))
 
   -- a row that is refused, and one that is not
-  pub number_refused : (x : Name) (why : Refusal) → x ≡ Refused why → Answers (plain_naming s (length scratch) row) x → Answers (plain_numbering s scratch row) (refusal why)
+  pub number_refused : (x : Naming) (why : Refusal) → x ≡ Err why → Answers (plain_naming s (length scratch) row) x → Answers (plain_numbering s scratch row) (refusal why)
   number_refused x why e a = number_as why (refused_as why (subst (Answers (plain_naming s (length scratch) row)) e a))
 
-  pub number_shown : (x : Name) → OneOf (1 ∷ 2 ∷ 3 ∷ 4 ∷ []) (tag_of the_type x) → Answers (plain_naming s (length scratch) row) x → Answers (plain_numbering s scratch row) 0
-  number_shown x k (inl (h, e)) = absurd (kept_tag x k e)
-  number_shown x k (inr (h, inl (i, e))) = absurd (kept_tag x k e)
-  number_shown x k (inr (h, inr (i, inl (j, e)))) = absurd (kept_tag x k e)
-  number_shown x k (inr (h, inr (i, inr (j, e)))) = inr (h, inr (i, inr (j, refl)))
+  pub number_shown : (x : Naming) (n : Name) → x ≡ Ok n → Answers (plain_naming s (length scratch) row) x → Answers (plain_numbering s scratch row) 0
+  number_shown x n k (inl (h, e)) = absurd (kept_name x n k e)
+  number_shown x n k (inr (h, inl (i, e))) = absurd (kept_name x n k e)
+  number_shown x n k (inr (h, inr (i, inl (j, e)))) = absurd (kept_name x n k e)
+  number_shown x n k (inr (h, inr (i, inr (j, e)))) = inr (h, inr (i, inr (j, refl)))
 
-  pub place_refused : (x : Name) (why : Refusal) → x ≡ Refused why → Answers (plain_naming s (length scratch) row) x → PlainPlaced s scratch scratch row (NoPlace why)
+  pub place_refused : (x : Naming) (why : Refusal) → x ≡ Err why → Answers (plain_naming s (length scratch) row) x → PlainPlaced s scratch scratch row (NoPlace why)
   place_refused x why e a = record { allowed = refused_as why (subst (Answers (plain_naming s (length scratch) row)) e a); fits = omega arith }
 
   -- ---- where what was found is written
 
   -- what was found in a row that is not refused
-  pub record InRow (x : Name) : Type 0 where
+  pub record InRow (x : Naming) : Type 0 where
     pub big : 64 ≤ length scratch
     pub log : List (List ℕ)
     pub tables : Tables
@@ -99,7 +93,7 @@ module _ (s scratch : List ℕ) (row : Row) where
     pub is : Named tables s row x
     pub answers : (a : AfterRow) → PlainShown s scratch row a → Answers (plain_showing s scratch row) a
 
-  in_row : (x : Name) → Kept x → Answers (plain_naming s (length scratch) row) x → InRow x
+  in_row : (x : Naming) → Kept x → Answers (plain_naming s (length scratch) row) x → InRow x
   in_row x n (inl (h, e)) = absurd (subst Kept e n)
   in_row x n (inr (h, inl (k, e))) = absurd (subst Kept e n)
   in_row x n (inr (h, inr (k, inl (l, e)))) = absurd (subst Kept e n)
@@ -107,11 +101,11 @@ module _ (s scratch : List ℕ) (row : Row) where
       record { big = omega (arith, h); log = log; tables = t; area = area; is = y; answers = λ a z. inr (h, inr (k, inr (l, z))) }
 
   -- by its case
-  pub row_found : {x : Name} (case : Name) → Kept case → x ≡ case → Answers (plain_naming s (length scratch) row) x → InRow case
+  pub row_found : {x : Naming} (case : Naming) → Kept case → x ≡ case → Answers (plain_naming s (length scratch) row) x → InRow case
   row_found case k e a = in_row case k (subst (Answers (plain_naming s (length scratch) row)) e a)
 
   -- units that are shown and were written
-  written_placed : {x : Name} (i : InRow x) (c : Caption) (d : Display) {after : List ℕ} {r : ℕ} → caption i.tables row ≡ some c → Displays c d → Written (units d) scratch after r → PlainPlaced s scratch after row (Scratch r)
+  written_placed : {x : Naming} (i : InRow x) (c : Caption) (d : Display) {after : List ℕ} {r : ℕ} → caption i.tables row ≡ some c → Displays c d → Written (units d) scratch after r → PlainPlaced s scratch after row (Scratch r)
   written_placed i c d {after} {r} e shown w = record {
     allowed = i.answers (leaves (Scratch r) after) (record {
       log = i.log;
@@ -127,17 +121,17 @@ module _ (s scratch : List ℕ) (row : Row) where
   }
 
   -- a text
-  pub text_placed : {p : TextPlace} {after : List ℕ} {r : ℕ} → InRow (TextAt p) → TextWritten s p scratch after r → PlainPlaced s scratch after row (Scratch r)
+  pub text_placed : {p : TextPlace} {after : List ℕ} {r : ℕ} → InRow (Ok (TextAt p)) → TextWritten s p scratch after r → PlainPlaced s scratch after row (Scratch r)
   text_placed x w = let (c, e, shown, seen, short) = x.is in written_placed x c (stored (text_of c)) e shown (w (text_of c) seen short x.big)
 
   -- a line's digits
-  pub line_placed : {n : ℕ} {after : List ℕ} {r : ℕ} → InRow (LineNumber n) → LineWritten n scratch after r → PlainPlaced s scratch after row (Scratch r)
+  pub line_placed : {n : ℕ} {after : List ℕ} {r : ℕ} → InRow (Ok (LineNumber n)) → LineWritten n scratch after r → PlainPlaced s scratch after row (Scratch r)
   line_placed x w =
       let (ds, e, ok, n) = x.is in
       written_placed x (line [] ds) (written (map ascii ds)) e (map ascii ds, refl, refl) (w ds ok n (omega (arith, x.big)))
 
   -- a group's or an individual's number, by its plan
-  pub address_placed : (Plan : ℕ → ℕ → Type 0) {x : Name} (i : InRow x) (c : Caption) (d : DialledAnswer) (n : ℕ) {after : List ℕ} {r : ℕ} → caption i.tables row ≡ some c
+  pub address_placed : (Plan : ℕ → ℕ → Type 0) {x : Naming} (i : InRow x) (c : Caption) (d : DialledAnswer) (n : ℕ) {after : List ℕ} {r : ℕ} → caption i.tables row ≡ some c
       → ((ns : Text) → AddressText Plan n ns → Displays c (written ns)) → Answered (Back Plan) 21 n (answer (dialled d)) → (36 ≤ length scratch → Written (map ascii (dialled_digits d n)) scratch after r)
       → PlainPlaced s scratch after row (Scratch r)
   address_placed Plan i c d n e shown p w =

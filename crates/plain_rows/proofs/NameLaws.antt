@@ -18,11 +18,10 @@ use Rattle.screen.specs.Rows.{Caption, text, line, group, individual, caption, t
 use Rattle.screen.specs.contracts.rows.Row.{the_type}
 use Rattle.screen.proofs.EntryLaws.{kind_at, kind_of}
 use Rattle.screen.proofs.NameLaws.{at_case}
-use Rattle.plain_rows.specs.declared.names.Name.{Name}
-use Rattle.plain_rows.specs.declared.names.Name.TheVariants.{Refused, Text as TextAt, Line as LineNumber, Group as GroupNumber, Individual as IndividualNumber}
-use Rattle.plain_rows.specs.declared.spots.Spot.{Spot}
-use Rattle.plain_rows.specs.declared.spots.Spot.TheVariants.{At, Nowhere}
-use Rattle.plain_rows.specs.Naming.{SpotSeen, AddressOf, Named, NameFound}
+use Rattle.plain_rows.specs.declared.names.Name.TheVariants.{Text as TextAt, Line as LineNumber, Group as GroupNumber, Individual as IndividualNumber}
+use Rattle.std.specs.declared.option.Option.TheVariants.{Some, None}
+use Rattle.std.specs.declared.result.Result.TheVariants.{Ok, Err}
+use Rattle.plain_rows.specs.Naming.{Spot, SpotSeen, Naming, AddressOf, Named, NameFound}
 use Rattle.plain_rows.proofs.AreaTables.{area_allowed}
 use Rattle.plain_rows.proofs.CaptionLaws.{NamedBy, Captions, Captioned, shown_at, kind_in, row_captioned}
 
@@ -38,8 +37,8 @@ seen_matches s r none x = x
 seen_matches s r (some a) x = (x.0, x.1.name, x.1.hidden, x.1.text)
 
 spot_matches : (s : List ℕ) (ds : List D.Deed) (r : Looked) (p : Spot) → SpotSeen s p ds r → Matches s r (shown_at ds p)
-spot_matches s ds r (At k i) x = seen_matches s r (row_seen k ds i) x
-spot_matches s ds r Nowhere x = x
+spot_matches s ds r (Some p) x = seen_matches s r (row_seen p.0 ds p.1) x
+spot_matches s ds r None x = x
 
 -- a text that is not empty is shown
 shows_text : (c : Caption) → length (text_of c) ≢ 0 → Displays c (stored (text_of c))
@@ -60,21 +59,21 @@ no_units (u ∷ us) e = absurd (omega arith)
 
 module _ (row : Row) (found : Looked) where
   -- from what the deeds have to a name
-  name_by : (r : Name) → ((t : Tables) (s : List ℕ) (o : Option Shown) → Captioned (caption t row) (kind_in row) o → Matches s found o → Named t s row r) → NameFound row found r
+  name_by : (r : Naming) → ((t : Tables) (s : List ℕ) (o : Option Shown) → Captioned (caption t row) (kind_in row) o → Matches s found o → Named t s row r) → NameFound row found r
   name_by r h s log t ds p area tells is seen =
       h t s (shown_at ds p) (row_captioned ds t tells (area_allowed s log t area) row p is) (spot_matches s ds found p seen)
 
   -- nothing was found
-  pub named_absent : found.there ≡ false → NameFound row found (Refused Absent)
-  named_absent e = name_by (Refused Absent) by
+  pub named_absent : found.there ≡ false → NameFound row found (Err Absent)
+  named_absent e = name_by (Err Absent) by
     where
       by : (t : Tables) (s : List ℕ) (o : Option Shown) → Captioned (caption t row) (kind_in row) o → Matches s found o → caption t row ≡ none
       by t s none c m = c
       by t s (some h) c m = absurd (true≢false (sym m.0 ∙ e))
 
   -- what was found has no row
-  pub named_hidden : found.put.hidden ≡ true → NameFound row found (Refused Absent)
-  named_hidden e = name_by (Refused Absent) by
+  pub named_hidden : found.put.hidden ≡ true → NameFound row found (Err Absent)
+  named_hidden e = name_by (Err Absent) by
     where
       by : (t : Tables) (s : List ℕ) (o : Option Shown) → Captioned (caption t row) (kind_in row) o → Matches s found o → caption t row ≡ none
       by t s none c m = c
@@ -82,7 +81,7 @@ module _ (row : Row) (found : Looked) where
 
   module _ (there : found.there ≡ true) (plain : found.put.hidden ≡ false) where
     -- what was found has a row
-    named_by : (r : Name) → ((t : Tables) (s : List ℕ) (h : Shown) → Captions (caption t row) (kind_in row) h → found.put.name ≡ h.name → TextSeen s found.put.text h.text → Named t s row r) → NameFound row found r
+    named_by : (r : Naming) → ((t : Tables) (s : List ℕ) (h : Shown) → Captions (caption t row) (kind_in row) h → found.put.name ≡ h.name → TextSeen s found.put.text h.text → Named t s row r) → NameFound row found r
     named_by r f = name_by r by
       where
         by : (t : Tables) (s : List ℕ) (o : Option Shown) → Captioned (caption t row) (kind_in row) o → Matches s found o → Named t s row r
@@ -90,14 +89,14 @@ module _ (row : Row) (found : Looked) where
         by t s (some h) c m = f t s h (c.1 (sym m.2 ∙ plain)) m.1 m.3
 
     -- a text
-    pub named_text : found.put.text.units ≢ 0 → NameFound row found (TextAt found.put.text)
-    named_text n = named_by (TextAt found.put.text) (λ t s h c e x.
+    pub named_text : found.put.text.units ≢ 0 → NameFound row found (Ok (TextAt found.put.text))
+    named_text n = named_by (Ok (TextAt found.put.text)) (λ t s h c e x.
         let d = c.row_is in
         (d, c.there, shows_text d (λ q. n (x.units ∙ ap length (sym c.same_text) ∙ q)), subst (TextSeen s found.put.text) (sym c.same_text) x, c.short))
 
     module _ (zero_units : found.put.text.units ≡ 0) where
       -- what the row names, by its kind
-      named_kind : (r : Name) (k : ℕ) (ks : List ℕ) → All (λ i. kind_at i ≡ k) ks → OneOf ks (tag_of the_type row)
+      named_kind : (r : Naming) (k : ℕ) (ks : List ℕ) → All (λ i. kind_at i ≡ k) ks → OneOf ks (tag_of the_type row)
           → ((t : Tables) (s : List ℕ) (d : Caption) → k ≡ kind_of d → caption t row ≡ some d → text_of d ≡ [] → NamedBy d found.put.name → TextSeen s found.put.text (text_of d) → Named t s row r)
           → NameFound row found r
       named_kind r k ks same one by = named_by r (λ t s h c e x.
@@ -106,20 +105,20 @@ module _ (row : Row) (found : Looked) where
           (subst (TextSeen s found.put.text) (sym c.same_text) x))
 
       -- nothing: an empty text
-      pub named_empty : OneOf (1 ∷ 2 ∷ 8 ∷ []) (tag_of the_type row) → NameFound row found (TextAt found.put.text)
-      named_empty one = named_kind (TextAt found.put.text) 0 (1 ∷ 2 ∷ 8 ∷ []) (refl, (refl, (refl, tt))) one by
+      pub named_empty : OneOf (1 ∷ 2 ∷ 8 ∷ []) (tag_of the_type row) → NameFound row found (Ok (TextAt found.put.text))
+      named_empty one = named_kind (Ok (TextAt found.put.text)) 0 (1 ∷ 2 ∷ 8 ∷ []) (refl, (refl, (refl, tt))) one by
         where
-          by : (t : Tables) (s : List ℕ) (d : Caption) → 0 ≡ kind_of d → caption t row ≡ some d → text_of d ≡ [] → NamedBy d found.put.name → TextSeen s found.put.text (text_of d) → Named t s row (TextAt found.put.text)
+          by : (t : Tables) (s : List ℕ) (d : Caption) → 0 ≡ kind_of d → caption t row ≡ some d → text_of d ≡ [] → NamedBy d found.put.name → TextSeen s found.put.text (text_of d) → Named t s row (Ok (TextAt found.put.text))
           by t s (text us) e q l n x = (text us, q, refl, x, omega (arith, ap length l))
           by t s (line us ds) e q l n x = absurd (omega arith)
           by t s (group us a) e q l n x = absurd (omega arith)
           by t s (individual us a) e q l n x = absurd (omega arith)
 
       -- a line's digits
-      pub named_line : OneOf (0 ∷ 7 ∷ []) (tag_of the_type row) → NameFound row found (LineNumber found.put.name)
-      named_line one = named_kind (LineNumber found.put.name) 1 (0 ∷ 7 ∷ []) (refl, (refl, tt)) one by
+      pub named_line : OneOf (0 ∷ 7 ∷ []) (tag_of the_type row) → NameFound row found (Ok (LineNumber found.put.name))
+      named_line one = named_kind (Ok (LineNumber found.put.name)) 1 (0 ∷ 7 ∷ []) (refl, (refl, tt)) one by
         where
-          by : (t : Tables) (s : List ℕ) (d : Caption) → 1 ≡ kind_of d → caption t row ≡ some d → text_of d ≡ [] → NamedBy d found.put.name → TextSeen s found.put.text (text_of d) → Named t s row (LineNumber found.put.name)
+          by : (t : Tables) (s : List ℕ) (d : Caption) → 1 ≡ kind_of d → caption t row ≡ some d → text_of d ≡ [] → NamedBy d found.put.name → TextSeen s found.put.text (text_of d) → Named t s row (Ok (LineNumber found.put.name))
           by t s (line us ds) e q l n x = (ds, q ∙ ap (λ (v : Text). some (line v ds)) l, n.0, n.1)
           by t s (text us) e q l n x = absurd (omega arith)
           by t s (group us a) e q l n x = absurd (omega arith)
@@ -127,8 +126,8 @@ module _ (row : Row) (found : Looked) where
 
       module _ (a : ℕ) (read : AddressOf found.put.name a) where
         -- a group's address
-        pub named_group : OneOf (3 ∷ 5 ∷ []) (tag_of the_type row) → NameFound row found (GroupNumber (record { 0 = a }))
-        named_group one = named_kind (GroupNumber (record { 0 = a })) 2 (3 ∷ 5 ∷ []) (refl, (refl, tt)) one by
+        pub named_group : OneOf (3 ∷ 5 ∷ []) (tag_of the_type row) → NameFound row found (Ok (GroupNumber (record { 0 = a })))
+        named_group one = named_kind (Ok (GroupNumber (record { 0 = a }))) 2 (3 ∷ 5 ∷ []) (refl, (refl, tt)) one by
           where
             by : (t : Tables) (s : List ℕ) (d : Caption) → 2 ≡ kind_of d → caption t row ≡ some d → text_of d ≡ [] → NamedBy d found.put.name → TextSeen s found.put.text (text_of d) → caption t row ≡ some (group [] (record { 0 = a }))
             by t s (group us b) e q l n x = q ∙ ap₂ (λ (v : Text) (i : ℕ). some (group v (record { 0 = i }))) l (sym n.0 ∙ sym (read.0 n.1))
@@ -137,8 +136,8 @@ module _ (row : Row) (found : Looked) where
             by t s (individual us b) e q l n x = absurd (omega arith)
 
         -- an individual's
-        pub named_individual : OneOf (4 ∷ 6 ∷ []) (tag_of the_type row) → NameFound row found (IndividualNumber (record { 0 = a }))
-        named_individual one = named_kind (IndividualNumber (record { 0 = a })) 3 (4 ∷ 6 ∷ []) (refl, (refl, tt)) one by
+        pub named_individual : OneOf (4 ∷ 6 ∷ []) (tag_of the_type row) → NameFound row found (Ok (IndividualNumber (record { 0 = a })))
+        named_individual one = named_kind (Ok (IndividualNumber (record { 0 = a }))) 3 (4 ∷ 6 ∷ []) (refl, (refl, tt)) one by
           where
             by : (t : Tables) (s : List ℕ) (d : Caption) → 3 ≡ kind_of d → caption t row ≡ some d → text_of d ≡ [] → NamedBy d found.put.name → TextSeen s found.put.text (text_of d) → caption t row ≡ some (individual [] (record { 0 = a }))
             by t s (individual us b) e q l n x = q ∙ ap₂ (λ (v : Text) (i : ℕ). some (individual v (record { 0 = i }))) l (sym n.0 ∙ sym (read.0 n.1))

@@ -9,9 +9,9 @@ use Rattle.plain_log.specs.Checking.{AreaSeen}
 use Rattle.screen.specs.declared.rows.Refusal.TheVariants.{ScratchSize, NotAStore, Absent}
 use Rattle.screen.specs.declared.rows.Row.{Row}
 use Rattle.screen.specs.Rows.{Caption, caption}
-use Rattle.plain_rows.specs.declared.names.Name.{Name}
-use Rattle.plain_rows.specs.declared.names.Name.TheVariants.{Refused, Text as TextAt, Line as LineNumber, Group as GroupNumber, Individual as IndividualNumber}
-use Rattle.plain_rows.specs.Naming.{FoundIn, Named, NameFound, plain_naming}
+use Rattle.std.specs.declared.result.Result.TheVariants.{Ok, Err}
+use Rattle.plain_rows.specs.declared.names.Name.TheVariants.{Text as TextAt, Line as LineNumber, Group as GroupNumber, Individual as IndividualNumber}
+use Rattle.plain_rows.specs.Naming.{Naming, FoundIn, Named, NameFound, plain_naming}
 use Rattle.plain_rows.specs.PlainRows.{NoRow}
 use Rattle.plain_rows.proofs.AreaTables.{area_tables}
 
@@ -21,18 +21,18 @@ module _ (s : List ℕ) (row : Row) (log : List (List ℕ)) (t : Tables) (area :
   there c e none_there = option_none_ne_some c (sym (none_there log t area) ∙ e)
 
   -- what was found there is the answer of the last test
-  found_answers : (x : Name) → Named t s row x
-      → (NoRow s row × (x ≡ Refused Absent)) ⊎ ((NoRow s row → ⊥) × ((l : List (List ℕ)) × (u : Tables) × AreaOf s l u × Named u s row x))
-  found_answers (Refused ScratchSize) y = absurd y
-  found_answers (Refused NotAStore) y = absurd y
-  found_answers (Refused Absent) y = inl (λ l u a. ap (λ (v : Tables). caption v row) (area_tables s l log u t a area) ∙ y, refl)
-  found_answers (TextAt p) y = inr (there y.0 y.1, (log, t, area, y))
-  found_answers (LineNumber n) y = inr (there _ y.1, (log, t, area, y))
-  found_answers (GroupNumber a) y = inr (there _ y, (log, t, area, y))
-  found_answers (IndividualNumber a) y = inr (there _ y, (log, t, area, y))
+  found_answers : (x : Naming) → Named t s row x
+      → (NoRow s row × (x ≡ Err Absent)) ⊎ ((NoRow s row → ⊥) × ((l : List (List ℕ)) × (u : Tables) × AreaOf s l u × Named u s row x))
+  found_answers (Err ScratchSize) y = absurd y
+  found_answers (Err NotAStore) y = absurd y
+  found_answers (Err Absent) y = inl (λ l u a. ap (λ (v : Tables). caption v row) (area_tables s l log u t a area) ∙ y, refl)
+  found_answers (Ok (TextAt p)) y = inr (there y.0 y.1, (log, t, area, y))
+  found_answers (Ok (LineNumber n)) y = inr (there _ y.1, (log, t, area, y))
+  found_answers (Ok (GroupNumber a)) y = inr (there _ y, (log, t, area, y))
+  found_answers (Ok (IndividualNumber a)) y = inr (there _ y, (log, t, area, y))
 
 -- what was found in an area that was read is the answer of the tests
-pub name_answers : (s ws : List ℕ) (row : Row) (room : ℕ) (a : Area) (found : Looked) (r : Name) → 64 ≤ room → AreaSeen s ws a → FoundIn s a.deeds row found → NameFound row found r → Answers (plain_naming s room row) r
+pub name_answers : (s ws : List ℕ) (row : Row) (room : ℕ) (a : Area) (found : Looked) (r : Naming) → 64 ≤ room → AreaSeen s ws a → FoundIn s a.deeds row found → NameFound row found r → Answers (plain_naming s room row) r
 name_answers s ws row room a found r big x f n =
     let l = x.logged in
     let (p, is, seen) = f x.deeds l.follow l.count (omega (arith, l.few)) in

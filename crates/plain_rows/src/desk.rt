@@ -15,10 +15,9 @@ use screen::rows::Row;
 pub fn row_number(area: &[u8], scratch: &[u8], row: Row) -> Answer
     ensures { Answers (plain_numbering area.now scratch.now row) (number result) }
 {
-    let name = name_of(area, scratch.len(), row);
-    match name {
-        Name::Refused(why) => Answer::Refused(why),
-        _ => Answer::Shown,
+    match name_of(area, scratch.len(), row) {
+        Err(why) => Answer::Refused(why),
+        Ok(_) => Answer::Shown,
     }
 }
 
@@ -26,9 +25,11 @@ pub fn row_number(area: &[u8], scratch: &[u8], row: Row) -> Answer
 pub fn row_place(area: &[u8], scratch: &mut [u8], row: Row) -> Place
     ensures { PlainPlaced area.now scratch.old scratch.new row result }
 {
-    let name = name_of(area, scratch.len(), row);
+    let name = match name_of(area, scratch.len(), row) {
+        Ok(name) => name,
+        Err(why) => return Place::Refused(why),
+    };
     match name {
-        Name::Refused(why) => Place::Refused(why),
         Name::Text(place) => Place::Scratch(write_text(scratch, area, place)),
         Name::Line(code) => Place::Scratch(write_line(scratch, code)),
         Name::Group(a) => Place::Scratch(write_dialled(scratch, dialled_of_group(a), a.0)),

@@ -2,8 +2,8 @@
 ghost use Rattle.lists.specs.Ladder.{Answers};
 ghost use Rattle.plain_rows.specs.Naming.{FoundIn, AddressOf, NameFound, plain_naming};
 
-use super::spots::{Spot, spot_of};
-use plain_log::checks::{AreaRead, check_area};
+use super::spots::spot_of;
+use plain_log::checks::check_area;
 use plain_look::known::{Looked, UNKNOWN};
 use plain_look::rows::row_seen;
 use plan::numbers::{GroupAddress, IndividualAddress};
@@ -15,7 +15,6 @@ use writing::Coding;
 // A text in the area, a line's number behind a 1, or an address whose number is to be written.
 #[derive(Clone, Copy)]
 pub enum Name {
-    Refused(Refusal),
     Text(TextPlace),
     Line(u64),
     Group(GroupAddress),
@@ -26,8 +25,7 @@ pub enum Name {
 fn find(area: &[u8], deeds: usize, row: Row) -> Looked
     ensures { FoundIn area.now deeds row result }
 {
-    let spot = spot_of(row);
-    let Spot::At(kind, n) = spot else {
+    let Some((kind, n)) = spot_of(row) else {
         return UNKNOWN;
     };
     row_seen(area, at_settings(4, 0, Coding::Unicode16), deeds, kind, n)
@@ -41,41 +39,40 @@ fn address_of(name: u64) -> u32
 }
 
 // By what was found.
-fn name_found(row: Row, found: Looked) -> Name
+fn name_found(row: Row, found: Looked) -> Result<Name, Refusal>
     ensures { NameFound row found result }
 {
     if !found.there {
-        return Name::Refused(Refusal::Absent);
+        return Err(Refusal::Absent);
     }
     let put = found.put;
     if put.hidden {
-        return Name::Refused(Refusal::Absent);
+        return Err(Refusal::Absent);
     }
     let text = put.text;
     if text.units != 0 {
-        return Name::Text(text);
+        return Ok(Name::Text(text));
     }
-    match row {
+    Ok(match row {
         Row::Line(_) | Row::LineSlot(_) => Name::Line(put.name),
         Row::Group(_) | Row::GroupContact(_) => Name::Group(GroupAddress(address_of(put.name))),
         Row::Individual(_) | Row::IndividualContact(_) => {
             Name::Individual(IndividualAddress(address_of(put.name)))
         }
         _ => Name::Text(text),
-    }
+    })
 }
 
 // What stands in a row, where scratch and area are what they have to be.
-pub fn name_of(area: &[u8], room: usize, row: Row) -> Name
+pub fn name_of(area: &[u8], room: usize, row: Row) -> Result<Name, Refusal>
     ensures { Answers (plain_naming area.now room row) result }
 {
     if room < 64 {
-        return Name::Refused(Refusal::ScratchSize);
+        return Err(Refusal::ScratchSize);
     }
     let mut weights = [0usize; 27];
-    let read = check_area(area, &mut weights);
-    let AreaRead::Is(seen) = read else {
-        return Name::Refused(Refusal::NotAStore);
+    let Some(seen) = check_area(area, &mut weights) else {
+        return Err(Refusal::NotAStore);
     };
     name_found(row, find(area, seen.deeds, row))
 }

@@ -11,15 +11,13 @@ fn digits_in(code: u64) -> usize
     ensures { DigitsIn code result }
 {
     let mut rest = code;
-    let mut n = 0;
-    while n < 18 {
+    for n in 0..18 {
         if rest < 10 {
             return n;
         }
         rest = rest / 10;
-        n += 1;
     }
-    n
+    18
 }
 
 // A line's digits; answers how many bytes they take.

@@ -2,24 +2,20 @@
 use Rattle.lists.proofs.Kit.{ℕ, suc, ◌+◌, ◌-◌, ◌*◌, ◌≤◌, ◌<◌, ◌≡◌, refl, sym, ap, ◌∙◌, subst, subst⁻¹, arith, List, [], ◌∷◌, ◌++◌, length, length-append, append_assoc, Option, none, some, option_some_injective, option_none_ne_some}
 use Rattle.lists.specs.Every.{All}
 use Rattle.lists.proofs.Every.{all_right}
-use Rattle.writing.specs.declared.Kind.TheVariants as kinds
 use Rattle.tables.specs.Apply.{and_then}
 use Rattle.tables.specs.Limits.{handheld}
 use Rattle.events.specs.Deeds.{nothing, clears, puts, removes}
 use Rattle.events.specs.Deeds as D
 use Rattle.events.specs.Knowing.{Known, staying, first_stays, Weight, room_of, takes_place, entries_put, known_bytes, with_bytes, weigh, known_for, weigh_all}
-use Rattle.read_deeds.specs.declared.deeds.Deed.{Deed}
 use Rattle.read_deeds.specs.declared.deeds.Left.{Left}
 use Rattle.read_deeds.specs.declared.deeds.Turn.{Turn}
 use Rattle.read_deeds.specs.Cursors.{Follow}
 use Rattle.read_deeds.specs.ReadDeeds.{DeedIs, LeftIs, NextEntry}
 use Rattle.plain_weigh.specs.declared.weighing.Before.{Before}
 use Rattle.read_deeds.proofs.EntryLaws.{left_counted}
-use Rattle.plain_weigh.specs.declared.weighing.Tried.{Tried}
-use Rattle.plain_weigh.specs.declared.weighing.Tried.TheVariants.{Room as Fits, Full as TooMany}
 use Rattle.plain_weigh.specs.declared.weights.Weight.{Weight as Weigh}
-use Rattle.plain_weigh.specs.declared.weights.Weighed.{Weighed}
-use Rattle.plain_weigh.specs.declared.weights.Weighed.TheVariants.{Room, Full}
+use Rattle.std.specs.declared.option.Option.{Option as Answer}
+use Rattle.std.specs.declared.option.Option.TheVariants.{Some, None}
 use Rattle.plain_weigh.specs.Weighing.{weighs, Short, ShortFound, weighed_as, Read, WeighNext, TriedAs, Weighs}
 use Rattle.plain_weigh.proofs.WeighingLaws.{stays_short, for_short, before_short}
 
@@ -107,9 +103,9 @@ module _ (log m : List ℕ) (count : ℕ) (start : Left) (w : Weigh) (b : Before
     light = omega arith;
   }
 
-  module _ (left : Left) (x : Weigh) (here : Before) (i : ℕ) (h : i < count) (turn : Turn) (r : Weighed) (next : NextEntry m left turn) (weighed : WeighNext log m here turn.deed x r) where
+  module _ (left : Left) (x : Weigh) (here : Before) (i : ℕ) (h : i < count) (turn : Turn) (r : Answer Weigh) (next : NextEntry m left turn) (weighed : WeighNext log m here turn.deed x r) where
     -- the first of those left is weighed
-    left_on : (L : List D.Deed) (all top : ℕ) (end : Option Weight) (so_far rest : List D.Deed) (y : Weigh) (p : ℕ) → r ≡ Room y → p ≡ here.passed + 1 → top < 0x20000 → count < 0x10000 → Read log m here L so_far rest
+    left_on : (L : List D.Deed) (all top : ℕ) (end : Option Weight) (so_far rest : List D.Deed) (y : Weigh) (p : ℕ) → r ≡ Some y → p ≡ here.passed + 1 → top < 0x20000 → count < 0x10000 → Read log m here L so_far rest
         → length so_far + length rest ≡ all → LeftIs m left rest → length rest ≡ count - i → weigh_all handheld (L ++ so_far) rest (weighs x) ≡ end → x.bytes ≤ top + 128 * i
         → WeighLeft log m count L all end turn.left y (moved here p) top (i + 1)
     left_on L all top end so_far [] y p e n small few read whole left_is many same light = absurd (omega (arith, many))
@@ -130,34 +126,34 @@ module _ (log m : List ℕ) (count : ℕ) (start : Left) (w : Weigh) (b : Before
         }
 
     -- and so it is whatever deeds were left at first
-    pub weigh_on : (y : Weigh) (p : ℕ) → r ≡ Room y → p ≡ here.passed + 1 → WeighsOn log m count start w b left x here i → WeighsOn log m count start w b turn.left y (moved here p) (i + 1)
+    pub weigh_on : (y : Weigh) (p : ℕ) → r ≡ Some y → p ≡ here.passed + 1 → WeighsOn log m count start w b left x here i → WeighsOn log m count start w b turn.left y (moved here p) (i + 1)
     weigh_on y p e n g L M S read is many small few =
         let l = g L M S read is many small few in
         left_on L (length M + length S) w.bytes (weigh_all handheld (L ++ M) S (weighs w)) l.so_far l.rest y p e n small (omega (arith, many, few)) l.read l.whole l.left_is l.many l.same l.light
 
     -- it has no room
-    left_full : (L : List D.Deed) (top : ℕ) (end : Option Weight) (so_far rest : List D.Deed) → r ≡ Full → top < 0x20000 → count < 0x10000 → Read log m here L so_far rest
+    left_full : (L : List D.Deed) (top : ℕ) (end : Option Weight) (so_far rest : List D.Deed) → r ≡ None → top < 0x20000 → count < 0x10000 → Read log m here L so_far rest
         → LeftIs m left rest → length rest ≡ count - i → weigh_all handheld (L ++ so_far) rest (weighs x) ≡ end → x.bytes ≤ top + 128 * i → end ≡ none
     left_full L top end so_far [] e small few read left_is many same light = absurd (omega (arith, many))
     left_full L top end so_far (d ∷ rest) e small few read left_is many same light =
         sym same ∙ weighed_none log m here L so_far rest d read (weighs x) (sym (weighed L so_far rest d read (next d rest left_is).0 (omega (arith, light))) ∙ ap weighed_as e)
 
     -- and then there is none for all
-    pub weigh_full : r ≡ Full → WeighsOn log m count start w b left x here i → (n : ℕ) (L M S : List D.Deed) → Read log m b L M S → LeftIs m start S → length S ≡ count → w.bytes < 0x20000 → length S < 0x10000
-        → TriedAs n TooMany (weigh_all handheld (L ++ M) S (weighs w))
+    pub weigh_full : r ≡ None → WeighsOn log m count start w b left x here i → (n : ℕ) (L M S : List D.Deed) → Read log m b L M S → LeftIs m start S → length S ≡ count → w.bytes < 0x20000 → length S < 0x10000
+        → TriedAs n None (weigh_all handheld (L ++ M) S (weighs w))
     weigh_full e g n L M S read is many small few =
         let l = g L M S read is many small few in
-        subst⁻¹ (TriedAs n TooMany) (left_full L w.bytes (weigh_all handheld (L ++ M) S (weighs w)) l.so_far l.rest e small (omega (arith, many, few)) l.read l.left_is l.many l.same l.light) tt
+        subst⁻¹ (TriedAs n None) (left_full L w.bytes (weigh_all handheld (L ++ M) S (weighs w)) l.so_far l.rest e small (omega (arith, many, few)) l.read l.left_is l.many l.same l.light) tt
 
   -- none is left
   left_ends : (L so_far rest : List D.Deed) (all : ℕ) (end : Option Weight) (x : Weigh) (p : ℕ) → length rest ≡ 0 → length so_far ≡ p → length so_far + length rest ≡ all
-      → weigh_all handheld (L ++ so_far) rest (weighs x) ≡ end → TriedAs all (Fits x p) end
-  left_ends L so_far [] all end x p z n whole same = subst (TriedAs all (Fits x p)) same (refl, omega (arith, n, whole))
+      → weigh_all handheld (L ++ so_far) rest (weighs x) ≡ end → TriedAs all (Some (x, p)) end
+  left_ends L so_far [] all end x p z n whole same = subst (TriedAs all (Some (x, p))) same (refl, omega (arith, n, whole))
   left_ends L so_far (d ∷ rest) all end x p z n whole same = absurd (omega (arith, z))
 
   -- and what the table weighs there is what it weighs after all
   pub weigh_ends : (left : Left) (x : Weigh) (here : Before) (i : ℕ) → count ≤ i → WeighsOn log m count start w b left x here i → (L M S : List D.Deed) → Read log m b L M S → LeftIs m start S → length S ≡ count
-      → w.bytes < 0x20000 → length S < 0x10000 → TriedAs (length M + length S) (Fits x here.passed) (weigh_all handheld (L ++ M) S (weighs w))
+      → w.bytes < 0x20000 → length S < 0x10000 → TriedAs (length M + length S) (Some (x, here.passed)) (weigh_all handheld (L ++ M) S (weighs w))
   weigh_ends left x here i h g L M S read is many small few =
       let l = g L M S read is many small few in
       left_ends L l.so_far l.rest (length M + length S) (weigh_all handheld (L ++ M) S (weighs w)) x here.passed (omega (arith, l.many)) l.read.count l.whole l.same
@@ -165,35 +161,35 @@ module _ (log m : List ℕ) (count : ℕ) (start : Left) (w : Weigh) (b : Before
 -- ---- a setting
 
 -- what trying those behind the first deed answers
-abbrev pub Behind : List ℕ → List ℕ → Before → Left → Weigh → Tried → Type 0
+abbrev pub Behind : List ℕ → List ℕ → Before → Left → Weigh → Answer (Weigh × ℕ) → Type 0
 Behind log m b left w r =
     (L M S : List D.Deed) → Read log m b L M S → LeftIs m left S → length S ≡ left.count → w.bytes < 0x20000 → length S < 0x10000
     → TriedAs (length M + length S) r (weigh_all handheld (L ++ M) S (weighs w))
 
 module _ (log m : List ℕ) (b : Before) (turn : Turn) (w : Weigh) where
   -- so many deeds are not read
-  pub setting_high : (r : Tried) → 0x100000000 ≤ b.passed → Weighs log m b turn w r
+  pub setting_high : (r : Answer (Weigh × ℕ)) → 0x100000000 ≤ b.passed → Weighs log m b turn w r
   setting_high r h L M S read is small few = absurd (omega (arith, h, read.few))
 
   -- nor so many of one setting
-  pub setting_long : (r : Tried) → 0x100000000 ≤ turn.left.count → Weighs log m b turn w r
+  pub setting_long : (r : Answer (Weigh × ℕ)) → 0x100000000 ≤ turn.left.count → Weighs log m b turn w r
   setting_long r h L M S read is small few =
       let n : length is.rest ≡ turn.left.count = left_counted m turn.left is.rest is.left in
       let e : length S ≡ suc (length is.rest) = ap length is.parts in
       absurd (omega (arith, n, e, h, few))
 
-  module _ (opened : Weighed) (weighed : WeighNext log m b turn.deed w opened) where
+  module _ (opened : Answer Weigh) (weighed : WeighNext log m b turn.deed w opened) where
     -- the first deed has no room
-    pub setting_full : opened ≡ Full → Weighs log m b turn w TooMany
+    pub setting_full : opened ≡ None → Weighs log m b turn w None
     setting_full e L M S read is small few =
-        subst⁻¹ (λ (ds : List D.Deed). TriedAs (b.passed + length S) TooMany (weigh_all handheld (L ++ M) ds (weighs w))) is.parts
+        subst⁻¹ (λ (ds : List D.Deed). TriedAs (b.passed + length S) None (weigh_all handheld (L ++ M) ds (weighs w))) is.parts
         (go is.first is.rest (subst (Read log m b L M) is.parts read) is.read)
       where
-        go : (d : D.Deed) (ds : List D.Deed) → Read log m b L M (d ∷ ds) → DeedIs m turn.deed d → TriedAs (b.passed + length S) TooMany (weigh_all handheld (L ++ M) (d ∷ ds) (weighs w))
-        go d ds r i = subst⁻¹ (TriedAs (b.passed + length S) TooMany) (weighed_none log m b L M ds d r (weighs w) (sym (weighed L M ds d r i (omega (arith, small))) ∙ ap weighed_as e)) tt
+        go : (d : D.Deed) (ds : List D.Deed) → Read log m b L M (d ∷ ds) → DeedIs m turn.deed d → TriedAs (b.passed + length S) None (weigh_all handheld (L ++ M) (d ∷ ds) (weighs w))
+        go d ds r i = subst⁻¹ (TriedAs (b.passed + length S) None) (weighed_none log m b L M ds d r (weighs w) (sym (weighed L M ds d r i (omega (arith, small))) ∙ ap weighed_as e)) tt
 
     -- it has room, and then the others
-    opened_on : (x : Weigh) (p : ℕ) (r : Tried) → opened ≡ Room x → p ≡ b.passed + 1 → Behind log m (moved b p) turn.left x r → (L M ds : List D.Deed) (d : D.Deed) → Read log m b L M (d ∷ ds)
+    opened_on : (x : Weigh) (p : ℕ) (r : Answer (Weigh × ℕ)) → opened ≡ Some x → p ≡ b.passed + 1 → Behind log m (moved b p) turn.left x r → (L M ds : List D.Deed) (d : D.Deed) → Read log m b L M (d ∷ ds)
         → DeedIs m turn.deed d → LeftIs m turn.left ds → w.bytes < 0x10000 → suc (length ds) < 0x10000 → TriedAs (b.passed + suc (length ds)) r (weigh_all handheld (L ++ M) (d ∷ ds) (weighs w))
     opened_on x p r e n g L M ds d read is left small few =
         let z : weigh handheld d (known_for (L ++ M) d) (weighs w) ≡ some (weighs x) = sym (weighed L M ds d read is (omega (arith, small))) ∙ ap weighed_as e in
@@ -204,7 +200,7 @@ module _ (log m : List ℕ) (b : Before) (turn : Turn) (w : Weigh) where
         subst (λ (i : ℕ). TriedAs i r (weigh_all handheld (L ++ M) (d ∷ ds) (weighs w))) a (subst (TriedAs (length (M ++ (d ∷ [])) + length ds) r) (weighed_on log m b L M ds d read w x z) f)
 
     -- and so it is of any setting that begins so
-    pub setting_on : (x : Weigh) (p : ℕ) (r : Tried) → opened ≡ Room x → p ≡ b.passed + 1 → Behind log m (moved b p) turn.left x r → Weighs log m b turn w r
+    pub setting_on : (x : Weigh) (p : ℕ) (r : Answer (Weigh × ℕ)) → opened ≡ Some x → p ≡ b.passed + 1 → Behind log m (moved b p) turn.left x r → Weighs log m b turn w r
     setting_on x p r e n g L M S read is small few =
         subst⁻¹ (λ (ds : List D.Deed). TriedAs (b.passed + length ds) r (weigh_all handheld (L ++ M) ds (weighs w))) is.parts
         (opened_on x p r e n g L M is.rest is.first (subst (Read log m b L M) is.parts read) is.read is.left small (subst (λ (ds : List D.Deed). length ds < 0x10000) is.parts few))

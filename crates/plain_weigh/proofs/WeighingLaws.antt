@@ -17,7 +17,7 @@ use Rattle.plain_look.specs.Looking.{anywhere, LookedIs, LookIs}
 use Rattle.plain_look.proofs.LookLaws.{know_append, know_often}
 use Rattle.plain_weigh.specs.declared.weighing.Before.{Before}
 use Rattle.plain_weigh.specs.declared.weights.Weight.{Weight as Weigh}
-use Rattle.plain_weigh.specs.declared.weights.Weighed.{Weighed}
+use Rattle.std.specs.declared.option.Option.{Option as Answer}
 use Rattle.plain_weigh.specs.Weighing.{units_most, Short, ShortFound, WeighIs, log_start, Read, LookBoth, KnownFor, WeighNext}
 
 -- ---- what is known is short
@@ -73,20 +73,6 @@ module _ (log m : List ℕ) (b : Before) where
   pub for_as : (d x : Deed) (r : Looked) → d ≡ x → KnownFor log m b x r → KnownFor log m b d r
   for_as d x r e h = subst⁻¹ (λ (y : Deed). KnownFor log m b y r) e h
 
-  -- nothing is known for a deed about no key
-  pub for_nothing : (r : Looked) → LookedIs anywhere r unknown → KnownFor log m b Nothing r
-  for_nothing r z L M S nothing read is = z
-  for_nothing r z L M S (clears j) read is = absurd is
-  for_nothing r z L M S (puts j a) read is = absurd is
-  for_nothing r z L M S (removes j c) read is = absurd is
-
-  -- nor for one that empties a table
-  pub for_clears : (k : Kind) (r : Looked) → LookedIs anywhere r unknown → KnownFor log m b (Clears k) r
-  for_clears k r z L M S nothing read is = absurd is
-  for_clears k r z L M S (clears j) read is = z
-  for_clears k r z L M S (puts j a) read is = absurd is
-  for_clears k r z L M S (removes j c) read is = absurd is
-
   -- the key of an entry that is put
   pub for_puts : (k : Kind) (p : Put) (r : Looked) → LookBoth log m b k p.key r → KnownFor log m b (Puts k p) r
   for_puts k p r f L M S nothing read is = absurd is
@@ -106,6 +92,6 @@ module _ (log m : List ℕ) (b : Before) where
   before_short L M S read = all_append Short L M read.short_log (all_left Short M S read.short)
 
   -- one deed more is weighed by what is known of its key
-  pub next_weighed : (d : Deed) (w : Weigh) (known : Looked) (r : Weighed) → KnownFor log m b d known → WeighIs d known w r → WeighNext log m b d w r
+  pub next_weighed : (d : Deed) (w : Weigh) (known : Looked) (r : Answer Weigh) → KnownFor log m b d known → WeighIs d known w r → WeighNext log m b d w r
   next_weighed d w known r f g L M S e read is small =
       g m e (known_for (L ++ M) e) is (all_right Short M (e ∷ S) read.short).0 (f L M (e ∷ S) e read is) (for_short (L ++ M) e (before_short L M (e ∷ S) read)) small

@@ -1,6 +1,8 @@
 -- What a deed makes of what its table weighs, as the code weighs it. No promise cites these.
-use Rattle.std.specs.Prelude.{ℕ, ◌+◌, ◌*◌, ◌-◌, ◌≤◌, ◌<◌, ◌≡◌, Bool, List, [], ◌∷◌, ◌++◌, length}
+use Rattle.std.specs.Prelude.{ℕ, ◌+◌, ◌*◌, ◌<◌, ◌≡◌, Bool, List, ◌∷◌, ◌++◌, length}
 use Rattle.std.proofs.Math.Option.{Option, none, some}
+use Rattle.std.specs.declared.option.Option.{Option as Answer}
+use Rattle.std.specs.declared.option.Option.TheVariants.{Some, None}
 use Rattle.lists.specs.Every.{All}
 use Rattle.writing.specs.declared.Coding.TheVariants.{Unicode16}
 use Rattle.writing.specs.declared.Kind.{Kind}
@@ -18,15 +20,7 @@ use Rattle.read_deeds.specs.ReadDeeds.{none_left, DeedIs, TurnIs}
 use Rattle.plain_look.specs.declared.known.Looked.{Looked}
 use Rattle.plain_look.specs.Looking.{anywhere, PutSeen, LookedIs}
 use Rattle.plain_weigh.specs.declared.weighing.Before.{Before}
-use Rattle.plain_weigh.specs.declared.weighing.Tried.{Tried}
-use Rattle.plain_weigh.specs.declared.weighing.Tried.TheVariants.{Room as Fits, Full as TooMany}
 use Rattle.plain_weigh.specs.declared.weights.Weight.{Weight as Weigh}
-use Rattle.plain_weigh.specs.declared.weights.Weighed.{Weighed}
-use Rattle.plain_weigh.specs.declared.weights.Weighed.TheVariants.{Room, Full}
-use Rattle.plain_weigh.specs.declared.weights.Room.{Room as Rooms}
-use Rattle.plain_weigh.specs.declared.weights.Room.TheVariants.{Of, Any}
-use Rattle.plain_weigh.specs.declared.weights.Entries.{Entries}
-use Rattle.plain_weigh.specs.declared.weights.Entries.TheVariants.{Are, Full as NoRoom}
 
 -- ---- one deed
 
@@ -35,22 +29,22 @@ abbrev pub weighs : Weigh → Weight
 weighs w = record { entries = w.entries; bytes = w.bytes }
 
 -- the room of a table
-abbrev pub room_said : Rooms → Option ℕ
-room_said (Of n) = some n
-room_said Any = none
+abbrev pub room_said : Answer ℕ → Option ℕ
+room_said (Some n) = some n
+room_said None = none
 
-abbrev pub RoomIs : Kind → Rooms → Type 0
+abbrev pub RoomIs : Kind → Answer ℕ → Type 0
 RoomIs k r = room_said r ≡ room_of handheld k
 
 abbrev pub TakesPlace : Kind → Looked → Bool → Type 0
 TakesPlace k known r = (o : Known) → LookedIs anywhere known o → r ≡ takes_place k o
 
 -- how many entries there are
-abbrev pub entries_said : Entries → Option ℕ
-entries_said (Are n) = some n
-entries_said NoRoom = none
+abbrev pub entries_said : Answer ℕ → Option ℕ
+entries_said (Some n) = some n
+entries_said None = none
 
-abbrev pub EntriesPut : Rooms → Bool → ℕ → Entries → Type 0
+abbrev pub EntriesPut : Answer ℕ → Bool → ℕ → Answer ℕ → Type 0
 EntriesPut room takes n r = entries_said r ≡ entries_put (room_said room) takes n
 
 abbrev pub GoneIs : Kind → Looked → ℕ → Type 0
@@ -84,11 +78,11 @@ BytesPut k p known r =
     → r ≡ text_bytes (staying (first_stays k) o.found_at a).text) × (r < 0x200000000)
 
 -- the weight then, or that there is no room
-abbrev pub weighed_as : Weighed → Option Weight
-weighed_as (Room w) = some (weighs w)
-weighed_as Full = none
+abbrev pub weighed_as : Answer Weigh → Option Weight
+weighed_as (Some w) = some (weighs w)
+weighed_as None = none
 
-abbrev pub WeighPut : Kind → Put → Looked → Weigh → Weighed → Type 0
+abbrev pub WeighPut : Kind → Put → Looked → Weigh → Answer Weigh → Type 0
 WeighPut k p known w r =
     (o : Known) (a : Seen) → LookedIs anywhere known o → ShortFound o.found_at → PutSeen anywhere p a → length a.text < units_most → w.bytes < 0x100000000
     → weighed_as r ≡ weigh handheld (puts k a) o (weighs w)
@@ -97,7 +91,7 @@ abbrev pub WeighRemoved : Kind → Looked → Weigh → Weigh → Type 0
 WeighRemoved k known w r =
     (o : Known) (c : ℕ) → LookedIs anywhere known o → ShortFound o.found_at → some (weighs r) ≡ weigh handheld (removes k c) o (weighs w)
 
-abbrev pub WeighIs : Deed → Looked → Weigh → Weighed → Type 0
+abbrev pub WeighIs : Deed → Looked → Weigh → Answer Weigh → Type 0
 WeighIs d known w r =
     (m : List ℕ) (e : D.Deed) (o : Known) → DeedIs m d e → Short e → LookedIs anywhere known o → ShortFound o.found_at → w.bytes < 0x100000000
     → weighed_as r ≡ weigh handheld e o (weighs w)
@@ -125,19 +119,19 @@ LookBoth log m b k key r = (L M S : List D.Deed) → Read log m b L M S → Look
 abbrev pub KnownFor : List ℕ → List ℕ → Before → Deed → Looked → Type 0
 KnownFor log m b d r = (L M S : List D.Deed) (e : D.Deed) → Read log m b L M S → DeedIs m d e → LookedIs anywhere r (known_for (L ++ M) e)
 
-abbrev pub WeighNext : List ℕ → List ℕ → Before → Deed → Weigh → Weighed → Type 0
+abbrev pub WeighNext : List ℕ → List ℕ → Before → Deed → Weigh → Answer Weigh → Type 0
 WeighNext log m b d w r =
     (L M S : List D.Deed) (e : D.Deed) → Read log m b L M (e ∷ S) → DeedIs m d e → w.bytes < 0x100000000
     → weighed_as r ≡ weigh handheld e (known_for (L ++ M) e) (weighs w)
 
 -- the weight after all deeds of a setting, and how many deeds of the request were read
-abbrev pub TriedAs : ℕ → Tried → Option Weight → Type 0
-TriedAs n (Fits w p) (some x) = (weighs w ≡ x) × (p ≡ n)
-TriedAs n (Fits w p) none = ⊥
-TriedAs n TooMany (some x) = ⊥
-TriedAs n TooMany none = Unit {0}
+abbrev pub TriedAs : ℕ → Answer (Weigh × ℕ) → Option Weight → Type 0
+TriedAs n (Some r) (some x) = (weighs r.0 ≡ x) × (r.1 ≡ n)
+TriedAs n (Some r) none = ⊥
+TriedAs n None (some x) = ⊥
+TriedAs n None none = Unit {0}
 
-abbrev pub Weighs : List ℕ → List ℕ → Before → Turn → Weigh → Tried → Type 0
+abbrev pub Weighs : List ℕ → List ℕ → Before → Turn → Weigh → Answer (Weigh × ℕ) → Type 0
 Weighs log m b t w r =
     (L M S : List D.Deed) → Read log m b L M S → TurnIs m t S → w.bytes < 0x10000 → length S < 0x10000
     → TriedAs (b.passed + length S) r (weigh_all handheld (L ++ M) S (weighs w))

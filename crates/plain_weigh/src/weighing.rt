@@ -1,7 +1,7 @@
 // The deeds of a setting, weighed in turn by what is known of their keys from all deeds before them.
 ghost use Rattle.plain_weigh.specs.Weighing.{LookBoth, KnownFor, WeighNext, Weighs};
 
-use super::weights::{Weighed, Weight, weigh};
+use super::weights::{Weight, weigh};
 use plain_look::known::{DEEDS, Looked, UNKNOWN};
 use plain_look::look::look;
 use read_deeds::cursors::{Cursor, at_settings};
@@ -15,13 +15,6 @@ pub struct Before {
     pub logged: usize,
     pub first: Cursor,
     pub passed: usize,
-}
-
-// What the table weighs then and how many deeds of the request were read, or that there was no room.
-#[derive(Clone, Copy)]
-pub enum Tried {
-    Room(Weight, usize),
-    Full,
 }
 
 // Where the first request of a log stands.
@@ -42,53 +35,42 @@ fn known_for(log: &[u8], m: &[u8], before: Before, deed: Deed) -> Looked
     ensures { KnownFor log.now m.now before deed result }
 {
     match deed {
-        Deed::Nothing => UNKNOWN,
-        Deed::Clears(_) => UNKNOWN,
+        Deed::Nothing | Deed::Clears(_) => UNKNOWN,
         Deed::Puts(kind, put) => look_both(log, m, before, kind, put.key),
         Deed::Removes(kind, key) => look_both(log, m, before, kind, key),
     }
 }
 
-// One deed more.
-fn weigh_next(log: &[u8], m: &[u8], before: Before, deed: Deed, weight: Weight) -> Weighed
+// One deed more; none where there is no room.
+fn weigh_next(log: &[u8], m: &[u8], before: Before, deed: Deed, weight: Weight) -> Option<Weight>
     ensures { WeighNext log.now m.now before deed weight result }
 {
     let known = known_for(log, m, before, deed);
     weigh(deed, known, weight)
 }
 
-// All deeds of a setting that begins with this turn.
-pub fn weigh_setting(log: &[u8], m: &[u8], before: Before, turn: Turn, weight: Weight) -> Tried
+// What the table weighs after all deeds of a setting that begins with this turn and how many deeds of the request were read; none where there was no room.
+pub fn weigh_setting(
+    log: &[u8],
+    m: &[u8],
+    before: Before,
+    turn: Turn,
+    weight: Weight,
+) -> Option<(Weight, usize)>
     ensures { Weighs log.now m.now before turn weight result }
 {
-    let deed = turn.deed;
-    let opened = weigh_next(log, m, before, deed, weight);
-    let Weighed::Room(begun) = opened else {
-        return Tried::Full;
-    };
-    if DEEDS <= before.passed {
-        return Tried::Full;
+    let mut so_far = weigh_next(log, m, before, turn.deed, weight)?;
+    if DEEDS <= before.passed || DEEDS <= turn.left.count {
+        return None;
     }
     let mut left = turn.left;
-    if DEEDS <= left.count {
-        return Tried::Full;
-    }
-    let count = left.count;
-    let mut now_weight = begun;
     let mut here = before;
     here.passed = before.passed + 1;
-    let mut i = 0;
-    while i < count {
+    for _ in 0..turn.left.count {
         let next = next_entry(m, left);
-        let does = next.deed;
-        let weighed = weigh_next(log, m, here, does, now_weight);
-        let Weighed::Room(so_far) = weighed else {
-            return Tried::Full;
-        };
-        now_weight = so_far;
+        so_far = weigh_next(log, m, here, next.deed, so_far)?;
         left = next.left;
-        i += 1;
-        here.passed = before.passed + 1 + i;
+        here.passed += 1;
     }
-    Tried::Room(now_weight, here.passed)
+    Some((so_far, here.passed))
 }

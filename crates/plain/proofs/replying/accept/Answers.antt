@@ -1,4 +1,3 @@
-use Rattle.lists.proofs.Kit.{rules}
 use Rattle.plain.proofs.ReplyLaws.{accepted}
 use Rattle.plain.proofs.replying.accept.Goals as goal
 

@@ -1,4 +1,4 @@
-use Rattle.lists.proofs.Kit.{rules, inl, inr, ⊎_elim}
+use Rattle.lists.proofs.Kit.{inl, inr}
 use Rattle.plain.proofs.ReplyLaws.{queried}
 use Rattle.plain.proofs.replying.answer_query.Goals as goal
 use Rattle.plain.proofs.replying.answer_query.Goals.{then-same_hash, else-same_hash}

@@ -1,4 +1,4 @@
-use Rattle.lists.proofs.Kit.{rules, refl, replicate}
+use Rattle.lists.proofs.Kit.{refl, replicate}
 use Rattle.plain.proofs.ReplyLaws.{put_as_bytes}
 use Rattle.plain.proofs.replying.hash_bytes.Goals as goal
 

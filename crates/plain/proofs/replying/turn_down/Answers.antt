@@ -1,4 +1,4 @@
-use Rattle.lists.proofs.Kit.{rules, refl, true, false}
+use Rattle.lists.proofs.Kit.{refl, true, false}
 use Rattle.tables.specs.Limits.{handheld}
 use Rattle.tables.specs.Tables.{no_hash}
 use Rattle.station.proofs.TakeLaws.{no_hash_ok, replied}

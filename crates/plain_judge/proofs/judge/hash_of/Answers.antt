@@ -1,4 +1,4 @@
-use Rattle.lists.proofs.Kit.{rules, subst⁻¹}
+use Rattle.lists.proofs.Kit.{subst⁻¹}
 use Rattle.settings.specs.declared.settings.Setting.{Setting as SettingRead}
 use Rattle.plain_judge.specs.Judging.{HashOf}
 use Rattle.plain_judge.proofs.JudgeLaws.{hash_last, hash_none}

@@ -1,8 +1,6 @@
-use Rattle.lists.proofs.Kit.{rules, ◌≤◌, ◌-◌, ◌≡◌, refl, subst, List, arith, length}
-use Rattle.events.specs.Deeds as D
-use Rattle.tables.specs.Tables.{Tables}
-use Rattle.plain_judge.specs.Judging.{Weights, Logged, StepIs}
-use Rattle.plain_judge.proofs.JudgeLaws.{Going, going_start, going_on, going_fault, going_over, going_end}
+use Rattle.lists.proofs.Kit.{rules, refl, subst, arith}
+use Rattle.plain_judge.specs.Judging.{StepIs}
+use Rattle.plain_judge.proofs.JudgeLaws.{going_start, going_on, going_fault, going_over, going_end}
 use Rattle.plain_judge.proofs.judge.judge_settings.Goals as goal
 
 pub loop-taken-init : goal.loop-taken-init
@@ -10,12 +8,12 @@ loop-taken-init c =
     let a = c.args in
     (refl, omega arith, λ ds was g w. going_start a.m.now a.request ds was a.log.now a.weights.now a.logged g w)
 
-pub returns-in-Fault : goal.returns-in-Fault
-returns-in-Fault c =
+pub returns-in-Err : goal.returns-in-Err
+returns-in-Err c =
     let a = c.args in
     let l = c.loop-taken in
     let k = c.judge_setting-step in
-    let z = subst (StepIs a.log.now a.logged a.m.now a.request l.p l.taken l.passed l.weights k.new.weights) c.in-Fault.is k.ensures in
+    let z = subst (StepIs a.log.now a.logged a.m.now a.request l.p l.taken l.passed l.weights k.new.weights) c.in-Err.is k.ensures in
     λ ds was g w.
     let (s, t, x, i) = l.invariant.2 ds was g w in
     going_fault a.m.now a.request ds was l.p l.taken l.passed l.weights s t x _ c.loop-taken-test.true (z ds was s t g x c.loop-taken-test.true)
@@ -25,7 +23,7 @@ loop-taken-preserved c =
     let a = c.args in
     let l = c.loop-taken in
     let k = c.judge_setting-step in
-    let z = subst (StepIs a.log.now a.logged a.m.now a.request l.p l.taken l.passed l.weights k.new.weights) c.in-Next.is k.ensures in (
+    let z = subst (StepIs a.log.now a.logged a.m.now a.request l.p l.taken l.passed l.weights k.new.weights) c.in-Ok.is k.ensures in (
       search rules,
       search rules,
       λ ds was g w.

@@ -1,8 +1,8 @@
-use Rattle.lists.proofs.Kit.{rules, ◌≤◌, ◌-◌, ◌≡◌, refl, subst, List, arith, length}
+use Rattle.lists.proofs.Kit.{◌≤◌, ◌≡◌, List, length}
 use Rattle.events.specs.Deeds as D
 use Rattle.tables.specs.Tables.{Tables}
-use Rattle.plain_judge.specs.Judging.{Weights, Logged, StepIs}
-use Rattle.plain_judge.proofs.JudgeLaws.{Going, going_start, going_on, going_fault, going_over, going_end}
+use Rattle.plain_judge.specs.Judging.{Weights, Logged}
+use Rattle.plain_judge.proofs.JudgeLaws.{Going}
 use Rattle.plain_judge.proofs.judge.judge_settings.Given as goal
 
 abbrev pub invariant-loop-taken : goal.invariant-loop-taken
@@ -10,5 +10,3 @@ invariant-loop-taken l =
     (length l.weights ≡ length l.initial.weights) × (l.taken ≤ l.request.count)
     × ((ds : List D.Deed) (was : Tables) → Logged l.log l.logged ds was → Weights l.initial.weights was → Going l.m l.request ds was l.p l.taken l.passed l.weights l.item)
 
-abbrev pub decreases-loop-taken : goal.decreases-loop-taken
-decreases-loop-taken l = l.request.count - l.taken

@@ -1,4 +1,4 @@
-use Rattle.lists.proofs.Kit.{rules, refl, ap, ◌∙◌, inl, inr, List, ℕ}
+use Rattle.lists.proofs.Kit.{refl, ap, ◌∙◌, inl, inr, List, ℕ}
 use Rattle.plain_log.specs.Area.{Begun}
 use Rattle.plain_log.proofs.FrameLaws.{fresh_area}
 use Rattle.plain_log.proofs.areas.start.Goals as goal

@@ -1,4 +1,4 @@
-use Rattle.lists.proofs.Kit.{rules, arith, refl, ap, ◌∙◌, ◌+◌, ◌-◌, List, ℕ, length}
+use Rattle.lists.proofs.Kit.{arith, refl, ap, ◌∙◌, ◌+◌, ◌-◌, List, ℕ, length}
 use Rattle.plain_log.proofs.FrameLaws.{area_long, log_longer, area_more}
 use Rattle.plain_log.proofs.keeping.keep.Goals as goal
 

@@ -1,9 +1,6 @@
-use Rattle.lists.proofs.Kit.{rules, arith, ◌-◌}
-use Rattle.plain_look.proofs.LookLaws.{Looks, look_starts, look_on, look_ends, look_high}
+use Rattle.plain_look.proofs.LookLaws.{Looks}
 use Rattle.plain_look.proofs.look.look.Given as goal
 
 abbrev pub invariant-loop-i : goal.invariant-loop-i
 invariant-loop-i l = Looks l.m l.first l.count l.kind l.key l.initial.here l.initial.now_known l.here l.now_known l.i
 
-abbrev pub decreases-loop-i : goal.decreases-loop-i
-decreases-loop-i l = l.count - l.i

@@ -1,18 +1,7 @@
-use Rattle.lists.proofs.Kit.{rules, arith, ℕ, ◌+◌, ◌-◌, ◌<◌, refl, subst⁻¹, ⊎_elim}
-use Rattle.plain_look.proofs.RowLooks.{Rows, rows_start, rows_found, rows_passed, rows_none, rows_end, rows_high}
-use Rattle.plain_look.proofs.LookLaws.{unknown_looked}
+use Rattle.lists.proofs.Kit.{arith, ℕ, ◌+◌, ◌<◌, subst⁻¹}
+use Rattle.plain_look.proofs.RowLooks.{Rows, rows_found, rows_passed, rows_none}
 use Rattle.plain_look.proofs.rows.listed_row.Goals as goal
 use Rattle.plain_look.proofs.rows.listed_row.Goals.{then-found+else-before-eq0, else-found}
-
-pub returns-then-count-ge-DEEDS : goal.returns-then-count-ge-DEEDS
-returns-then-count-ge-DEEDS c =
-    let a = c.args in
-    rows_high a.m.now a.cursor a.count a.kind a.position unknown_looked c.if-count-ge-DEEDS.true
-
-pub loop-i-init : goal.loop-i-init
-loop-i-init c =
-    let a = c.args in
-    rows_start a.m.now a.cursor a.count a.kind a.position
 
 pub returns-then-before-eq0 : goal.returns-then-before-eq0
 returns-then-before-eq0 c =
@@ -35,9 +24,3 @@ loop-i-preserved c =
       | else-found w ↦ subst⁻¹ (λ (x : ℕ). Rows a.m.now a.cursor a.count a.kind a.position n.result.cursor x (l.i + 1)) w.before-is
           (rows_none a.m.now a.cursor a.count a.kind a.position l.here n.result b.result l.before l.i less n.ensures b.ensures l.invariant w.if-found.false)
     ]
-
-pub returns : goal.returns
-returns c =
-    let a = c.args in
-    let l = c.loop-i in
-    rows_end a.m.now a.cursor a.count a.kind a.position l.here l.before l.i unknown_looked (omega arith) refl l.invariant

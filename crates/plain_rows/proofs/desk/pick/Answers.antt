@@ -1,4 +1,4 @@
-use Rattle.lists.proofs.Kit.{ℕ, ◌-◌, ◌≡◌, sym, ap, rules, zero-add, arith, take}
+use Rattle.lists.proofs.Kit.{ℕ, ◌-◌, ◌≡◌, sym, ap, zero-add, arith, take}
 use Rattle.plain_rows.specs.PlainRows.{bytes_in}
 use Rattle.plain_rows.proofs.DeskLaws.{no_bytes}
 use borrow.Enum.Refused.{opened as is_one_of}

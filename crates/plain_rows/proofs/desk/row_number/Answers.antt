@@ -1,16 +1,14 @@
-use Rattle.lists.proofs.Kit.{rules}
 use Rattle.plain_rows.proofs.DeskLaws.{number_refused, number_shown}
-use borrow.Enum.Refused.{opened as is_one_of}
 use Rattle.plain_rows.proofs.desk.row_number.Goals as goal
 
-pub returns-in-Refused : goal.returns-in-Refused
-returns-in-Refused c =
+pub returns-in-Err : goal.returns-in-Err
+returns-in-Err c =
     let a = c.args in
-    let n = c.name_of-name in
-    number_refused a.area.now a.scratch.now a.row n.result c.in-Refused.why c.in-Refused.is n.ensures
+    let n = c.name_of in
+    number_refused a.area.now a.scratch.now a.row n.result c.in-Err.why c.in-Err.is n.ensures
 
-pub returns-in_default : goal.returns-in_default
-returns-in_default c =
+pub returns-in-Ok : goal.returns-in-Ok
+returns-in-Ok c =
     let a = c.args in
-    let n = c.name_of-name in
-    number_shown a.area.now a.scratch.now a.row n.result (is_one_of c.in_default.in_default-own.keys2) n.ensures
+    let n = c.name_of in
+    number_shown a.area.now a.scratch.now a.row n.result _ c.in-Ok.is n.ensures

@@ -1,4 +1,4 @@
-use Rattle.lists.proofs.Kit.{refl, rules}
+use Rattle.lists.proofs.Kit.{refl}
 use Rattle.screen.specs.Screen.{lent}
 use Rattle.plain_rows.proofs.DeskLaws.{part_given}
 use Rattle.plain_rows.proofs.desk.row_part.Goals as goal

@@ -1,5 +1,6 @@
-use Rattle.lists.proofs.Kit.{◌-◌, ◌≤◌, rules, arith}
-use Rattle.plain_rows.proofs.LineDigits.{OffSoFar, off_start, off_more, off_end, off_all}
+use Rattle.lists.proofs.Kit.{◌≡◌, subst, arith}
+use Rattle.plain_rows.specs.Naming.{DigitsIn}
+use Rattle.plain_rows.proofs.LineDigits.{off_start, off_more, off_end, off_all}
 use Rattle.plain_rows.proofs.writing_out.digits_in.Goals as goal
 
 pub loop-n-init : goal.loop-n-init
@@ -21,4 +22,5 @@ pub returns : goal.returns
 returns c =
     let a = c.args in
     let l = c.loop-n in
-    off_all a.code l.rest l.n l.invariant.1 (omega (arith, l.invariant.0))
+    let e : l.n ≡ 18 = omega (arith, l.invariant.0) in
+    subst (DigitsIn a.code) e (off_all a.code l.rest l.n l.invariant.1 e)

@@ -1,4 +1,3 @@
-use Rattle.lists.proofs.Kit.{rules}
 use Rattle.plain_rows.proofs.LineDigits.{line_written}
 use Rattle.plain_rows.proofs.writing_out.write_line.Goals as goal
 

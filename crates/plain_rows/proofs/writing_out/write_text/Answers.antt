@@ -1,4 +1,4 @@
-use Rattle.lists.proofs.Kit.{rules, arith}
+use Rattle.lists.proofs.Kit.{arith}
 use Rattle.plain_rows.proofs.TextCopies.{text_long, text_wide, text_past, text_past_16, text_past_8, text_copied, text_widened}
 use Rattle.plain_rows.proofs.writing_out.write_text.Goals as goal
 

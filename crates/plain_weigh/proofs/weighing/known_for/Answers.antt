@@ -1,17 +1,5 @@
-use Rattle.lists.proofs.Kit.{rules, refl}
-use Rattle.plain_look.proofs.LookLaws.{unknown_is}
-use Rattle.plain_weigh.proofs.WeighingLaws.{for_as, for_nothing, for_clears, for_puts, for_removes}
+use Rattle.plain_weigh.proofs.WeighingLaws.{for_as, for_puts, for_removes}
 use Rattle.plain_weigh.proofs.weighing.known_for.Goals as goal
-
-pub returns-in-Nothing : goal.returns-in-Nothing
-returns-in-Nothing c =
-    let a = c.args in
-    for_as _ _ c.args.before a.deed _ _ c.in-Nothing.is (for_nothing _ _ c.args.before _ (unknown_is _ _ refl refl))
-
-pub returns-in-Clears : goal.returns-in-Clears
-returns-in-Clears c =
-    let a = c.args in
-    for_as _ _ c.args.before a.deed _ _ c.in-Clears.is (for_clears _ _ c.args.before _ _ (unknown_is _ _ refl refl))
 
 pub returns-in-Puts : goal.returns-in-Puts
 returns-in-Puts c =

@@ -1,4 +1,4 @@
-use Rattle.lists.proofs.Kit.{rules, refl}
+use Rattle.lists.proofs.Kit.{refl}
 use Rattle.plain_look.proofs.LookLaws.{unknown_is}
 use Rattle.plain_weigh.proofs.WeighingLaws.{both_looked}
 use Rattle.plain_weigh.proofs.weighing.look_both.Goals as goal

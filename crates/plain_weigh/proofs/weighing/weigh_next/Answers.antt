@@ -1,4 +1,3 @@
-use Rattle.lists.proofs.Kit.{rules}
 use Rattle.plain_weigh.proofs.WeighingLaws.{next_weighed}
 use Rattle.plain_weigh.proofs.weighing.weigh_next.Goals as goal
 
