@@ -13,7 +13,7 @@ use Rattle.read_fields.specs.Places.{FieldsAt, be}
 use Rattle.read_fields.proofs.Heads.{head_in, head_out, be_small}
 use Rattle.read_fields.proofs.Parts.{nothing}
 use Rattle.settings.specs.Meant.{BodyAt}
-use Rattle.settings.specs.declared.settings.BodyRead.TheVariants.{NoBody}
+use Rattle.std.specs.Prelude.{None}
 use Rattle.settings.proofs.BodyLaws.{Headed}
 
 abbrev pub key_head : (c : Coding) → Headed c Key
@@ -70,7 +70,7 @@ key_address_out (ToGroup a) m q next h n i x = address_out a.0 m q next h i x
 key_address_out (ToIndividual a) m q next h n i x = address_out a.0 m q next h i x
 
 -- the last item is out of range before the last place
-pub not_last : (c : Coding) (left : ℕ) (m : List ℕ) (p : ℕ) → 0 < left → BodyAt c Last left m p NoBody
+pub not_last : (c : Coding) (left : ℕ) (m : List ℕ) (p : ℕ) → 0 < left → BodyAt c Last left m p None
 not_last c left m p l s next e i y =
     let (x, d) = of_kind Last s e in
     omega (arith, (subst (InRange text_limits left) d i).1)

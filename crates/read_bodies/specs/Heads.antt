@@ -1,14 +1,12 @@
--- A contract's words: what the head of a list says. No promise cites this.
-use Rattle.std.specs.Prelude.{ℕ, ◌+◌, ◌/◌, ◌%◌, ◌≤◌, ◌≡◌, List, length, drop, take}
+-- A contract's words: what the head of a list or a slot says. No promise cites this.
+use Rattle.std.specs.Prelude.{ℕ, ◌+◌, ◌-◌, ◌*◌, ◌/◌, ◌%◌, ◌^◌, ◌≤◌, ◌≡◌, List, length, drop, take, Option, Some, None}
 use Rattle.writing.specs.declared.Operation.{Operation}
 use Rattle.writing.specs.Writing.{op_code}
 use Rattle.read_fields.specs.Places.{be}
-use Rattle.read_bodies.specs.declared.list_bodies.ListHead.{ListHead}
-use Rattle.read_bodies.specs.declared.list_bodies.ListHead.TheVariants.{Is, NoHead}
 
--- the operation in the two highest bits, the count in the lowest and entries after them, or no operation up to this code stands there
-abbrev pub HeadIs : List ℕ → ℕ → ℕ → ℕ → ℕ → ListHead → Type 0
-HeadIs m p size counts most (Is o start n) =
-    (p + size ≤ length m) × (op_code o ≡ be 0 (take 1 (drop p m)) / 64 % 4) × (start ≡ p + size) × (n ≡ be 0 (take size (drop p m)) % counts)
-HeadIs m p size counts most NoHead =
-    p + size ≤ length m → (o : Operation) → op_code o ≡ be 0 (take 1 (drop p m)) / 64 % 4 → op_code o ≤ most → ⊥
+-- so many bytes as one number with the operation in its two highest bits, or no operation up to this code stands there
+abbrev pub HeadIs : List ℕ → ℕ → ℕ → ℕ → Option (ℕ × Operation) → Type 0
+HeadIs m p size most (Some (n, o)) =
+    (p + size ≤ length m) × (n ≡ be 0 (take size (drop p m))) × (op_code o ≡ n / 2 ^ (8 * size - 2) % 4) × (op_code o ≤ most)
+HeadIs m p size most None =
+    p + size ≤ length m → (o : Operation) → op_code o ≡ be 0 (take size (drop p m)) / 2 ^ (8 * size - 2) % 4 → op_code o ≤ most → ⊥

@@ -8,8 +8,8 @@ ghost use Rattle.writing.specs.declared.Kind.{Kind};
 use plan::numbers::{GroupAddress, IndividualAddress};
 use read_fields::addresses::address_refused;
 use read_fields::bytes::{flag, number, remaining};
-use read_fields::hashes::{HashRead, read_hash};
-use settings::settings::{BodyRead, Setting};
+use read_fields::hashes::read_hash;
+use settings::settings::Setting;
 use writing::{HomeNumbers, KeyFlags, KeyTarget, LastFlags, SystemCode};
 
 // An address of the kind that the group bit says.
@@ -23,11 +23,11 @@ fn target(group: bool, address: u32) -> KeyTarget
     }
 }
 
-pub fn read_key(m: &[u8], p: usize) -> BodyRead
+pub fn read_key(m: &[u8], p: usize) -> Option<(Setting, usize)>
     ensures { (coding : Coding) (left : ℕ) → BodyAt coding Kind.Key left m.now p result }
 {
     if remaining(m, p) < 1 {
-        return BodyRead::NoBody;
+        return None;
     }
     let n = number(m, p, 1);
     let group = flag(n / 64);
@@ -37,80 +37,75 @@ pub fn read_key(m: &[u8], p: usize) -> BodyRead
         siren: flag(n / 8),
     };
     if n / 128 % 2 == 1 {
-        return BodyRead::Body(Setting::Key(KeyTarget::Current(group), flags), p + 1);
+        return Some((Setting::Key(KeyTarget::Current(group), flags), p + 1));
     }
     let after = p + 1;
     if remaining(m, after) < 3 {
-        return BodyRead::NoBody;
+        return None;
     }
     let address = (number(m, after, 3) % 0x100_0000) as u32;
     if address_refused(address) {
-        return BodyRead::NoBody;
+        return None;
     }
-    BodyRead::Body(Setting::Key(target(group, address), flags), after + 3)
+    Some((Setting::Key(target(group, address), flags), after + 3))
 }
 
-pub fn read_home(m: &[u8], p: usize) -> BodyRead
+pub fn read_home(m: &[u8], p: usize) -> Option<(Setting, usize)>
     ensures { (coding : Coding) (left : ℕ) → BodyAt coding Kind.Home left m.now p result }
 {
     if remaining(m, p) < 3 {
-        return BodyRead::NoBody;
+        return None;
     }
     let n = number(m, p, 3);
     let nzi = (n / 32768 % 512) as u16;
     let np = (n / 32 % 1024) as u16;
     if 806 < np {
-        return BodyRead::NoBody;
+        return None;
     }
-    BodyRead::Body(Setting::Home(HomeNumbers { nzi, np }), p + 3)
+    Some((Setting::Home(HomeNumbers { nzi, np }), p + 3))
 }
 
-pub fn read_system(m: &[u8], p: usize) -> BodyRead
+pub fn read_system(m: &[u8], p: usize) -> Option<(Setting, usize)>
     ensures { (coding : Coding) (left : ℕ) → BodyAt coding Kind.System left m.now p result }
 {
     if remaining(m, p) < 3 {
-        return BodyRead::NoBody;
+        return None;
     }
     let n = number(m, p, 3);
     let lai = (n / 4096 % 4096) as u16;
     let la = (n / 256 % 16) as u8;
     let roaming = (n / 64 % 4) as u8;
     if 8 < la {
-        return BodyRead::NoBody;
+        return None;
     }
     if roaming == 3 {
-        return BodyRead::NoBody;
+        return None;
     }
     let par = flag(n / 32);
-    BodyRead::Body(
-        Setting::System(SystemCode {
-            lai,
-            la,
-            roaming,
-            par,
-        }),
-        p + 3,
-    )
+    let code = SystemCode {
+        lai,
+        la,
+        roaming,
+        par,
+    };
+    Some((Setting::System(code), p + 3))
 }
 
 // The last item, which is in range only where no setting is still counted after it.
-pub fn read_last(m: &[u8], p: usize, left: usize) -> BodyRead
+pub fn read_last(m: &[u8], p: usize, left: usize) -> Option<(Setting, usize)>
     ensures { (coding : Coding) → BodyAt coding Kind.Last left m.now p result }
 {
     if 0 < left {
-        return BodyRead::NoBody;
+        return None;
     }
     if remaining(m, p) < 1 {
-        return BodyRead::NoBody;
+        return None;
     }
     let n = number(m, p, 1);
-    let value = read_hash(m, p + 1, (n % 64) as u8);
-    let HashRead::Hash(place, next) = value else {
-        return BodyRead::NoBody;
-    };
+    let (place, next) = read_hash(m, p + 1, (n % 64) as u8)?;
     let flags = LastFlags {
         reboot: flag(n / 128),
         reply: flag(n / 64),
     };
-    BodyRead::Body(Setting::Last(flags, place), next)
+    Some((Setting::Last(flags, place), next))
 }

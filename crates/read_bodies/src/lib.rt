@@ -4,5 +4,6 @@
 pub mod contact_bodies;
 pub mod fixed_bodies;
 mod flags;
+mod heads;
 pub mod list_bodies;
 pub mod slot_bodies;

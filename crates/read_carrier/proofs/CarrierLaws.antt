@@ -1,5 +1,5 @@
 -- The carrier of a message: start bytes, and four bytes read as one number. Assumes nothing.
-use Rattle.lists.proofs.Kit.{ℕ, suc, ◌+◌, ◌-◌, ◌*◌, ◌/◌, ◌%◌, ◌≤◌, ◌<◌, ◌≡◌, refl, sym, ap, ap₂, ◌∙◌, subst, subst⁻¹, ◌≢◌, inr, ⊎_elim, List, [], ◌∷◌, ◌++◌, Bool, true, false, not, arith, eqb, length, get_or, drop, take, length-drop, drop-cons, drop-drop, drop_at, drop-append_seam, eqb-true, eqb-false, not-true, not-false}
+use Rattle.lists.proofs.Kit.{ℕ, suc, ◌+◌, ◌-◌, ◌*◌, ◌/◌, ◌%◌, ◌≤◌, ◌<◌, ◌≡◌, refl, sym, ap, ap₂, ◌∙◌, subst, subst⁻¹, List, [], ◌∷◌, ◌++◌, Bool, true, false, not, arith, length, get_or, drop, take, length-drop, drop-cons, drop-drop, drop_at, drop-append_seam, not-true, not-false}
 use Rattle.lists.specs.Bytes.{Bytes}
 use Rattle.lists.proofs.Seqs.{cut}
 use Rattle.writing.specs.Fields.{bits_of, Field, Shows, widths}
@@ -8,7 +8,7 @@ use Rattle.writing.proofs.Bits.{shows_length, length_bits_of}
 use Rattle.writing.proofs.Ends.{Agree, val_ends, res_ends}
 use Rattle.read_fields.specs.Places.{FieldsAt, be}
 use Rattle.read_carrier.specs.Message.{StartsWith, LengthIs, CarrierIs}
-use Rattle.read_carrier.specs.declared.carrier.CarrierRead.TheVariants.{Carried, NotCarried}
+use Rattle.std.specs.Prelude.{Some, None}
 use Rattle.read_fields.proofs.Heads.{Cut, cut_in, cut_out, head_in, head_out, be_small}
 use Rattle.read_fields.proofs.Parts.{nothing}
 
@@ -44,17 +44,7 @@ start_out m rest e =
     let l : length m ≡ suc (suc (length rest)) = ap length e in
     (omega arith, ap (λ (l : List ℕ). get_or l 0 0) e, ap (λ (l : List ℕ). get_or l 1 0) e)
 
--- the second byte decides where the first fits
-pub starts_by : (m : List ℕ) (r : Bool) → 2 ≤ length m → get_or m 0 0 ≡ 2 → eqb (get_or m 1 0) 2 ≡ r → StartsWith m r
-starts_by m true l a e = start_in m l a (eqb-true (get_or m 1 0) 2 e)
-starts_by m false l a e = λ rest d. eqb-false (get_or m 1 0) 2 e (start_out m rest d).2
-
 -- ---- the length
-
--- a length that is stated decides by itself
-pub length_by : (stated after : ℕ) (r : Bool) → stated ≢ 0 → eqb stated after ≡ r → LengthIs stated after r
-length_by stated after true n e = inr (eqb-true stated after e)
-length_by stated after false n e = ⊎_elim n (eqb-false stated after e)
 
 -- a length that was found wrong, and one that was not
 pub length_wrong : (stated after n : ℕ) (r : Bool) → LengthIs stated after r → after ≡ n → not r ≡ true → States stated n → ⊥
@@ -101,7 +91,7 @@ module _ (m : List ℕ) (h : Bytes m) {N : ℕ} (number : N ≡ be 0 (take 4 (dr
       )
 
   -- a message with a carrier carries what follows it
-  pub carries_in : (coding : ℕ) → Head m N coding → CarrierIs m (Carried coding)
+  pub carries_in : (coding : ℕ) → Head m N coding → CarrierIs m (Some coding)
   carries_in coding k =
       let p : FieldsAt (carrier (N / 65536) coding) m 2 6 = head_in (carrier (N / 65536) coding) [] m 2 4 refl (omega arith) h 6 k.room
       (subst (Cut (carrier (N / 65536) coding)) number (omega (arith, small k.room), (omega (arith, k.mfid), (tt, (omega (arith, k.coded), tt))))) (nothing m 6) in
@@ -114,7 +104,7 @@ module _ (m : List ℕ) (h : Bytes m) {N : ℕ} (number : N ≡ be 0 (take 4 (dr
       }
 
   -- where no coding type makes it a carrier nothing is carried
-  pub not_carried : ((coding : ℕ) → Head m N coding → ⊥) → CarrierIs m NotCarried
+  pub not_carried : ((coding : ℕ) → Head m N coding → ⊥) → CarrierIs m None
   not_carried never coding data_bytes k = never coding (carries_out coding data_bytes k).0
 
 -- CARRIES ONE: a message carries its data bytes under one coding type, and no others

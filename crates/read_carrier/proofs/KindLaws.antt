@@ -1,10 +1,10 @@
 -- A message is one of the kinds that `writing/specs/Carrier.antt` tells apart, and of no two of them. Assumes nothing.
-use Rattle.lists.proofs.Kit.{ℕ, ◌≤◌, ◌≡◌, refl, sym, ap, ◌∙◌, subst, subst⁻¹, ◌≢◌, ◌⊎◌, ⊎_elim, Bool, true, false, List, ◌++◌, arith, ltb, length, drop, drop-append_seam, ltb-true, ltb-false}
+use Rattle.lists.proofs.Kit.{ℕ, ◌≡◌, refl, subst, subst⁻¹, ◌≢◌, ◌⊎◌, ⊎_elim, Bool, true, false, List, ◌++◌, arith, ltb, length, drop-append_seam, ltb-true, ltb-false}
 use Rattle.lists.specs.Bytes.{Bytes}
 use Rattle.lists.proofs.Bytes.{bytes_drop}
 use Rattle.writing.specs.declared.Coding.{Coding}
 use Rattle.writing.specs.Settings.{Hash}
-use Rattle.writing.specs.Carrier.{start_bytes, Carries, coding_type, Opens, Counted, RequestOf, Query, InSize, OtherKind, OtherType, OtherVersion, NoRequest, NoQuery}
+use Rattle.writing.specs.Carrier.{start_bytes, coding_type, Opens, Counted, RequestOf, Query, InSize, OtherKind, OtherType, OtherVersion, NoRequest, NoQuery}
 use Rattle.read_carrier.proofs.CarrierLaws.{carries_one}
 use Rattle.read_carrier.proofs.MessageOne.{opens_one, coding_one, counted_one, counted_opens, query_opens}
 

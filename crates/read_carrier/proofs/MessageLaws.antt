@@ -13,8 +13,7 @@ use Rattle.read_fields.specs.Hashes.{HashAt}
 use Rattle.read_carrier.specs.Message.{MessageIs}
 use Rattle.read_carrier.specs.declared.carrier.Message.TheVariants.{NoRequest, Request, NoQuery, Query as AQuery}
 use Rattle.read_fields.specs.declared.hashes.HashPlace.{HashPlace}
-use Rattle.read_fields.specs.declared.hashes.HashRead.{HashRead}
-use Rattle.read_fields.specs.declared.hashes.HashRead.TheVariants.{Hash as AHash, NoHash}
+use Rattle.std.specs.Prelude.{Option, Some, None}
 use Rattle.read_fields.proofs.Heads.{Cut, head_in, head_out, be_small}
 use Rattle.read_fields.proofs.Parts.{nothing}
 use Rattle.read_fields.proofs.HashLaws.{one_size, bytes_out}
@@ -96,10 +95,10 @@ module _ (m : List ℕ) (h : Bytes m) (coding : ℕ) {M : ℕ} (byte : M ≡ be 
   )
 
   -- none where no value of its code stands
-  pub no_query_value : (most : ℕ) {r : HashRead} → Opens 1 5 coding (drop 6 m) m → HashAt m 8 (M % 64) r → r ≡ NoHash → InSize most m → MessageIs most m NoQuery
+  pub no_query_value : (most : ℕ) {r : Option (HashPlace × ℕ)} → Opens 1 5 coding (drop 6 m) m → HashAt m 8 (M % 64) r → r ≡ None → InSize most m → MessageIs most m NoQuery
   no_query_value most o s e = no_query most o (λ v room n p. subst (HashAt m 8 (M % 64)) e s v (length m) n p)
 
-  module _ (most : ℕ) {r : HashRead} (x : HashPlace) (next : ℕ) (o : Opens 1 5 coding (drop 6 m) m) (s : HashAt m 8 (M % 64) r) (e : r ≡ AHash x next) where
+  module _ (most : ℕ) {r : Option (HashPlace × ℕ)} (x : HashPlace) (next : ℕ) (o : Opens 1 5 coding (drop 6 m) m) (s : HashAt m 8 (M % 64) r) (e : r ≡ Some (x, next)) where
     -- none where bytes follow the value
     pub query_goes_on : next ≢ length m → InSize most m → MessageIs most m NoQuery
     query_goes_on n = no_query most o (λ v room z p.

@@ -1,5 +1,5 @@
 -- A message is one thing: two answers that its contract allows are equal. Assumes nothing.
-use Rattle.lists.proofs.Kit.{ℕ, zero, suc, ◌+◌, ◌*◌, ◌≡◌, refl, sym, ap, ap₂, ◌∙◌, subst, subst⁻¹, ◌≢◌, ◌⊎◌, ⊎_elim, List, [], ◌∷◌, ◌++◌, map, append-nil, cond, mul_comm, arith, eqb, length, drop, length-append, ne_eqb}
+use Rattle.lists.proofs.Kit.{ℕ, zero, suc, ◌+◌, ◌*◌, ◌≡◌, refl, sym, ap, ◌∙◌, subst, subst⁻¹, ◌≢◌, ◌⊎◌, ⊎_elim, List, [], ◌∷◌, ◌++◌, map, append-nil, cond, mul_comm, arith, eqb, length, drop, length-append, ne_eqb}
 use Rattle.lists.proofs.Seqs.{cut}
 use Rattle.writing.specs.Fields.{bits, bits_of, Field, val, res, Shows, widths}
 use Rattle.writing.specs.declared.Coding.{Coding}
@@ -15,8 +15,10 @@ use Rattle.read_carrier.specs.Message.{OpenedIs, MessageIs}
 use Rattle.read_fields.specs.declared.hashes.HashPlace.{HashPlace}
 use Rattle.read_carrier.specs.declared.carrier.Message.{Message}
 use Rattle.read_carrier.specs.declared.carrier.Message.TheVariants.{Size, Carrier, «Type» as OtherType, Version, NoRequest, Request, NoQuery, Query as AQuery}
-use Rattle.read_carrier.specs.declared.carrier.Opened.{Opened}
-use Rattle.read_carrier.specs.declared.carrier.Opened.TheVariants.{Size as OutOfSize, Carrier as Uncarried, Open}
+use Rattle.std.specs.Prelude.{Result, Ok, Err}
+use Rattle.read_carrier.specs.declared.carrier.Opening.{Opening}
+use Rattle.read_carrier.specs.declared.carrier.Unopened.{Unopened}
+use Rattle.read_carrier.specs.declared.carrier.Unopened.TheVariants.{Size as OutOfSize, Carrier as Uncarried}
 use Rattle.read_fields.proofs.HashLaws.{one_size}
 use Rattle.read_carrier.proofs.CarrierLaws.{wide_bytes, carries_one}
 
@@ -38,18 +40,18 @@ opens_one {v} {w} {t} {u} o p =
     (a, b, c, e)
 
 -- OPENED DETERMINED: two answers that the contract of opening allows for one message are equal
-pub opened_determined : (most : ℕ) (m : List ℕ) (a b : Opened) → OpenedIs most m a → OpenedIs most m b → a ≡ b
-opened_determined most m OutOfSize OutOfSize p q = refl
-opened_determined most m OutOfSize Uncarried p q = absurd (p q.0)
-opened_determined most m OutOfSize (Open v k c) p q = absurd (p q.0)
-opened_determined most m Uncarried OutOfSize p q = absurd (q p.0)
-opened_determined most m Uncarried Uncarried p q = refl
-opened_determined most m Uncarried (Open v k c) p q = absurd (p.1 _ _ q.1.carried)
-opened_determined most m (Open v k c) OutOfSize p q = absurd (q p.0)
-opened_determined most m (Open v k c) Uncarried p q = absurd (q.1 _ _ p.1.carried)
-opened_determined most m (Open v k c) (Open v' k' c') p q =
+pub opened_determined : (most : ℕ) (m : List ℕ) (a b : Result Opening Unopened) → OpenedIs most m a → OpenedIs most m b → a ≡ b
+opened_determined most m (Err OutOfSize) (Err OutOfSize) p q = refl
+opened_determined most m (Err OutOfSize) (Err Uncarried) p q = absurd (p q.0)
+opened_determined most m (Err OutOfSize) (Ok o) p q = absurd (p q.0)
+opened_determined most m (Err Uncarried) (Err OutOfSize) p q = absurd (q p.0)
+opened_determined most m (Err Uncarried) (Err Uncarried) p q = refl
+opened_determined most m (Err Uncarried) (Ok o) p q = absurd (p.1 _ _ q.1.carried)
+opened_determined most m (Ok o) (Err OutOfSize) p q = absurd (q p.0)
+opened_determined most m (Ok o) (Err Uncarried) p q = absurd (q.1 _ _ p.1.carried)
+opened_determined most m (Ok o) (Ok o') p q =
     let (e, f, g, _) = opens_one p.1 q.1 in
-    λ i. Open (e i) (f i) (g i)
+    λ i. Ok (record { version = e i; kind = f i; coding = g i })
 
 -- a coding type is that of one coding
 pub coding_one : (c d : Coding) → coding_type c ≡ coding_type d → c ≡ d

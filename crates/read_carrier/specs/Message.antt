@@ -1,6 +1,6 @@
 -- What the reader of a message answers: which kind it is, and where a request's settings or a query's hash value start. The kinds themselves are
 -- those of `writing/specs/Carrier.antt`; what taking a message promises cites only these.
-use Rattle.std.specs.Prelude.{ℕ, ◌≡◌, ◌≢◌, ◌⊎◌, List, ◌++◌, map, Bool, true, false, length, drop}
+use Rattle.std.specs.Prelude.{ℕ, ◌≡◌, ◌≢◌, ◌⊎◌, List, ◌++◌, map, Bool, true, false, length, drop, Option, Some, None, Result, Ok, Err}
 use Rattle.writing.specs.Fields.{val}
 use Rattle.writing.specs.declared.Coding.{Coding}
 use Rattle.writing.specs.Settings.{Hash}
@@ -8,10 +8,9 @@ use Rattle.writing.specs.Carrier.{start_bytes, States, Carries, coding_type, Ope
 use Rattle.read_fields.specs.Places.{FieldsAt}
 use Rattle.read_carrier.specs.declared.carrier.Message.{Message}
 use Rattle.read_carrier.specs.declared.carrier.Message.TheVariants.{Size, Carrier, «Type» as OtherType, Version, NoRequest, Request, NoQuery, Query as AQuery}
-use Rattle.read_carrier.specs.declared.carrier.Opened.{Opened}
-use Rattle.read_carrier.specs.declared.carrier.Opened.TheVariants.{Size as OutOfSize, Carrier as Uncarried, Open}
-use Rattle.read_carrier.specs.declared.carrier.CarrierRead.{CarrierRead}
-use Rattle.read_carrier.specs.declared.carrier.CarrierRead.TheVariants.{Carried, NotCarried}
+use Rattle.read_carrier.specs.declared.carrier.Opening.{Opening}
+use Rattle.read_carrier.specs.declared.carrier.Unopened.{Unopened}
+use Rattle.read_carrier.specs.declared.carrier.Unopened.TheVariants.{Size as OutOfSize, Carrier as Uncarried}
 
 -- ---- the carrier
 
@@ -26,17 +25,17 @@ LengthIs stated after true = States stated after
 LengthIs stated after false = States stated after → ⊥
 
 -- what follows the carrier's six bytes is carried under this coding type, or nothing is carried
-abbrev pub CarrierIs : List ℕ → CarrierRead → Type 0
-CarrierIs m (Carried coding) = Carries coding (drop 6 m) m
-CarrierIs m NotCarried = NothingCarried m
+abbrev pub CarrierIs : List ℕ → Option ℕ → Type 0
+CarrierIs m (Some coding) = Carries coding (drop 6 m) m
+CarrierIs m None = NothingCarried m
 
 -- ---- the message
 
 -- what it opens with, whatever its type: the answers in their order
-abbrev pub OpenedIs : ℕ → List ℕ → Opened → Type 0
-OpenedIs most m OutOfSize = InSize most m → ⊥
-OpenedIs most m Uncarried = InSize most m × NothingCarried m
-OpenedIs most m (Open version kind coding) = InSize most m × Opens version kind coding (drop 6 m) m
+abbrev pub OpenedIs : ℕ → List ℕ → Result Opening Unopened → Type 0
+OpenedIs most m (Err OutOfSize) = InSize most m → ⊥
+OpenedIs most m (Err Uncarried) = InSize most m × NothingCarried m
+OpenedIs most m (Ok o) = InSize most m × Opens o.version o.kind o.coding (drop 6 m) m
 
 -- the answers in their order: each holds where it is the first that does
 abbrev pub MessageIs : ℕ → List ℕ → Message → Type 0

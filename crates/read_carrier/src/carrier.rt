@@ -4,7 +4,7 @@ ghost use Rattle.writing.specs.Carrier.{Opens, InSize};
 ghost use Rattle.read_carrier.specs.Message.{StartsWith, LengthIs, CarrierIs, OpenedIs, MessageIs};
 
 use read_fields::bytes::{number, remaining};
-use read_fields::hashes::{HashPlace, HashRead, read_hash};
+use read_fields::hashes::{HashPlace, read_hash};
 use writing::Coding;
 
 // The fixed start bytes: protocol version and service.
@@ -22,12 +22,19 @@ pub const EIGHT_BIT: u8 = 0b0100;
 // The OTAPVer that is taken.
 pub const VERSION: u8 = 1;
 
-// A message is out of size, not carried, or opens with a version, a type and a coding type.
+// What a message that is carried opens with.
 #[derive(Clone, Copy)]
-pub enum Opened {
+pub struct Opening {
+    pub version: u8,
+    pub kind: u8,
+    pub coding: u8,
+}
+
+// Why a message doesn't open: it is out of size, or nothing is carried.
+#[derive(Clone, Copy)]
+pub enum Unopened {
     Size,
     Carrier,
-    Open(u8, u8, u8),
 }
 
 // A message is out of size, not carried, of another type or version, or a request or a result query, well formed or not.
@@ -44,75 +51,58 @@ pub enum Message {
     Query(HashPlace),
 }
 
-// The coding type under which data bytes are carried.
-#[derive(Clone, Copy)]
-enum CarrierRead {
-    Carried(u8),
-    NotCarried,
-}
-
 // The start bytes, compared as they stand.
 fn starts(m: &[u8]) -> bool
     ensures { StartsWith m.now result }
 {
-    if m.len() < 2 {
-        return false;
-    }
-    if m[0] != START[0] {
-        return false;
-    }
-    m[1] == START[1]
+    m.starts_with(&START)
 }
 
 // The length counts everything after itself; 0 means that it isn't stated.
 fn states(stated: u64, after: u64) -> bool
     ensures { LengthIs stated after result }
 {
-    if stated == 0 {
-        return true;
-    }
-    stated == after
+    stated == 0 || stated == after
 }
 
-// Reserved bits are ignored.
-fn read_carrier(m: &[u8]) -> CarrierRead
+// The coding type under which data bytes are carried. Reserved bits are ignored.
+fn read_carrier(m: &[u8]) -> Option<u8>
     ensures { CarrierIs m.now result }
 {
     if m.len() < 6 {
-        return CarrierRead::NotCarried;
+        return None;
     }
     if !starts(m) {
-        return CarrierRead::NotCarried;
+        return None;
     }
     let head = number(m, 2, 4);
     if !states(head / 65536, (m.len() - 4) as u64) {
-        return CarrierRead::NotCarried;
+        return None;
     }
     if head / 256 % 256 != MFID as u64 {
-        return CarrierRead::NotCarried;
+        return None;
     }
-    let coding = (head % 16) as u8;
-    CarrierRead::Carried(coding)
+    Some((head % 16) as u8)
 }
 
 // What every message opens with, whatever its type, where at most so many bytes are taken.
-pub fn open_message(m: &[u8], most: usize) -> Opened
+pub fn open_message(m: &[u8], most: usize) -> Result<Opening, Unopened>
     ensures { OpenedIs most m.now result }
 {
-    if m.len() < 7 {
-        return Opened::Size;
+    if m.len() < 7 || most < m.len() {
+        return Err(Unopened::Size);
     }
-    if most < m.len() {
-        return Opened::Size;
-    }
-    let carrier = read_carrier(m);
-    let CarrierRead::Carried(coding) = carrier else {
-        return Opened::Carrier;
+    let Some(coding) = read_carrier(m) else {
+        return Err(Unopened::Carrier);
     };
     let first = number(m, 6, 1);
     let version = (first / 8 % 32) as u8;
     let kind = (first % 8) as u8;
-    Opened::Open(version, kind, coding)
+    Ok(Opening {
+        version,
+        kind,
+        coding,
+    })
 }
 
 // A request, or none, where the first data byte says one.
@@ -143,8 +133,7 @@ fn read_query(m: &[u8]) -> Message
         return Message::NoQuery;
     }
     let code = (number(m, 7, 1) % 64) as u8;
-    let value = read_hash(m, 8, code);
-    let HashRead::Hash(place, next) = value else {
+    let Some((place, next)) = read_hash(m, 8, code) else {
         return Message::NoQuery;
     };
     if next != m.len() {
@@ -157,24 +146,14 @@ fn read_query(m: &[u8]) -> Message
 pub fn read_message(m: &[u8], most: usize) -> Message
     ensures { MessageIs most m.now result }
 {
-    let opened = open_message(m, most);
-    match opened {
-        Opened::Size => Message::Size,
-        Opened::Carrier => Message::Carrier,
-        Opened::Open(version, kind, coding) => {
-            match kind {
-                0 => {}
-                5 => {}
-                _ => return Message::Type,
-            }
-            if version != VERSION {
-                return Message::Version;
-            }
-            if kind == 0 {
-                read_request(m, coding)
-            } else {
-                read_query(m)
-            }
-        }
+    match open_message(m, most) {
+        Err(Unopened::Size) => Message::Size,
+        Err(Unopened::Carrier) => Message::Carrier,
+        Ok(opened) => match opened.kind {
+            0 | 5 if opened.version != VERSION => Message::Version,
+            0 => read_request(m, opened.coding),
+            5 => read_query(m),
+            _ => Message::Type,
+        },
     }
 }

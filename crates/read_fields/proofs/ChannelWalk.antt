@@ -1,4 +1,5 @@
 -- Reading scan channels, two in three bytes. Assumes nothing.
+use Rattle.std.specs.Prelude.{Option, Some, None}
 use Rattle.lists.proofs.Kit.{ℕ, zero, suc, ◌+◌, ◌-◌, ◌*◌, ◌/◌, ◌%◌, ◌^◌, ◌≤◌, ◌<◌, ◌≡◌, refl, sym, ap, ap₂, ◌∙◌, subst, List, [], ◌∷◌, ◌++◌, append-nil, arith, length, get_or, drop, take, length-append}
 use Rattle.lists.specs.Bytes.{Bytes}
 use Rattle.lists.specs.Every.{All}
@@ -8,7 +9,6 @@ use Rattle.writing.specs.Ranges.{InChannel}
 use Rattle.writing.proofs.Bits.{length_bits_of}
 use Rattle.read_fields.specs.Places.{FieldsAt, be}
 use Rattle.read_fields.specs.Entries.{Stand, ChannelsAt, channel_list}
-use Rattle.read_fields.specs.declared.entries.Walk.TheVariants.{To, Stopped}
 use Rattle.read_fields.proofs.Heads.{Cut, head_in, head_out, be_small}
 use Rattle.read_fields.proofs.Parts.{nothing}
 use Rattle.read_fields.proofs.Walk.{Walked, not_yet, extend}
@@ -80,7 +80,7 @@ module _ (m : List ℕ) (at count p left : ℕ) (h : Bytes m) (w : ChannelsPasse
 
   -- a pair in range that is not there
   pub no_pair : 2 ≤ left → (p + 3 ≤ length m → InChannel (be 0 (take 3 (drop p m)) / 4096) → InChannel (be 0 (take 3 (drop p m)) % 4096) → ⊥)
-      → ChannelsAt m at count Stopped
+      → ChannelsAt m at count None
   no_pair l never es next s = let (rest, n, i, y) = rest_of es next s in by rest n i y
     where
       by : (rest : List ℕ) → length rest ≡ left → All InChannel rest → FieldsAt (channel_list rest) m p next → ⊥
@@ -112,7 +112,7 @@ module _ (m : List ℕ) (at count p left : ℕ) (h : Bytes m) (w : ChannelsPasse
           (rest, ap₂ (λ (u v : ℕ). u ∷ v ∷ rest) z.first z.second, z.more)
 
   -- none is left
-  pub channels_end : left ≡ 0 → ChannelsAt m at count (To p)
+  pub channels_end : left ≡ 0 → ChannelsAt m at count (Some p)
   channels_end e = (
     w.done,
     record {
@@ -123,7 +123,7 @@ module _ (m : List ℕ) (at count p left : ℕ) (h : Bytes m) (w : ChannelsPasse
   )
 
   -- a last one in range that is not there
-  pub no_last : left ≡ 1 → (p + 2 ≤ length m → be 0 (take 2 (drop p m)) % 16 ≡ 15 → InChannel (be 0 (take 2 (drop p m)) / 16) → ⊥) → ChannelsAt m at count Stopped
+  pub no_last : left ≡ 1 → (p + 2 ≤ length m → be 0 (take 2 (drop p m)) % 16 ≡ 15 → InChannel (be 0 (take 2 (drop p m)) / 16) → ⊥) → ChannelsAt m at count None
   no_last l never es next s = let (rest, n, i, y) = rest_of es next s in by rest n i y
     where
       by : (rest : List ℕ) → length rest ≡ left → All InChannel rest → FieldsAt (channel_list rest) m p next → ⊥
@@ -132,7 +132,7 @@ module _ (m : List ℕ) (at count p left : ℕ) (h : Bytes m) (w : ChannelsPasse
       by (a ∷ b ∷ rest) n i y = omega arith
 
   -- a last one in range that is
-  pub last_ends : left ≡ 1 → p + 2 ≤ length m → be 0 (take 2 (drop p m)) % 16 ≡ 15 → InChannel (be 0 (take 2 (drop p m)) / 16) → ChannelsAt m at count (To (p + 2))
+  pub last_ends : left ≡ 1 → p + 2 ≤ length m → be 0 (take 2 (drop p m)) % 16 ≡ 15 → InChannel (be 0 (take 2 (drop p m)) / 16) → ChannelsAt m at count (Some (p + 2))
   last_ends l r f i =
       let a : ℕ = be 0 (take 2 (drop p m)) / 16 in (
         w.done ++ (a ∷ []),

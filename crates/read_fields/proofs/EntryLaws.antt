@@ -1,4 +1,5 @@
 -- Entries at a place: a number and a text, or bytes of a fixed number and a text. Assumes nothing.
+use Rattle.std.specs.Prelude.{Option, Some, None}
 use Rattle.lists.proofs.Kit.{ℕ, zero, suc, ◌+◌, ◌*◌, ◌/◌, ◌%◌, ◌^◌, ◌≤◌, ◌<◌, ◌≡◌, refl, sym, ap, ◌∙◌, subst, subst⁻¹, List, [], ◌∷◌, ◌++◌, mod-eq_of_lt, arith, length, drop, take}
 use Rattle.lists.specs.Bytes.{Bytes}
 use Rattle.writing.specs.Fields.{Field, val, res, widths}
@@ -13,19 +14,11 @@ use Rattle.read_fields.specs.Places.{FieldsAt, be}
 use Rattle.read_fields.specs.TextsAndNumbers.{TextIs, TextAt, NumberIs, NumberAt}
 use Rattle.read_fields.specs.Entries.{ContactIs, AddressedIs, EntryIs, ContactAt, AddressedAt, EntryAt, EntryOf, form_of, range_of, PassAt}
 use Rattle.read_fields.specs.declared.numbers.NumberPlace.{NumberPlace}
-use Rattle.read_fields.specs.declared.numbers.NumberRead.{NumberRead}
-use Rattle.read_fields.specs.declared.numbers.NumberRead.TheVariants.{Number as ANumber, NoNumber}
 use Rattle.read_fields.specs.declared.texts.TextPlace.{TextPlace}
-use Rattle.read_fields.specs.declared.texts.TextRead.{TextRead}
-use Rattle.read_fields.specs.declared.texts.TextRead.TheVariants.{Text as AText, NoText}
-use Rattle.read_fields.specs.declared.entries.ContactRead.TheVariants.{Contact as AContact, NoContact}
 use Rattle.read_fields.specs.declared.entries.AddressedPlace.{AddressedPlace}
-use Rattle.read_fields.specs.declared.entries.AddressedRead.TheVariants.{Contact as AnAddressed, NoContact as NoAddressed}
-use Rattle.read_fields.specs.declared.entries.Walk.{Walk}
 use Rattle.read_fields.specs.declared.entries.Listed.{Listed}
 use Rattle.read_fields.specs.declared.entries.Listed.TheVariants.{Contacts, Addressed as WithAddress, QuickTexts, StatusTexts}
 use Rattle.read_fields.specs.declared.entries.EntryPlace.{EntryPlace}
-use Rattle.read_fields.specs.declared.entries.EntryRead.TheVariants.{Entry as AnEntry, NoEntry}
 use Rattle.read_fields.proofs.Heads.{Cut, head_in, head_out}
 use Rattle.read_fields.proofs.Parts.{part_join, part_split}
 use Rattle.read_fields.proofs.TextWalk.{text_read}
@@ -43,14 +36,14 @@ module _ (c : Coding) (k : TextLimits) (m : List ℕ) (at : ℕ) where
       (at + n, a, b)
 
   -- no contact where no number stands
-  pub no_number : {r : NumberRead} → NumberAt m at r → r ≡ NoNumber → ContactAt c k m at NoContact
+  pub no_number : {r : Option (NumberPlace × ℕ)} → NumberAt m at r → r ≡ None → ContactAt c k m at None
   no_number n e x next i y =
       let (q, a, b) = contact_parts x next y in
       subst (NumberAt m at) e n x.number q i.0 a
 
-  module _ {r : NumberRead} (p : NumberPlace) (q : ℕ) (n : NumberAt m at r) (e : r ≡ ANumber p q) where
+  module _ {r : Option (NumberPlace × ℕ)} (p : NumberPlace) (q : ℕ) (n : NumberAt m at r) (e : r ≡ Some (p, q)) where
     -- none where no text stands after the number
-    pub no_contact_text : {t : TextRead} → TextAt c m q k.short t → t ≡ NoText → ContactAt c k m at NoContact
+    pub no_contact_text : {t : Option (TextPlace × ℕ)} → TextAt c m q k.short t → t ≡ None → ContactAt c k m at None
     no_contact_text t d x next i y =
         let (ds, s, j, is) = subst (NumberAt m at) e n in
         let (q', a, b) = contact_parts x next y in
@@ -59,8 +52,8 @@ module _ (c : Coding) (k : TextLimits) (m : List ℕ) (at : ℕ) where
         subst (TextAt c m q k.short) d t x.text next i.1 (subst (λ (z : ℕ). FieldsAt (text c x.text) m z next) (sym same) b)
 
     -- the contact where both do
-    pub the_contact : {t : TextRead} (u : TextPlace) (next : ℕ) → TextAt c m q k.short t → t ≡ AText u next
-        → ContactAt c k m at (AContact (record { number = p; text = u }) next)
+    pub the_contact : {t : Option (TextPlace × ℕ)} (u : TextPlace) (next : ℕ) → TextAt c m q k.short t → t ≡ Some (u, next)
+        → ContactAt c k m at (Some (record { number = p; text = u }, next))
     the_contact u next t d =
         let (ds, s, j, is) = subst (NumberAt m at) e n in
         let (us, l, tis, there) = text_read c m q k.short u next t d in (
@@ -112,7 +105,7 @@ list_whole (QuickTexts least) c e = quick_whole c e
 list_whole StatusTexts c e = status_whole c e
 
 -- what is passed of a list is passed of the same list
-pub by_list : {l list : Listed} (c : Coding) (m : List ℕ) (at : ℕ) (w : Walk) → l ≡ list
+pub by_list : {l list : Listed} (c : Coding) (m : List ℕ) (at : ℕ) (w : Option ℕ) → l ≡ list
     → PassAt (form_of list c) (range_of list text_limits) m at w → PassAt (form_of l c) (range_of l text_limits) m at w
 by_list c m at w e z = subst⁻¹ (λ (x : Listed). PassAt (form_of x c) (range_of x text_limits) m at w) e z
 
@@ -128,22 +121,22 @@ module _ (n : ℕ) (head : ℕ → List Field) (index : ℕ → ℕ) (key : Says
       (r, key.says e.index _ k, y)
 
   -- none where too few bytes are left
-  pub no_byte : (at + n ≤ length m → ⊥) → EntryAt form In m at NoEntry
+  pub no_byte : (at + n ≤ length m → ⊥) → EntryAt form In m at None
   no_byte never e next i x = never (entry_parts e next x).0
 
   module _ {N : ℕ} (byte : N ≡ be 0 (take n (drop at m))) where
     -- none where the index is out of range
-    pub no_index : ((e : Entry) → In e → e.index ≡ index N → ⊥) → EntryAt form In m at NoEntry
+    pub no_index : ((e : Entry) → In e → e.index ≡ index N → ⊥) → EntryAt form In m at None
     no_index never e next i x = never e i ((entry_parts e next x).1 ∙ ap index (sym byte))
 
     module _ (limit : ℕ) (short : (e : Entry) → In e → length e.text ≤ limit) where
       -- none where no text stands
-      pub no_entry_text : {t : TextRead} → TextAt c m (at + n) limit t → t ≡ NoText → EntryAt form In m at NoEntry
+      pub no_entry_text : {t : Option (TextPlace × ℕ)} → TextAt c m (at + n) limit t → t ≡ None → EntryAt form In m at None
       no_entry_text t d e next i x = subst (TextAt c m (at + n) limit) d t e.text next (short e i) (entry_parts e next x).2
 
-      module _ {t : TextRead} (u : TextPlace) (next : ℕ) (at_text : TextAt c m (at + n) limit t) (d : t ≡ AText u next) where
+      module _ {t : Option (TextPlace × ℕ)} (u : TextPlace) (next : ℕ) (at_text : TextAt c m (at + n) limit t) (d : t ≡ Some (u, next)) where
         -- none where the text that stands is out of range
-        pub no_such_text : ((e : Entry) → In e → length e.text ≡ u.units → ⊥) → EntryAt form In m at NoEntry
+        pub no_such_text : ((e : Entry) → In e → length e.text ≡ u.units → ⊥) → EntryAt form In m at None
         no_such_text never e after i x =
             let (us, l, tis, y) = text_read c m (at + n) limit u next at_text d in
             let same : us ≡ e.text = (one_part (text c) (text_ends c) us e.text m (at + n) next after y (entry_parts e after x).2).0 in
@@ -151,7 +144,7 @@ module _ (n : ℕ) (head : ℕ → List Field) (index : ℕ → ℕ) (key : Says
 
         -- the entry where index and text are in range
         pub the_entry : (i : ℕ) → i ≡ index N → at + n ≤ length m → ((us : List ℕ) → length us ≤ limit → length us ≡ u.units → In (record { index = i; text = us }))
-            → EntryAt form In m at (AnEntry (record { index = i; text = u }) next)
+            → EntryAt form In m at (Some (record { index = i; text = u }, next))
         the_entry i e room range =
             let (us, l, tis, y) = text_read c m (at + n) limit u next at_text d in (
               record { index = i; text = us },
@@ -169,11 +162,11 @@ InEntry k e = InAddressed (λ a. a) k (record { address = e.index; text = e.text
 
 module _ (c : Coding) (k : TextLimits) (m : List ℕ) (at : ℕ) where
   -- none where no such entry stands
-  pub no_addressed : EntryAt (λ e. address e.index ++ text c e.text) (InEntry k) m at NoEntry → AddressedAt c k m at NoAddressed
+  pub no_addressed : EntryAt (λ e. address e.index ++ text c e.text) (InEntry k) m at None → AddressedAt c k m at None
   no_addressed never e next i x = never (record { index = e.address; text = e.text }) next i x
 
   -- the contact that the entry is
-  pub the_addressed : (p : EntryPlace) (next : ℕ) → EntryAt (λ e. address e.index ++ text c e.text) (InEntry k) m at (AnEntry p next)
-      → AddressedAt c k m at (AnAddressed (record { address = p.index; text = p.text }) next)
+  pub the_addressed : (p : EntryPlace) (next : ℕ) → EntryAt (λ e. address e.index ++ text c e.text) (InEntry k) m at (Some (p, next))
+      → AddressedAt c k m at (Some (record { address = p.index; text = p.text }, next))
   the_addressed p next (e, i, is, x) =
       (record { address = e.index; text = e.text }, i, record { address = is.index; end = is.end; text = is.text }, x)

@@ -7,7 +7,7 @@ use Rattle.writing.specs.Ranges.{HashSize, no_hash, hash_4, hash_10}
 use Rattle.writing.proofs.Bits.{bits_val}
 use Rattle.read_fields.specs.Places.{FieldsAt}
 use Rattle.read_fields.specs.Hashes.{HashAt, SizeOf}
-use Rattle.read_fields.specs.declared.hashes.HashRead.TheVariants.{Hash as AHash, NoHash}
+use Rattle.std.specs.Prelude.{Some, None}
 use Rattle.read_fields.proofs.Parts.{bytes_left, bytes_at}
 pub use Rattle.writing.proofs.Lengths.{small_size}
 
@@ -85,16 +85,16 @@ module _ (m : List ℕ) (at : ℕ) (h : Bytes m) where
   -- ---- the answers of read_hash
 
   -- no value of a code out of range stands anywhere
-  pub no_code : (code : ℕ) → 2 < code → HashAt m at code NoHash
+  pub no_code : (code : ℕ) → 2 < code → HashAt m at code None
   no_code code l v next s p = omega (arith, small_code s)
 
   -- none stands where too few bytes are left
-  pub no_value : (code size : ℕ) → SizeOf code size → code ≤ 2 → length m - at < size → HashAt m at code NoHash
+  pub no_value : (code size : ℕ) → SizeOf code size → code ≤ 2 → length m - at < size → HashAt m at code None
   no_value code size is c l v next s p = omega (arith, one_size s (is.0 c), (bytes_out v next p).2)
 
   -- it stands where they are left
   pub the_value : (code size : ℕ) → SizeOf code size → code ≤ 2 → size ≤ length m - at
-      → HashAt m at code (AHash (record { code = code; start = at }) (at + size))
+      → HashAt m at code (Some (record { code = code; start = at }, at + size))
   the_value code size is c l =
       let lx : size ≡ length (take size (drop at m)) = sym (length-take-le size (drop at m) (omega (arith, length-drop at m))) in
       (take size (drop at m), refl, refl, subst (HashSize code) lx (is.0 c), bytes_in size l)

@@ -1,4 +1,6 @@
 -- Reading a line number byte by byte, two digits each. Assumes nothing.
+use Rattle.std.specs.Prelude.{Option, Some, None}
+use Rattle.read_fields.specs.declared.numbers.NumberPlace.{NumberPlace}
 use Rattle.lists.proofs.Kit.{ℕ, zero, suc, ◌+◌, ◌*◌, ◌/◌, ◌%◌, ◌^◌, ◌≤◌, ◌<◌, ◌≡◌, refl, sym, ap, ap₂, ◌∙◌, subst, subst⁻¹, ◌≢◌, List, [], ◌∷◌, ◌++◌, append-nil, arith, length, drop, take, length-append}
 use Rattle.lists.specs.Bytes.{Bytes}
 use Rattle.lists.specs.Every.{All}
@@ -9,8 +11,6 @@ use Rattle.writing.specs.Writing.{number}
 use Rattle.writing.proofs.Unique.{number_ends}
 use Rattle.read_fields.specs.Places.{FieldsAt, be}
 use Rattle.read_fields.specs.TextsAndNumbers.{NumberAt, DigitsAre, EndedAt}
-use Rattle.read_fields.specs.declared.numbers.NumberRead.{NumberRead}
-use Rattle.read_fields.specs.declared.numbers.NumberRead.TheVariants.{Number as ANumber, NoNumber}
 use Rattle.read_fields.specs.declared.numbers.Digits.{Digits}
 use Rattle.read_fields.specs.declared.numbers.Digits.TheVariants.{Two, One, Zero, Bad}
 use Rattle.read_fields.proofs.Heads.{Cut, head_in, head_out, be_small}
@@ -31,15 +31,15 @@ pub no_digit_yet : (m : List ℕ) (at : ℕ) → NumberPassed m at at 0
 no_digit_yet m at = record { done = []; counted = refl; in_range = tt; walked = not_yet number Any m at }
 
 -- a number that has ended is answered where it is in range, and no other stands there
-pub ended : (m : List ℕ) (at next count : ℕ) (r : NumberRead) (ds : List ℕ) → length ds ≡ count → All (◌≤ 9) ds → FieldsAt (number ds) m at next
+pub ended : (m : List ℕ) (at next count : ℕ) (r : Option (NumberPlace × ℕ)) (ds : List ℕ) → length ds ≡ count → All (◌≤ 9) ds → FieldsAt (number ds) m at next
     → EndedAt at count next r → NumberAt m at r
-ended m at next count (ANumber p after) ds l i x (a, b, s, d, e) = (
+ended m at next count (Some (p, after)) ds l i x (a, b, s, d, e) = (
   ds,
   s,
   (omega arith, omega arith, i),
   record { digits = l ∙ sym d; stands = subst (λ (k : ℕ). FieldsAt (number ds) m k after) (sym s) (subst (λ (k : ℕ). FieldsAt (number ds) m at k) (sym e) x) },
 )
-ended m at next count NoNumber ds l i x never = λ es after j y.
+ended m at next count None ds l i x never = λ es after j y.
     let e : length ds ≡ length es = ap length (one_part number number_ends ds es m at next after x y).0 in
     let (a, b, _) = j in
     never (omega arith) (omega arith)
@@ -63,11 +63,11 @@ module _ (m : List ℕ) (at p count : ℕ) (h : Bytes m) (w : NumberPassed m at 
       (r, (omega (arith, be_small m p 1 h r, k.0.0), omega (arith, be_small m p 1 h r, k.1.0.0), z))
 
   -- where no byte is left no number stands
-  pub no_digit : (p + 1 ≤ length m → ⊥) → NumberAt m at NoNumber
+  pub no_digit : (p + 1 ≤ length m → ⊥) → NumberAt m at None
   no_digit never ds next i x = let (rest, e, y) = w.walked.on ds next tt x in never (byte_out rest next y).0
 
   -- more than 18 digits are out of range
-  pub too_many_digits : 18 < count → NumberAt m at NoNumber
+  pub too_many_digits : 18 < count → NumberAt m at None
   too_many_digits l ds next (a, b, i) x =
       let (rest, e, y) = w.walked.on ds next tt x in
       omega (arith, w.counted, ap length e, length-append w.done rest)
@@ -97,7 +97,7 @@ module _ (m : List ℕ) (at p count : ℕ) (h : Bytes m) (w : NumberPassed m at 
         on (a ∷ b ∷ ds) next x = let (e, d, y) = cases (a ∷ b ∷ ds) next x in (ds, ap₂ (λ (u v : ℕ). u ∷ v ∷ ds) e d, y)
 
     -- a last digit and the end mark
-    pub one_digit_ends : (r : NumberRead) → N / 16 ≤ 9 → N % 16 ≡ 15 → EndedAt at (count + 1) (p + 1) r → NumberAt m at r
+    pub one_digit_ends : (r : Option (NumberPlace × ℕ)) → N / 16 ≤ 9 → N % 16 ≡ 15 → EndedAt at (count + 1) (p + 1) r → NumberAt m at r
     one_digit_ends r hi lo e =
         ended m at (p + 1) (count + 1) r (w.done ++ (N / 16 ∷ [])) (omega (arith, w.counted, length-append w.done (N / 16 ∷ [])))
         (all_append (◌≤ 9) w.done (N / 16 ∷ []) w.in_range (hi, tt))
@@ -105,7 +105,7 @@ module _ (m : List ℕ) (at p count : ℕ) (h : Bytes m) (w : NumberPassed m at 
         (subst (Cut (item 4 15 (N / 16) ∷ val 4 15 ∷ [])) byte ((omega (arith, small), omega arith), (omega arith, tt))) (nothing m (p + 1)))) e
 
     -- the end mark twice
-    pub no_digit_ends : (r : NumberRead) → N ≡ 255 → EndedAt at count (p + 1) r → NumberAt m at r
+    pub no_digit_ends : (r : Option (NumberPlace × ℕ)) → N ≡ 255 → EndedAt at count (p + 1) r → NumberAt m at r
     no_digit_ends r z e =
         ended m at (p + 1) count r (w.done ++ []) (omega (arith, w.counted, length-append w.done []))
         (all_append (◌≤ 9) w.done [] w.in_range tt)
@@ -113,7 +113,7 @@ module _ (m : List ℕ) (at p count : ℕ) (h : Bytes m) (w : NumberPassed m at 
         (subst (Cut (val 4 15 ∷ val 4 15 ∷ [])) byte (omega arith, (omega arith, tt))) (nothing m (p + 1)))) e
 
     -- a byte that is none of these
-    pub bad_digits : DigitsAre N Bad → NumberAt m at NoNumber
+    pub bad_digits : DigitsAre N Bad → NumberAt m at None
     bad_digits bad ds next (_, _, i) x = let (rest, e, y) = w.walked.on ds next tt x in by rest (all_right (◌≤ 9) w.done rest (subst (All (◌≤ 9)) e i)) y
       where
         by : (rest : List ℕ) → All (◌≤ 9) rest → FieldsAt (number rest) m p next → ⊥

@@ -1,4 +1,5 @@
 -- Reading a text unit by unit. Assumes nothing.
+use Rattle.std.specs.Prelude.{Option, Some, None}
 use Rattle.lists.proofs.Kit.{ℕ, ◌+◌, ◌*◌, ◌/◌, ◌%◌, ◌^◌, ◌≤◌, ◌<◌, ◌≡◌, refl, sym, ap, ◌∙◌, subst, subst₂, ◌≢◌, mod-eq_of_lt, List, [], ◌∷◌, ◌++◌, append-nil, arith, length, drop, take, length-append}
 use Rattle.lists.specs.Bytes.{Bytes}
 use Rattle.writing.specs.Fields.{Field, val, item}
@@ -8,8 +9,6 @@ use Rattle.writing.specs.Writing.{unit_width, text}
 use Rattle.read_fields.specs.Places.{FieldsAt, be}
 use Rattle.read_fields.specs.TextsAndNumbers.{UnitBytes, TextIs, TextAt}
 use Rattle.read_fields.specs.declared.texts.TextPlace.{TextPlace}
-use Rattle.read_fields.specs.declared.texts.TextRead.{TextRead}
-use Rattle.read_fields.specs.declared.texts.TextRead.TheVariants.{Text as AText, NoText}
 use Rattle.read_fields.proofs.Heads.{head_in, head_out, be_small}
 use Rattle.read_fields.proofs.Parts.{nothing}
 use Rattle.read_fields.proofs.Walk.{Walked, not_yet, extend}
@@ -68,7 +67,7 @@ module _ (c : Coding) (k : ℕ) (size : UnitBytes c k) (m : List ℕ) (p : ℕ) 
         by (u ∷ rest) y = never (unit_out u rest next y).0
 
     -- a text of at most as many units as have been passed, less one, does not stand here
-    pub too_many : (limit : ℕ) → limit < units → TextAt c m at limit NoText
+    pub too_many : (limit : ℕ) → limit < units → TextAt c m at limit None
     too_many limit l us next k x =
         let (rest, e, y) = w.walked.on us next tt x in
         omega (arith, w.counted, ap length e, length-append w.done rest)
@@ -90,7 +89,7 @@ module _ (c : Coding) (k : ℕ) (size : UnitBytes c k) (m : List ℕ) (p : ℕ) 
           on (v ∷ us) next x = let (r, e, y) = unit_out v us next x in (us, ap (λ (z : ℕ). z ∷ us) (sym e ∙ sym unit), y)
 
       -- the end unit
-      pub text_ended : (limit : ℕ) → u ≡ 0 → units ≤ limit → TextAt c m at limit (AText (record { start = at; units = units; coding = c }) (p + k))
+      pub text_ended : (limit : ℕ) → u ≡ 0 → units ≤ limit → TextAt c m at limit (Some (record { start = at; units = units; coding = c }, p + k))
       text_ended limit z l = (
         w.done,
         refl,
@@ -106,7 +105,7 @@ module _ (c : Coding) (k : ℕ) (size : UnitBytes c k) (m : List ℕ) (p : ℕ) 
 -- ---- what a text that was read means
 
 -- it stands where it was read, under the coding that was asked for
-pub text_read : (c : Coding) (m : List ℕ) (at limit : ℕ) {r : TextRead} (p : TextPlace) (next : ℕ) → TextAt c m at limit r → r ≡ AText p next
+pub text_read : (c : Coding) (m : List ℕ) (at limit : ℕ) {r : Option (TextPlace × ℕ)} (p : TextPlace) (next : ℕ) → TextAt c m at limit r → r ≡ Some (p, next)
     → (us : Text) × (length us ≤ limit) × TextIs m p us next × FieldsAt (text c us) m at next
 text_read c m at limit p next t e =
     let (us, s, d, l, is) = subst (TextAt c m at limit) e t in

@@ -1,4 +1,5 @@
 -- Walking along a list that is written in a message, piece after piece. Assumes nothing.
+use Rattle.std.specs.Prelude.{Option, Some, None}
 use Rattle.lists.proofs.Kit.{ℕ, suc, ◌+◌, ◌-◌, ◌*◌, ◌≤◌, ◌<◌, ◌≡◌, refl, sym, ap, ◌∙◌, subst, subst⁻¹, List, [], ◌∷◌, ◌++◌, append_assoc, append-nil, arith, length, length-append}
 use Rattle.lists.specs.Every.{All}
 use Rattle.lists.proofs.Every.{all_append, all_right}
@@ -7,7 +8,6 @@ use Rattle.writing.proofs.Bits.{bits_of_append, length_bits_of}
 use Rattle.writing.proofs.Ends.{Agree, Ends, all_read}
 use Rattle.read_fields.specs.Places.{FieldsAt}
 use Rattle.read_fields.specs.Entries.{WalkAt}
-use Rattle.read_fields.specs.declared.entries.Walk.TheVariants.{To, Stopped}
 use Rattle.read_fields.proofs.Parts.{part_join, part_split, nothing}
 
 module _ (fs gs : List Field) (m : List ℕ) (from p q : ℕ) (x : FieldsAt fs m from p) (y : FieldsAt gs m from q) where
@@ -90,7 +90,7 @@ module _ {A : Type 0} (f : A → List Field) (In : A → Type 0) (ends : Ends f)
           (rest, ap (λ (c : A). c ∷ rest) (sym same), subst (λ (k : ℕ). FieldsAt (each f rest) m k next) (sym z) more)
 
   -- where none that is in range stands next, no whole list does
-  pub walk_stops : (p left : ℕ) → 0 < left → Passed p left → ((a : A) (q : ℕ) → In a → FieldsAt (f a) m p q → ⊥) → WalkAt (each f) In m at count Stopped
+  pub walk_stops : (p left : ℕ) → 0 < left → Passed p left → ((a : A) (q : ℕ) → In a → FieldsAt (f a) m p q → ⊥) → WalkAt (each f) In m at count None
   walk_stops p left l w never xs next s = let (rest, e, y) = w.walked.on xs next s.counted s.stands in by rest e y
     where
       by : (rest : List A) → xs ≡ w.done ++ rest → FieldsAt (each f rest) m p next → ⊥
@@ -101,7 +101,7 @@ module _ {A : Type 0} (f : A → List Field) (In : A → Type 0) (ends : Ends f)
           never b (p + n) (all_right In w.done (b ∷ rest) (subst (All In) e s.in_range)).0 first
 
   -- all have been passed
-  pub walk_ends : (p left : ℕ) → left ≤ 0 → Passed p left → WalkAt (each f) In m at count (To p)
+  pub walk_ends : (p left : ℕ) → left ≤ 0 → Passed p left → WalkAt (each f) In m at count (Some p)
   walk_ends p left l w = (
     w.done,
     record {

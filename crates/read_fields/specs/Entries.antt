@@ -1,5 +1,5 @@
 -- What reading entries answers: one entry in range with its place, as many as were counted, or that they do not stand there.
-use Rattle.std.specs.Prelude.{ℕ, ◌≤◌, ◌≡◌, List, ◌++◌, map, Bool, true, false, length}
+use Rattle.std.specs.Prelude.{ℕ, ◌≤◌, ◌≡◌, List, ◌++◌, map, Bool, true, false, length, Option, Some, None}
 use Rattle.lists.specs.Every.{All}
 use Rattle.writing.specs.Fields.{Field, val, each}
 use Rattle.writing.specs.declared.Coding.{Coding}
@@ -9,18 +9,10 @@ use Rattle.writing.specs.Ranges.{TextLimits, InContact, InAddressed, InStatus, I
 use Rattle.read_fields.specs.Places.{FieldsAt}
 use Rattle.read_fields.specs.TextsAndNumbers.{TextIs, NumberIs}
 use Rattle.read_fields.specs.declared.entries.ContactPlace.{ContactPlace}
-use Rattle.read_fields.specs.declared.entries.ContactRead.{ContactRead}
-use Rattle.read_fields.specs.declared.entries.ContactRead.TheVariants.{Contact as AContact, NoContact}
 use Rattle.read_fields.specs.declared.entries.AddressedPlace.{AddressedPlace}
-use Rattle.read_fields.specs.declared.entries.AddressedRead.{AddressedRead}
-use Rattle.read_fields.specs.declared.entries.AddressedRead.TheVariants.{Contact as AnAddressed, NoContact as NoAddressed}
 use Rattle.read_fields.specs.declared.entries.EntryPlace.{EntryPlace}
-use Rattle.read_fields.specs.declared.entries.EntryRead.{EntryRead}
-use Rattle.read_fields.specs.declared.entries.EntryRead.TheVariants.{Entry as AnEntry, NoEntry}
 use Rattle.read_fields.specs.declared.entries.Listed.{Listed}
 use Rattle.read_fields.specs.declared.entries.Listed.TheVariants.{Contacts, Addressed as WithAddress, QuickTexts, StatusTexts}
-use Rattle.read_fields.specs.declared.entries.Walk.{Walk}
-use Rattle.read_fields.specs.declared.entries.Walk.TheVariants.{To, Stopped}
 
 -- ---- one entry
 
@@ -44,28 +36,28 @@ pub record EntryIs (m : List ℕ) (p : EntryPlace) (e : Entry) : Type 0 where
   pub text : TextIs m p.text e.text end
 
 -- a contact in range stands at `at`, or none does
-abbrev pub ContactAt : Coding → TextLimits → List ℕ → ℕ → ContactRead → Type 0
-ContactAt c k m at (AContact p next) = (e : Contact) × InContact k e × ContactIs m p e × FieldsAt (contact c e) m at next
-ContactAt c k m at NoContact = (e : Contact) (next : ℕ) → InContact k e → FieldsAt (contact c e) m at next → ⊥
+abbrev pub ContactAt : Coding → TextLimits → List ℕ → ℕ → Option (ContactPlace × ℕ) → Type 0
+ContactAt c k m at (Some (p, next)) = (e : Contact) × InContact k e × ContactIs m p e × FieldsAt (contact c e) m at next
+ContactAt c k m at None = (e : Contact) (next : ℕ) → InContact k e → FieldsAt (contact c e) m at next → ⊥
 
 -- a contact whose address is in range stands at `at`, or none does
-abbrev pub AddressedAt : Coding → TextLimits → List ℕ → ℕ → AddressedRead → Type 0
-AddressedAt c k m at (AnAddressed p next) = (e : Addressed ℕ) × InAddressed (λ a. a) k e × AddressedIs m p e × FieldsAt (addressed (λ a. a) c e) m at next
-AddressedAt c k m at NoAddressed = (e : Addressed ℕ) (next : ℕ) → InAddressed (λ a. a) k e → FieldsAt (addressed (λ a. a) c e) m at next → ⊥
+abbrev pub AddressedAt : Coding → TextLimits → List ℕ → ℕ → Option (AddressedPlace × ℕ) → Type 0
+AddressedAt c k m at (Some (p, next)) = (e : Addressed ℕ) × InAddressed (λ a. a) k e × AddressedIs m p e × FieldsAt (addressed (λ a. a) c e) m at next
+AddressedAt c k m at None = (e : Addressed ℕ) (next : ℕ) → InAddressed (λ a. a) k e → FieldsAt (addressed (λ a. a) c e) m at next → ⊥
 
 -- an entry of this form and range stands at `at`, or none does
-abbrev pub EntryAt : (Entry → List Field) → (Entry → Type 0) → List ℕ → ℕ → EntryRead → Type 0
-EntryAt form In m at (AnEntry p next) = (e : Entry) × In e × EntryIs m p e × FieldsAt (form e) m at next
-EntryAt form In m at NoEntry = (e : Entry) (next : ℕ) → In e → FieldsAt (form e) m at next → ⊥
+abbrev pub EntryAt : (Entry → List Field) → (Entry → Type 0) → List ℕ → ℕ → Option (EntryPlace × ℕ) → Type 0
+EntryAt form In m at (Some (p, next)) = (e : Entry) × In e × EntryIs m p e × FieldsAt (form e) m at next
+EntryAt form In m at None = (e : Entry) (next : ℕ) → In e → FieldsAt (form e) m at next → ⊥
 
 -- a quick text of at least so many units: 1, or 0 in a delete
 abbrev pub QuickFrom : TextLimits → ℕ → Entry → Type 0
 QuickFrom k least e = (least ≤ length e.text) × (length e.text ≤ k.quick)
 
-abbrev pub QuickAt : Coding → TextLimits → ℕ → List ℕ → ℕ → EntryRead → Type 0
+abbrev pub QuickAt : Coding → TextLimits → ℕ → List ℕ → ℕ → Option (EntryPlace × ℕ) → Type 0
 QuickAt c k least = EntryAt (quick_text c) (QuickFrom k least)
 
-abbrev pub StatusAt : Coding → TextLimits → List ℕ → ℕ → EntryRead → Type 0
+abbrev pub StatusAt : Coding → TextLimits → List ℕ → ℕ → Option (EntryPlace × ℕ) → Type 0
 StatusAt c k = EntryAt (status_text c) (InStatus k)
 
 -- ---- as many as were counted
@@ -77,9 +69,9 @@ pub record Stand {A : Type 0} (form : List A → List Field) (In : A → Type 0)
   pub stands : FieldsAt (form es) m at next
 
 -- they stand there, or none do
-abbrev pub WalkAt : {A : Type 0} → (List A → List Field) → (A → Type 0) → List ℕ → ℕ → ℕ → Walk → Type 0
-WalkAt {A} form In m at count (To next) = (es : List A) × Stand form In m at count next es
-WalkAt {A} form In m at count Stopped = (es : List A) (next : ℕ) → Stand form In m at count next es → ⊥
+abbrev pub WalkAt : {A : Type 0} → (List A → List Field) → (A → Type 0) → List ℕ → ℕ → ℕ → Option ℕ → Type 0
+WalkAt {A} form In m at count (Some next) = (es : List A) × Stand form In m at count next es
+WalkAt {A} form In m at count None = (es : List A) (next : ℕ) → Stand form In m at count next es → ⊥
 
 -- the entries of a list, how they are written, and their range
 abbrev pub EntryOf : Listed → Type 0
@@ -100,19 +92,19 @@ range_of WithAddress k = InAddressed (λ a. a) k
 range_of (QuickTexts least) k = QuickFrom k least
 range_of StatusTexts k = InStatus k
 
-abbrev pub EntriesAt : Listed → Coding → TextLimits → List ℕ → ℕ → ℕ → Walk → Type 0
+abbrev pub EntriesAt : Listed → Coding → TextLimits → List ℕ → ℕ → ℕ → Option ℕ → Type 0
 EntriesAt l c k = WalkAt (each (form_of l c)) (range_of l k)
 
 -- one in range stands at `at`, up to a place, or none does
-abbrev pub PassAt : {A : Type 0} → (A → List Field) → (A → Type 0) → List ℕ → ℕ → Walk → Type 0
-PassAt {A} form In m at (To next) = (a : A) × In a × FieldsAt (form a) m at next
-PassAt {A} form In m at Stopped = (a : A) (next : ℕ) → In a → FieldsAt (form a) m at next → ⊥
+abbrev pub PassAt : {A : Type 0} → (A → List Field) → (A → Type 0) → List ℕ → ℕ → Option ℕ → Type 0
+PassAt {A} form In m at (Some next) = (a : A) × In a × FieldsAt (form a) m at next
+PassAt {A} form In m at None = (a : A) (next : ℕ) → In a → FieldsAt (form a) m at next → ⊥
 
 -- "each 12 bits; 4 bits 1111 if Count is odd"
 abbrev pub channel_list : List ℕ → List Field
 channel_list es = map (val 12) es ++ fill (length es)
 
-abbrev pub ChannelsAt : List ℕ → ℕ → ℕ → Walk → Type 0
+abbrev pub ChannelsAt : List ℕ → ℕ → ℕ → Option ℕ → Type 0
 ChannelsAt = WalkAt channel_list InChannel
 
 -- whether a number is outside the channels

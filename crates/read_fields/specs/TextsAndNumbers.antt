@@ -1,5 +1,5 @@
 -- What reading a text, a number or an address answers: it is there, with its place and what follows it, or none is.
-use Rattle.std.specs.Prelude.{ℕ, ◌*◌, ◌/◌, ◌%◌, ◌≤◌, ◌≡◌, Bool, true, false, ◌≢◌, ◌⊎◌, List, length}
+use Rattle.std.specs.Prelude.{ℕ, ◌*◌, ◌/◌, ◌%◌, ◌≤◌, ◌≡◌, Bool, true, false, ◌≢◌, ◌⊎◌, List, length, Option, Some, None}
 use Rattle.lists.specs.Every.{All}
 use Rattle.writing.specs.Fields.{Field, each}
 use Rattle.writing.specs.declared.Coding.{Coding}
@@ -8,11 +8,7 @@ use Rattle.writing.specs.Writing.{unit_width, text, number}
 use Rattle.writing.specs.Ranges.{TextLimits, InNumber, InContact, InAddress}
 use Rattle.read_fields.specs.Places.{FieldsAt}
 use Rattle.read_fields.specs.declared.texts.TextPlace.{TextPlace}
-use Rattle.read_fields.specs.declared.texts.TextRead.{TextRead}
-use Rattle.read_fields.specs.declared.texts.TextRead.TheVariants.{Text as AText, NoText}
 use Rattle.read_fields.specs.declared.numbers.NumberPlace.{NumberPlace}
-use Rattle.read_fields.specs.declared.numbers.NumberRead.{NumberRead}
-use Rattle.read_fields.specs.declared.numbers.NumberRead.TheVariants.{Number as ANumber, NoNumber}
 use Rattle.read_fields.specs.declared.numbers.Digits.{Digits}
 use Rattle.read_fields.specs.declared.numbers.Digits.TheVariants.{Two, One, Zero, Bad}
 
@@ -30,9 +26,9 @@ pub record TextIs (m : List ℕ) (p : TextPlace) (us : Text) (next : ℕ) : Type
   pub stands : FieldsAt (text p.coding us) m p.start next
 
 -- a text of at most `limit` units stands at `at` under this coding, which its place says, or none does
-abbrev pub TextAt : Coding → List ℕ → ℕ → ℕ → TextRead → Type 0
-TextAt c m at limit (AText p next) = (us : Text) × (p.start ≡ at) × (p.coding ≡ c) × (length us ≤ limit) × TextIs m p us next
-TextAt c m at limit NoText = (us : Text) (next : ℕ) → length us ≤ limit → FieldsAt (text c us) m at next → ⊥
+abbrev pub TextAt : Coding → List ℕ → ℕ → ℕ → Option (TextPlace × ℕ) → Type 0
+TextAt c m at limit (Some (p, next)) = (us : Text) × (p.start ≡ at) × (p.coding ≡ c) × (length us ≤ limit) × TextIs m p us next
+TextAt c m at limit None = (us : Text) (next : ℕ) → length us ≤ limit → FieldsAt (text c us) m at next → ⊥
 
 -- ---- numbers
 
@@ -42,9 +38,9 @@ pub record NumberIs (m : List ℕ) (p : NumberPlace) (ds : Number) (next : ℕ) 
   pub stands : FieldsAt (number ds) m p.start next
 
 -- a number in range stands at `at`, or none does
-abbrev pub NumberAt : List ℕ → ℕ → NumberRead → Type 0
-NumberAt m at (ANumber p next) = (ds : Number) × (p.start ≡ at) × InNumber ds × NumberIs m p ds next
-NumberAt m at NoNumber = (ds : Number) (next : ℕ) → InNumber ds → FieldsAt (number ds) m at next → ⊥
+abbrev pub NumberAt : List ℕ → ℕ → Option (NumberPlace × ℕ) → Type 0
+NumberAt m at (Some (p, next)) = (ds : Number) × (p.start ≡ at) × InNumber ds × NumberIs m p ds next
+NumberAt m at None = (ds : Number) (next : ℕ) → InNumber ds → FieldsAt (number ds) m at next → ⊥
 
 -- what a byte of a number holds
 abbrev pub DigitsAre : ℕ → Digits → Type 0
@@ -54,9 +50,9 @@ DigitsAre b Zero = b ≡ 255
 DigitsAre b Bad = (b ≢ 255) × (b / 16 ≤ 9 → (b % 16 ≤ 9 → ⊥) × (b % 16 ≢ 15))
 
 -- a number of so many digits from `start` to `next` has ended, in range or not
-abbrev pub EndedAt : ℕ → ℕ → ℕ → NumberRead → Type 0
-EndedAt start count next (ANumber p after) = (1 ≤ count) × (count ≤ 18) × (p.start ≡ start) × (p.digits ≡ count) × (after ≡ next)
-EndedAt start count next NoNumber = 1 ≤ count → count ≤ 18 → ⊥
+abbrev pub EndedAt : ℕ → ℕ → ℕ → Option (NumberPlace × ℕ) → Type 0
+EndedAt start count next (Some (p, after)) = (1 ≤ count) × (count ≤ 18) × (p.start ≡ start) × (p.digits ≡ count) × (after ≡ next)
+EndedAt start count next None = 1 ≤ count → count ≤ 18 → ⊥
 
 -- ---- addresses
 

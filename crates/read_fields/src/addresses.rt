@@ -5,11 +5,5 @@ ghost use Rattle.read_fields.specs.TextsAndNumbers.{AddressRefused};
 pub fn address_refused(address: u32) -> bool
     ensures { AddressRefused address result }
 {
-    if address < 0x10_0000 {
-        return true;
-    }
-    if address % 32768 == 0 {
-        return true;
-    }
-    false
+    address < 0x10_0000 || address % 0x8000 == 0
 }

@@ -4,51 +4,42 @@ ghost use Rattle.read_fields.specs.Entries.{ChannelsAt, OutOfRange, channel_list
 ghost use Rattle.read_fields.specs.Places.{FieldsAt};
 
 use super::bytes::{number, remaining};
-use super::entries::Walk;
 
 // As many channels as were counted, all in range, and 1111 after an odd last one.
-pub fn walk_channels(m: &[u8], at: usize, count: usize) -> Walk
+pub fn walk_channels(m: &[u8], at: usize, count: usize) -> Option<usize>
     ensures { ChannelsAt m.now at count result }
 {
     let mut p = at;
-    let mut left = count;
-    while 2 <= left {
+    for _ in 0..count / 2 {
         if remaining(m, p) < 3 {
-            return Walk::Stopped;
+            return None;
         }
         let pair = number(m, p, 3);
-        if out_of_range(pair / 4096) {
-            return Walk::Stopped;
+        if out_of_range(pair / 4096) || out_of_range(pair % 4096) {
+            return None;
         }
-        if out_of_range(pair % 4096) {
-            return Walk::Stopped;
-        }
-        left -= 2;
         p += 3;
     }
-    if left == 0 {
-        return Walk::To(p);
+    if count % 2 == 0 {
+        return Some(p);
     }
     if remaining(m, p) < 2 {
-        return Walk::Stopped;
+        return None;
     }
     let one = number(m, p, 2);
     if one % 16 != 15 {
-        return Walk::Stopped;
+        return None;
     }
     if out_of_range(one / 16) {
-        return Walk::Stopped;
+        return None;
     }
-    Walk::To(p + 2)
+    Some(p + 2)
 }
 
 fn out_of_range(n: u64) -> bool
     ensures { OutOfRange n result }
 {
-    match n {
-        241..=640 => false,
-        _ => true,
-    }
+    !(241..=640).contains(&n)
 }
 
 // The channel in place i of a list that stands from start.

@@ -10,12 +10,6 @@ pub struct HashPlace {
     pub start: usize,
 }
 
-#[derive(Clone, Copy)]
-pub enum HashRead {
-    Hash(HashPlace, usize),
-    NoHash,
-}
-
 // How many bytes a hash value of this code has; 0 for a code out of range.
 pub fn hash_size(code: u8) -> usize
     ensures { SizeOf code result }
@@ -28,16 +22,15 @@ pub fn hash_size(code: u8) -> usize
 }
 
 // The hash value of this code at a place, and the place after it.
-pub fn read_hash(m: &[u8], at: usize, code: u8) -> HashRead
+pub fn read_hash(m: &[u8], at: usize, code: u8) -> Option<(HashPlace, usize)>
     ensures { HashAt m.now at code result }
 {
     if 2 < code {
-        return HashRead::NoHash;
+        return None;
     }
     let size = hash_size(code);
     if remaining(m, at) < size {
-        return HashRead::NoHash;
+        return None;
     }
-    let next = at + size;
-    HashRead::Hash(HashPlace { code, start: at }, next)
+    Some((HashPlace { code, start: at }, at + size))
 }

@@ -10,12 +10,6 @@ pub struct NumberPlace {
     pub digits: usize,
 }
 
-#[derive(Clone, Copy)]
-pub enum NumberRead {
-    Number(NumberPlace, usize),
-    NoNumber,
-}
-
 // What a byte of a number holds: two digits, a last digit and the end mark, the end mark twice, or none of these.
 #[derive(Clone, Copy)]
 enum Digits {
@@ -42,40 +36,30 @@ fn digits_in(b: u64) -> Digits
 }
 
 // The number of 1 to 18 digits at a place, and the place after it.
-pub fn read_number(m: &[u8], at: usize) -> NumberRead
+pub fn read_number(m: &[u8], at: usize) -> Option<(NumberPlace, usize)>
     ensures { NumberAt m.now at result }
 {
-    let mut p = at;
-    let mut count: usize = 0;
-    while count <= 18 {
+    for pairs in 0..10 {
+        let p = at + pairs;
         if remaining(m, p) < 1 {
-            return NumberRead::NoNumber;
+            return None;
         }
-        let here = digits_in(number(m, p, 1));
-        match here {
+        match digits_in(number(m, p, 1)) {
             Digits::Two => {}
-            Digits::One => return ended(at, count + 1, p + 1),
-            Digits::Zero => return ended(at, count, p + 1),
-            Digits::Bad => return NumberRead::NoNumber,
+            Digits::One => return ended(at, 2 * pairs + 1, p + 1),
+            Digits::Zero => return ended(at, 2 * pairs, p + 1),
+            Digits::Bad => return None,
         }
-        count += 2;
-        p += 1;
     }
-    NumberRead::NoNumber
+    None
 }
 
 // A number that has ended, where its digits are 1 to 18.
-fn ended(start: usize, count: usize, next: usize) -> NumberRead
-    ensures { EndedAt start count next result }
+fn ended(start: usize, digits: usize, next: usize) -> Option<(NumberPlace, usize)>
+    ensures { EndedAt start digits next result }
 {
-    match count {
-        1..=18 => NumberRead::Number(
-            NumberPlace {
-                start,
-                digits: count,
-            },
-            next,
-        ),
-        _ => NumberRead::NoNumber,
+    match digits {
+        1..=18 => Some((NumberPlace { start, digits }, next)),
+        _ => None,
     }
 }

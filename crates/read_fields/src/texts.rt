@@ -12,12 +12,6 @@ pub struct TextPlace {
     pub coding: Coding,
 }
 
-#[derive(Clone, Copy)]
-pub enum TextRead {
-    Text(TextPlace, usize),
-    NoText,
-}
-
 // How many bytes a unit has.
 pub fn unit_bytes(coding: Coding) -> usize
     ensures { UnitBytes coding result }
@@ -29,28 +23,27 @@ pub fn unit_bytes(coding: Coding) -> usize
 }
 
 // The text of at most limit units at a place, and the place after its end unit.
-pub fn read_text(m: &[u8], at: usize, limit: usize, coding: Coding) -> TextRead
+pub fn read_text(m: &[u8], at: usize, limit: usize, coding: Coding) -> Option<(TextPlace, usize)>
     ensures { TextAt coding m.now at limit result }
 {
     let width = unit_bytes(coding);
     let mut p = at;
-    let mut units: usize = 0;
-    while units <= limit {
+    for units in 0..=limit {
         if remaining(m, p) < width {
-            return TextRead::NoText;
+            return None;
         }
         if number(m, p, width) == 0 {
-            return TextRead::Text(
+            let start = at;
+            return Some((
                 TextPlace {
-                    start: at,
+                    start,
                     units,
                     coding,
                 },
                 p + width,
-            );
+            ));
         }
-        units += 1;
         p += width;
     }
-    TextRead::NoText
+    None
 }

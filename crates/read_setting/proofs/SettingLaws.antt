@@ -20,12 +20,9 @@ use Rattle.settings.specs.TypeTable.{BoundsAre, BoundsAt, most_of}
 use Rattle.settings.specs.Meant.{BodyAt}
 use Rattle.read_setting.specs.SettingAt.{SettingAt}
 use Rattle.settings.specs.declared.type_table.Bounds.{Bounds}
-use Rattle.settings.specs.declared.type_table.BoundsRead.{BoundsRead}
-use Rattle.settings.specs.declared.type_table.BoundsRead.TheVariants.{Found, Unknown as NoRow}
 use Rattle.settings.specs.declared.settings.Setting.{Setting as Read}
-use Rattle.settings.specs.declared.settings.BodyRead.{BodyRead}
-use Rattle.settings.specs.declared.settings.BodyRead.TheVariants.{Body, NoBody}
-use Rattle.read_setting.specs.declared.reader.SettingRead.TheVariants.{Taken, Unknown, Field as BadField}
+use Rattle.read_setting.specs.declared.reader.SettingFault.TheVariants.{Unknown, Field as BadField}
+use Rattle.std.specs.Prelude.{Option as Maybe, Some, None, Ok, Err}
 use Rattle.read_bodies.proofs.FixedLaws.{last_head}
 use Rattle.read_fields.proofs.HashLaws.{one_size}
 use Rattle.read_fields.proofs.Heads.{head_in, head_out, three_bytes, be_small}
@@ -34,7 +31,7 @@ use Rattle.read_fields.proofs.Walk.{agree_at, ends_at}
 -- ---- fields by their row
 
 -- the fields of the row's kind are the fields of the kind that its type byte says
-pub by_row : (c : Coding) (K k : Kind) (r : Bounds) (left : ℕ) (m : List ℕ) (p : ℕ) (b : BodyRead) → BoundsAre c k r → r.type_byte ≡ type_byte K → (BoundsAre c K r → BodyAt c K left m p b)
+pub by_row : (c : Coding) (K k : Kind) (r : Bounds) (left : ℕ) (m : List ℕ) (p : ℕ) (b : Maybe (Read × ℕ)) → BoundsAre c k r → r.type_byte ≡ type_byte K → (BoundsAre c K r → BodyAt c K left m p b)
     → BodyAt c k left m p b
 by_row c K k r left m p b is e f =
     let same : k ≡ K = one_kind k K (sym is.type ∙ e) in
@@ -120,10 +117,10 @@ at_most (some k) n a l = a
 -- ---- the answers of read_setting
 
 -- the type byte is none of the thirteen
-pub no_type : (c : Coding) (left : ℕ) (m : List ℕ) (at : ℕ) {f : BoundsRead} → at < length m → BoundsAt c (get_or m at 0) f → f ≡ NoRow → SettingAt c left m at Unknown
+pub no_type : (c : Coding) (left : ℕ) (m : List ℕ) (at : ℕ) {f : Maybe Bounds} → at < length m → BoundsAt c (get_or m at 0) f → f ≡ None → SettingAt c left m at (Err Unknown)
 no_type c left m at l found e = (l, subst (BoundsAt c (get_or m at 0)) e found)
 
-module _ (c : Coding) (left : ℕ) (m : List ℕ) (at : ℕ) (h : Bytes m) {f : BoundsRead} (r : Bounds) (found : BoundsAt c (get_or m at 0) f) (e : f ≡ Found r) where
+module _ (c : Coding) (left : ℕ) (m : List ℕ) (at : ℕ) (h : Bytes m) {f : Maybe Bounds} (r : Bounds) (found : BoundsAt c (get_or m at 0) f) (e : f ≡ Some r) where
   -- the row's kind, which the type byte says
   the_row : (k : Kind) × (type_byte k ≡ get_or m at 0) × BoundsAre c k r
   the_row = subst (BoundsAt c (get_or m at 0)) e found
@@ -132,7 +129,7 @@ module _ (c : Coding) (left : ℕ) (m : List ℕ) (at : ℕ) (h : Bytes m) {f : 
   no_setting : at < length m
       → ((s : Setting) (next : ℕ) → BoundsAre c (kind s) r → InRange text_limits left s → at + 3 ≤ length m → data_length c s ≡ be 0 (take 2 (drop (at + 1) m))
       → FieldsAt (body c s) m (at + 3) next → ⊥)
-      → SettingAt c left m at BadField
+      → SettingAt c left m at (Err BadField)
   no_setting l never =
       let (k, t, is) = the_row in (
         l,
@@ -144,29 +141,29 @@ module _ (c : Coding) (left : ℕ) (m : List ℕ) (at : ℕ) (h : Bytes m) {f : 
       )
 
   -- none where fewer than three bytes are left
-  pub too_short : at < length m → length m - at < 3 → SettingAt c left m at BadField
+  pub too_short : at < length m → length m - at < 3 → SettingAt c left m at (Err BadField)
   too_short l short = no_setting l (λ s next is i room d y. omega arith)
 
   module _ {N : ℕ} (stated : N ≡ be 0 (take 2 (drop (at + 1) m))) (room : at + 3 ≤ length m) where
     -- none where DataLength is below the row's least
-    pub too_little : N < r.least → SettingAt c left m at BadField
+    pub too_little : N < r.least → SettingAt c left m at (Err BadField)
     too_little l =
         no_setting (omega arith) (λ s next is i room d y. omega (arith, is.least, (within_row c text_limits left s i).least))
 
     -- none where it is above the row's most
-    pub too_much : r.most < N → SettingAt c left m at BadField
+    pub too_much : r.most < N → SettingAt c left m at (Err BadField)
     too_much l =
         let small : be 0 (take 2 (drop (at + 1) m)) < 65536 = be_small m (at + 1) 2 h (omega arith) in
         no_setting (omega arith) (λ s next is i room d y.
         omega (arith, is.most, at_most (bounds c text_limits (kind s)).most (data_length c s) (within_row c text_limits left s i).most (omega (arith, small, d))))
 
-    module _ {b : BodyRead} (fields : (k : Kind) → BoundsAre c k r → BodyAt c k left m (at + 3) b) where
+    module _ {b : Maybe (Read × ℕ)} (fields : (k : Kind) → BoundsAre c k r → BodyAt c k left m (at + 3) b) where
       -- none where no fields of the row's kind stand after DataLength
-      pub no_fields : b ≡ NoBody → SettingAt c left m at BadField
+      pub no_fields : b ≡ None → SettingAt c left m at (Err BadField)
       no_fields z =
           no_setting (omega arith) (λ s next is i room d y. subst (BodyAt c (kind s) left m (at + 3)) z (fields (kind s) is) s next refl i y)
 
-      module _ (q : Read) (next : ℕ) (z : b ≡ Body q next) where
+      module _ (q : Read) (next : ℕ) (z : b ≡ Some (q, next)) where
         -- the fields end behind DataLength
         pub behind : at + 3 ≤ next
         behind =
@@ -175,7 +172,7 @@ module _ (c : Coding) (left : ℕ) (m : List ℕ) (at : ℕ) (h : Bytes m) {f : 
             omega (arith, y.ends)
 
         -- none where DataLength is not what the fields take
-        pub other_length : (N ≡ next - at - 1 → ⊥) → SettingAt c left m at BadField
+        pub other_length : (N ≡ next - at - 1 → ⊥) → SettingAt c left m at (Err BadField)
         other_length n =
             no_setting (omega arith) (λ s after is i room d y.
             let (t, kt, means, j, x) = subst (BodyAt c (kind s) left m (at + 3)) z (fields (kind s) is) in
@@ -183,7 +180,7 @@ module _ (c : Coding) (left : ℕ) (m : List ℕ) (at : ℕ) (h : Bytes m) {f : 
             n (omega (arith, d, length_is c m at h s after y)))
 
         -- the setting where it is
-        pub the_setting : N ≡ next - at - 1 → SettingAt c left m at (Taken q next)
+        pub the_setting : N ≡ next - at - 1 → SettingAt c left m at (Ok (q, next))
         the_setting n =
             let (k, t, is) = the_row in
             let (s, ks, means, i, y) = subst (BodyAt c k left m (at + 3)) z (fields k is) in

@@ -17,8 +17,9 @@ use Rattle.read_fields.specs.declared.texts.TextPlace.{TextPlace}
 use Rattle.settings.specs.declared.settings.Entries.{Entries}
 use Rattle.settings.specs.declared.settings.Setting.{Setting as Read}
 use Rattle.settings.specs.declared.settings.Setting.TheVariants.{GroupContacts, IndividualContacts, Lines, Key, QuickTexts, Home, Channels, System, StatusTexts, Group, Individual, LineSlot, Last}
-use Rattle.read_setting.specs.declared.reader.SettingRead.{SettingRead}
-use Rattle.read_setting.specs.declared.reader.SettingRead.TheVariants.{Taken, Missing, Unknown, Field as BadField}
+use Rattle.std.specs.Prelude.{Result, Ok, Err}
+use Rattle.read_setting.specs.declared.reader.SettingFault.{SettingFault}
+use Rattle.read_setting.specs.declared.reader.SettingFault.TheVariants.{Missing, Unknown, Field as BadField}
 use Rattle.read_fields.proofs.HashLaws.{one_size}
 use Rattle.read_setting.proofs.SettingLaws.{setting_out}
 use Rattle.read_fields.proofs.Walk.{agree_at, one_part}
@@ -81,78 +82,78 @@ meant_one m (Last f p) s t (v, d, x, n) (w, e, y, k) =
 -- ---- the answers that are allowed
 
 -- the answer is not a setting
-abbrev pub Refused : SettingRead → Type 0
-Refused (Taken r next) = ⊥
-Refused Missing = Unit {0}
-Refused Unknown = Unit {0}
-Refused BadField = Unit {0}
+abbrev pub Refused : Result (Read × ℕ) SettingFault → Type 0
+Refused (Ok (r, next)) = ⊥
+Refused (Err Missing) = Unit {0}
+Refused (Err Unknown) = Unit {0}
+Refused (Err BadField) = Unit {0}
 
 -- no setting in range stands at the place, where so many settings are still counted after it
 abbrev pub NoneStands : Coding → ℕ → List ℕ → ℕ → Type 0
 NoneStands c left m at = (s : Setting) (next : ℕ) → InRange text_limits left s → StandsAt c m at next s → ⊥
 
 -- the second answer is the first, up to what a setting that was read means
-abbrev pub SameAnswer : List ℕ → SettingRead → SettingRead → Type 0
-SameAnswer m (Taken r next) b = (q : Read) × (s : Setting) × (b ≡ Taken q next) × Meant m r s × Meant m q s
-SameAnswer m Missing b = b ≡ Missing
-SameAnswer m Unknown b = b ≡ Unknown
-SameAnswer m BadField b = b ≡ BadField
+abbrev pub SameAnswer : List ℕ → Result (Read × ℕ) SettingFault → Result (Read × ℕ) SettingFault → Type 0
+SameAnswer m (Ok (r, next)) b = (q : Read) × (s : Setting) × (b ≡ Ok (q, next)) × Meant m r s × Meant m q s
+SameAnswer m (Err Missing) b = b ≡ (Err Missing)
+SameAnswer m (Err Unknown) b = b ≡ (Err Unknown)
+SameAnswer m (Err BadField) b = b ≡ (Err BadField)
 
 module _ (c : Coding) (left : ℕ) (m : List ℕ) (at : ℕ) (h : Bytes m) where
   -- where a refusal is allowed, none stands there
-  none_stands : (a : SettingRead) → SettingAt c left m at a → Refused a → NoneStands c left m at
-  none_stands (Taken r after) z n s next i x = absurd n
-  none_stands Missing z n s next i x = omega (arith, z, (setting_out c m at h s next x).0)
-  none_stands Unknown z n s next i x = z.1 (kind s) (setting_out c m at h s next x).1
-  none_stands BadField z n s next i x = z.3 s next i x
+  none_stands : (a : Result (Read × ℕ) SettingFault) → SettingAt c left m at a → Refused a → NoneStands c left m at
+  none_stands (Ok (r, after)) z n s next i x = absurd n
+  none_stands (Err Missing) z n s next i x = omega (arith, z, (setting_out c m at h s next x).0)
+  none_stands (Err Unknown) z n s next i x = z.1 (kind s) (setting_out c m at h s next x).1
+  none_stands (Err BadField) z n s next i x = z.3 s next i x
 
   -- REFUSED EXACTLY: an allowed answer is a refusal exactly where no setting in range stands at the place
-  pub refused_exactly : (a : SettingRead) → SettingAt c left m at a → (Refused a → NoneStands c left m at) × (NoneStands c left m at → Refused a)
+  pub refused_exactly : (a : Result (Read × ℕ) SettingFault) → SettingAt c left m at a → (Refused a → NoneStands c left m at) × (NoneStands c left m at → Refused a)
   refused_exactly a z = (none_stands a z, other a z)
     where
       -- a setting that is taken stands there
-      other : (b : SettingRead) → SettingAt c left m at b → NoneStands c left m at → Refused b
-      other (Taken r next) (s, means, i, x) none = none s next i x
-      other Missing y none = tt
-      other Unknown y none = tt
-      other BadField y none = tt
+      other : (b : Result (Read × ℕ) SettingFault) → SettingAt c left m at b → NoneStands c left m at → Refused b
+      other (Ok (r, next)) (s, means, i, x) none = none s next i x
+      other (Err Missing) y none = tt
+      other (Err Unknown) y none = tt
+      other (Err BadField) y none = tt
 
   -- READ EXACTLY: an allowed answer is taken, up to this place and with this meaning, exactly where this setting stands at the place, in range, up to there
-  pub read_exactly : (a : SettingRead) → SettingAt c left m at a → (s : Setting) (next : ℕ)
-      → (InRange text_limits left s → StandsAt c m at next s → (r : Read) × (a ≡ Taken r next) × Meant m r s)
-      × ((r : Read) → a ≡ Taken r next → Meant m r s → InRange text_limits left s × StandsAt c m at next s)
+  pub read_exactly : (a : Result (Read × ℕ) SettingFault) → SettingAt c left m at a → (s : Setting) (next : ℕ)
+      → (InRange text_limits left s → StandsAt c m at next s → (r : Read) × (a ≡ Ok (r, next)) × Meant m r s)
+      × ((r : Read) → a ≡ Ok (r, next) → Meant m r s → InRange text_limits left s × StandsAt c m at next s)
   read_exactly a z s next = (there a z, back)
     where
       -- what stands there is taken
-      there : (b : SettingRead) → SettingAt c left m at b → InRange text_limits left s → StandsAt c m at next s → (r : Read) × (b ≡ Taken r next) × Meant m r s
-      there (Taken r after) (t, means, j, y) i x =
+      there : (b : Result (Read × ℕ) SettingFault) → SettingAt c left m at b → InRange text_limits left s → StandsAt c m at next s → (r : Read) × (b ≡ Ok (r, next)) × Meant m r s
+      there (Ok (r, after)) (t, means, j, y) i x =
           let (same, ends) = one_part (fields c) (setting_ends c) t s m at after next y x in
-          (r, ap (Taken r) ends, subst (Meant m r) same means)
-      there Missing y i x = absurd (none_stands Missing y tt s next i x)
-      there Unknown y i x = absurd (none_stands Unknown y tt s next i x)
-      there BadField y i x = absurd (none_stands BadField y tt s next i x)
+          (r, ap (λ (n : ℕ). Ok (r, n)) ends, subst (Meant m r) same means)
+      there (Err Missing) y i x = absurd (none_stands (Err Missing) y tt s next i x)
+      there (Err Unknown) y i x = absurd (none_stands (Err Unknown) y tt s next i x)
+      there (Err BadField) y i x = absurd (none_stands (Err BadField) y tt s next i x)
 
       -- what is taken stands there
-      back : (r : Read) → a ≡ Taken r next → Meant m r s → InRange text_limits left s × StandsAt c m at next s
+      back : (r : Read) → a ≡ Ok (r, next) → Meant m r s → InRange text_limits left s × StandsAt c m at next s
       back r e means =
           let (t, also, i, x) = subst (SettingAt c left m at) e z in
           let same : t ≡ s = meant_one m r t s also means in
           (subst (InRange text_limits left) same i, subst (StandsAt c m at next) same x)
 
   -- DETERMINED: of two allowed answers, both are taken, up to one place and with one meaning, or both are the same refusal
-  pub setting_determined : (a b : SettingRead) → SettingAt c left m at a → SettingAt c left m at b → SameAnswer m a b
-  setting_determined (Taken r next) b (s, means, i, x) y =
+  pub setting_determined : (a b : Result (Read × ℕ) SettingFault) → SettingAt c left m at a → SettingAt c left m at b → SameAnswer m a b
+  setting_determined (Ok (r, next)) b (s, means, i, x) y =
       let (q, e, also) = (read_exactly b y s next).0 i x in
       (q, s, e, means, also)
-  setting_determined Missing (Taken q after) z (t, means, j, y) = absurd (none_stands Missing z tt t after j y)
-  setting_determined Missing Missing z y = refl
-  setting_determined Missing Unknown z y = absurd (omega (arith, z, y.0))
-  setting_determined Missing BadField z y = absurd (omega (arith, z, y.0))
-  setting_determined Unknown (Taken q after) z (t, means, j, y) = absurd (none_stands Unknown z tt t after j y)
-  setting_determined Unknown Missing z y = absurd (omega (arith, y, z.0))
-  setting_determined Unknown Unknown z y = refl
-  setting_determined Unknown BadField z y = absurd (z.1 y.1 y.2)
-  setting_determined BadField (Taken q after) z (t, means, j, y) = absurd (none_stands BadField z tt t after j y)
-  setting_determined BadField Missing z y = absurd (omega (arith, y, z.0))
-  setting_determined BadField Unknown z y = absurd (y.1 z.1 z.2)
-  setting_determined BadField BadField z y = refl
+  setting_determined (Err Missing) (Ok (q, after)) z (t, means, j, y) = absurd (none_stands (Err Missing) z tt t after j y)
+  setting_determined (Err Missing) (Err Missing) z y = refl
+  setting_determined (Err Missing) (Err Unknown) z y = absurd (omega (arith, z, y.0))
+  setting_determined (Err Missing) (Err BadField) z y = absurd (omega (arith, z, y.0))
+  setting_determined (Err Unknown) (Ok (q, after)) z (t, means, j, y) = absurd (none_stands (Err Unknown) z tt t after j y)
+  setting_determined (Err Unknown) (Err Missing) z y = absurd (omega (arith, y, z.0))
+  setting_determined (Err Unknown) (Err Unknown) z y = refl
+  setting_determined (Err Unknown) (Err BadField) z y = absurd (z.1 y.1 y.2)
+  setting_determined (Err BadField) (Ok (q, after)) z (t, means, j, y) = absurd (none_stands (Err BadField) z tt t after j y)
+  setting_determined (Err BadField) (Err Missing) z y = absurd (omega (arith, y, z.0))
+  setting_determined (Err BadField) (Err Unknown) z y = absurd (y.1 z.1 z.2)
+  setting_determined (Err BadField) (Err BadField) z y = refl

@@ -9,26 +9,30 @@ use read_bodies::fixed_bodies::{read_home, read_key, read_last, read_system};
 use read_bodies::list_bodies::{read_channels, read_lines, read_quick_texts, read_status_texts};
 use read_bodies::slot_bodies::{read_group, read_individual, read_line_slot};
 use read_fields::bytes::{number, remaining};
-use settings::settings::{BodyRead, Setting};
-use settings::type_table::{Bounds, BoundsRead, bounds_of};
+use settings::settings::Setting;
+use settings::type_table::{Bounds, bounds_of};
 use writing::Coding;
 
-// The setting with the place after it; no type byte (4); a type not among the thirteen (3); a bad field or length (4).
+// Why no setting is taken: no type byte (4); a type not among the thirteen (3); a bad field or length (4).
 #[derive(Clone, Copy)]
-pub enum SettingRead {
-    Taken(Setting, usize),
+pub enum SettingFault {
     Missing,
     Unknown,
     Field,
 }
 
 // The fields after DataLength, by the type of the row.
-fn read_body(m: &[u8], p: usize, left: usize, row: Bounds, coding: Coding) -> BodyRead
+fn read_body(
+    m: &[u8],
+    p: usize,
+    left: usize,
+    row: Bounds,
+    coding: Coding,
+) -> Option<(Setting, usize)>
     ensures { (k : Kind) → BoundsAre coding k row → BodyAt coding k left m.now p result }
 {
-    let type_byte = row.type_byte;
     let operations = row.operations;
-    match type_byte {
+    match row.type_byte {
         0xC8 => read_group_contacts(m, p, operations, coding),
         0xC9 => read_individual_contacts(m, p, operations, coding),
         0xCA => read_lines(m, p, operations, coding),
@@ -42,40 +46,41 @@ fn read_body(m: &[u8], p: usize, left: usize, row: Bounds, coding: Coding) -> Bo
         0xD2 => read_individual(m, p, operations, coding),
         0xD3 => read_line_slot(m, p, operations, coding),
         0xFF => read_last(m, p, left),
-        _ => BodyRead::NoBody,
+        _ => None,
     }
 }
 
-// The setting at a place, where so many settings are still counted after it.
-pub fn read_setting(m: &[u8], at: usize, left: usize, coding: Coding) -> SettingRead
+// The setting at a place and the place after it, where so many settings are still counted after it.
+pub fn read_setting(
+    m: &[u8],
+    at: usize,
+    left: usize,
+    coding: Coding,
+) -> Result<(Setting, usize), SettingFault>
     ensures { SettingAt coding left m.now at result }
 {
     if remaining(m, at) < 1 {
-        return SettingRead::Missing;
+        return Err(SettingFault::Missing);
     }
-    let found = bounds_of(m[at], coding);
-    let BoundsRead::Found(row) = found else {
-        return SettingRead::Unknown;
+    let Some(row) = bounds_of(m[at], coding) else {
+        return Err(SettingFault::Unknown);
     };
     if remaining(m, at) < 3 {
-        return SettingRead::Field;
+        return Err(SettingFault::Field);
     }
     let stated = number(m, at + 1, 2);
-    let least = row.least;
-    let most = row.most;
-    if stated < least as u64 {
-        return SettingRead::Field;
+    if stated < row.least as u64 {
+        return Err(SettingFault::Field);
     }
-    if (most as u64) < stated {
-        return SettingRead::Field;
+    if (row.most as u64) < stated {
+        return Err(SettingFault::Field);
     }
-    let fields = read_body(m, at + 3, left, row, coding);
-    let BodyRead::Body(setting, next) = fields else {
-        return SettingRead::Field;
+    let Some((setting, next)) = read_body(m, at + 3, left, row, coding) else {
+        return Err(SettingFault::Field);
     };
     let taken = next - at - 1;
     if stated != taken as u64 {
-        return SettingRead::Field;
+        return Err(SettingFault::Field);
     }
-    SettingRead::Taken(setting, next)
+    Ok((setting, next))
 }

@@ -1,5 +1,5 @@
 -- The fields after DataLength: a fixed head, read as one number, and what follows it. Assumes nothing.
-use Rattle.lists.proofs.Kit.{ℕ, ◌+◌, ◌*◌, ◌%◌, ◌≤◌, ◌<◌, ◌≡◌, refl, sym, subst, subst⁻¹, List, ◌++◌, Bool, true, false, arith, eqb-true, eqb-false, eqb, length, drop, take}
+use Rattle.lists.proofs.Kit.{ℕ, ◌+◌, ◌*◌, ◌%◌, ◌≤◌, ◌<◌, ◌≡◌, sym, subst, subst⁻¹, List, ◌++◌, Bool, true, false, arith, eqb-true, eqb-false, eqb, length, drop, take}
 use Rattle.lists.specs.Bytes.{Bytes}
 use Rattle.writing.specs.declared.Coding.{Coding}
 use Rattle.writing.specs.declared.Kind.{Kind}
@@ -13,7 +13,7 @@ use Rattle.writing.proofs.ByKind.{Contents, make, of_kind, kind_make}
 use Rattle.read_fields.specs.Places.{FieldsAt, be}
 use Rattle.settings.specs.Meant.{Meant, BodyAt}
 use Rattle.settings.specs.declared.settings.Setting.{Setting as Read}
-use Rattle.settings.specs.declared.settings.BodyRead.TheVariants.{Body, NoBody}
+use Rattle.std.specs.Prelude.{Some, None}
 use Rattle.read_fields.proofs.Heads.{Cut, head_in, head_out}
 
 -- the fields of a kind: a head of so many bytes, and what follows it
@@ -34,20 +34,20 @@ module _ {c : Coding} (K : Kind) (f : Headed c K) (left : ℕ) (m : List ℕ) (p
 
   -- none where no contents have a head that stands there
   pub no_head : ((x : Contents K) → p + f.size ≤ length m → Cut (f.head x) (be 0 (take f.size (drop p m))) → InRange text_limits left (make K x) → ⊥)
-      → BodyAt c K left m p NoBody
+      → BodyAt c K left m p None
   no_head never s next e i y =
       let (x, d) = of_kind K s e in
       let (r, k, z) = parts x next (subst (λ (t : Setting). FieldsAt (body c t) m p next) d y) in
       never x r k (subst (InRange text_limits left) d i)
 
   -- none where the head has no room
-  pub no_room : (p + f.size ≤ length m → ⊥) → BodyAt c K left m p NoBody
+  pub no_room : (p + f.size ≤ length m → ⊥) → BodyAt c K left m p None
   no_room never = no_head (λ x r k i. never r)
 
   module _ {N : ℕ} (number : N ≡ be 0 (take f.size (drop p m))) where
     -- none where no contents have this head and what follows
     pub no_body : ((x : Contents K) (next : ℕ) → Cut (f.head x) N → InRange text_limits left (make K x) → FieldsAt (f.tail x) m (p + f.size) next → ⊥)
-        → BodyAt c K left m p NoBody
+        → BodyAt c K left m p None
     no_body never s next e i y =
         let (x, d) = of_kind K s e in
         let (r, k, z) = parts x next (subst (λ (t : Setting). FieldsAt (body c t) m p next) d y) in
@@ -55,7 +55,7 @@ module _ {c : Coding} (K : Kind) (f : Headed c K) (left : ℕ) (m : List ℕ) (p
 
     -- these contents, which have this head and what follows
     pub the_body : (x : Contents K) (r : Read) (next : ℕ) → p + f.size ≤ length m → Cut (f.head x) N → InRange text_limits left (make K x)
-        → FieldsAt (f.tail x) m (p + f.size) next → Meant m r (make K x) → BodyAt c K left m p (Body r next)
+        → FieldsAt (f.tail x) m (p + f.size) next → Meant m r (make K x) → BodyAt c K left m p (Some (r, next))
     the_body x r next room k i y means = (
       make K x,
       kind_make K x,

@@ -1,5 +1,5 @@
 -- What a setting that was read means, and what reading its fields answers.
-use Rattle.std.specs.Prelude.{ℕ, ◌+◌, ◌≡◌, List, map, length}
+use Rattle.std.specs.Prelude.{ℕ, ◌+◌, ◌≡◌, List, map, length, Option, Some, None}
 use Rattle.plan.specs.declared.numbers.GroupAddress.{GroupAddress}
 use Rattle.plan.specs.declared.numbers.IndividualAddress.{IndividualAddress}
 use Rattle.writing.specs.declared.Coding.{Coding}
@@ -15,8 +15,6 @@ use Rattle.read_fields.specs.declared.texts.TextPlace.{TextPlace}
 use Rattle.settings.specs.declared.settings.Entries.{Entries}
 use Rattle.settings.specs.declared.settings.Setting.{Setting as Read}
 use Rattle.settings.specs.declared.settings.Setting.TheVariants.{GroupContacts, IndividualContacts, Lines, Key, QuickTexts, Home, Channels, System, StatusTexts, Group, Individual, LineSlot, Last}
-use Rattle.settings.specs.declared.settings.BodyRead.{BodyRead}
-use Rattle.settings.specs.declared.settings.BodyRead.TheVariants.{Body, NoBody}
 
 -- these entries stand at this place, in the form of a list under the coding that the place says
 pub record EntriesAre {A : Type 0} (form : Coding → List A → List Field) (m : List ℕ) (p : Entries) (es : List A) : Type 0 where
@@ -45,6 +43,6 @@ Meant m (LineSlot o f p) s =
 Meant m (Last f p) s = (v : List ℕ) × (s ≡ last f (record { code = p.code; value = v })) × FieldsAt (map (val 8) v) m p.start (p.start + length v) × HashSize p.code (length v)
 
 -- the fields after DataLength of a setting in range of this kind stand at p under this coding, or none do
-abbrev pub BodyAt : Coding → Kind → ℕ → List ℕ → ℕ → BodyRead → Type 0
-BodyAt c k left m p (Body r next) = (s : Setting) × (kind s ≡ k) × Meant m r s × InRange text_limits left s × FieldsAt (body c s) m p next
-BodyAt c k left m p NoBody = (s : Setting) (next : ℕ) → kind s ≡ k → InRange text_limits left s → FieldsAt (body c s) m p next → ⊥
+abbrev pub BodyAt : Coding → Kind → ℕ → List ℕ → ℕ → Option (Read × ℕ) → Type 0
+BodyAt c k left m p (Some (r, next)) = (s : Setting) × (kind s ≡ k) × Meant m r s × InRange text_limits left s × FieldsAt (body c s) m p next
+BodyAt c k left m p None = (s : Setting) (next : ℕ) → kind s ≡ k → InRange text_limits left s → FieldsAt (body c s) m p next → ⊥

@@ -1,6 +1,6 @@
 -- What asking the table of the thirteen types answers: the rules' row of a type byte, and the operations that it allows.
-use Rattle.std.specs.Prelude.{ℕ, ◌≤◌, ◌<◌, ◌≡◌, List, [], ◌∷◌, get_or}
-use Rattle.std.proofs.Math.Option.{Option, none, some}
+use Rattle.std.specs.Prelude.{ℕ, ◌≤◌, ◌<◌, ◌≡◌, List, [], ◌∷◌, get_or, Option, Some, None}
+use Rattle.std.proofs.Math.Option.{Option as Most, none, some}
 use Rattle.writing.specs.declared.Coding.{Coding}
 use Rattle.writing.specs.declared.Kind.{Kind}
 use Rattle.writing.specs.declared.Kind.TheVariants.{GroupContacts, IndividualContacts, Lines, Key, QuickTexts, Home, Channels, System, StatusTexts, Group, Individual, LineSlot, Last}
@@ -13,13 +13,9 @@ use Rattle.writing.specs.Settings.{unicode16, eight_bit}
 use Rattle.writing.specs.Writing.{type_byte, op_code}
 use Rattle.settings.specs.declared.type_table.Bounds.{Bounds}
 use Rattle.settings.specs.declared.type_table.TypeRow.{TypeRow}
-use Rattle.settings.specs.declared.type_table.BoundsRead.{BoundsRead}
-use Rattle.settings.specs.declared.type_table.BoundsRead.TheVariants.{Found, Unknown}
-use Rattle.settings.specs.declared.type_table.OperationRead.{OperationRead}
-use Rattle.settings.specs.declared.type_table.OperationRead.TheVariants.{Is, NoSuch}
 
 -- the most of a row, 65535 where it has none
-abbrev pub most_of : Option ℕ → ℕ
+abbrev pub most_of : Most ℕ → ℕ
 most_of none = 65535
 most_of (some n) = n
 
@@ -53,17 +49,17 @@ kinds =
     GroupContacts ∷ IndividualContacts ∷ Lines ∷ Key ∷ QuickTexts ∷ Home ∷ Channels ∷ System ∷ StatusTexts ∷ Group ∷ Individual ∷ LineSlot
     ∷ Last ∷ []
 
--- the place of a type byte among the thirteen, or 13 where it is none of them
-pub record PlaceIs (b place : ℕ) : Type 0 where
-  pub found : place < 13 → type_byte (get_or kinds place Last) ≡ b
-  pub none : 13 ≤ place → (k : Kind) → type_byte k ≡ b → ⊥
+-- the place of a type byte among the thirteen, or that it is none of them
+abbrev pub PlaceIs : ℕ → Option ℕ → Type 0
+PlaceIs b (Some place) = (place < 13) × (type_byte (get_or kinds place Last) ≡ b)
+PlaceIs b None = (k : Kind) → type_byte k ≡ b → ⊥
 
 -- the row of a type byte under a coding, or that it is none of the thirteen
-abbrev pub BoundsAt : Coding → ℕ → BoundsRead → Type 0
-BoundsAt c b (Found r) = (k : Kind) × (type_byte k ≡ b) × BoundsAre c k r
-BoundsAt c b Unknown = (k : Kind) → type_byte k ≡ b → ⊥
+abbrev pub BoundsAt : Coding → ℕ → Option Bounds → Type 0
+BoundsAt c b (Some r) = (k : Kind) × (type_byte k ≡ b) × BoundsAre c k r
+BoundsAt c b None = (k : Kind) → type_byte k ≡ b → ⊥
 
 -- the operation of a code among those allowed, or that there is none
-abbrev pub OperationIs : ℕ → ℕ → OperationRead → Type 0
-OperationIs code most (Is o) = (op_code o ≡ code) × (code ≤ most)
-OperationIs code most NoSuch = (o : Operation) → op_code o ≡ code → code ≤ most → ⊥
+abbrev pub OperationIs : ℕ → ℕ → Option Operation → Type 0
+OperationIs code most (Some o) = (op_code o ≡ code) × (code ≤ most)
+OperationIs code most None = (o : Operation) → op_code o ≡ code → code ≤ most → ⊥

@@ -53,10 +53,3 @@ pub enum Setting {
     LineSlot(Operation, LineFlags, LinePlace),
     Last(LastFlags, HashPlace),
 }
-
-// The fields after DataLength, and the place after them.
-#[derive(Clone, Copy)]
-pub enum BodyRead {
-    Body(Setting, usize),
-    NoBody,
-}

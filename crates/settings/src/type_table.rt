@@ -14,18 +14,6 @@ pub struct Bounds {
     pub operations: u8,
 }
 
-#[derive(Clone, Copy)]
-pub enum BoundsRead {
-    Found(Bounds),
-    Unknown,
-}
-
-#[derive(Clone, Copy)]
-pub enum OperationRead {
-    Is(Operation),
-    NoSuch,
-}
-
 // Columns: the type; least and most under 0111; least and most under 0100; operations.
 #[derive(Clone, Copy)]
 struct TypeRow(u8, u16, u16, u16, u16, u8);
@@ -46,14 +34,14 @@ const ROWS: [TypeRow; 13] = [
     TypeRow(0xFF, 3, 13, 3, 13, 0),
 ];
 
-// The place of a type byte among the rows, or 13.
-fn place_of(b: u8) -> usize
+// The place of a type byte among the rows.
+fn place_of(b: u8) -> Option<usize>
     ensures { PlaceIs b result }
 {
     match b {
-        0xC8..=0xD3 => (b - 0xC8) as usize,
-        0xFF => 12,
-        _ => 13,
+        0xC8..=0xD3 => Some((b - 0xC8) as usize),
+        0xFF => Some(12),
+        _ => None,
     }
 }
 
@@ -78,27 +66,24 @@ fn under(row: TypeRow, coding: Coding) -> Bounds
 }
 
 // The row of a type byte under a coding.
-pub fn bounds_of(b: u8, coding: Coding) -> BoundsRead
+pub fn bounds_of(b: u8, coding: Coding) -> Option<Bounds>
     ensures { BoundsAt coding b result }
 {
-    let i = place_of(b);
-    if 13 <= i {
-        return BoundsRead::Unknown;
-    }
-    BoundsRead::Found(under(ROWS[i], coding))
+    let i = place_of(b)?;
+    Some(under(ROWS[i], coding))
 }
 
 // The operation of a code, where the row allows it.
-pub fn operation_of(code: u64, largest: u8) -> OperationRead
+pub fn operation_of(code: u64, largest: u8) -> Option<Operation>
     ensures { OperationIs code largest result }
 {
     if (largest as u64) < code {
-        return OperationRead::NoSuch;
+        return None;
     }
     match code {
-        1 => OperationRead::Is(Operation::Add),
-        2 => OperationRead::Is(Operation::Delete),
-        3 => OperationRead::Is(Operation::Replace),
-        _ => OperationRead::NoSuch,
+        1 => Some(Operation::Add),
+        2 => Some(Operation::Delete),
+        3 => Some(Operation::Replace),
+        _ => None,
     }
 }

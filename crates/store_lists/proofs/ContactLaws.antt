@@ -1,4 +1,5 @@
 -- Laws of the tables of group and of individual contacts: a contact's slot, and what their loop is told of. Assumes nothing.
+use Rattle.std.specs.Prelude.{Option as Maybe, Some, None}
 use Rattle.lists.proofs.Kit.{◌≡◌, refl, sym, ap, ap₂, ◌∙◌, subst, subst⁻¹, Bool, List, ◌∷◌, ◌++◌, ℕ, ◌<◌, arith, length, replicate}
 use Rattle.slots.specs.Slots.{u24}
 use Rattle.counted_lists.specs.Counted.{Counted}
@@ -13,8 +14,6 @@ use Rattle.writing.proofs.CanonicalLaws.{shows_fits}
 use Rattle.writing.proofs.Unique.{address_ends, addressed_ends}
 use Rattle.writing.proofs.Whole.{addressed_whole}
 use Rattle.read_fields.specs.declared.entries.AddressedPlace.{AddressedPlace}
-use Rattle.read_fields.specs.declared.entries.AddressedRead.{AddressedRead}
-use Rattle.read_fields.specs.declared.entries.AddressedRead.TheVariants.{Contact as AnAddressed, NoContact}
 use Rattle.settings.specs.declared.settings.Entries.{Entries}
 use Rattle.read_fields.specs.Entries.{AddressedAt}
 use Rattle.read_fields.specs.Places.{FieldsAt}
@@ -78,14 +77,14 @@ by_address w f c = record {
 
 -- ---- contacts that are read by the number of their address
 
-module _ (w : Members) (f : FlagsIn w) (c : Coding) (m : List ℕ) (at : ℕ) {r : AddressedRead} (read : AddressedAt c text_limits m at r) where
+module _ (w : Members) (f : FlagsIn w) (c : Coding) (m : List ℕ) (at : ℕ) {r : Maybe (AddressedPlace × ℕ)} (read : AddressedAt c text_limits m at r) where
   -- none stands there
-  pub no_contact : r ≡ NoContact → (e : Addressed (AddressIn w)) (q : ℕ) → (by_address w f c).In e → FieldsAt ((by_address w f c).form e) m at q → ⊥
+  pub no_contact : r ≡ None → (e : Addressed (AddressIn w)) (q : ℕ) → (by_address w f c).In e → FieldsAt ((by_address w f c).form e) m at q → ⊥
   unfolding by_address
   no_contact z e q i x = subst (AddressedAt c text_limits m at) z read (record { address = number_of w e.address; text = e.text }) q i x
 
   -- one does, and x is its slot
-  pub next_contact : (p : AddressedPlace) (q : ℕ) → r ≡ AnAddressed p q → (flags : ℕ) (x : List ℕ) → ContactSlot m flags p x → flags ≡ flags_of w f → FlagsOk w f
+  pub next_contact : (p : AddressedPlace) (q : ℕ) → r ≡ Some (p, q) → (flags : ℕ) (x : List ℕ) → ContactSlot m flags p x → flags ≡ flags_of w f → FlagsOk w f
       → Next (by_address w f c) m at q x
   unfolding by_address
   next_contact p q z flags x slot byte ok =

@@ -1,4 +1,5 @@
 -- Laws of the table of line contacts: a line's slot, and what its loop is told of. Assumes nothing.
+use Rattle.std.specs.Prelude.{Option as Maybe, Some, None}
 use Rattle.lists.proofs.Kit.{◌≡◌, refl, sym, ap, ◌∙◌, subst, Bool, true, true≢false, List, ◌++◌, ℕ, ◌<◌, arith, mid_of, length, take, drop, replicate, length-take, length-drop}
 use Rattle.slots.specs.Slots.{hit, unless}
 use Rattle.counted_lists.specs.Counted.{put_keyed, Tried}
@@ -15,8 +16,6 @@ use Rattle.writing.specs.Writing.{contact}
 use Rattle.writing.proofs.Unique.{contact_ends}
 use Rattle.writing.proofs.Whole.{contact_whole}
 use Rattle.read_fields.specs.declared.entries.ContactPlace.{ContactPlace}
-use Rattle.read_fields.specs.declared.entries.ContactRead.{ContactRead}
-use Rattle.read_fields.specs.declared.entries.ContactRead.TheVariants.{Contact as AContact, NoContact}
 use Rattle.settings.specs.declared.settings.Entries.{Entries}
 use Rattle.read_fields.specs.Entries.{ContactAt}
 use Rattle.read_fields.specs.Places.{FieldsAt}
@@ -86,14 +85,14 @@ by_number f c = record {
   decides = λ a b p q. keys_same b a q p;
 }
 
-module _ (f : LineFlags) (c : Coding) (m : List ℕ) (at : ℕ) {r : ContactRead} (read : ContactAt c text_limits m at r) where
+module _ (f : LineFlags) (c : Coding) (m : List ℕ) (at : ℕ) {r : Maybe (ContactPlace × ℕ)} (read : ContactAt c text_limits m at r) where
   -- none stands there
-  pub no_line : r ≡ NoContact → (e : Contact) (q : ℕ) → (by_number f c).In e → FieldsAt ((by_number f c).form e) m at q → ⊥
+  pub no_line : r ≡ None → (e : Contact) (q : ℕ) → (by_number f c).In e → FieldsAt ((by_number f c).form e) m at q → ⊥
   unfolding by_number
   no_line z = subst (ContactAt c text_limits m at) z read
 
   -- one does, and x is the slot of its line
-  pub next_line : (p : ContactPlace) (q : ℕ) → r ≡ AContact p q → (x : List ℕ) → LineSlot m f p x → f.priority < 4 → Next (by_number f c) m at q x
+  pub next_line : (p : ContactPlace) (q : ℕ) → r ≡ Some (p, q) → (x : List ℕ) → LineSlot m f p x → f.priority < 4 → Next (by_number f c) m at q x
   unfolding by_number
   next_line p q z x slot low =
       let (e, range, is, stands) = subst (ContactAt c text_limits m at) z read in

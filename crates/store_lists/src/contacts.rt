@@ -2,7 +2,7 @@
 ghost use Rattle.store_lists.specs.Lists.{ContactSlot, ContactsApplied};
 
 use super::keyed::step_contact;
-use read_fields::entries::{AddressedPlace, AddressedRead, read_addressed};
+use read_fields::entries::{AddressedPlace, read_addressed};
 use settings::settings::Entries;
 use tables::filling::fill_slot;
 use tables::heads::head_of;
@@ -35,8 +35,7 @@ pub fn apply_contacts(
     let mut p = entries.start;
     let mut i = 0;
     while i < entries.count {
-        let here = read_addressed(m, p, coding);
-        let AddressedRead::Contact(place, next) = here else {
+        let Some((place, next)) = read_addressed(m, p, coding) else {
             return false;
         };
         let slot = contact_slot(m, flags, place);

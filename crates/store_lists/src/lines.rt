@@ -4,7 +4,7 @@ ghost use Rattle.store_lists.specs.Lists.{LinePlaces, LinesApplied, LineStepped}
 
 use super::line_slots::line_slot;
 use orders::changes::{drop_ordered, put_ordered};
-use read_fields::entries::{ContactRead, read_contact};
+use read_fields::entries::read_contact;
 use settings::settings::Entries;
 use tables::places::{COUNT, KEY_BYTES, LINE_KEY, LINE_SLOT, LINE_TEXT};
 use tables::replacing::empty_to_replace;
@@ -51,8 +51,7 @@ pub fn apply_lines(
     let mut p = entries.start;
     let mut i = 0;
     while i < entries.count {
-        let here = read_contact(m, p, coding);
-        let ContactRead::Contact(place, next) = here else {
+        let Some((place, next)) = read_contact(m, p, coding) else {
             return false;
         };
         let slot = line_slot(m, flags, place);

@@ -1,4 +1,6 @@
 -- Indexed tables: a place changed as its slot is, and a table emptied to be replaced. Assumes nothing.
+use Rattle.std.specs.Prelude.{Option as Maybe, Some, None}
+use Rattle.read_fields.specs.declared.entries.EntryPlace.{EntryPlace}
 use Rattle.lists.proofs.Kit.{ℕ, ◌+◌, ◌-◌, ◌*◌, ◌≤◌, ◌<◌, ◌≡◌, ap, sym, ◌∙◌, subst, subst⁻¹, List, [], ◌++◌, Option, none, arith, put_mid, mid_of, length, set, get_or, take, drop, replicate, length-replicate}
 use Rattle.lists.specs.Every.{All}
 use Rattle.lists.proofs.Every.{all_get}
@@ -9,8 +11,6 @@ use Rattle.writing.specs.Fields.{Field, widths, each}
 use Rattle.writing.specs.Settings.{Entry}
 use Rattle.writing.proofs.Ends.{Ends}
 use Rattle.read_fields.specs.Entries.{EntryAt}
-use Rattle.read_fields.specs.declared.entries.EntryRead.{EntryRead}
-use Rattle.read_fields.specs.declared.entries.EntryRead.TheVariants.{NoEntry}
 use Rattle.settings.specs.declared.settings.Entries.{Entries}
 use Rattle.tables.specs.Apply.{in_turn, start_from}
 use Rattle.tables.specs.Changing.{Changed}
@@ -52,7 +52,7 @@ module _ {A : Type 0} (P : A → Type 0) (w : ℕ) (code : A → List ℕ) (long
   placed_done l os is = applying_end g l es _ h i (place_started P w code long n os was is o s₀ started)
 
   -- none could be read where one is left, so they are not the setting's, and nothing was promised
-  pub placed_missing : (InRead : Entry → Type 0) → ((e : Entry) → In e → InRead e) → {r : EntryRead} → EntryAt f InRead m p r → r ≡ NoEntry → 0 < left
+  pub placed_missing : (InRead : Entry → Type 0) → ((e : Entry) → In e → InRead e) → {r : Maybe (EntryPlace × ℕ)} → EntryAt f InRead m p r → r ≡ None → 0 < left
       → (t : List ℕ) → Changed (Placed P w code n) (λ os. in_turn step es (start_from o (replicate n none) os)) was t
   placed_missing InRead in_read read e l t os is =
       absurd (entry_missing g InRead read l in_read e es _ h i (place_started P w code long n os was is o s₀ started))

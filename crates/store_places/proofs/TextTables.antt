@@ -1,4 +1,5 @@
 -- Quick texts and status texts: what the functions that change a place and the table have to show. Assumes nothing.
+use Rattle.std.specs.Prelude.{Option as Maybe, Some, None}
 use Rattle.lists.proofs.Kit.{ℕ, ◌+◌, ◌-◌, ◌*◌, ◌≤◌, ◌<◌, ◌≡◌, refl, sym, ap, ◌∙◌, subst, subst⁻¹, true, false, List, [], ◌∷◌, Option, none, some, arith, length, set, get_or, take, drop, replicate}
 use Rattle.lists.specs.Every.{All}
 use Rattle.slots.specs.Slots.{zeros?, slot, Present}
@@ -17,8 +18,6 @@ use Rattle.read_fields.specs.TextsAndNumbers.{TextIs}
 use Rattle.read_fields.specs.Places.{FieldsAt}
 use Rattle.read_fields.proofs.EntryLaws.{quick_whole, status_whole}
 use Rattle.read_fields.specs.declared.entries.EntryPlace.{EntryPlace}
-use Rattle.read_fields.specs.declared.entries.EntryRead.{EntryRead}
-use Rattle.read_fields.specs.declared.entries.EntryRead.TheVariants.{Entry as AnEntry, NoEntry}
 use Rattle.read_fields.specs.declared.texts.TextPlace.{TextPlace}
 use Rattle.settings.specs.declared.settings.Entries.{Entries}
 use Rattle.tables.specs.Allowed.{QuickOk, StatusOk}
@@ -151,14 +150,14 @@ TextsGoing k c m o s₀ at count p left s =
 
 module _ (k : TextTable) (m : List ℕ) (o : Operation) (s₀ : List ℕ) (entries : Entries) (p left : ℕ) (s : List ℕ) (g : TextsGoing k entries.coding m o s₀ entries.start entries.count p left s) where
   -- the entry that was read has been applied
-  pub texts_next : {r : EntryRead} (a : EntryPlace) (q : ℕ) (t : List ℕ) → 0 < left → EntryAt (entry_form k entries.coding) (Readable k) m p r → r ≡ AnEntry a q → TextStep k m o a s t
+  pub texts_next : {r : Maybe (EntryPlace × ℕ)} (a : EntryPlace) (q : ℕ) (t : List ℕ) → 0 < left → EntryAt (entry_form k entries.coding) (Readable k) m p r → r ≡ Some (a, q) → TextStep k m o a s t
       → TextsGoing k entries.coding m o s₀ entries.start entries.count q (left - 1) t
   texts_next a q t l read e stepped = entry_applied g (Readable k) read l a q t e (λ x is z i. stepped x is (has_place k entries.coding o m p q x z i) i)
 
   -- s₀ is what the table was, emptied where it is to be replaced
   module _ (was : List ℕ) (started : s₀ ≡ start_from o (replicate (length was) 0) was) where
     -- none could be read where one is left
-    pub texts_missing : {r : EntryRead} (t : List ℕ) → 0 < left → EntryAt (entry_form k entries.coding) (Readable k) m p r → r ≡ NoEntry → TextsApplied k m o entries was t
+    pub texts_missing : {r : Maybe (EntryPlace × ℕ)} (t : List ℕ) → 0 < left → EntryAt (entry_form k entries.coding) (Readable k) m p r → r ≡ None → TextsApplied k m o entries was t
     texts_missing t l read e es h i =
         placed_missing (TextIn k) (text_width k) (text_code k) (code_long k) (text_places k) entries g o was started es (h.counted, (entries.next, h.stands)) i (Readable k) (readable k o) read e l t
 

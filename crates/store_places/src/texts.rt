@@ -3,7 +3,7 @@ ghost use Rattle.read_fields.specs.Entries.{EntryAt};
 ghost use Rattle.store_places.specs.Changes.{entry_form, Readable, TextStep, TextsApplied};
 
 use super::overwriting::set_place;
-use read_fields::entries::{EntryPlace, EntryRead, read_quick, read_status};
+use read_fields::entries::{EntryPlace, read_quick, read_status};
 use settings::settings::Entries;
 use tables::places::{QUICK_SLOT, STATUS_SLOT};
 use tables::replacing::empty_to_replace;
@@ -17,7 +17,7 @@ pub enum TextTable {
 }
 
 // Reads an entry, in a delete or not.
-fn read_entry(m: &[u8], at: usize, table: TextTable, coding: Coding) -> EntryRead
+fn read_entry(m: &[u8], at: usize, table: TextTable, coding: Coding) -> Option<(EntryPlace, usize)>
     ensures { EntryAt (entry_form table coding) (Readable table) m.now at result }
 {
     match table {
@@ -81,8 +81,7 @@ pub fn apply_texts(
     let mut p = entries.start;
     let mut left = entries.count;
     while 0 < left {
-        let here = read_entry(m, p, table, coding);
-        let EntryRead::Entry(place, next) = here else {
+        let Some((place, next)) = read_entry(m, p, table, coding) else {
             return;
         };
         apply_entry(region, m, table, operation, place);

@@ -1,4 +1,5 @@
 -- A loop that applies entries in turn: those that are left, from the table that stands now, give what all give from the start. Assumes nothing.
+use Rattle.std.specs.Prelude.{Option as Maybe, Some, None}
 use Rattle.lists.proofs.Kit.{ℕ, ◌+◌, ◌-◌, ◌*◌, ◌≤◌, ◌<◌, ◌≡◌, refl, sym, ap, ◌∙◌, subst, subst⁻¹, List, [], ◌∷◌, Option, none, some, arith, length}
 use Rattle.lists.specs.Every.{All}
 use Rattle.writing.specs.Fields.{Field, widths, each}
@@ -7,8 +8,6 @@ use Rattle.writing.specs.Settings.{Entry}
 use Rattle.read_fields.specs.Entries.{EntryIs, EntryAt}
 use Rattle.read_fields.specs.Places.{FieldsAt}
 use Rattle.read_fields.specs.declared.entries.EntryPlace.{EntryPlace}
-use Rattle.read_fields.specs.declared.entries.EntryRead.{EntryRead}
-use Rattle.read_fields.specs.declared.entries.EntryRead.TheVariants.{Entry as AnEntry, NoEntry}
 use Rattle.read_fields.proofs.Parts.{part_split}
 use Rattle.read_fields.proofs.Walk.{one_part}
 use Rattle.tables.specs.Apply.{in_turn, and_then}
@@ -162,14 +161,14 @@ module _ {A T : Type 0} {f : A → List Field} {ends : Ends f} {wide : (a : A) �
 
 module _ {T : Type 0} {f : Entry → List Field} {ends : Ends f} {wide : (e : Entry) → (n : ℕ) × (widths (f e) ≡ 8 * n)} {In : Entry → Type 0} {step : Entry → T → Option T}
     {Is : T → List ℕ → Type 0} {m s₀ : List ℕ} {at count p left : ℕ} {s : List ℕ} (g : Applying f ends wide In step Is m s₀ at count p left s)
-    (InRead : Entry → Type 0) {r : EntryRead} (read : EntryAt f InRead m p r) (l : 0 < left) where
+    (InRead : Entry → Type 0) {r : Maybe (EntryPlace × ℕ)} (read : EntryAt f InRead m p r) (l : 0 < left) where
   -- the entry that was read has been applied
-  pub entry_applied : (a : EntryPlace) (q : ℕ) (t : List ℕ) → r ≡ AnEntry a q
+  pub entry_applied : (a : EntryPlace) (q : ℕ) (t : List ℕ) → r ≡ Some (a, q)
       → ((e : Entry) → EntryIs m a e → FieldsAt (f e) m p q → In e → Changed Is (step e) s t) → Applying f ends wide In step Is m s₀ at count q (left - 1) t
   entry_applied a q t e applied =
       let (x, i, is, z) = subst (EntryAt f InRead m p) e read in
       applying_next g l x q z t (λ j. applied x is z j)
 
   -- none was, so none was left
-  pub entry_missing : ((e : Entry) → In e → InRead e) → r ≡ NoEntry → (es : List Entry) (start : T) → Starting f m at count es → All In es → Is start s₀ → ⊥
+  pub entry_missing : ((e : Entry) → In e → InRead e) → r ≡ None → (es : List Entry) (start : T) → Starting f m at count es → All In es → Is start s₀ → ⊥
   entry_missing in_read e = applying_stuck g l (λ x q i y. subst (EntryAt f InRead m p) e read x q (in_read x i) y)

@@ -1,4 +1,4 @@
-use Rattle.lists.proofs.Kit.{rules, ◌/◌, refl}
+use Rattle.lists.proofs.Kit.{◌/◌, refl}
 use Rattle.settings.proofs.BodyLaws.{flag_bit}
 use Rattle.read_bodies.proofs.flags.group_flags.Goals as goal
 

@@ -1,57 +1,32 @@
-use Rattle.lists.proofs.Kit.{rules, arith, ◌+◌, ◌/◌, ◌%◌, ◌≤◌, refl, sym, subst, length}
-use Rattle.lists.specs.Bytes.{Bytes}
+use Rattle.lists.proofs.Kit.{arith, refl, sym, subst⁻¹}
 use Rattle.writing.specs.declared.Kind.TheVariants.{Lines as KLines}
-use Rattle.writing.specs.Ranges.{text_limits}
-use Rattle.read_fields.specs.Entries.{EntriesAt}
-use Rattle.read_fields.specs.declared.entries.Listed.TheVariants.{Contacts as LContacts}
-use Rattle.settings.specs.TypeTable.{OperationIs}
+use Rattle.settings.specs.Meant.{BodyAt}
 use Rattle.settings.specs.declared.settings.Setting.TheVariants.{Lines}
-use Rattle.settings.proofs.BodyLaws.{no_room, no_body, the_body, op_small}
+use Rattle.settings.proofs.BodyLaws.{no_head, no_body, the_body, op_small}
 use Rattle.read_bodies.proofs.ListLaws.{lines_head}
 use Rattle.read_bodies.proofs.list_bodies.read_lines.Goals as goal
 
-pub returns-then-remaining-lt2 : goal.returns-then-remaining-lt2
-returns-then-remaining-lt2 c =
+pub returns-in_err-n : goal.returns-in_err-n
+returns-in_err-n c =
     let a = c.args in
-    let h : Bytes a.m.now = λ i. (c.shared_slice_known-1.given i).fits in
-    λ ops left. no_room KLines (lines_head a.coding) left a.m.now a.p h (omega arith)
+    λ ops left. subst⁻¹ (BodyAt a.coding KLines left a.m.now a.p) c.from_residual.ensures
+    (no_head KLines (lines_head a.coding) left a.m.now a.p (λ i. (c.type_inv.m i).fits) (λ x r k i. c.in_err-n.ensures r x.0 (sym k.0) (omega (arith, op_small x.0))))
 
-pub returns-in_default : goal.returns-in_default
-returns-in_default c =
+pub returns-in_err-next : goal.returns-in_err-next
+returns-in_err-next c =
     let a = c.args in
-    let h : Bytes a.m.now = λ i. (c.shared_slice_known-1.given i).fits in
-    let n = c.number-n in
-    let room : a.p + 2 ≤ length a.m.now = omega arith in
-    let is = n.ensures (omega arith, room) in
-    let told = subst (OperationIs _ _) c.in_default.is c.operation_of-o.ensures in
-    λ ops left. no_body KLines (lines_head a.coding) left a.m.now a.p h is
-    (λ x next k i t. told x.0 (sym k.0) (omega (arith, op_small x.0, k.0)))
-
-pub returns-in_default-walked : goal.returns-in_default-walked
-returns-in_default-walked c =
-    let a = c.args in
-    let h : Bytes a.m.now = λ i. (c.shared_slice_known-1.given i).fits in
-    let n = c.number-n in
-    let room : a.p + 2 ≤ length a.m.now = omega arith in
-    let is = n.ensures (omega arith, room) in
-    let stop = subst (EntriesAt LContacts a.coding text_limits a.m.now _ _) c.in_default-walked.is c.walk_entries-walked.ensures in
-    λ ops left. no_body KLines (lines_head a.coding) left a.m.now a.p h is
-    (λ x next k i t. stop x.2 next (record { counted = omega (arith, k.1.1.1.1.1.1.0); in_range = i; stands = t }))
+    λ ops left. subst⁻¹ (BodyAt a.coding KLines left a.m.now a.p) c.from_residual-in_err-next.ensures
+    (no_body KLines (lines_head a.coding) left a.m.now a.p (λ i. (c.type_inv.m i).fits) c.in_ok-n.ensures.1
+    (λ x next k i t. c.in_err-next.ensures x.2 next (record { counted = omega (arith, k.1.1.1.1.1.1.0); in_range = i; stands = t })))
 
 pub returns : goal.returns
 returns c =
     let a = c.args in
-    let h : Bytes a.m.now = λ i. (c.shared_slice_known-1.given i).fits in
-    let n = c.number-n in
-    let room : a.p + 2 ≤ length a.m.now = omega arith in
-    let is = n.ensures (omega arith, room) in
-    let told = subst (OperationIs _ _) c.in-Is.is c.operation_of-o.ensures in
-    let w = subst (EntriesAt LContacts a.coding text_limits a.m.now _ _) c.in-To.is c.walk_entries-walked.ensures in
-    let next = c.in-To.next in
-    let o = c.in-Is.operation in
-    let f = c.line_flags-flags in
+    let z = c.in_ok-n.ensures in
+    let w = c.in_ok-next.ensures in
+    let o = c.in_ok-n.operation in
     let s = w.1 in
-    λ ops left. the_body KLines (lines_head a.coding) left a.m.now a.p h is (o, f.result, w.0)
-    (Lines o f.result _) next room
-    (sym told.0, (f.ensures.encryption, (f.ensures.emergency, (f.ensures.priority, (f.ensures.pabx, (tt, (omega (arith, s.counted), tt))))))) s.in_range s.stands
+    let f = c.line_flags-flags in
+    λ ops left. the_body KLines (lines_head a.coding) left a.m.now a.p (λ i. (c.type_inv.m i).fits) z.1 (o, f.result, w.0)
+    (Lines o f.result _) c.in_ok-next.next z.0 (sym z.2, (f.ensures.encryption, (f.ensures.emergency, (f.ensures.priority, (f.ensures.pabx, (tt, (omega (arith, s.counted), tt))))))) s.in_range s.stands
     (w.0, refl, record { counted = s.counted; stands = s.stands })

@@ -1,41 +1,31 @@
-use Rattle.lists.proofs.Kit.{rules, arith, ℕ, refl, sym, ◌∙◌, subst, subst⁻¹}
-use Rattle.lists.specs.Bytes.{Bytes}
+use Rattle.lists.proofs.Kit.{arith, refl, sym, ◌∙◌, subst⁻¹}
 use Rattle.writing.specs.declared.Kind.TheVariants.{QuickTexts as KQuickTexts}
-use Rattle.writing.specs.Fields.{each}
-use Rattle.writing.specs.Ranges.{text_limits}
-use Rattle.writing.specs.Writing.{quick_text}
-use Rattle.read_fields.specs.Entries.{EntriesAt}
-use Rattle.read_fields.specs.declared.entries.Listed.TheVariants.{QuickTexts as LQuickTexts}
-use Rattle.read_fields.specs.Places.{FieldsAt}
+use Rattle.settings.specs.Meant.{BodyAt}
 use Rattle.settings.specs.declared.settings.Setting.TheVariants.{QuickTexts}
 use Rattle.settings.proofs.BodyLaws.{no_head, no_body, the_body, op_small}
-use Rattle.read_bodies.specs.Heads.{HeadIs}
 use Rattle.read_bodies.proofs.ListLaws.{quick_head, quick_from, quick_in}
 use Rattle.read_bodies.proofs.list_bodies.read_quick_texts.Goals as goal
 
-pub returns-in_default : goal.returns-in_default
-returns-in_default c =
+pub returns-in_err-n : goal.returns-in_err-n
+returns-in_err-n c =
     let a = c.args in
-    let bytes : Bytes a.m.now = λ i. (c.shared_slice_known-1.given i).fits in
-    λ ops left. no_head KQuickTexts (quick_head a.coding) left a.m.now a.p bytes
-    (λ x r k i. subst (HeadIs a.m.now a.p 1 64 a.operations) c.in_default.is c.list_head-head.ensures r x.0 (sym k.0) (omega (arith, op_small x.0)))
+    λ ops left. subst⁻¹ (BodyAt a.coding KQuickTexts left a.m.now a.p) c.from_residual.ensures
+    (no_head KQuickTexts (quick_head a.coding) left a.m.now a.p (λ i. (c.type_inv.m i).fits) (λ x r k i. c.in_err-n.ensures r x.0 (sym k.0) (omega (arith, op_small x.0))))
 
-pub returns-in_default-walked : goal.returns-in_default-walked
-returns-in_default-walked c =
+pub returns-in_err-next : goal.returns-in_err-next
+returns-in_err-next c =
     let a = c.args in
-    let bytes : Bytes a.m.now = λ i. (c.shared_slice_known-1.given i).fits in
-    let z = subst (HeadIs a.m.now a.p 1 64 a.operations) c.in-Is.is c.list_head-head.ensures in
-    let stop = subst (EntriesAt (LQuickTexts c.least_units.result) a.coding text_limits a.m.now c.in-Is.start c.in-Is.count) c.in_default-walked.is c.walk_entries-walked.ensures in
-    λ ops left. no_body KQuickTexts (quick_head a.coding) left a.m.now a.p bytes refl
-    (λ x next k i t. stop x.1 next (record { counted = omega (arith, z.3, k.1.0); in_range = quick_from c.in-Is.operation x.0 _ x.1 (z.1 ∙ k.0) c.least_units.ensures i; stands = subst⁻¹ (λ (s : ℕ). FieldsAt (each (quick_text a.coding) x.1) a.m.now s next) z.2 t }))
+    λ ops left. subst⁻¹ (BodyAt a.coding KQuickTexts left a.m.now a.p) c.from_residual-in_err-next.ensures
+    (no_body KQuickTexts (quick_head a.coding) left a.m.now a.p (λ i. (c.type_inv.m i).fits) c.in_ok-n.ensures.1
+    (λ x next k i t. c.in_err-next.ensures x.1 next (record { counted = omega (arith, k.1.0); in_range = quick_from c.in_ok-n.operation x.0 _ x.1 (c.in_ok-n.ensures.2 ∙ k.0) c.least_units.ensures i; stands = t })))
 
 pub returns : goal.returns
 returns c =
     let a = c.args in
-    let bytes : Bytes a.m.now = λ i. (c.shared_slice_known-1.given i).fits in
-    let next = c.in-To.next in
-    let z = subst (HeadIs a.m.now a.p 1 64 a.operations) c.in-Is.is c.list_head-head.ensures in
-    let w = subst (EntriesAt (LQuickTexts c.least_units.result) a.coding text_limits a.m.now c.in-Is.start c.in-Is.count) c.in-To.is c.walk_entries-walked.ensures in
-    λ ops left. the_body KQuickTexts (quick_head a.coding) left a.m.now a.p bytes refl (c.in-Is.operation, w.0)
-    (QuickTexts c.in-Is.operation (record { start = c.in-Is.start; count = c.in-Is.count; next = next; coding = a.coding })) next z.0 (sym z.1, (omega (arith, w.1.counted, z.3), tt)) (quick_in c.in-Is.operation _ w.0 c.least_units.ensures w.1.in_range)
-    (subst (λ (s : ℕ). FieldsAt (each (quick_text a.coding) w.0) a.m.now s next) z.2 w.1.stands) (w.0, refl, record { counted = w.1.counted; stands = w.1.stands })
+    let z = c.in_ok-n.ensures in
+    let w = c.in_ok-next.ensures in
+    let o = c.in_ok-n.operation in
+    let s = w.1 in
+    λ ops left. the_body KQuickTexts (quick_head a.coding) left a.m.now a.p (λ i. (c.type_inv.m i).fits) z.1 (o, w.0)
+    (QuickTexts o _) c.in_ok-next.next z.0 (sym z.2, (omega (arith, s.counted), tt)) (quick_in o _ w.0 c.least_units.ensures s.in_range) s.stands
+    (w.0, refl, record { counted = s.counted; stands = s.stands })

@@ -1,29 +1,17 @@
-use Rattle.lists.proofs.Kit.{rules, arith, ℕ, ◌≤◌, ◌<◌, ◌+◌, ◌*◌, ◌-◌, ◌^◌, ◌≡◌, refl, sym, ◌∙◌, ap, ap₂, subst, length, drop, take}
+use Rattle.lists.proofs.Kit.{rules, arith, ◌+◌, ◌*◌, ◌∙◌, ap, ap₂, ◌-◌, get_or, drop, take}
 use Rattle.read_fields.specs.Places.{be}
-use Rattle.read_fields.proofs.Heads.{be_64, be_room, be_turn}
+use Rattle.read_fields.proofs.Heads.{be_64, be_room, be_next}
 use Rattle.read_fields.proofs.bytes.joined.Goals as goal
-
-pub loop-i-init : goal.loop-i-init
-loop-i-init c = (omega arith, omega arith, refl)
 
 pub overflow_mul-n : goal.overflow_mul-n
 overflow_mul-n c =
-    omega (arith, be_64 {i = c.loop-i.i + 1} (be_room c.loop-i.n c.loop-i.i 0 c.loop-i.invariant.1 (omega arith)) (omega arith))
+    omega (arith, be_64 {i = c.loop-b.b-index + 1} (be_room c.loop-b.n c.loop-b.b-index 0 c.loop-b.invariant.1 (omega arith)) (omega arith))
 
-pub overflow_add-n : goal.overflow_add-n
-overflow_add-n c =
-    omega (arith, be_64 {i = c.loop-i.i + 1} (be_room c.loop-i.n c.loop-i.i c.long.result c.loop-i.invariant.1 c.long.ensures.1) (omega arith))
-
-pub loop-i-preserved : goal.loop-i-preserved
-loop-i-preserved c =
-    let a = c.args in (
-      omega arith,
-      be_room c.loop-i.n c.loop-i.i c.long.result c.loop-i.invariant.1 c.long.ensures.1,
-      ap₂ (λ x y. x * 256 + y) c.loop-i.invariant.2 c.long.ensures.0 ∙ be_turn a.m.now a.at c.loop-i.i (omega arith),
-    )
-
-pub returns : goal.returns
-returns c =
+pub loop-b-preserved : goal.loop-b-preserved
+loop-b-preserved c =
     let a = c.args in
-    let e : c.loop-i.i ≡ a.k = omega arith in
-    c.loop-i.invariant.2 ∙ ap (λ j. be 0 (take j (drop a.at a.m.now))) e
+    let l = c.loop-b in (
+      omega arith,
+      be_room l.n l.b-index _ l.invariant.1 (search rules),
+      ap (λ x. x * 256 + get_or (take (a.at + a.k - a.at) (drop a.at a.m.now)) l.b-index 0) l.invariant.2 ∙ be_next a.m.now a.at l.b-index a.k (omega arith) (omega arith),
+    )

@@ -1,50 +1,54 @@
-use Rattle.lists.proofs.Kit.{rules, subst}
+use Rattle.lists.proofs.Kit.{subst⁻¹}
 use Rattle.writing.specs.Ranges.{text_limits}
-use Rattle.read_fields.specs.Entries.{ContactAt, AddressedAt, QuickAt, StatusAt}
-use Rattle.read_fields.specs.declared.entries.Walk.TheVariants.{To, Stopped}
+use Rattle.read_fields.specs.Entries.{form_of, range_of, PassAt}
 use Rattle.read_fields.proofs.EntryLaws.{by_list}
+use Rattle.std.specs.Prelude.{Some, None}
 use Rattle.read_fields.proofs.entries.pass_entry.Goals as goal
 
-pub returns-in_default : goal.returns-in_default
-returns-in_default c =
+pub returns-in_err-read_contact-in-Contacts : goal.returns-in_err-read_contact-in-Contacts
+returns-in_err-read_contact-in-Contacts c =
     let a = c.args in
-    by_list a.coding a.m.now a.at Stopped c.in-Contacts.is (subst (ContactAt a.coding text_limits a.m.now a.at) c.in_default.is c.read_contact-here.ensures)
+    subst⁻¹ (PassAt (form_of a.list a.coding) (range_of a.list text_limits) a.m.now a.at) c.from_residual.ensures
+    (by_list a.coding a.m.now a.at None c.in-Contacts.is c.in_err-read_contact-in-Contacts.ensures)
 
-pub returns-in_default-here : goal.returns-in_default-here
-returns-in_default-here c =
+pub returns-in_ok-read_contact-in-Contacts : goal.returns-in_ok-read_contact-in-Contacts
+returns-in_ok-read_contact-in-Contacts c =
     let a = c.args in
-    by_list a.coding a.m.now a.at Stopped c.in-Addressed.is (subst (AddressedAt a.coding text_limits a.m.now a.at) c.in_default-here.is c.read_addressed-here.ensures)
+    let z = c.in_ok-read_contact-in-Contacts.ensures in
+    by_list a.coding a.m.now a.at (Some _) c.in-Contacts.is (z.0, z.1, z.3)
 
-pub returns-in_default-here-2 : goal.returns-in_default-here-2
-returns-in_default-here-2 c =
+pub returns-in_err-read_addressed-in-Addressed : goal.returns-in_err-read_addressed-in-Addressed
+returns-in_err-read_addressed-in-Addressed c =
     let a = c.args in
-    by_list a.coding a.m.now a.at Stopped c.in-QuickTexts.is (subst (QuickAt a.coding text_limits c.in-QuickTexts.least a.m.now a.at) c.in_default-here-2.is c.read_quick-here.ensures)
+    subst⁻¹ (PassAt (form_of a.list a.coding) (range_of a.list text_limits) a.m.now a.at) c.from_residual-in_err-read_addressed-in-Addressed.ensures
+    (by_list a.coding a.m.now a.at None c.in-Addressed.is c.in_err-read_addressed-in-Addressed.ensures)
 
-pub returns-in_default-here-3 : goal.returns-in_default-here-3
-returns-in_default-here-3 c =
+pub returns-in_ok-read_addressed-in-Addressed : goal.returns-in_ok-read_addressed-in-Addressed
+returns-in_ok-read_addressed-in-Addressed c =
     let a = c.args in
-    by_list a.coding a.m.now a.at Stopped c.in-StatusTexts.is (subst (StatusAt a.coding text_limits a.m.now a.at) c.in_default-here-3.is c.read_status-here.ensures)
+    let z = c.in_ok-read_addressed-in-Addressed.ensures in
+    by_list a.coding a.m.now a.at (Some _) c.in-Addressed.is (z.0, z.1, z.3)
 
-pub returns-in-Contact : goal.returns-in-Contact
-returns-in-Contact c =
+pub returns-in_err-read_quick-in-QuickTexts : goal.returns-in_err-read_quick-in-QuickTexts
+returns-in_err-read_quick-in-QuickTexts c =
     let a = c.args in
-    let z = subst (ContactAt a.coding text_limits a.m.now a.at) c.in-Contact.is c.read_contact-here.ensures in
-    by_list a.coding a.m.now a.at (To c.in-Contact.next) c.in-Contacts.is (z.0, z.1, z.3)
+    subst⁻¹ (PassAt (form_of a.list a.coding) (range_of a.list text_limits) a.m.now a.at) c.from_residual-in_err-read_quick-in-QuickTexts.ensures
+    (by_list a.coding a.m.now a.at None c.in-QuickTexts.is c.in_err-read_quick-in-QuickTexts.ensures)
 
-pub returns-in-Contact-here : goal.returns-in-Contact-here
-returns-in-Contact-here c =
+pub returns-in_ok-read_quick-in-QuickTexts : goal.returns-in_ok-read_quick-in-QuickTexts
+returns-in_ok-read_quick-in-QuickTexts c =
     let a = c.args in
-    let z = subst (AddressedAt a.coding text_limits a.m.now a.at) c.in-Contact-here.is c.read_addressed-here.ensures in
-    by_list a.coding a.m.now a.at (To c.in-Contact-here.next) c.in-Addressed.is (z.0, z.1, z.3)
+    let z = c.in_ok-read_quick-in-QuickTexts.ensures in
+    by_list a.coding a.m.now a.at (Some _) c.in-QuickTexts.is (z.0, z.1, z.3)
 
-pub returns-in-Entry : goal.returns-in-Entry
-returns-in-Entry c =
+pub returns-in_err-read_status-in-StatusTexts : goal.returns-in_err-read_status-in-StatusTexts
+returns-in_err-read_status-in-StatusTexts c =
     let a = c.args in
-    let z = subst (QuickAt a.coding text_limits c.in-QuickTexts.least a.m.now a.at) c.in-Entry.is c.read_quick-here.ensures in
-    by_list a.coding a.m.now a.at (To c.in-Entry.next) c.in-QuickTexts.is (z.0, z.1, z.3)
+    subst⁻¹ (PassAt (form_of a.list a.coding) (range_of a.list text_limits) a.m.now a.at) c.from_residual-in_err-read_status-in-StatusTexts.ensures
+    (by_list a.coding a.m.now a.at None c.in-StatusTexts.is c.in_err-read_status-in-StatusTexts.ensures)
 
-pub returns-in-Entry-here : goal.returns-in-Entry-here
-returns-in-Entry-here c =
+pub returns-in_ok-read_status-in-StatusTexts : goal.returns-in_ok-read_status-in-StatusTexts
+returns-in_ok-read_status-in-StatusTexts c =
     let a = c.args in
-    let z = subst (StatusAt a.coding text_limits a.m.now a.at) c.in-Entry-here.is c.read_status-here.ensures in
-    by_list a.coding a.m.now a.at (To c.in-Entry-here.next) c.in-StatusTexts.is (z.0, z.1, z.3)
+    let z = c.in_ok-read_status-in-StatusTexts.ensures in
+    by_list a.coding a.m.now a.at (Some _) c.in-StatusTexts.is (z.0, z.1, z.3)

@@ -1,16 +1,16 @@
-use Rattle.lists.proofs.Kit.{rules, arith, get_or}
+use Rattle.lists.proofs.Kit.{get_or, subst⁻¹}
 use Rattle.settings.proofs.TypeTableLaws.{row_at}
 use Rattle.writing.specs.declared.Kind.TheVariants.{Last}
-use Rattle.settings.specs.TypeTable.{kinds}
+use Rattle.settings.specs.TypeTable.{kinds, BoundsAt}
 use Rattle.settings.proofs.type_table.bounds_of.Goals as goal
 
-pub returns-then-i-ge13 : goal.returns-then-i-ge13
-returns-then-i-ge13 c = c.place_of-i.ensures.none (omega arith)
+pub returns-in_err-i : goal.returns-in_err-i
+returns-in_err-i c = subst⁻¹ (BoundsAt c.args.coding c.args.b) c.from_residual.ensures c.in_err-i.ensures
 
 pub returns : goal.returns
 returns c =
-    let p = c.place_of-i in (
-      get_or kinds p.result Last,
-      p.ensures.found (omega arith),
-      c.under.ensures (get_or kinds p.result Last) (row_at p.result _ (omega arith)),
+    let p = c.in_ok-i in (
+      get_or kinds p.i Last,
+      p.ensures.1,
+      c.under.ensures (get_or kinds p.i Last) (row_at p.i _ p.ensures.0),
     )

@@ -1,4 +1,4 @@
-use Rattle.lists.proofs.Kit.{rules, ap}
+use Rattle.lists.proofs.Kit.{ap}
 use Rattle.writing.specs.Settings.{unicode16, eight_bit}
 use Rattle.settings.proofs.TypeTableLaws.{columns_are}
 use Rattle.settings.proofs.type_table.under.Goals as goal

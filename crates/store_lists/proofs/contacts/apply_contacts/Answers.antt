@@ -19,7 +19,7 @@ returns-in_default c =
     let l = c.loop-i in
     contacts_applied a.operation a.m.now a.flags a.entries a.list.now z.new.part l.list false z.ensures
     (λ w f byte ok. keyed_stuck (by_address w f a.entries.coding) a.operation a.m.now a.entries z.new.part l.p l.i l.list (omega arith) (l.invariant.1 w f byte ok) l.list false
-    (no_contact w f a.entries.coding a.m.now l.p c.read_addressed-here.ensures c.in_default.is))
+    (no_contact w f a.entries.coding a.m.now l.p c.in_default.ensures refl))
 
 pub returns-then-not-step_contact : goal.returns-then-not-step_contact
 returns-then-not-step_contact c =
@@ -30,7 +30,7 @@ returns-then-not-step_contact c =
     let k = c.step_contact in
     contacts_applied a.operation a.m.now a.flags a.entries a.list.now z.new.part k.new.list false z.ensures
     (λ w f byte ok. keyed_full (by_address w f a.entries.coding) a.operation a.m.now a.entries z.new.part l.p l.i l.list (omega arith) (l.invariant.1 w f byte ok) _ x.result
-    (next_contact w f a.entries.coding a.m.now l.p c.read_addressed-here.ensures _ _ c.in-Contact.is a.flags x.result x.ensures byte ok)
+    (next_contact w f a.entries.coding a.m.now l.p c.in-Some.ensures _ _ refl a.flags x.result x.ensures byte ok)
     k.new.list k.result k.ensures (not-true k.result c.if-not-step_contact.true-raw))
 
 pub loop-i-preserved : goal.loop-i-preserved
@@ -42,7 +42,7 @@ loop-i-preserved c =
     let k = c.step_contact in (
       search rules,
       λ w f byte ok. keyed_on (by_address w f a.entries.coding) a.operation a.m.now a.entries z.new.part l.p l.i l.list (omega arith) (l.invariant.1 w f byte ok) _ x.result
-          (next_contact w f a.entries.coding a.m.now l.p c.read_addressed-here.ensures _ _ c.in-Contact.is a.flags x.result x.ensures byte ok)
+          (next_contact w f a.entries.coding a.m.now l.p c.in-Some.ensures _ _ refl a.flags x.result x.ensures byte ok)
           k.new.list k.result k.ensures (not-false k.result c.if-not-step_contact.false-raw),
     )
 

@@ -15,7 +15,7 @@ returns-in_default c =
     let l = c.loop-i in
     lines_applied a.operation a.m.now a.flags a.entries a.list.now z.new.part l.list false z.ensures
     (λ low. keyed_stuck (by_number a.flags a.entries.coding) a.operation a.m.now a.entries z.new.part l.p l.i l.list (omega arith) (l.invariant.1 low) l.list false
-    (no_line a.flags a.entries.coding a.m.now l.p c.read_contact-here.ensures c.in_default.is))
+    (no_line a.flags a.entries.coding a.m.now l.p c.in_default.ensures refl))
 
 pub returns-then-not-step_line : goal.returns-then-not-step_line
 returns-then-not-step_line c =
@@ -26,7 +26,7 @@ returns-then-not-step_line c =
     let k = c.step_line in
     lines_applied a.operation a.m.now a.flags a.entries a.list.now z.new.part k.new.list false z.ensures
     (λ low. keyed_full (by_number a.flags a.entries.coding) a.operation a.m.now a.entries z.new.part l.p l.i l.list (omega arith) (l.invariant.1 low) _ x.result
-    (next_line a.flags a.entries.coding a.m.now l.p c.read_contact-here.ensures _ _ c.in-Contact.is x.result x.ensures low)
+    (next_line a.flags a.entries.coding a.m.now l.p c.in-Some.ensures _ _ refl x.result x.ensures low)
     k.new.list k.result k.ensures (not-true k.result c.if-not-step_line.true-raw))
 
 pub loop-i-preserved : goal.loop-i-preserved
@@ -38,7 +38,7 @@ loop-i-preserved c =
     let k = c.step_line in (
       search rules,
       λ low. keyed_on (by_number a.flags a.entries.coding) a.operation a.m.now a.entries z.new.part l.p l.i l.list (omega arith) (l.invariant.1 low) _ x.result
-          (next_line a.flags a.entries.coding a.m.now l.p c.read_contact-here.ensures _ _ c.in-Contact.is x.result x.ensures low)
+          (next_line a.flags a.entries.coding a.m.now l.p c.in-Some.ensures _ _ refl x.result x.ensures low)
           k.new.list k.result k.ensures (not-false k.result c.if-not-step_line.false-raw),
     )
 

@@ -11,7 +11,7 @@ returns-in_default c =
     let a = c.args in
     let l = c.loop-left in
     let z = c.empty_to_replace in
-    texts_missing a.table a.m.now a.operation z.new.part a.entries l.p l.left l.region l.invariant.1 a.region.now z.ensures l.region (omega arith) c.read_entry-here.ensures c.in_default.is
+    texts_missing a.table a.m.now a.operation z.new.part a.entries l.p l.left l.region l.invariant.1 a.region.now z.ensures l.region (omega arith) c.in_default.ensures refl
 
 pub loop-left-preserved : goal.loop-left-preserved
 loop-left-preserved c =
@@ -19,7 +19,7 @@ loop-left-preserved c =
     let l = c.loop-left in
     let z = c.empty_to_replace in
     let y = c.apply_entry in
-    (omega (arith, l.invariant.0), texts_next a.table a.m.now a.operation z.new.part a.entries l.p l.left l.region l.invariant.1 c.in-Entry.place c.in-Entry.next y.new.region (omega arith) c.read_entry-here.ensures c.in-Entry.is y.ensures)
+    (omega (arith, l.invariant.0), texts_next a.table a.m.now a.operation z.new.part a.entries l.p l.left l.region l.invariant.1 c.in-Some.place c.in-Some.next y.new.region (omega arith) c.in-Some.ensures refl y.ensures)
 
 pub returns : goal.returns
 returns c =
