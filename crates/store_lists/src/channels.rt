@@ -4,7 +4,7 @@ ghost use Rattle.slots.specs.Slots.{u16};
 ghost use Rattle.writing.specs.declared.Operation.TheVariants.{Add, Delete};
 ghost use Rattle.store_lists.specs.Lists.{ChannelApplied, ChannelsApplied, MarkedDropped};
 
-use super::marks::{MARKS, mark_channels, number};
+use super::marks::{MARKS, mark_channels};
 use counted_lists::changes::{add_end, drop_keyed};
 use read_fields::channels::channel_at;
 use settings::settings::Entries;
@@ -16,7 +16,7 @@ use writing::Operation;
 fn channel_slot(n: u16) -> [u8; CHANNEL_SLOT]
     ensures { result ≡ u16 n }
 {
-    [(n / 256) as u8, (n % 256) as u8]
+    n.to_be_bytes()
 }
 
 // Puts a channel at the end, where there is room.
@@ -51,7 +51,7 @@ fn add_channels(list: &mut [u8], m: &[u8], entries: Entries) -> bool
 fn delete_marked(list: &mut [u8], marks: &mut [u8], n: u16)
     ensures { MarkedDropped n list.old marks.old list.new marks.new }
 {
-    let at = number(n);
+    let at = usize::from(n);
     if marks.len() <= at {
         return;
     }

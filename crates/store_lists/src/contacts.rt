@@ -33,8 +33,7 @@ pub fn apply_contacts(
     empty_to_replace(list, operation);
     let coding = entries.coding;
     let mut p = entries.start;
-    let mut i = 0;
-    while i < entries.count {
+    for _ in 0..entries.count {
         let Some((place, next)) = read_addressed(m, p, coding) else {
             return false;
         };
@@ -43,7 +42,6 @@ pub fn apply_contacts(
             return false;
         }
         p = next;
-        i += 1;
     }
     true
 }

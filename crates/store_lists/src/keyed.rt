@@ -16,7 +16,7 @@ const FIRST_ADDRESS: usize = COUNT + MEMBER_ADDRESS;
 fn little(a: u8, b: u8) -> usize
     ensures { result ≡ a + b * 256 }
 {
-    a as usize + b as usize * 256
+    usize::from(u16::from_le_bytes([a, b]))
 }
 
 // Whether the bytes a, b, c are x, y, z: the last two, in which addresses that are close differ, are compared first.

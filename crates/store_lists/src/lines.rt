@@ -49,8 +49,7 @@ pub fn apply_lines(
     empty_to_replace(list, operation);
     let coding = entries.coding;
     let mut p = entries.start;
-    let mut i = 0;
-    while i < entries.count {
+    for _ in 0..entries.count {
         let Some((place, next)) = read_contact(m, p, coding) else {
             return false;
         };
@@ -59,7 +58,6 @@ pub fn apply_lines(
             return false;
         }
         p = next;
-        i += 1;
     }
     true
 }

@@ -7,18 +7,11 @@ use counted_lists::counts::count;
 // A mark for each number up to the highest that a channel has, 640.
 pub(crate) const MARKS: usize = 641;
 
-// A channel as a number.
-pub(crate) fn number(n: u16) -> usize
-    ensures { result ≡ n }
-{
-    n as usize
-}
-
 // Two bytes as a number, high byte first.
 fn pair(high: u8, low: u8) -> usize
     ensures { result ≡ high * 256 + low }
 {
-    high as usize * 256 + low as usize
+    usize::from(u16::from_be_bytes([high, low]))
 }
 
 // Marks a number, if there is a mark for it.

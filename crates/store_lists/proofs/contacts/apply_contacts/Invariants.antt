@@ -7,10 +7,9 @@ use Rattle.store_lists.proofs.KeyedLaws.{KeyedLeft, keyed_start, keyed_end, keye
 use Rattle.store_lists.proofs.ContactLaws.{by_address, no_contact, next_contact, contacts_applied}
 use Rattle.store_lists.proofs.contacts.apply_contacts.Given as goal
 
-abbrev pub invariant-loop-i : goal.invariant-loop-i
-invariant-loop-i l =
+abbrev pub invariant-loop : goal.invariant-loop
+invariant-loop l =
     (length l.list ≡ length l.initial.list)
-    × ((w : Members) (f : FlagsIn w) → l.flags ≡ flags_of w f → FlagsOk w f → KeyedLeft (by_address w f l.entries.coding) l.operation l.m l.entries l.initial.list l.p l.i l.list)
+    × (l.end ≡ l.fn.entries.count)
+    × ((w : Members) (f : FlagsIn w) → l.flags ≡ flags_of w f → FlagsOk w f → KeyedLeft (by_address w f l.fn.entries.coding) l.operation l.m l.fn.entries l.initial.list l.p l.counter l.list)
 
-abbrev pub decreases-loop-i : goal.decreases-loop-i
-decreases-loop-i l = l.entries.count - l.i

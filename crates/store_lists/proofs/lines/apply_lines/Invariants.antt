@@ -3,10 +3,9 @@ use Rattle.store_lists.proofs.KeyedLaws.{KeyedLeft, keyed_start, keyed_end, keye
 use Rattle.store_lists.proofs.LineLaws.{by_number, no_line, next_line, lines_applied}
 use Rattle.store_lists.proofs.lines.apply_lines.Given as goal
 
-abbrev pub invariant-loop-i : goal.invariant-loop-i
-invariant-loop-i l =
+abbrev pub invariant-loop : goal.invariant-loop
+invariant-loop l =
     (length l.list ≡ length l.initial.list)
-    × (l.flags.priority < 4 → KeyedLeft (by_number l.flags l.entries.coding) l.operation l.m l.entries l.initial.list l.p l.i l.list)
+    × (l.end ≡ l.fn.entries.count)
+    × (l.flags.priority < 4 → KeyedLeft (by_number l.flags l.fn.entries.coding) l.operation l.m l.fn.entries l.initial.list l.p l.counter l.list)
 
-abbrev pub decreases-loop-i : goal.decreases-loop-i
-decreases-loop-i l = l.entries.count - l.i
