@@ -85,11 +85,9 @@ pub(crate) fn units_to(store: &[u8], limits: Limits, k: usize, n: usize) -> usiz
     ensures { (result ≡ counted_before store.now (text_runs limits) k n) × (result ≤ 585225) }
 {
     let mut sum = 0;
-    let mut i = 0;
-    while i < k {
+    for i in 0..k {
         let run = run_of(limits, i);
         sum += run_units(store, run, run.many);
-        i += 1;
     }
     sum + run_units(store, run_of(limits, k), n)
 }

@@ -34,8 +34,7 @@ fn save_heads(heads: &mut [u8], slots: &[u8], own: usize, room: usize, n: usize)
 {
     let mut at = 0;
     let mut to = 0;
-    let mut i = 0;
-    while i < n {
+    for i in 0..n {
         let text = to + own;
         let next = text + room;
         let bytes = text_bytes(&slots[text..next]);
@@ -45,7 +44,6 @@ fn save_heads(heads: &mut [u8], slots: &[u8], own: usize, room: usize, n: usize)
         save_head(&mut heads[at..after], &slots[to..text], units);
         at = after;
         to = next;
-        i += 1;
     }
 }
 
@@ -63,8 +61,7 @@ fn save_texts(
 {
     let mut place = from;
     let mut to = 0;
-    let mut i = 0;
-    while i < n {
+    for i in 0..n {
         let text = to + own;
         let next = text + room;
         let bytes = text_bytes(&slots[text..next]);
@@ -74,7 +71,6 @@ fn save_texts(
         copy_run(area, place, slots, text, bytes);
         place += bytes;
         to = next;
-        i += 1;
     }
     place
 }
@@ -114,15 +110,13 @@ fn save_tables(store: &mut [u8], work: &[u8], limits: Limits)
 {
     let mut heads = 0;
     let mut slots = 0;
-    let mut k = 0;
-    while k < TEXT_TABLES {
+    for k in 0..TEXT_TABLES {
         let run = run_of(limits, k);
         let n = run.start - heads;
         copy_run(store, heads, work, slots, n);
         save_run(store, work, run);
         heads = heads_end(run);
         slots = slots_end(run);
-        k += 1;
     }
 }
 
@@ -143,11 +137,9 @@ fn save_area(area: &mut [u8], work: &[u8], limits: Limits)
     ensures { SumIn limits work.now (length area.old) → IsArea limits work.now (length area.old) area.new }
 {
     let mut place = 0;
-    let mut k = 0;
-    while k < TEXT_TABLES {
+    for k in 0..TEXT_TABLES {
         let run = run_of(limits, k);
         place = save_run_texts(area, work, run, place);
-        k += 1;
     }
     wipe(&mut area[place..]);
 }

@@ -38,14 +38,12 @@ pub(crate) fn text_bytes(place: &[u8]) -> usize
     ensures { TextEnds place.now result }
 {
     let units = place.len() / 2;
-    let mut i = 0;
-    while i < units {
+    for i in 0..units {
         if is_end(place, i * 2) {
             return i * 2;
         }
-        i += 1;
     }
-    i * 2
+    place.len()
 }
 
 // The bytes of the texts that stand in n slots, behind own others and with room bytes for each.
@@ -55,13 +53,11 @@ fn slots_bytes(slots: &[u8], own: usize, room: usize, n: usize) -> usize
 {
     let mut sum = 0;
     let mut at = 0;
-    let mut i = 0;
-    while i < n {
+    for i in 0..n {
         let text = at + own;
         let next = text + room;
         sum += text_bytes(&slots[text..next]);
         at = next;
-        i += 1;
     }
     sum
 }
@@ -82,11 +78,9 @@ fn all_bytes(work: &[u8], limits: Limits) -> usize
     ensures { SumIs limits work.now result }
 {
     let mut sum = 0;
-    let mut k = 0;
-    while k < TEXT_TABLES {
+    for k in 0..TEXT_TABLES {
         let run = run_of(limits, k);
         sum += run_bytes(work, run);
-        k += 1;
     }
     sum
 }

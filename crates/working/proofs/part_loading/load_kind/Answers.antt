@@ -1,4 +1,4 @@
-use Rattle.lists.proofs.Kit.{sym, ◌∙◌, rules}
+use Rattle.lists.proofs.Kit.{sym, ◌∙◌}
 use Rattle.working.proofs.PartLoadTables.{channels_loaded, kind_loaded}
 use Rattle.working.proofs.part_loading.load_kind.Goals as goal
 

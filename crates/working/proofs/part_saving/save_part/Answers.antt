@@ -1,4 +1,4 @@
-use Rattle.lists.proofs.Kit.{refl, subst⁻¹, rules, arith}
+use Rattle.lists.proofs.Kit.{refl, subst⁻¹, arith}
 use Rattle.writing.specs.declared.Kind.{Kind}
 use Rattle.tables.proofs.AnswerLaws.{not_said, was_said}
 use Rattle.working.specs.Parts.{PartSaved}

@@ -1,5 +1,5 @@
-use Rattle.lists.proofs.Kit.{◌-◌, rules, arith}
-use Rattle.working.proofs.SaveLaws.{Heading, heading_start, heading_slot, heading_room, heading_fits, heading_units, heading_more, heading_end}
+use Rattle.lists.proofs.Kit.{arith}
+use Rattle.working.proofs.SaveLaws.{heading_start, heading_slot, heading_room, heading_fits, heading_units, heading_more, heading_end}
 use Rattle.working.proofs.SlotLaws.{slot_whole}
 use Rattle.working.proofs.saving.save_heads.Goals as goal
 

@@ -1,6 +1,5 @@
-use Rattle.lists.proofs.Kit.{◌+◌, ◌-◌, ◌*◌, ◌≤◌, rules, arith, length}
-use Rattle.shared_texts.specs.Moves.{placed_units}
-use Rattle.working.proofs.SaveLaws.{Walking, walking_start, walking_slot, walking_room, walking_more, Texting, texting_start, texting_room, texting_more, texting_end}
+use Rattle.lists.proofs.Kit.{arith}
+use Rattle.working.proofs.SaveLaws.{walking_start, walking_slot, walking_room, walking_more, texting_start, texting_room, texting_more, texting_end}
 use Rattle.working.proofs.SlotLaws.{slot_whole}
 use Rattle.working.proofs.saving.save_texts.Goals as goal
 

@@ -1,5 +1,5 @@
-use Rattle.lists.proofs.Kit.{◌-◌, rules, arith}
-use Rattle.working.proofs.CountLaws.{Counting, count_start, count_slot, count_more, count_end}
+use Rattle.lists.proofs.Kit.{arith}
+use Rattle.working.proofs.CountLaws.{count_start, count_slot, count_more, count_end}
 use Rattle.working.proofs.SlotLaws.{slot_whole}
 use Rattle.working.proofs.sums.slots_bytes.Goals as goal
 
