@@ -72,8 +72,7 @@ pub fn units_in(store: &[u8], limits: Limits) -> usize
 pub fn stored_bytes(store: &[u8], limits: Limits) -> usize
     ensures { StoreSum limits store.now result }
 {
-    let texts = limits.texts;
-    match texts {
+    match limits.texts {
         Texts::Placed => 0,
         Texts::Shared(_) => units_in(store, limits) * 2,
     }
@@ -113,7 +112,9 @@ fn has_head(store: &[u8], limits: Limits, k: usize, n: usize) -> bool
 pub fn kind_bytes(store: &[u8], limits: Limits, kind: Kind) -> usize
     ensures { KindSum limits kind store.now result }
 {
-    let k = number_of(kind);
+    let Some(k) = number_of(kind) else {
+        return 0;
+    };
     if !has_head(store, limits, k, 0) {
         return 0;
     }

@@ -92,10 +92,9 @@ pub fn table_bytes(work: &[u8], limits: Limits, kind: Kind) -> usize
     if !is_sized(work, limits) {
         return 0;
     }
-    let k = number_of(kind);
-    if TEXT_TABLES <= k {
+    let Some(k) = number_of(kind) else {
         return 0;
-    }
+    };
     let run = run_of(limits, k);
     run_bytes(work, run)
 }
