@@ -9,6 +9,7 @@ use tables::limits::{Limits, Texts};
 use writing::Kind;
 
 // All of them, or hash, key, home, system and the table of one kind more.
+// No Option<Kind>, which would be no plainer: a copy of all tables is no missing kind, and `Copy::Whole` says so.
 #[derive(Clone, Copy)]
 pub enum Copy {
     Whole,

@@ -46,16 +46,16 @@ pub(crate) fn text_bytes(place: &[u8]) -> usize
     place.len()
 }
 
-// The bytes of the texts that stand in n slots, behind own others and with room bytes for each.
-fn slots_bytes(slots: &[u8], own: usize, room: usize, n: usize) -> usize
-    requires { (n * (own + room) ≤ length slots.now) × (own + room < 500) × (n ≤ 255) × (room ≡ room / 2 * 2) }
-    ensures { (result ≡ 2 * placed_units own room n slots.now) × (result ≤ 500 * n) }
+// The bytes of the texts that stand in a table's slots.
+fn slots_bytes(slots: &[u8], run: Run) -> usize
+    requires { (run.many * (run.own + run.room) ≤ length slots.now) × (run.own + run.room < 500) × (run.many ≤ 255) × (run.room ≡ run.room / 2 * 2) }
+    ensures { (result ≡ 2 * placed_units run.own run.room run.many slots.now) × (result ≤ 500 * run.many) }
 {
     let mut sum = 0;
     let mut at = 0;
-    for i in 0..n {
-        let text = at + own;
-        let next = text + room;
+    for i in 0..run.many {
+        let text = at + run.own;
+        let next = text + run.room;
         sum += text_bytes(&slots[text..next]);
         at = next;
     }
@@ -69,7 +69,7 @@ fn run_bytes(work: &[u8], run: Run) -> usize
 {
     let from = run.from;
     let end = slots_end(run);
-    slots_bytes(&work[from..end], run.own, run.room, run.many)
+    slots_bytes(&work[from..end], run)
 }
 
 // And of all tables.

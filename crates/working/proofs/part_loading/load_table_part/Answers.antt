@@ -1,5 +1,5 @@
 use Rattle.lists.proofs.Kit.{ℕ, refl, ap₂, ◌∙◌, arith, put_mid, mid_of}
-use Rattle.working.proofs.PartLoadTables.{stands_as, table_loaded, no_table}
+use Rattle.working.proofs.PartLoadTables.{stands_as, table_loaded}
 use Rattle.working.proofs.part_loading.load_table_part.Goals as goal
 
 pub overflow_sub-run : goal.overflow_sub-run

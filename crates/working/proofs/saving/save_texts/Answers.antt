@@ -19,7 +19,7 @@ pub text_bytes-bytes-requires : goal.text_bytes-bytes-requires
 text_bytes-bytes-requires c =
     let a = c.args in
     let l = c.loop-i in
-    slot_whole a.slots.now a.own a.room l.to l.invariant.0.whole (walking_slot l.invariant.0 (omega arith))
+    slot_whole a.slots.now a.run.own a.run.room l.to l.invariant.0.whole (walking_slot l.invariant.0 (omega arith))
 
 pub overflow_sub-area : goal.overflow_sub-area
 overflow_sub-area c = let v = c.loop-i.invariant.0 in omega (arith, v.long, v.room_is)

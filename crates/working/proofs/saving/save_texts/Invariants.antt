@@ -5,4 +5,4 @@ use Rattle.working.proofs.saving.save_texts.Given as goal
 
 abbrev pub invariant-loop-i : goal.invariant-loop-i
 invariant-loop-i l =
-    Walking l.area l.slots l.initial.area l.own l.room l.n l.place l.to l.i × (l.from + 2 * placed_units l.own l.room l.n l.slots ≤ length l.initial.area → Texting l.area l.slots l.initial.area l.own l.room l.n l.from l.place l.to l.i)
+    Walking l.area l.slots l.initial.area l.run.own l.run.room l.run.many l.place l.to l.i × (l.from + 2 * placed_units l.run.own l.run.room l.run.many l.slots ≤ length l.initial.area → Texting l.area l.slots l.initial.area l.run.own l.run.room l.run.many l.from l.place l.to l.i)
