@@ -1,5 +1,5 @@
 -- The units before a row's text: those of the tables before its own, and of the rows before it there. Assumes nothing.
-use Rattle.lists.proofs.Kit.{ℕ, ◌+◌, ◌*◌, ◌≤◌, ◌<◌, ◌≡◌, sym, ap, ap₂, ◌∙◌, subst, List, map, arith, take}
+use Rattle.lists.proofs.Kit.{ℕ, ◌+◌, ◌≤◌, ◌<◌, ◌≡◌, sym, ap, ap₂, ◌∙◌, subst, List, map, arith, take}
 use native.Mathlib.Nat.{one-mul}
 use Rattle.slots.specs.Slots.{sum}
 use Rattle.tables.specs.declared.limits.Limits.{Limits}

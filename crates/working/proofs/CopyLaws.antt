@@ -1,5 +1,5 @@
 -- Working copies of all tables or of part of them. Assumes nothing.
-use Rattle.lists.proofs.Kit.{ℕ, ◌+◌, ◌≤◌, ◌≡◌, sym, ap, ◌∙◌, subst, subst⁻¹, List, length}
+use Rattle.lists.proofs.Kit.{ℕ, ◌+◌, ◌≤◌, ◌≡◌, sym, ap, ◌∙◌, subst, subst⁻¹, List}
 use Rattle.writing.specs.declared.Kind.{Kind}
 use Rattle.tables.specs.declared.limits.Limits.{Limits}
 use Rattle.tables.specs.declared.limits.Texts.{Texts}
@@ -16,7 +16,7 @@ use Rattle.shared_texts.specs.Shared.{SharedOk}
 use Rattle.working.specs.declared.copies.Copy.{Copy}
 use Rattle.working.specs.declared.copies.Copy.TheVariants.{Whole, Part}
 use Rattle.working.specs.Copies.{Sparing, CopyLoaded, CopySaved}
-use Rattle.working.specs.Parts.{copied?, part_of, rejoined, PartLoaded, PartSaved}
+use Rattle.working.specs.Parts.{copied?, part_of, PartLoaded, PartSaved}
 use Rattle.working.proofs.FormMoves.{in_form, sized, roomed, held}
 use Rattle.working.proofs.PartSaveLaws.{mix_allowed}
 use Rattle.working.proofs.SumLaws.{works_length}

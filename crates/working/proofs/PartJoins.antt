@@ -1,5 +1,5 @@
 -- A table with texts saved from a working copy of part of the tables: its region and the area are those of the tables together. Assumes nothing.
-use Rattle.lists.proofs.Kit.{ℕ, zero, suc, ◌+◌, ◌-◌, ◌*◌, ◌≤◌, ◌<◌, ◌≡◌, refl, sym, ap, ap₂, ◌∙◌, subst, subst⁻¹, cond, List, [], ◌++◌, map, arith, put_mid, mid_of, length, take, get_or, set, eqb, length-set}
+use Rattle.lists.proofs.Kit.{ℕ, zero, suc, ◌+◌, ◌-◌, ◌*◌, ◌≤◌, ◌<◌, ◌≡◌, refl, sym, ap, ap₂, ◌∙◌, subst⁻¹, cond, List, [], ◌++◌, map, arith, put_mid, mid_of, length, take, get_or, set, eqb, length-set}
 use lib.Seq.{map-set_same}
 use Rattle.slots.specs.Slots.{flat, sum}
 use Rattle.slots.proofs.Parts.{get_d_length, parts_put}

@@ -1,5 +1,5 @@
 -- A store with some of its tables taken from a working copy of part of them is the store of both together. Assumes nothing.
-use Rattle.lists.proofs.Kit.{ℕ, ◌+◌, ◌-◌, ◌≤◌, ◌≡◌, refl, sym, ap, ap₂, ◌∙◌, subst, subst⁻¹, Bool, true, false, cond, ◌||◌, or-true, List, ◌++◌, arith, put_mid, mid_of, drop, drop_at}
+use Rattle.lists.proofs.Kit.{ℕ, ◌≤◌, ◌≡◌, refl, sym, ap, ap₂, ◌∙◌, subst, subst⁻¹, Bool, true, false, cond, ◌||◌, or-true, List, ◌++◌, arith, put_mid, mid_of, drop, drop_at}
 use Rattle.writing.specs.declared.Kind.{Kind}
 use Rattle.writing.specs.declared.Kind.TheVariants.{GroupContacts, IndividualContacts, Lines, Key, QuickTexts, Home, Channels, System, StatusTexts, Group, Individual, LineSlot, Last}
 use Rattle.tables.specs.declared.limits.Limits.{Limits}

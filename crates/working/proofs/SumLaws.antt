@@ -8,7 +8,7 @@ use Rattle.tables.specs.Store.{Works, TableSum, WorkSum}
 use Rattle.tables.specs.Tables.{Tables}
 use Rattle.shared_texts.specs.declared.Run.{Run}
 use Rattle.shared_texts.specs.Moves.{run_sum, work_sum}
-use Rattle.tables.specs.Texts.{text_tables, text_sum, table_sum, text_size}
+use Rattle.tables.specs.Texts.{text_tables, table_sum, text_size}
 use Rattle.tables.specs.Forms.{Roomy}
 use Rattle.tables.proofs.LayoutLaws.{placed_length}
 use Rattle.shared_texts.proofs.WorkLaws.{work_sum_is, table_sum_is}

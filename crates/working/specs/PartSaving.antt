@@ -1,9 +1,9 @@
 -- A table with texts, saved from a working copy of part of the tables: its region of heads, and the area with its texts anew. Inner steps, no promise cites these.
-use Rattle.std.specs.Prelude.{ℕ, ◌+◌, ◌-◌, ◌*◌, ◌≤◌, ◌≡◌, cond, List, ◌++◌, eqb, ltb, take}
+use Rattle.std.specs.Prelude.{ℕ, ◌+◌, ◌-◌, ◌*◌, ◌≤◌, ◌≡◌, List, ◌++◌, take}
 use borrow.Rule.Slice.PartMut.{put_mid, mid_of}
 use Rattle.slots.specs.Slots.{pad}
 use Rattle.tables.specs.declared.limits.Limits.{Limits}
-use Rattle.tables.specs.Layout.{count_size, used_size}
+use Rattle.tables.specs.Layout.{used_size}
 use Rattle.tables.specs.SharedLayout.{heads_size}
 use Rattle.shared_texts.specs.declared.Run.{Run}
 use Rattle.shared_texts.specs.Shared.{text_runs, counted_before, stored_units}

@@ -1,5 +1,5 @@
 -- The tables that have texts, by number: where their slots stand, and how many bytes those take. Inner steps, no promise cites these.
-use Rattle.std.specs.Prelude.{ℕ, zero, suc, ◌+◌, ◌-◌, ◌*◌, ◌/◌, ◌≤◌, ◌<◌, ◌≡◌, List, [], ◌++◌, get_or}
+use Rattle.std.specs.Prelude.{ℕ, zero, suc, ◌+◌, ◌-◌, ◌*◌, ◌/◌, ◌≤◌, ◌<◌, ◌≡◌, List, [], ◌++◌, get_or, Option, Some, None}
 use Rattle.writing.specs.declared.Kind.{Kind}
 use Rattle.writing.specs.declared.Kind.TheVariants.{GroupContacts, IndividualContacts, Lines, Key, QuickTexts, Home, Channels, System, StatusTexts, Group, Individual, LineSlot, Last}
 use Rattle.tables.specs.declared.limits.Limits.{Limits}
@@ -27,6 +27,11 @@ text_number Home = 8
 text_number Channels = 8
 text_number System = 8
 text_number Last = 8
+
+-- it, for a kind whose table has texts
+abbrev pub NumberIs : Kind → Option ℕ → Type 0
+NumberIs k (Some n) = (n ≡ text_number k) × (n < 8)
+NumberIs k None = 8 ≤ text_number k
 
 -- where a table's slots end in a working copy
 abbrev pub slots_end : Run → ℕ

@@ -2,8 +2,6 @@
 use Rattle.std.specs.Prelude.{ℕ, ◌≡◌, List, length}
 use Rattle.writing.specs.declared.Kind.{Kind}
 use Rattle.tables.specs.declared.limits.Limits.{Limits}
-use Rattle.tables.specs.Allowed.{Allowed}
-use Rattle.tables.specs.Limits.{placed}
 use Rattle.tables.specs.Forms.{Roomy}
 use Rattle.tables.specs.Layout.{placed_layout}
 use Rattle.tables.specs.Owns.{own}

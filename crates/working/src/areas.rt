@@ -72,8 +72,7 @@ pub fn units_in(store: &[u8], limits: Limits) -> usize
 pub fn stored_bytes(store: &[u8], limits: Limits) -> usize
     ensures { StoreSum limits store.now result }
 {
-    let texts = limits.texts;
-    match texts {
+    match limits.texts {
         Texts::Placed => 0,
         Texts::Shared(_) => units_in(store, limits) * 2,
     }
@@ -85,11 +84,9 @@ pub(crate) fn units_to(store: &[u8], limits: Limits, k: usize, n: usize) -> usiz
     ensures { (result ≡ counted_before store.now (text_runs limits) k n) × (result ≤ 585225) }
 {
     let mut sum = 0;
-    let mut i = 0;
-    while i < k {
+    for i in 0..k {
         let run = run_of(limits, i);
         sum += run_units(store, run, run.many);
-        i += 1;
     }
     sum + run_units(store, run_of(limits, k), n)
 }
@@ -115,7 +112,9 @@ fn has_head(store: &[u8], limits: Limits, k: usize, n: usize) -> bool
 pub fn kind_bytes(store: &[u8], limits: Limits, kind: Kind) -> usize
     ensures { KindSum limits kind store.now result }
 {
-    let k = number_of(kind);
+    let Some(k) = number_of(kind) else {
+        return 0;
+    };
     if !has_head(store, limits, k, 0) {
         return 0;
     }

@@ -9,6 +9,7 @@ use tables::limits::{Limits, Texts};
 use writing::Kind;
 
 // All of them, or hash, key, home, system and the table of one kind more.
+// No Option<Kind>, which would be no plainer: a copy of all tables is no missing kind, and `Copy::Whole` says so.
 #[derive(Clone, Copy)]
 pub enum Copy {
     Whole,
@@ -19,10 +20,9 @@ pub enum Copy {
 pub fn load_copy(work: &mut [u8], store: &[u8], limits: Limits, copy: Copy)
     ensures { CopyLoaded limits copy store.now work.old work.new }
 {
-    let texts = limits.texts;
     match copy {
         Copy::Whole => load(work, store, limits),
-        Copy::Part(kind) => match texts {
+        Copy::Part(kind) => match limits.texts {
             Texts::Placed => {}
             Texts::Shared(area) => load_part(work, store, limits, area, kind),
         },
@@ -33,10 +33,9 @@ pub fn load_copy(work: &mut [u8], store: &[u8], limits: Limits, copy: Copy)
 pub fn save_copy(store: &mut [u8], work: &mut [u8], limits: Limits, copy: Copy)
     ensures { CopySaved limits copy work.old store.old store.new }
 {
-    let texts = limits.texts;
     match copy {
         Copy::Whole => save(store, work, limits),
-        Copy::Part(kind) => match texts {
+        Copy::Part(kind) => match limits.texts {
             Texts::Placed => {}
             Texts::Shared(area) => save_part(store, work, limits, area, kind),
         },

@@ -25,12 +25,10 @@ fn counted(heads: &[u8], own: usize, n: usize) -> usize
 {
     let mut sum = 0;
     let mut at = 0;
-    let mut i = 0;
-    while i < n {
+    for i in 0..n {
         let last = at + own;
         sum += wide(heads[last]);
         at = last + 1;
-        i += 1;
     }
     sum
 }
@@ -51,11 +49,9 @@ pub(crate) fn all_units(store: &[u8], limits: Limits) -> usize
     ensures { UnitsAre limits store.now result × (result ≤ 520200) }
 {
     let mut sum = 0;
-    let mut k = 0;
-    while k < TEXT_TABLES {
+    for k in 0..TEXT_TABLES {
         let run = run_of(limits, k);
         sum += run_units(store, run, run.many);
-        k += 1;
     }
     sum
 }

@@ -111,15 +111,13 @@ fn load_table(
     let mut place = from;
     let mut at = 0;
     let mut to = 0;
-    let mut i = 0;
-    while i < n {
+    for i in 0..n {
         let last = at + own;
         let bytes = wide(heads[last]) * 2;
         load_slot(slots, to, heads, at, area, place, own, room, bytes);
         place += bytes;
         at = last + 1;
         to += width;
-        i += 1;
     }
     place
 }
@@ -180,15 +178,13 @@ fn load_tables(work: &mut [u8], store: &[u8], texts: &[u8], limits: Limits)
     let mut heads = 0;
     let mut slots = 0;
     let mut place = 0;
-    let mut k = 0;
-    while k < TEXT_TABLES {
+    for k in 0..TEXT_TABLES {
         let run = run_of(limits, k);
         let n = run.start - heads;
         copy_run(work, slots, store, heads, n);
         place = load_run(work, store, texts, run, place);
         heads = heads_end(run);
         slots = slots_end(run);
-        k += 1;
     }
 }
 

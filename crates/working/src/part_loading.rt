@@ -12,7 +12,7 @@ use super::areas::units_before;
 use super::heads::{is_shared, run_units};
 use super::loading::load_run;
 use super::parts::copy_run;
-use super::runs::{LINES, TEXT_TABLES, heads_end, heads_size, number_of, run_of, slots_end};
+use super::runs::{LINES, heads_end, heads_size, number_of, run_of, slots_end};
 use super::sums::is_sized;
 use tables::head_places::SHARED_CHANNELS;
 use tables::limits::Limits;
@@ -40,21 +40,7 @@ pub(crate) fn order_of(limits: Limits, k: usize) -> usize
 fn is_channels(kind: Kind) -> bool
     ensures { result ≡ channels? kind }
 {
-    match kind {
-        Kind::Channels => true,
-        Kind::GroupContacts => false,
-        Kind::IndividualContacts => false,
-        Kind::Lines => false,
-        Kind::Key => false,
-        Kind::QuickTexts => false,
-        Kind::Home => false,
-        Kind::System => false,
-        Kind::StatusTexts => false,
-        Kind::Group => false,
-        Kind::Individual => false,
-        Kind::LineSlot => false,
-        Kind::Last => false,
-    }
+    matches!(kind, Kind::Channels)
 }
 
 // Loads the rows of table k; where its texts do not fit the area, the bytes are no store's.
@@ -75,12 +61,9 @@ fn load_rows(work: &mut [u8], store: &[u8], limits: Limits, area: usize, k: usiz
 
 // Loads table k, with its count and its order where it has them.
 fn load_table_part(work: &mut [u8], store: &[u8], limits: Limits, area: usize, k: usize)
-    requires { (length work.old ≡ limits.size) × Roomy limits × (length store.now ≡ limits.size) × SharedRoomy limits area }
+    requires { (k < 8) × (length work.old ≡ limits.size) × Roomy limits × (length store.now ≡ limits.size) × SharedRoomy limits area }
     ensures { TableLoaded limits area store.now k work.old work.new }
 {
-    if TEXT_TABLES <= k {
-        return;
-    }
     let run = run_of(limits, k);
     let count = count_of(k);
     copy_run(work, run.from - count, store, run.start - count, count);
@@ -112,7 +95,9 @@ fn load_kind(work: &mut [u8], store: &[u8], limits: Limits, area: usize, kind: K
         load_channels(work, store, limits);
         return;
     }
-    load_table_part(work, store, limits, area, number_of(kind));
+    if let Some(k) = number_of(kind) {
+        load_table_part(work, store, limits, area, k);
+    }
 }
 
 // Loads hash, key, home and system, and the table of one kind, where all bytes are 0; every other byte stays 0.

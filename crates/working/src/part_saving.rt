@@ -15,7 +15,7 @@ use super::areas::units_to;
 use super::heads::{all_units, is_shared, run_units};
 use super::part_loading::{count_of, order_of};
 use super::parts::copy_run;
-use super::runs::{LINES, TEXT_TABLES, heads_end, heads_size, number_of, run_of, slots_end};
+use super::runs::{LINES, heads_end, heads_size, number_of, run_of, slots_end};
 use super::saving::{save_run, save_run_texts};
 use super::sums::is_sized;
 use shared_texts::Run;
@@ -118,8 +118,7 @@ pub fn save_part(store: &mut [u8], work: &mut [u8], limits: Limits, area: usize,
         return;
     }
     copy_run(store, 0, work, 0, QUICK);
-    let k = number_of(kind);
-    if k < TEXT_TABLES {
+    if let Some(k) = number_of(kind) {
         save_table(store, work, limits, area, k);
         return;
     }

@@ -1,7 +1,7 @@
 // The tables that have texts, by number: where their slots stand in a store and in a working copy.
 ghost use Rattle.std.specs.Prelude.{◌≡◌, ◌≤◌, ◌<◌};
 ghost use Rattle.tables.specs.SharedLayout.{heads_size};
-ghost use Rattle.working.specs.Runs.{run_of, text_number, slots_end, heads_end, Small, Inside};
+ghost use Rattle.working.specs.Runs.{run_of, NumberIs, slots_end, heads_end, Small, Inside};
 
 use shared_texts::Run;
 use tables::head_places::{
@@ -78,24 +78,20 @@ const RUNS: [Run; LINES] = [
     },
 ];
 
-// The number of a kind's table, or 8 where it has no texts.
-pub(crate) fn number_of(kind: Kind) -> usize
-    ensures { result ≡ text_number kind }
+// The number of a kind's table; none where it has no texts.
+pub(crate) fn number_of(kind: Kind) -> Option<usize>
+    ensures { NumberIs kind result }
 {
     match kind {
-        Kind::QuickTexts => 0,
-        Kind::StatusTexts => 1,
-        Kind::Group => 2,
-        Kind::Individual => 3,
-        Kind::LineSlot => 4,
-        Kind::GroupContacts => 5,
-        Kind::IndividualContacts => 6,
-        Kind::Lines => LINES,
-        Kind::Key => TEXT_TABLES,
-        Kind::Home => TEXT_TABLES,
-        Kind::Channels => TEXT_TABLES,
-        Kind::System => TEXT_TABLES,
-        Kind::Last => TEXT_TABLES,
+        Kind::QuickTexts => Some(0),
+        Kind::StatusTexts => Some(1),
+        Kind::Group => Some(2),
+        Kind::Individual => Some(3),
+        Kind::LineSlot => Some(4),
+        Kind::GroupContacts => Some(5),
+        Kind::IndividualContacts => Some(6),
+        Kind::Lines => Some(LINES),
+        Kind::Key | Kind::Home | Kind::Channels | Kind::System | Kind::Last => None,
     }
 }
 
@@ -111,8 +107,8 @@ pub(crate) fn run_of(limits: Limits, k: usize) -> Run
     let start = SHARED_CHANNELS + channels + COUNT;
     let from = CHANNELS + channels + COUNT;
     Run {
-        start: start,
-        from: from,
+        start,
+        from,
         own: LINE_TEXT,
         room: SHORT,
         many: limits.lines,

@@ -27,46 +27,36 @@ fn save_head(head: &mut [u8], own: &[u8], units: u8)
     head[n] = units;
 }
 
-// Saves the heads of n slots: own bytes of each, and how many units stand in the room bytes behind them.
-fn save_heads(heads: &mut [u8], slots: &[u8], own: usize, room: usize, n: usize)
-    requires { (length heads.old ≡ n * suc own) × (n * (own + room) ≤ length slots.now) × (own + room < 500) × (room ≡ room / 2 * 2) }
-    ensures { heads.new ≡ gathered_heads own room n slots.now }
+// Saves the heads of a table's slots: own bytes of each, and how many units stand in the room bytes behind them.
+fn save_heads(heads: &mut [u8], slots: &[u8], run: Run)
+    requires { (length heads.old ≡ run.many * suc run.own) × (run.many * (run.own + run.room) ≤ length slots.now) × (run.own + run.room < 500) × (run.room ≡ run.room / 2 * 2) }
+    ensures { heads.new ≡ gathered_heads run.own run.room run.many slots.now }
 {
     let mut at = 0;
     let mut to = 0;
-    let mut i = 0;
-    while i < n {
-        let text = to + own;
-        let next = text + room;
+    for i in 0..run.many {
+        let text = to + run.own;
+        let next = text + run.room;
         let bytes = text_bytes(&slots[text..next]);
         let units = (bytes / 2) as u8;
-        let last = at + own;
+        let last = at + run.own;
         let after = last + 1;
         save_head(&mut heads[at..after], &slots[to..text], units);
         at = after;
         to = next;
-        i += 1;
     }
 }
 
-// Saves the texts of n slots in the area, from a place on, as far as it has room for them. Answers where the next text goes.
-fn save_texts(
-    area: &mut [u8],
-    slots: &[u8],
-    own: usize,
-    room: usize,
-    n: usize,
-    from: usize,
-) -> usize
-    requires { (n * (own + room) ≤ length slots.now) × (from ≤ length area.old) × (room ≡ room / 2 * 2) }
-    ensures { (result ≤ length area.old) × (from + 2 * placed_units own room n slots.now ≤ length area.old → TextsSaved own room n slots.now from area.old result area.new) }
+// Saves the texts of a table's slots in the area, from a place on, as far as it has room for them. Answers where the next text goes.
+fn save_texts(area: &mut [u8], slots: &[u8], run: Run, from: usize) -> usize
+    requires { (run.many * (run.own + run.room) ≤ length slots.now) × (from ≤ length area.old) × (run.room ≡ run.room / 2 * 2) }
+    ensures { (result ≤ length area.old) × (from + 2 * placed_units run.own run.room run.many slots.now ≤ length area.old → TextsSaved run.own run.room run.many slots.now from area.old result area.new) }
 {
     let mut place = from;
     let mut to = 0;
-    let mut i = 0;
-    while i < n {
-        let text = to + own;
-        let next = text + room;
+    for i in 0..run.many {
+        let text = to + run.own;
+        let next = text + run.room;
         let bytes = text_bytes(&slots[text..next]);
         if area.len() - place < bytes {
             return place;
@@ -74,7 +64,6 @@ fn save_texts(
         copy_run(area, place, slots, text, bytes);
         place += bytes;
         to = next;
-        i += 1;
     }
     place
 }
@@ -88,13 +77,7 @@ pub(crate) fn save_run(store: &mut [u8], work: &[u8], run: Run)
     let tail = heads_end(run);
     let from = run.from;
     let end = slots_end(run);
-    save_heads(
-        &mut store[heads..tail],
-        &work[from..end],
-        run.own,
-        run.room,
-        run.many,
-    );
+    save_heads(&mut store[heads..tail], &work[from..end], run);
 }
 
 // Saves a table's texts in the area from a place on, and answers where the next one's go.
@@ -104,7 +87,7 @@ pub(crate) fn save_run_texts(area: &mut [u8], work: &[u8], run: Run, place: usiz
 {
     let from = run.from;
     let end = slots_end(run);
-    save_texts(area, &work[from..end], run.own, run.room, run.many, place)
+    save_texts(area, &work[from..end], run, place)
 }
 
 // Saves the heads of the tables that have texts, with what stands before each.
@@ -114,15 +97,13 @@ fn save_tables(store: &mut [u8], work: &[u8], limits: Limits)
 {
     let mut heads = 0;
     let mut slots = 0;
-    let mut k = 0;
-    while k < TEXT_TABLES {
+    for k in 0..TEXT_TABLES {
         let run = run_of(limits, k);
         let n = run.start - heads;
         copy_run(store, heads, work, slots, n);
         save_run(store, work, run);
         heads = heads_end(run);
         slots = slots_end(run);
-        k += 1;
     }
 }
 
@@ -143,11 +124,9 @@ fn save_area(area: &mut [u8], work: &[u8], limits: Limits)
     ensures { SumIn limits work.now (length area.old) → IsArea limits work.now (length area.old) area.new }
 {
     let mut place = 0;
-    let mut k = 0;
-    while k < TEXT_TABLES {
+    for k in 0..TEXT_TABLES {
         let run = run_of(limits, k);
         place = save_run_texts(area, work, run, place);
-        k += 1;
     }
     wipe(&mut area[place..]);
 }

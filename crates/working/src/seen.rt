@@ -10,8 +10,7 @@ use tables::limits::{Limits, Texts};
 fn fill(work: &mut [u8], store: &[u8], limits: Limits)
     ensures { Filled limits.texts limits store.now work.old work.new }
 {
-    let texts = limits.texts;
-    match texts {
+    match limits.texts {
         Texts::Placed => {}
         Texts::Shared(_) => load(work, store, limits),
     }
@@ -22,8 +21,8 @@ fn pick<'a>(store: &'a [u8], work: &'a [u8], texts: Texts) -> &'a [u8]
     ensures { result.now ≡ seen_of texts store.now work.now }
 {
     match texts {
-        Texts::Placed => &store[..],
-        Texts::Shared(_) => &work[..],
+        Texts::Placed => store,
+        Texts::Shared(_) => work,
     }
 }
 
@@ -31,7 +30,6 @@ fn pick<'a>(store: &'a [u8], work: &'a [u8], texts: Texts) -> &'a [u8]
 pub fn seen<'a>(store: &'a [u8], work: &'a mut [u8], limits: Limits) -> &'a [u8]
     ensures { StoreOf limits store.now → Lends limits work.old → Seen limits store.now result.now }
 {
-    let texts = limits.texts;
     fill(work, store, limits);
-    pick(store, work, texts)
+    pick(store, work, limits.texts)
 }

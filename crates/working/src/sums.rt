@@ -38,30 +38,26 @@ pub(crate) fn text_bytes(place: &[u8]) -> usize
     ensures { TextEnds place.now result }
 {
     let units = place.len() / 2;
-    let mut i = 0;
-    while i < units {
+    for i in 0..units {
         if is_end(place, i * 2) {
             return i * 2;
         }
-        i += 1;
     }
-    i * 2
+    place.len()
 }
 
-// The bytes of the texts that stand in n slots, behind own others and with room bytes for each.
-fn slots_bytes(slots: &[u8], own: usize, room: usize, n: usize) -> usize
-    requires { (n * (own + room) ≤ length slots.now) × (own + room < 500) × (n ≤ 255) × (room ≡ room / 2 * 2) }
-    ensures { (result ≡ 2 * placed_units own room n slots.now) × (result ≤ 500 * n) }
+// The bytes of the texts that stand in a table's slots.
+fn slots_bytes(slots: &[u8], run: Run) -> usize
+    requires { (run.many * (run.own + run.room) ≤ length slots.now) × (run.own + run.room < 500) × (run.many ≤ 255) × (run.room ≡ run.room / 2 * 2) }
+    ensures { (result ≡ 2 * placed_units run.own run.room run.many slots.now) × (result ≤ 500 * run.many) }
 {
     let mut sum = 0;
     let mut at = 0;
-    let mut i = 0;
-    while i < n {
-        let text = at + own;
-        let next = text + room;
+    for i in 0..run.many {
+        let text = at + run.own;
+        let next = text + run.room;
         sum += text_bytes(&slots[text..next]);
         at = next;
-        i += 1;
     }
     sum
 }
@@ -73,7 +69,7 @@ fn run_bytes(work: &[u8], run: Run) -> usize
 {
     let from = run.from;
     let end = slots_end(run);
-    slots_bytes(&work[from..end], run.own, run.room, run.many)
+    slots_bytes(&work[from..end], run)
 }
 
 // And of all tables.
@@ -82,11 +78,9 @@ fn all_bytes(work: &[u8], limits: Limits) -> usize
     ensures { SumIs limits work.now result }
 {
     let mut sum = 0;
-    let mut k = 0;
-    while k < TEXT_TABLES {
+    for k in 0..TEXT_TABLES {
         let run = run_of(limits, k);
         sum += run_bytes(work, run);
-        k += 1;
     }
     sum
 }
@@ -98,10 +92,9 @@ pub fn table_bytes(work: &[u8], limits: Limits, kind: Kind) -> usize
     if !is_sized(work, limits) {
         return 0;
     }
-    let k = number_of(kind);
-    if TEXT_TABLES <= k {
+    let Some(k) = number_of(kind) else {
         return 0;
-    }
+    };
     let run = run_of(limits, k);
     run_bytes(work, run)
 }

@@ -10,8 +10,7 @@ use tables::limits::{Limits, Texts};
 pub fn load(work: &mut [u8], store: &[u8], limits: Limits)
     ensures { Loaded limits store.now work.old work.new }
 {
-    let texts = limits.texts;
-    match texts {
+    match limits.texts {
         Texts::Placed => copy(work, store),
         Texts::Shared(area) => load_shared(work, store, limits, area),
     }
@@ -21,8 +20,7 @@ pub fn load(work: &mut [u8], store: &[u8], limits: Limits)
 pub fn save(store: &mut [u8], work: &[u8], limits: Limits)
     ensures { Saved limits work.now store.old store.new }
 {
-    let texts = limits.texts;
-    match texts {
+    match limits.texts {
         Texts::Placed => copy(store, work),
         Texts::Shared(area) => save_shared(store, work, limits, area),
     }

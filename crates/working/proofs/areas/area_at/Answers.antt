@@ -1,4 +1,4 @@
-use Rattle.lists.proofs.Kit.{rules, arith}
+use Rattle.lists.proofs.Kit.{arith}
 use Rattle.tables.proofs.AnswerLaws.{not_said, was_said}
 use Rattle.working.proofs.areas.area_at.Goals as goal
 

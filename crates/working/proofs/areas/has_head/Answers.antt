@@ -1,4 +1,4 @@
-use Rattle.lists.proofs.Kit.{◌≤◌, rules, arith, sym, subst, le-leb, leb-true}
+use Rattle.lists.proofs.Kit.{◌≤◌, arith, sym, subst, le-leb, leb-true}
 use Rattle.tables.proofs.AnswerLaws.{refused, not_said, was_said}
 use Rattle.shared_texts.specs.declared.Run.{Run}
 use Rattle.working.proofs.areas.has_head.Goals as goal

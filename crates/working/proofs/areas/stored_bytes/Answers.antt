@@ -1,4 +1,3 @@
-use Rattle.lists.proofs.Kit.{rules}
 use Rattle.working.proofs.FormMoves.{placed_summed, shared_summed}
 use Rattle.working.proofs.areas.stored_bytes.Goals as goal
 

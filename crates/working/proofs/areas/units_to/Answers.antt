@@ -1,5 +1,5 @@
-use Rattle.lists.proofs.Kit.{◌-◌, rules, arith}
-use Rattle.working.proofs.AreaLaws.{rows_before, Counting, count_start, count_more, before_counted}
+use Rattle.lists.proofs.Kit.{arith}
+use Rattle.working.proofs.AreaLaws.{rows_before, count_start, count_more, before_counted}
 use Rattle.working.proofs.areas.units_to.Goals as goal
 
 pub loop-i-init : goal.loop-i-init

@@ -1,4 +1,4 @@
-use Rattle.lists.proofs.Kit.{rules, subst⁻¹}
+use Rattle.lists.proofs.Kit.{subst⁻¹}
 use Rattle.working.specs.declared.copies.Copy.{Copy}
 use Rattle.working.specs.Copies.{CopySum}
 use Rattle.working.proofs.copies.copy_bytes.Goals as goal

@@ -1,4 +1,3 @@
-use Rattle.lists.proofs.Kit.{rules}
 use Rattle.working.proofs.CopyLaws.{copy_whole, copy_never, copy_part}
 use Rattle.working.proofs.copies.load_copy.Goals as goal
 

@@ -1,4 +1,3 @@
-use Rattle.lists.proofs.Kit.{rules}
 use Rattle.working.proofs.CopyLaws.{whole_saved, never_saved, part_saved}
 use Rattle.working.proofs.copies.save_copy.Goals as goal
 

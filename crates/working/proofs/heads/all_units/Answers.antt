@@ -1,7 +1,6 @@
-use Rattle.lists.proofs.Kit.{◌-◌, sym, ◌∙◌, rules, arith}
+use Rattle.lists.proofs.Kit.{sym, ◌∙◌, arith}
 use native.Mathlib.Nat.{one-mul}
-use Rattle.shared_texts.specs.Shared.{run_units}
-use Rattle.working.proofs.CountLaws.{Summing, sum_start, sum_step, units_end}
+use Rattle.working.proofs.CountLaws.{sum_start, sum_step, units_end}
 use Rattle.working.proofs.heads.all_units.Goals as goal
 
 pub loop-k-init : goal.loop-k-init

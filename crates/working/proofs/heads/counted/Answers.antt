@@ -1,4 +1,4 @@
-use Rattle.lists.proofs.Kit.{ℕ, suc, ◌+◌, ◌-◌, ◌*◌, ◌≤◌, ◌≡◌, ap, sub-zero, drop, rules, arith}
+use Rattle.lists.proofs.Kit.{ℕ, suc, ◌-◌, ◌≡◌, ap, sub-zero, drop, arith}
 use Rattle.shared_texts.specs.Regions.{last_bytes}
 use Rattle.shared_texts.proofs.Rows.{last_step}
 use Rattle.working.proofs.SlotLaws.{slot_inside, slot_next}
@@ -20,9 +20,6 @@ overflow_add-sum c = omega arith
 
 pub overflow_add-at : goal.overflow_add-at
 overflow_add-at c = omega (arith, slot_inside c.loop-i.i c.args.n (suc c.args.own) (omega arith))
-
-pub overflow_add-i : goal.overflow_add-i
-overflow_add-i c = omega arith
 
 pub loop-i-smaller : goal.loop-i-smaller
 loop-i-smaller c = omega arith

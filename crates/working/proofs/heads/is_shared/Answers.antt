@@ -1,4 +1,4 @@
-use Rattle.lists.proofs.Kit.{length, rules, arith}
+use Rattle.lists.proofs.Kit.{length, arith}
 use Rattle.tables.proofs.AnswerLaws.{refused}
 use Rattle.working.proofs.WholeLaws.{shared_is}
 use Rattle.working.proofs.heads.is_shared.Goals as goal

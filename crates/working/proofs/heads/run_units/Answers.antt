@@ -1,4 +1,3 @@
-use Rattle.lists.proofs.Kit.{rules}
 use Rattle.working.proofs.CountLaws.{heads_lent, heads_counted}
 use Rattle.working.proofs.heads.run_units.Goals as goal
 

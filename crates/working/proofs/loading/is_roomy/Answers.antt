@@ -1,4 +1,4 @@
-use Rattle.lists.proofs.Kit.{rules, arith, le-leb, leb-true}
+use Rattle.lists.proofs.Kit.{arith, le-leb, leb-true}
 use Rattle.tables.proofs.AnswerLaws.{refused}
 use Rattle.working.proofs.loading.is_roomy.Goals as goal
 

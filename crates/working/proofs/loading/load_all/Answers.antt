@@ -1,4 +1,4 @@
-use Rattle.lists.proofs.Kit.{rules, arith}
+use Rattle.lists.proofs.Kit.{arith}
 use Rattle.working.proofs.LoadedLaws.{area_asks, all_loaded}
 use Rattle.working.proofs.loading.load_all.Goals as goal
 

@@ -1,4 +1,3 @@
-use Rattle.lists.proofs.Kit.{rules}
 use Rattle.working.proofs.ChunkLaws.{slot_chunked}
 use Rattle.working.proofs.loading.load_chunks.Goals as goal
 

@@ -1,4 +1,4 @@
-use Rattle.lists.proofs.Kit.{refl, rules}
+use Rattle.lists.proofs.Kit.{refl}
 use Rattle.working.proofs.LoadLaws.{slot_loaded}
 use Rattle.working.proofs.loading.load_exact.Goals as goal
 

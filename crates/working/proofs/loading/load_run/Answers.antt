@@ -1,4 +1,3 @@
-use Rattle.lists.proofs.Kit.{rules}
 use Rattle.working.proofs.StepLaws.{run_asks, run_loaded}
 use Rattle.working.proofs.loading.load_run.Goals as goal
 

@@ -1,4 +1,4 @@
-use Rattle.lists.proofs.Kit.{rules, arith}
+use Rattle.lists.proofs.Kit.{arith}
 use Rattle.working.proofs.ChunkLaws.{slot_exact, exact_fits}
 use Rattle.working.proofs.loading.load_slot.Goals as goal
 

@@ -1,5 +1,5 @@
-use Rattle.lists.proofs.Kit.{◌-◌, refl, rules, arith}
-use Rattle.working.proofs.LoadLaws.{Loading, load_start, load_room, load_head, load_text, load_asks, load_more, load_end}
+use Rattle.lists.proofs.Kit.{refl, rules, arith}
+use Rattle.working.proofs.LoadLaws.{load_start, load_room, load_head, load_text, load_asks, load_more, load_end}
 use Rattle.working.proofs.loading.load_table.Goals as goal
 
 pub loop-i-init : goal.loop-i-init

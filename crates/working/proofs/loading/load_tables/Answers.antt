@@ -1,5 +1,5 @@
-use Rattle.lists.proofs.Kit.{◌-◌, refl, rules, arith}
-use Rattle.working.proofs.LoadTables.{Loads, loads_start, loads_texts, loads_more, loads_end}
+use Rattle.lists.proofs.Kit.{refl, arith}
+use Rattle.working.proofs.LoadTables.{loads_start, loads_texts, loads_more, loads_end}
 use Rattle.working.proofs.WalkLaws.{at_heads, at_room}
 use Rattle.working.proofs.loading.load_tables.Goals as goal
 

@@ -1,4 +1,4 @@
-use Rattle.lists.proofs.Kit.{rules, arith}
+use Rattle.lists.proofs.Kit.{arith}
 use Rattle.working.proofs.WholeLaws.{lines_end, tail_loaded}
 use Rattle.working.proofs.loading.load_tail.Goals as goal
 

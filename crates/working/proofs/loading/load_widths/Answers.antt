@@ -1,4 +1,4 @@
-use Rattle.lists.proofs.Kit.{rules, arith}
+use Rattle.lists.proofs.Kit.{arith}
 use Rattle.working.proofs.ChunkLaws.{widths_ask, widths_answer}
 use Rattle.working.proofs.loading.load_widths.Goals as goal
 

@@ -1,4 +1,4 @@
-use Rattle.lists.proofs.Kit.{rules, arith, ap, ◌∙◌, length, length-replicate}
+use Rattle.lists.proofs.Kit.{arith, ap, ◌∙◌, length, length-replicate}
 use Rattle.tables.proofs.AnswerLaws.{not_said, was_said}
 use Rattle.working.proofs.PartLoadLaws.{part_loaded}
 use Rattle.working.proofs.part_loading.load_part.Goals as goal

@@ -1,4 +1,4 @@
-use Rattle.lists.proofs.Kit.{rules, arith}
+use Rattle.lists.proofs.Kit.{arith}
 use Rattle.working.specs.Areas.{InHeads}
 use Rattle.working.proofs.PartLoadTables.{rows_refused, rows_ask, rows_loaded}
 use Rattle.working.proofs.part_loading.load_rows.Goals as goal

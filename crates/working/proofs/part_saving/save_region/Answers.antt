@@ -1,4 +1,4 @@
-use Rattle.lists.proofs.Kit.{rules, arith}
+use Rattle.lists.proofs.Kit.{arith}
 use Rattle.working.proofs.PartSaveTables.{bounded_count, bounded_as, region_saved}
 use Rattle.working.proofs.part_saving.save_region.Goals as goal
 

@@ -1,4 +1,4 @@
-use Rattle.lists.proofs.Kit.{refl, rules}
+use Rattle.lists.proofs.Kit.{refl}
 use Rattle.working.proofs.WholeLaws.{lines_end}
 use Rattle.working.proofs.part_saving.used_size.Goals as goal
 

@@ -1,4 +1,3 @@
-use Rattle.lists.proofs.Kit.{rules}
 use Rattle.working.proofs.StepLaws.{run_copied}
 use Rattle.working.proofs.parts.copy_run.Goals as goal
 

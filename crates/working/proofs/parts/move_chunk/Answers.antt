@@ -1,4 +1,4 @@
-use Rattle.lists.proofs.Kit.{rules, refl, replicate}
+use Rattle.lists.proofs.Kit.{refl, replicate}
 use Rattle.working.proofs.ChunkLaws.{chunk_moved}
 use Rattle.working.proofs.parts.move_chunk.Goals as goal
 

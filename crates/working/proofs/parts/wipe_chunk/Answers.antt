@@ -1,4 +1,3 @@
-use Rattle.lists.proofs.Kit.{rules}
 use Rattle.working.proofs.ChunkLaws.{chunk_wiped}
 use Rattle.working.proofs.parts.wipe_chunk.Goals as goal
 

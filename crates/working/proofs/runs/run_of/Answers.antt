@@ -1,4 +1,4 @@
-use Rattle.lists.proofs.Kit.{◌≡◌, ap, rules, arith}
+use Rattle.lists.proofs.Kit.{◌≡◌, ap, arith}
 use Rattle.working.specs.Runs.{run_of}
 use Rattle.working.proofs.RunTable.{stands_as, table_run}
 use Rattle.working.proofs.runs.run_of.Goals as goal

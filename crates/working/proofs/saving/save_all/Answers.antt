@@ -1,4 +1,4 @@
-use Rattle.lists.proofs.Kit.{refl, rules, arith}
+use Rattle.lists.proofs.Kit.{refl, arith}
 use Rattle.working.proofs.SavedLaws.{sum_lent, all_saved}
 use Rattle.working.proofs.saving.save_all.Goals as goal
 

@@ -1,6 +1,6 @@
-use Rattle.lists.proofs.Kit.{ℕ, ◌-◌, ◌≤◌, ◌≡◌, refl, subst⁻¹, rules, arith, length}
-use Rattle.working.specs.Saving.{next_text, SumIn}
-use Rattle.working.proofs.SaveTables.{Gathers, gathers_start, gathers_room, gathers_more, gathers_end}
+use Rattle.lists.proofs.Kit.{ℕ, ◌≤◌, refl, subst⁻¹, rules, arith}
+use Rattle.working.specs.Saving.{next_text}
+use Rattle.working.proofs.SaveTables.{gathers_start, gathers_room, gathers_more, gathers_end}
 use Rattle.working.proofs.saving.save_area.Goals as goal
 
 pub loop-k-init : goal.loop-k-init

@@ -1,4 +1,3 @@
-use Rattle.lists.proofs.Kit.{rules}
 use Rattle.working.proofs.SaveLaws.{head_saved}
 use Rattle.working.proofs.saving.save_head.Goals as goal
 

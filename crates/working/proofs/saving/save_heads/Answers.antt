@@ -1,5 +1,5 @@
-use Rattle.lists.proofs.Kit.{◌-◌, rules, arith}
-use Rattle.working.proofs.SaveLaws.{Heading, heading_start, heading_slot, heading_room, heading_fits, heading_units, heading_more, heading_end}
+use Rattle.lists.proofs.Kit.{arith}
+use Rattle.working.proofs.SaveLaws.{heading_start, heading_slot, heading_room, heading_fits, heading_units, heading_more, heading_end}
 use Rattle.working.proofs.SlotLaws.{slot_whole}
 use Rattle.working.proofs.saving.save_heads.Goals as goal
 
@@ -19,7 +19,7 @@ pub text_bytes-bytes-requires : goal.text_bytes-bytes-requires
 text_bytes-bytes-requires c =
     let a = c.args in
     let l = c.loop-i in
-    slot_whole a.slots.now a.own a.room l.to l.invariant.whole (heading_slot l.invariant (omega arith))
+    slot_whole a.slots.now a.run.own a.run.room l.to l.invariant.whole (heading_slot l.invariant (omega arith))
 
 pub overflow_cast-units : goal.overflow_cast-units
 overflow_cast-units c = omega (arith, heading_units c.loop-i.invariant (omega arith) c.text_bytes-bytes.result c.text_bytes-bytes.ensures)

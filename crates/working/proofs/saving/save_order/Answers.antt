@@ -1,4 +1,4 @@
-use Rattle.lists.proofs.Kit.{rules, arith}
+use Rattle.lists.proofs.Kit.{arith}
 use Rattle.working.proofs.WholeLaws.{lines_end, order_saved}
 use Rattle.working.proofs.saving.save_order.Goals as goal
 

@@ -1,4 +1,3 @@
-use Rattle.lists.proofs.Kit.{rules}
 use Rattle.working.proofs.SaveTables.{heads_saved}
 use Rattle.working.proofs.saving.save_run.Goals as goal
 

@@ -1,4 +1,3 @@
-use Rattle.lists.proofs.Kit.{rules}
 use Rattle.working.proofs.SaveTables.{texts_ask, texts_saved}
 use Rattle.working.proofs.saving.save_run_texts.Goals as goal
 

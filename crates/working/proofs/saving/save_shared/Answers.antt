@@ -1,4 +1,3 @@
-use Rattle.lists.proofs.Kit.{rules}
 use Rattle.tables.proofs.AnswerLaws.{not_said, was_said}
 use Rattle.working.proofs.SavedLaws.{saved_shared}
 use Rattle.working.proofs.saving.save_shared.Goals as goal

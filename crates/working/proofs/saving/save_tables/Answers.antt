@@ -1,5 +1,5 @@
-use Rattle.lists.proofs.Kit.{◌-◌, refl, length, rules, arith}
-use Rattle.working.proofs.SaveTables.{Saves, saves_start, saves_more, saves_end}
+use Rattle.lists.proofs.Kit.{refl, length, arith}
+use Rattle.working.proofs.SaveTables.{saves_start, saves_more, saves_end}
 use Rattle.working.proofs.WalkLaws.{at_heads, at_room}
 use Rattle.working.proofs.saving.save_tables.Goals as goal
 

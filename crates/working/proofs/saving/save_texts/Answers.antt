@@ -1,6 +1,5 @@
-use Rattle.lists.proofs.Kit.{◌+◌, ◌-◌, ◌*◌, ◌≤◌, rules, arith, length}
-use Rattle.shared_texts.specs.Moves.{placed_units}
-use Rattle.working.proofs.SaveLaws.{Walking, walking_start, walking_slot, walking_room, walking_more, Texting, texting_start, texting_room, texting_more, texting_end}
+use Rattle.lists.proofs.Kit.{arith}
+use Rattle.working.proofs.SaveLaws.{walking_start, walking_slot, walking_room, walking_more, texting_start, texting_room, texting_more, texting_end}
 use Rattle.working.proofs.SlotLaws.{slot_whole}
 use Rattle.working.proofs.saving.save_texts.Goals as goal
 
@@ -20,7 +19,7 @@ pub text_bytes-bytes-requires : goal.text_bytes-bytes-requires
 text_bytes-bytes-requires c =
     let a = c.args in
     let l = c.loop-i in
-    slot_whole a.slots.now a.own a.room l.to l.invariant.0.whole (walking_slot l.invariant.0 (omega arith))
+    slot_whole a.slots.now a.run.own a.run.room l.to l.invariant.0.whole (walking_slot l.invariant.0 (omega arith))
 
 pub overflow_sub-area : goal.overflow_sub-area
 overflow_sub-area c = let v = c.loop-i.invariant.0 in omega (arith, v.long, v.room_is)

@@ -1,4 +1,3 @@
-use Rattle.lists.proofs.Kit.{rules}
 use Rattle.working.proofs.SeenLaws.{filled_placed, filled_shared}
 use Rattle.working.proofs.seen.fill.Goals as goal
 

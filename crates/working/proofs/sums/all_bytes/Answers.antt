@@ -1,6 +1,5 @@
-use Rattle.lists.proofs.Kit.{◌-◌, rules, arith}
-use Rattle.shared_texts.specs.Moves.{slots_units}
-use Rattle.working.proofs.CountLaws.{Summing, sum_start, sum_step, bytes_end}
+use Rattle.lists.proofs.Kit.{arith}
+use Rattle.working.proofs.CountLaws.{sum_start, sum_step, bytes_end}
 use Rattle.working.proofs.sums.all_bytes.Goals as goal
 
 pub loop-k-init : goal.loop-k-init

@@ -1,4 +1,4 @@
-use Rattle.lists.proofs.Kit.{rules, eqb-true, eq-eqb}
+use Rattle.lists.proofs.Kit.{eqb-true, eq-eqb}
 use Rattle.tables.proofs.AnswerLaws.{refused}
 use Rattle.working.proofs.sums.is_end.Goals as goal
 

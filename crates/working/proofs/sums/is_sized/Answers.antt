@@ -1,4 +1,4 @@
-use Rattle.lists.proofs.Kit.{rules, arith}
+use Rattle.lists.proofs.Kit.{arith}
 use Rattle.tables.proofs.AnswerLaws.{refused}
 use Rattle.working.proofs.sums.is_sized.Goals as goal
 

@@ -1,4 +1,3 @@
-use Rattle.lists.proofs.Kit.{rules}
 use Rattle.working.proofs.CountLaws.{run_counted}
 use Rattle.working.proofs.sums.run_bytes.Goals as goal
 

@@ -1,5 +1,5 @@
-use Rattle.lists.proofs.Kit.{◌-◌, rules, arith}
-use Rattle.working.proofs.CountLaws.{Counting, count_start, count_slot, count_more, count_end}
+use Rattle.lists.proofs.Kit.{arith}
+use Rattle.working.proofs.CountLaws.{count_start, count_slot, count_more, count_end}
 use Rattle.working.proofs.SlotLaws.{slot_whole}
 use Rattle.working.proofs.sums.slots_bytes.Goals as goal
 
@@ -19,7 +19,7 @@ pub text_bytes-sum-requires : goal.text_bytes-sum-requires
 text_bytes-sum-requires c =
     let a = c.args in
     let l = c.loop-i in
-    slot_whole a.slots.now a.own a.room l.at l.invariant.whole (count_slot l.invariant (omega arith))
+    slot_whole a.slots.now a.run.own a.run.room l.at l.invariant.whole (count_slot l.invariant (omega arith))
 
 pub loop-i-preserved : goal.loop-i-preserved
 loop-i-preserved c = count_more c.loop-i.invariant c.text_bytes-sum.result (omega arith) c.text_bytes-sum.ensures

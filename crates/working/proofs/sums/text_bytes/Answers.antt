@@ -1,6 +1,7 @@
-use Rattle.lists.proofs.Kit.{◌-◌, rules, arith}
+use Rattle.lists.proofs.Kit.{subst, arith}
 use Rattle.tables.proofs.AnswerLaws.{said_no}
-use Rattle.working.proofs.SlotLaws.{Reading, reading_start, reading_unit, reading_ends, reading_goes, reading_end}
+use Rattle.working.specs.Saving.{TextEnds}
+use Rattle.working.proofs.SlotLaws.{reading_start, reading_unit, reading_ends, reading_goes, reading_end}
 use Rattle.working.proofs.sums.text_bytes.Goals as goal
 
 pub loop-i-init : goal.loop-i-init
@@ -21,8 +22,5 @@ returns-then-is_end c = reading_ends c.loop-i.invariant (omega arith) (c.is_end.
 pub loop-i-preserved : goal.loop-i-preserved
 loop-i-preserved c = reading_goes c.loop-i.invariant (omega arith) (said_no c.is_end.result c.is_end.ensures c.if-is_end.false)
 
-pub overflow_mul-result-2 : goal.overflow_mul-result-2
-overflow_mul-result-2 c = omega (arith, c.loop-i.invariant.inside)
-
 pub returns : goal.returns
-returns c = reading_end c.loop-i.invariant (omega arith)
+returns c = subst (TextEnds c.args.place.now) (omega (arith, c.requires, c.loop-i.auto.i-end)) (reading_end c.loop-i.invariant (omega arith))

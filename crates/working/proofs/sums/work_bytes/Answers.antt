@@ -1,4 +1,3 @@
-use Rattle.lists.proofs.Kit.{rules}
 use Rattle.tables.proofs.AnswerLaws.{not_said, was_said}
 use Rattle.working.proofs.SumLaws.{works_length, work_summed}
 use Rattle.working.proofs.sums.work_bytes.Goals as goal

@@ -1,4 +1,3 @@
-use Rattle.lists.proofs.Kit.{rules}
 use Rattle.working.proofs.FormMoves.{placed_loaded, shared_loaded}
 use Rattle.working.proofs.working.load.Goals as goal
 

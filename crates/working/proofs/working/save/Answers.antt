@@ -1,4 +1,3 @@
-use Rattle.lists.proofs.Kit.{rules}
 use Rattle.working.proofs.FormMoves.{placed_saved, shared_saved}
 use Rattle.working.proofs.working.save.Goals as goal
 
