@@ -15,7 +15,7 @@ fn tell<W: Write>(out: &mut W, number: u32, lines: u32, channels: u32) -> io::Re
     text(out, b"\n")
 }
 
-fn counts(set: Set, store: &[u8]) -> Counts {
+fn counts(set: Set, store: &[u8]) -> Option<Counts> {
     match set {
         Set::Handheld => menu::handheld::counts(store),
         Set::Vehicle => menu::vehicle::counts(store),
@@ -26,7 +26,7 @@ fn counts(set: Set, store: &[u8]) -> Counts {
 pub fn held<W: Write>(out: &mut W, set: Set, store: &[u8]) -> io::Result<()> {
     let answer = counts(set, store);
     match answer {
-        Counts::Held(lines, channels) => tell(out, 0, lines as u32, channels as u32),
-        Counts::NotAStore => tell(out, 11, 0, 0),
+        Some(held) => tell(out, 0, held.lines as u32, held.channels as u32),
+        None => tell(out, 11, 0, 0),
     }
 }

@@ -1,7 +1,5 @@
 // Dialled numbers and channels.
 use case_lines::printing::{decimal, text};
-use plan::frequencies::FrequencyAnswer;
-use plan::numbers::IndividualAnswer;
 use std::io;
 use std::io::Write;
 
@@ -18,15 +16,15 @@ fn line<W: Write>(out: &mut W, what: &[u8], input: u32, number: u32, value: u32)
 
 fn individual<W: Write>(out: &mut W, dialled: u32) -> io::Result<()> {
     match plan::numbers::individual_of_dialled(dialled) {
-        IndividualAnswer::Address(a) => line(out, b"individual address of", dialled, 0, a.0),
-        IndividualAnswer::OutsidePlan => line(out, b"individual address of", dialled, 20, 0),
+        Some(a) => line(out, b"individual address of", dialled, 0, a.0),
+        None => line(out, b"individual address of", dialled, 20, 0),
     }
 }
 
 fn transmit<W: Write>(out: &mut W, channel: u32) -> io::Result<()> {
     match plan::channels::transmit(channel) {
-        FrequencyAnswer::Frequency(f) => line(out, b"transmit frequency of", channel, 0, f),
-        FrequencyAnswer::NoChannel => line(out, b"transmit frequency of", channel, 22, 0),
+        Some(f) => line(out, b"transmit frequency of", channel, 0, f),
+        None => line(out, b"transmit frequency of", channel, 22, 0),
     }
 }
 

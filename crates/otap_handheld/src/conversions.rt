@@ -4,9 +4,7 @@ ghost use Rattle.plan.specs.Numbers.{Individual, Group};
 ghost use Rattle.plan.specs.Frequencies.{Transmits, Receives};
 ghost use Rattle.packing.specs.Packing.{Converts};
 
-use packing::conversions::{
-    pack_channel, pack_dialled, pack_frequency, pack_group, pack_individual,
-};
+use packing::conversions::{NO_CHANNEL, OUTSIDE_KIND, OUTSIDE_PLAN, pack_value};
 use plan::channels::{channel_of_transmit, receive, transmit};
 use plan::numbers::{
     GroupAddress, IndividualAddress, dialled_of_group, dialled_of_individual, group_of_dialled,
@@ -17,54 +15,47 @@ use plan::numbers::{
 pub extern "C" fn otap_individual_of_dialled(number: u32) -> u64
     ensures { Converts Individual 20 number result }
 {
-    let answer = individual_of_dialled(number);
-    pack_individual(answer)
+    pack_value(individual_of_dialled(number).map(|a| a.0), OUTSIDE_PLAN)
 }
 
 #[unsafe(no_mangle)]
 pub extern "C" fn otap_group_of_dialled(number: u32) -> u64
     ensures { Converts Group 20 number result }
 {
-    let answer = group_of_dialled(number);
-    pack_group(answer)
+    pack_value(group_of_dialled(number).map(|a| a.0), OUTSIDE_PLAN)
 }
 
 #[unsafe(no_mangle)]
 pub extern "C" fn otap_dialled_of_individual(address: u32) -> u64
     ensures { Converts (Back Individual) 21 address result }
 {
-    let answer = dialled_of_individual(IndividualAddress(address));
-    pack_dialled(answer)
+    pack_value(dialled_of_individual(IndividualAddress(address)), OUTSIDE_KIND)
 }
 
 #[unsafe(no_mangle)]
 pub extern "C" fn otap_dialled_of_group(address: u32) -> u64
     ensures { Converts (Back Group) 21 address result }
 {
-    let answer = dialled_of_group(GroupAddress(address));
-    pack_dialled(answer)
+    pack_value(dialled_of_group(GroupAddress(address)), OUTSIDE_KIND)
 }
 
 #[unsafe(no_mangle)]
 pub extern "C" fn otap_transmit(number: u32) -> u64
     ensures { Converts Transmits 22 number result }
 {
-    let answer = transmit(number);
-    pack_frequency(answer)
+    pack_value(transmit(number), NO_CHANNEL)
 }
 
 #[unsafe(no_mangle)]
 pub extern "C" fn otap_channel_of_transmit(value: u32) -> u64
     ensures { Converts (Back Transmits) 22 value result }
 {
-    let answer = channel_of_transmit(value);
-    pack_channel(answer)
+    pack_value(channel_of_transmit(value), NO_CHANNEL)
 }
 
 #[unsafe(no_mangle)]
 pub extern "C" fn otap_receive(number: u32) -> u64
     ensures { Converts Receives 22 number result }
 {
-    let answer = receive(number);
-    pack_frequency(answer)
+    pack_value(receive(number), NO_CHANNEL)
 }

@@ -1,6 +1,5 @@
 // Who is calling: the order of the lines and the row of a number, after what changes the lines, and where the order is wrong.
 use callers::handheld::line_of;
-use callers::lookup::Caller;
 use case_lines::printing::{decimal, text};
 use case_lines::taking::requests;
 use std::io;
@@ -54,13 +53,15 @@ fn ask<W: Write>(out: &mut W, idtype: u32, digits: &[u8], store: &[u8]) -> io::R
     number(out, idtype, digits)?;
     let answer = line_of(idtype, digits, store);
     match answer {
-        Caller::Row(row) => {
+        Ok(Some(row)) => {
             text(out, b": 0, row ")?;
             decimal(out, (row % 65536) as u32)?;
         }
-        Caller::NoRow => text(out, b": 0, no row")?,
-        Caller::NotAStore => text(out, b": 11")?,
-        Caller::NotANumber => text(out, b": 20")?,
+        Ok(None) => text(out, b": 0, no row")?,
+        Err(why) => {
+            text(out, b": ")?;
+            decimal(out, why as u32)?;
+        }
     }
     text(out, b"\n")
 }

@@ -4,7 +4,7 @@ use case_lines::taking::requests;
 use screen::rows::row_of;
 use std::io;
 use std::io::Write;
-use values::answers::{Channel, Digits, EmergencyKey, Entry, Home, Key, System, Target};
+use values::answers::{EmergencyKey, Target};
 use values::handheld::{channel, emergency_key, entry, entry_digits, home_numbers, system_code};
 use writing::KeyTarget;
 
@@ -56,9 +56,8 @@ fn behind<W: Write>(out: &mut W, table: u32, place: u32, store: &[u8]) -> io::Re
     text(out, b": ")?;
     let answer = entry(row_of(table, place), store);
     match answer {
-        Entry::There(x) => target(out, x)?,
-        Entry::Absent => text(out, b"17")?,
-        Entry::NotAStore => text(out, b"11")?,
+        Ok(x) => target(out, x)?,
+        Err(why) => decimal(out, why as u32)?,
     }
     text(out, b"\n")
 }
@@ -76,10 +75,8 @@ fn digits<W: Write>(
     text(out, b": ")?;
     let answer = entry_digits(row_of(table, place), store, buffer);
     match answer {
-        Digits::Written(n) => field(out, b"0, ", (n % 65536) as u32)?,
-        Digits::Absent => text(out, b"17")?,
-        Digits::NotAStore => text(out, b"11")?,
-        Digits::BufferSize => text(out, b"15")?,
+        Ok(n) => field(out, b"0, ", (n % 65536) as u32)?,
+        Err(why) => decimal(out, why as u32)?,
     }
     text(out, b", buffer")?;
     hex(out, buffer, buffer.len())
@@ -90,9 +87,8 @@ fn tuned<W: Write>(out: &mut W, position: usize, store: &[u8]) -> io::Result<()>
     text(out, b": ")?;
     let answer = channel(position, store);
     match answer {
-        Channel::Tuned(c) => field(out, b"0, ", c as u32)?,
-        Channel::Absent => text(out, b"17")?,
-        Channel::NotAStore => text(out, b"11")?,
+        Ok(c) => field(out, b"0, ", c as u32)?,
+        Err(why) => decimal(out, why as u32)?,
     }
     text(out, b"\n")
 }
@@ -113,8 +109,8 @@ fn key<W: Write>(out: &mut W, store: &[u8]) -> io::Result<()> {
     text(out, b"  key: ")?;
     let answer = emergency_key(store);
     match answer {
-        Key::Armed(k) => armed(out, k)?,
-        Key::NotAStore => text(out, b"11")?,
+        Ok(k) => armed(out, k)?,
+        Err(why) => decimal(out, why as u32)?,
     }
     text(out, b"\n")
 }
@@ -123,11 +119,11 @@ fn home<W: Write>(out: &mut W, store: &[u8]) -> io::Result<()> {
     text(out, b"  home numbers: ")?;
     let answer = home_numbers(store);
     match answer {
-        Home::Numbers(h) => {
+        Ok(h) => {
             field(out, b"0, NZI ", h.nzi as u32)?;
             field(out, b", NP ", h.np as u32)?;
         }
-        Home::NotAStore => text(out, b"11")?,
+        Err(why) => decimal(out, why as u32)?,
     }
     text(out, b"\n")
 }
@@ -136,13 +132,13 @@ fn system<W: Write>(out: &mut W, store: &[u8]) -> io::Result<()> {
     text(out, b"  system code: ")?;
     let answer = system_code(store);
     match answer {
-        System::Code(s) => {
+        Ok(s) => {
             field(out, b"0, LAI ", s.lai as u32)?;
             field(out, b", LA ", wide(s.la))?;
             field(out, b", roaming ", wide(s.roaming))?;
             field(out, b", PAR ", bit(s.par))?;
         }
-        System::NotAStore => text(out, b"11")?,
+        Err(why) => decimal(out, why as u32)?,
     }
     text(out, b"\n")
 }

@@ -3,7 +3,7 @@ use printing::output::{address, decimal, text};
 use screen::rows::row_of;
 use std::io;
 use std::io::Write;
-use values::answers::{Digits, Entry, Target};
+use values::answers::Target;
 use values::handheld::{entry, entry_digits};
 
 fn wide(digit: u8) -> u64 {
@@ -30,8 +30,8 @@ fn line<W: Write>(out: &mut W, store: &[u8], table: u32, place: u32, pabx: bool)
     let mut buffer = [0u8; 18];
     let answer = entry_digits(row_of(table, place), store, &mut buffer);
     match answer {
-        Digits::Written(count) => digits(out, &buffer, count),
-        _ => text(out, b"none"),
+        Ok(count) => digits(out, &buffer, count),
+        Err(_) => text(out, b"none"),
     }
 }
 
@@ -60,7 +60,7 @@ pub(crate) fn behind<W: Write>(
 ) -> io::Result<()> {
     let answer = entry(row_of(table, place), store);
     match answer {
-        Entry::There(x) => target(out, store, table, place, x),
-        _ => text(out, b""),
+        Ok(x) => target(out, store, table, place, x),
+        Err(_) => Ok(()),
     }
 }

@@ -1,5 +1,4 @@
 // How much of the room for lines and channels is taken, on one line.
-use menu::counting::Counts;
 use menu::handheld::counts;
 use printing::output::{decimal, text};
 use std::io;
@@ -18,11 +17,11 @@ pub(crate) fn room<W: Write>(out: &mut W, store: &[u8]) -> io::Result<()> {
     let answer = counts(store);
     let limits = HANDHELD;
     match answer {
-        Counts::Held(lines, channels) => {
-            taken(out, b"  room                 lines ", lines, limits.lines)?;
-            taken(out, b", channels ", channels, limits.channels)?;
+        Some(held) => {
+            taken(out, b"  room                 lines ", held.lines, limits.lines)?;
+            taken(out, b", channels ", held.channels, limits.channels)?;
             text(out, b"\n")
         }
-        Counts::NotAStore => text(out, b"  no store\n"),
+        None => text(out, b"  no store\n"),
     }
 }

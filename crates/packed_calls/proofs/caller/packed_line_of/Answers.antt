@@ -1,4 +1,3 @@
-use borrow.Author.Rules.{rules}
 use Rattle.packing.proofs.CallerBits.{looks_packed}
 use Rattle.packed_calls.proofs.caller.packed_line_of.Goals as goal
 

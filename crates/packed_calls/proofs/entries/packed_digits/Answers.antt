@@ -1,4 +1,3 @@
-use borrow.Author.Rules.{rules}
 use Rattle.packing.proofs.ValueBits.{digits_packed}
 use Rattle.packed_calls.proofs.entries.packed_digits.Goals as goal
 

@@ -1,4 +1,3 @@
-use borrow.Author.Rules.{rules}
 use Rattle.packing.proofs.ValueBits.{entry_packed}
 use Rattle.packed_calls.proofs.entries.packed_entry.Goals as goal
 

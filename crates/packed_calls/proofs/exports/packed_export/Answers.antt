@@ -1,4 +1,3 @@
-use borrow.Author.Rules.{rules}
 use Rattle.packing.proofs.ExportBits.{exports_packed}
 use Rattle.packed_calls.proofs.exports.packed_export.Goals as goal
 

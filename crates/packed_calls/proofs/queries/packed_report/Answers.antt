@@ -1,4 +1,3 @@
-use borrow.Author.Rules.{rules}
 use Rattle.lists.proofs.Bytes.{bytes_all}
 use Rattle.packing.proofs.ReportBits.{report_packed}
 use Rattle.packed_calls.proofs.queries.packed_report.Goals as goal

@@ -1,4 +1,3 @@
-use borrow.Author.Rules.{rules}
 use Rattle.packing.proofs.ValueBits.{key_packed}
 use Rattle.packed_calls.proofs.radio.packed_key.Goals as goal
 

@@ -1,4 +1,3 @@
-use borrow.Author.Rules.{rules}
 use Rattle.packing.proofs.RowBits.{shows_packed}
 use Rattle.packed_calls.proofs.rows.packed_part.Goals as goal
 
