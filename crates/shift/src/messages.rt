@@ -6,10 +6,7 @@ use std::io::Write;
 
 // Whether a message asks for a result: MsgType is 5.
 fn is_query(message: &[u8]) -> bool {
-    if message.len() < 7 {
-        return false;
-    }
-    message[6] % 8 == 5
+    7 <= message.len() && message[6] % 8 == 5
 }
 
 // A few words for a number of document 01.
@@ -30,7 +27,7 @@ fn meaning<W: Write>(out: &mut W, number: u8) -> io::Result<()> {
 // The words for 0, or for another number with the setting at fault.
 fn outcome<W: Write>(out: &mut W, answer: Answer, query: bool) -> io::Result<()> {
     let n = number(answer);
-    decimal(out, n as u64)?;
+    decimal(out, n)?;
     text(out, b", ")?;
     if n != 0 {
         meaning(out, n)?;
@@ -42,7 +39,7 @@ fn outcome<W: Write>(out: &mut W, answer: Answer, query: bool) -> io::Result<()>
     let failed = failed_id(answer);
     if failed != 0 {
         text(out, b"; failed ID ")?;
-        decimal(out, failed as u64)?;
+        decimal(out, failed)?;
     }
     Ok(())
 }
