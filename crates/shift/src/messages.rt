@@ -6,7 +6,10 @@ use std::io::Write;
 
 // Whether a message asks for a result: MsgType is 5.
 fn is_query(message: &[u8]) -> bool {
-    7 <= message.len() && message[6] % 8 == 5
+    if message.len() < 7 {
+        return false;
+    }
+    message[6] % 8 == 5
 }
 
 // A few words for a number of document 01.
