@@ -4,7 +4,6 @@ use case_lines::printing::{decimal, text, yes_or_no};
 use case_lines::sets::Set;
 use case_lines::taking::answer_for;
 use export::parts::{Export, PARTS};
-use slots::bytes::same;
 use std::io;
 use std::io::Write;
 
@@ -24,7 +23,7 @@ fn is_exported(set: Set, part: u32, request: &[u8], store: &[u8], buffer: &mut [
     if buffer.len() < length {
         return false;
     }
-    same(request, &buffer[0..length])
+    request == &buffer[0..length]
 }
 
 // A part's line, and whether the set that was sent it exports it the same.
@@ -86,10 +85,8 @@ fn move_parts<W: Write>(
     from: &[u8],
     to: &mut [u8],
 ) -> io::Result<()> {
-    let mut part = 1;
-    while part <= PARTS {
+    for part in 1..=PARTS {
         move_part(out, sender, taker, part, from, to)?;
-        part += 1;
     }
     Ok(())
 }

@@ -61,12 +61,7 @@ fn read<W: Write>(out: &mut W, set: Set, message: &[u8]) -> io::Result<()> {
 
 // The first bytes of a message, and what is read of it.
 fn show<W: Write>(out: &mut W, set: Set, message: &[u8]) -> io::Result<()> {
-    let size = message.len();
-    if size < SHOWN {
-        hex(out, message, size)?;
-    } else {
-        hex(out, message, SHOWN)?;
-    }
+    hex(out, message, SHOWN.min(message.len()))?;
     read(out, set, message)
 }
 
@@ -112,9 +107,7 @@ pub fn asked<W: Write>(
     if 255 < size {
         return Ok(());
     }
-    let stated = 4 + size;
-    let high = (stated / 256) as u8;
-    let low = (stated % 256) as u8;
+    let [high, low] = ((4 + size) as u16).to_be_bytes();
     let head = [2, 2, high, low, 8, 0, 0x0A, size as u8];
     let mut query = [0u8; QUERY];
     let at = put_bytes(&mut query, 0, &head);

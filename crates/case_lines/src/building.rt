@@ -1,31 +1,22 @@
 // Builds messages from bytes that are written in hexadecimal digits.
 ghost use Rattle.std.specs.Prelude.{◌≤◌, length};
 
-use slots::bytes::copy;
-
 // The first place from this one on that has the byte, or the end.
-pub(crate) fn find(s: &[u8], from: usize, byte: u8) -> usize
+fn find(s: &[u8], from: usize, byte: u8) -> usize
     requires { from ≤ length s.now }
     ensures { (from ≤ result) × (result ≤ length s.now) }
 {
-    let mut i = from;
-    while i < s.len() {
-        if s[i] == byte {
-            return i;
-        }
-        i += 1;
+    match s[from..].iter().position(|b| *b == byte) {
+        Some(n) => from + n,
+        None => s.len(),
     }
-    i
 }
 
-// No digit.
-const NONE: u8 = 16;
-
-fn digit(c: u8) -> u8 {
+fn digit(c: u8) -> Option<u8> {
     match c {
-        b'0'..=b'9' => c - b'0',
-        b'A'..=b'F' => c - b'A' + 10,
-        _ => NONE,
+        b'0'..=b'9' => Some(c - b'0'),
+        b'A'..=b'F' => Some(c - b'A' + 10),
+        _ => None,
     }
 }
 
@@ -34,33 +25,22 @@ pub fn put_bytes(m: &mut [u8], at: usize, bytes: &[u8]) -> usize
     ensures { result ≤ length m.new }
 {
     let size = m.len();
-    if size < at {
-        return size;
-    }
-    if size - at < bytes.len() {
+    if size < at || size - at < bytes.len() {
         return size;
     }
     let end = at + bytes.len();
-    copy(&mut m[at..end], bytes);
+    m[at..end].copy_from_slice(bytes);
     end
 }
 
 // Puts the byte of two digits, where both are.
-fn put_byte(m: &mut [u8], at: usize, high: u8, low: u8) -> usize
+fn put_byte(m: &mut [u8], at: usize, high: Option<u8>, low: Option<u8>) -> usize
     ensures { result ≤ length m.new }
 {
-    if high == NONE || low == NONE {
-        return put_bytes(m, at, b"");
+    match (high, low) {
+        (Some(high), Some(low)) => put_bytes(m, at, &[high % 16 * 16 + low % 16]),
+        _ => put_bytes(m, at, b""),
     }
-    put_bytes(m, at, &[high % 16 * 16 + low % 16])
-}
-
-// The digit that waits for its second, after the next character.
-fn waiting(high: u8, low: u8) -> u8 {
-    if low == NONE {
-        return high;
-    }
-    if high == NONE { low } else { NONE }
 }
 
 // Puts the byte that a mark stands for: the number as it is, as two decimal digits of a half byte each, or as the status code of that place.
@@ -80,15 +60,13 @@ fn put(m: &mut [u8], at: usize, digits: &[u8], number: u8) -> usize
     ensures { result ≤ length m.new }
 {
     let mut p = put_bytes(m, at, b"");
-    let mut high = NONE;
-    let mut i = 0;
-    while i < digits.len() {
-        let c = digits[i];
-        let low = digit(c);
+    // The digit that waits for its second.
+    let mut high = None;
+    for c in digits {
+        let low = digit(*c);
         p = put_byte(m, p, high, low);
-        p = put_mark(m, p, c, number);
-        high = waiting(high, low);
-        i += 1;
+        p = put_mark(m, p, *c, number);
+        high = high.xor(low);
     }
     p
 }
@@ -98,10 +76,8 @@ fn put_times(m: &mut [u8], at: usize, digits: &[u8], count: u8) -> usize
     ensures { result ≤ length m.new }
 {
     let mut p = put_bytes(m, at, b"");
-    let mut i: u8 = 0;
-    while i < count {
+    for i in 0..count {
         p = put(m, p, digits, i);
-        i += 1;
     }
     p
 }

@@ -1,20 +1,11 @@
 // Writes what a case comes to, on one line.
+use printing::output;
+pub use printing::output::{decimal, text};
 use station::answers::{Answer, Reply, failed_id, number};
 use std::io;
 use std::io::Write;
 use tables::start::Started;
 use writing::Result;
-
-// The hexadecimal digits.
-const HEX: [u8; 16] = *b"0123456789ABCDEF";
-
-pub fn text<W: Write>(out: &mut W, bytes: &[u8]) -> io::Result<()> {
-    out.write_all(bytes)
-}
-
-pub fn decimal<W: Write>(out: &mut W, n: u32) -> io::Result<()> {
-    write!(out, "{n}")
-}
 
 pub fn yes_or_no<W: Write>(out: &mut W, what: &[u8], answer: bool) -> io::Result<()> {
     text(out, what)?;
@@ -25,23 +16,12 @@ pub fn yes_or_no<W: Write>(out: &mut W, what: &[u8], answer: bool) -> io::Result
     }
 }
 
-// A space and two hexadecimal digits.
-fn byte<W: Write>(out: &mut W, b: u8) -> io::Result<()> {
-    let high = (b / 16) as usize;
-    let low = (b % 16) as usize;
-    text(out, &[b' ', HEX[high], HEX[low]])
-}
-
 // The first bytes, as many as the length says, or that there are none; the line's end.
 pub fn hex<W: Write>(out: &mut W, bytes: &[u8], length: usize) -> io::Result<()> {
     if length == 0 {
         text(out, b" none")?;
     }
-    let mut i = 0;
-    while i < bytes.len() && i < length {
-        byte(out, bytes[i])?;
-        i += 1;
-    }
+    output::hex(out, bytes, length)?;
     text(out, b"\n")
 }
 
@@ -61,9 +41,9 @@ fn reply_of(answer: Answer) -> Reply {
 
 fn numbers<W: Write>(out: &mut W, answer: Answer) -> io::Result<()> {
     text(out, b": ")?;
-    decimal(out, number(answer) as u32)?;
+    decimal(out, number(answer))?;
     text(out, b", failed ID ")?;
-    decimal(out, failed_id(answer) as u32)
+    decimal(out, failed_id(answer))
 }
 
 // The line of starting a store.
@@ -71,8 +51,8 @@ pub fn started<W: Write>(out: &mut W, what: &[u8], answer: Started) -> io::Resul
     text(out, what)?;
     text(out, b": ")?;
     match answer {
-        Started::Fresh => decimal(out, 0)?,
-        Started::WrongSize => decimal(out, 11)?,
+        Started::Fresh => text(out, b"0")?,
+        Started::WrongSize => text(out, b"11")?,
     }
     text(out, b"\n")
 }

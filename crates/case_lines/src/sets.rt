@@ -1,4 +1,4 @@
-// The calls of the set that a case is for.
+// The calls of the set that a case is for. A trait in place of the matches would be no plainer: its impls would stand in two crates, beside the same calls.
 use station::answers::Answer;
 use tables::start::Started;
 

@@ -1,8 +1,7 @@
 // Takes the messages of cases and prints their lines.
-use super::building::{find, put_bytes, put_message};
+use super::building::{put_bytes, put_message};
 use super::printing::line;
 use super::sets::{Set, commit, judge, start};
-use slots::bytes::{copy, same};
 use station::answers::{Answer, number};
 use std::io;
 use std::io::Write;
@@ -11,12 +10,19 @@ use tables::limits::VEHICLE_SIZE;
 // A byte more than the largest message of any set.
 const MOST: usize = 8193;
 
-// What is done with a message: one of the calls, or both.
+// What is done with a message: one of the calls, or both. A closure in its place would be no plainer: each case would write the call's four arguments out.
 #[derive(Clone, Copy)]
 pub enum Call {
     Judge,
     Commit,
     Take,
+}
+
+// How the messages of lines are written: whole, or as ParamSum and settings.
+#[derive(Clone, Copy)]
+enum Form {
+    Whole,
+    ParamSum,
 }
 
 // Judges a message, and commits it where it is good: what committing answers then, and what judging does where it is not.
@@ -36,22 +42,6 @@ fn answer_of(set: Set, call: Call, bytes: &[u8], store: &mut [u8], reply: &mut [
     }
 }
 
-// A call with this store and this reply buffer, and as many bytes to keep the store of before in.
-fn call_beside<W: Write>(
-    out: &mut W,
-    set: Set,
-    call: Call,
-    what: &[u8],
-    bytes: &[u8],
-    store: &mut [u8],
-    reply: &mut [u8],
-    before: &mut [u8],
-) -> io::Result<()> {
-    copy(before, store);
-    let answer = answer_of(set, call, bytes, store, reply);
-    line(out, what, answer, same(before, store), reply)
-}
-
 // A call of a set with this store, which has at most the bytes of a vehicle's, and this reply buffer.
 pub fn call_for<W: Write>(
     out: &mut W,
@@ -66,17 +56,11 @@ pub fn call_for<W: Write>(
     if VEHICLE_SIZE < size {
         return Ok(());
     }
-    let mut before = [0u8; VEHICLE_SIZE];
-    call_beside(
-        out,
-        set,
-        call,
-        what,
-        bytes,
-        store,
-        reply,
-        &mut before[0..size],
-    )
+    let mut kept = [0u8; VEHICLE_SIZE];
+    let before = &mut kept[0..size];
+    before.copy_from_slice(store);
+    let answer = answer_of(set, call, bytes, store, reply);
+    line(out, what, answer, *before == *store, reply)
 }
 
 // A message to this store of a hand-held, with this reply buffer.
@@ -124,9 +108,7 @@ fn request<W: Write>(
     if MOST - 7 < size {
         return Ok(());
     }
-    let stated = 3 + size;
-    let high = (stated / 256) as u8;
-    let low = (stated % 256) as u8;
+    let [high, low] = ((3 + size) as u16).to_be_bytes();
     let head = [2, 2, high, low, 8, 7, 8];
     let mut bytes = [0u8; MOST];
     let at = put_bytes(&mut bytes, 0, &head);
@@ -134,21 +116,20 @@ fn request<W: Write>(
     answer_for(out, set, what, &bytes[0..end], store)
 }
 
-// A message that is written in digits, whole or as ParamSum and settings.
+// A message that is written in digits.
 fn written<W: Write>(
     out: &mut W,
     set: Set,
     what: &[u8],
     digits: &[u8],
-    whole: bool,
+    form: Form,
     store: &mut [u8],
 ) -> io::Result<()> {
     let mut bytes = [0u8; MOST];
     let end = put_message(&mut bytes, digits);
-    if whole {
-        answer_for(out, set, what, &bytes[0..end], store)
-    } else {
-        request(out, set, what, &bytes[0..end], store)
+    match form {
+        Form::Whole => answer_for(out, set, what, &bytes[0..end], store),
+        Form::ParamSum => request(out, set, what, &bytes[0..end], store),
     }
 }
 
@@ -157,22 +138,14 @@ fn take_line<W: Write>(
     out: &mut W,
     set: Set,
     line: &[u8],
-    whole: bool,
+    form: Form,
     store: &mut [u8],
 ) -> io::Result<()> {
-    let colon = find(line, 0, b':');
-    if colon == line.len() {
+    let Some(colon) = line.iter().position(|b| *b == b':') else {
         start(set, store);
         return Ok(());
-    }
-    written(
-        out,
-        set,
-        &line[0..colon],
-        &line[colon..line.len()],
-        whole,
-        store,
-    )
+    };
+    written(out, set, &line[..colon], &line[colon..], form, store)
 }
 
 // The case of each line.
@@ -180,24 +153,19 @@ fn each<W: Write>(
     out: &mut W,
     set: Set,
     lines: &[u8],
-    whole: bool,
+    form: Form,
     store: &mut [u8],
 ) -> io::Result<()> {
-    let mut at = 0;
-    while at < lines.len() {
-        let end = find(lines, at, b'\n');
-        take_line(out, set, &lines[at..end], whole, store)?;
-        if end == lines.len() {
-            return Ok(());
-        }
-        at = end + 1;
+    for ended in lines.split_inclusive(|b| *b == b'\n') {
+        let line = ended.strip_suffix(b"\n").unwrap_or(ended);
+        take_line(out, set, line, form, store)?;
     }
     Ok(())
 }
 
 // Whole messages to a hand-held, one to a line.
 pub fn messages<W: Write>(out: &mut W, lines: &[u8], store: &mut [u8]) -> io::Result<()> {
-    each(out, Set::Handheld, lines, true, store)
+    each(out, Set::Handheld, lines, Form::Whole, store)
 }
 
 // ParamSums with their settings, one to a line.
@@ -207,7 +175,7 @@ pub fn requests_for<W: Write>(
     lines: &[u8],
     store: &mut [u8],
 ) -> io::Result<()> {
-    each(out, set, lines, false, store)
+    each(out, set, lines, Form::ParamSum, store)
 }
 
 // The same to a hand-held.

@@ -8,20 +8,20 @@ use std::io::Write;
 
 // A place in two bytes, high byte first.
 fn place(high: u8, low: u8) -> usize {
-    high as usize * 256 + low as usize
+    u16::from_be_bytes([high, low]) as usize
 }
 
 // Changes the byte at a place by the bits of a value; the same again puts it back.
 fn damage(area: &mut [u8], place: usize, value: u8) {
     if place < area.len() {
-        area[place] = area[place] ^ value;
+        area[place] ^= value;
     }
 }
 
 // Damages the area by the place and the value that stand behind a first byte.
 fn damage_by(bytes: &[u8], area: &mut [u8]) {
-    if bytes.len() == 4 {
-        damage(area, place(bytes[1], bytes[2]), bytes[3]);
+    if let [_, high, low, value] = bytes {
+        damage(area, place(*high, *low), *value);
     }
 }
 
@@ -40,13 +40,11 @@ pub(crate) fn obey<W: Write>(
     store: &mut [u8],
     area: &mut [u8],
 ) -> io::Result<()> {
-    if bytes.len() == 0 {
-        return Ok(());
-    }
-    match bytes[0] {
-        1 => show(out, area)?,
-        2 => damage_by(bytes, area),
-        3 => start_both(out, store, area)?,
+    match bytes {
+        [] => {}
+        [1, ..] => show(out, area)?,
+        [2, ..] => damage_by(bytes, area),
+        [3, ..] => start_both(out, store, area)?,
         _ => compare(out, store, area)?,
     }
     Ok(())

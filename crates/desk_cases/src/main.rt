@@ -13,11 +13,11 @@ use plain::answers::number;
 use plain::desk::{start as start_area, take};
 use plain_log::areas::AREA;
 use printing::output::text;
-use records::{Record, read_record};
+use records::each_record;
 use rows::compare;
 use station::handheld::{commit, start};
 use std::io;
-use std::io::{Read, Write};
+use std::io::Write;
 use tables::limits::HANDHELD_SIZE;
 
 // The kind of an instruction.
@@ -25,10 +25,7 @@ const INSTRUCTION: u16 = 65534;
 
 // Whether an area has fewer than 2,048 bytes of requests.
 fn is_small(area: &[u8]) -> bool {
-    if area.len() < 4 {
-        return false;
-    }
-    area[2] < 8
+    4 <= area.len() && area[2] < 8
 }
 
 // Gives a message to both, and compares what they say, and their rows where the plain engine took it.
@@ -65,32 +62,6 @@ fn deal_with<W: Write>(
     }
 }
 
-// Deals with the next record: is there another?
-fn next<R: Read, W: Write>(
-    input: &mut R,
-    out: &mut W,
-    buffer: &mut [u8],
-    store: &mut [u8],
-    area: &mut [u8],
-) -> io::Result<bool> {
-    let record = read_record(input, buffer)?;
-    match record {
-        Record::End => Ok(false),
-        Record::Cut => {
-            text(out, b"cut\n")?;
-            Ok(false)
-        }
-        Record::TooLong(_) => {
-            text(out, b"too long\n")?;
-            Ok(true)
-        }
-        Record::Whole(kind, length) => {
-            deal_with(out, kind, &buffer[0..length], store, area)?;
-            Ok(true)
-        }
-    }
-}
-
 fn main(rt: HostRuntime) -> io::Result<()> {
     let mut input = rt.reader();
     let mut out = rt.stdout();
@@ -99,9 +70,12 @@ fn main(rt: HostRuntime) -> io::Result<()> {
     let mut area = [0u8; AREA];
     start(&mut store);
     start_area(&mut area);
-    let mut turns = u64::MAX;
-    while turns > 0 && next(&mut input, &mut out, &mut buffer, &mut store, &mut area)? {
-        turns -= 1;
+    let whole = each_record(&mut input, &mut buffer, |_, kind, bytes| match bytes {
+        Some(bytes) => deal_with(&mut out, kind, bytes, &mut store, &mut area),
+        None => text(&mut out, b"too long\n"),
+    })?;
+    if !whole {
+        text(&mut out, b"cut\n")?;
     }
     out.flush()
 }

@@ -4,25 +4,24 @@ use printing::output::{decimal, hex, text};
 use screen::answers::{Answer, Place, number_of};
 use screen::handheld::{row_number, row_part};
 use screen::rows::row_of;
-use slots::bytes::same;
 use std::io;
 use std::io::Write;
 
-// The first place of each table, and the one behind its last.
-const PLACES: [[u32; 2]; 8] = [
-    [0, 32],
-    [0, 64],
-    [32, 128],
-    [0, 16],
-    [0, 16],
-    [0, 64],
-    [0, 64],
-    [0, 16],
+// Each table, its first place, and the one behind its last.
+const PLACES: [(u32, u32, u32); 8] = [
+    (1, 0, 32),
+    (2, 0, 64),
+    (3, 32, 128),
+    (4, 0, 16),
+    (5, 0, 16),
+    (6, 0, 64),
+    (7, 0, 64),
+    (8, 0, 16),
 ];
 
 // Whether the first bytes of a scratch, so many, are a part's.
 fn shows(part: &[u8], scratch: &[u8], bytes: usize) -> bool {
-    bytes <= scratch.len() && same(part, &scratch[0..bytes])
+    bytes <= scratch.len() && part == &scratch[0..bytes]
 }
 
 // Whether both engines answer a row with the same number and the same bytes.
@@ -39,34 +38,26 @@ fn same_row(store: &[u8], area: &[u8], table: u32, place: u32) -> bool {
     }
 }
 
-// The first place of a table, from one place to another, where the engines differ; the other place where they do not.
-fn differing(store: &[u8], area: &[u8], table: u32, start: u32, end: u32) -> u32 {
-    let mut place = start;
-    while place < end && same_row(store, area, table, place) {
-        place += 1;
-    }
-    place
+// The first place of a table, from one place to another, where the engines differ.
+fn differing(store: &[u8], area: &[u8], table: u32, start: u32, end: u32) -> Option<u32> {
+    (start..end).find(|place| !same_row(store, area, table, *place))
 }
 
 // The name of a row: its table and its place.
 fn name<W: Write>(out: &mut W, table: u32, place: u32) -> io::Result<()> {
     text(out, b"row ")?;
-    decimal(out, table as u64)?;
+    decimal(out, table)?;
     text(out, b" ")?;
-    decimal(out, place as u64)
+    decimal(out, place)
 }
 
 // A line for the first row in which the engines differ; none where they do not.
 pub(crate) fn compare<W: Write>(out: &mut W, store: &[u8], area: &[u8]) -> io::Result<()> {
-    let mut table: u32 = 1;
-    for places in 0..8 {
-        let ends = PLACES[places];
-        let place = differing(store, area, table, ends[0], ends[1]);
-        if place < ends[1] {
-            name(out, table, place)?;
+    for (table, start, end) in &PLACES {
+        if let Some(place) = differing(store, area, *table, *start, *end) {
+            name(out, *table, place)?;
             return text(out, b" differs\n");
         }
-        table += 1;
     }
     Ok(())
 }
@@ -94,10 +85,8 @@ fn show_table<W: Write>(
     start: u32,
     end: u32,
 ) -> io::Result<()> {
-    let mut place = start;
-    while place < end {
+    for place in start..end {
         show_row(out, area, table, place)?;
-        place += 1;
     }
     Ok(())
 }
@@ -106,21 +95,15 @@ fn show_table<W: Write>(
 fn show_number<W: Write>(out: &mut W, area: &[u8]) -> io::Result<()> {
     let scratch = [0u8; 64];
     text(out, b"rows ")?;
-    decimal(
-        out,
-        number_of(plain_number(area, &scratch, row_of(9, 0))) as u64,
-    )?;
+    decimal(out, number_of(plain_number(area, &scratch, row_of(9, 0))))?;
     text(out, b"\n")
 }
 
 // That line, and one for each row of the plain engine that is there.
 pub(crate) fn show<W: Write>(out: &mut W, area: &[u8]) -> io::Result<()> {
     show_number(out, area)?;
-    let mut table: u32 = 1;
-    for places in 0..8 {
-        let ends = PLACES[places];
-        show_table(out, area, table, ends[0], ends[1])?;
-        table += 1;
+    for (table, start, end) in &PLACES {
+        show_table(out, area, *table, *start, *end)?;
     }
     Ok(())
 }

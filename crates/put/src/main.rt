@@ -3,7 +3,7 @@
 
 use export::handheld::export;
 use export::parts::{Export, PARTS};
-use records::{Record, read_record};
+use records::each_record;
 use station::answers::number;
 use station::handheld::{commit, judge, start};
 use std::io;
@@ -11,28 +11,10 @@ use std::io::{Read, Write};
 use tables::limits::HANDHELD_SIZE;
 
 // Judges a message, and commits it where it is good.
+// take, put and shift each have it: a crate for these lines would be no plainer.
 fn take(message: &[u8], store: &mut [u8], reply: &mut [u8]) {
     if number(judge(message, store, reply)) == 0 {
         commit(message, store, reply);
-    }
-}
-
-// Takes the next record: is there another?
-fn take_record<R: Read>(
-    input: &mut R,
-    buffer: &mut [u8],
-    store: &mut [u8],
-    reply: &mut [u8],
-) -> io::Result<bool> {
-    let record = read_record(input, buffer)?;
-    match record {
-        Record::End => Ok(false),
-        Record::Cut => Ok(false),
-        Record::TooLong(_) => Ok(true),
-        Record::Whole(_, length) => {
-            take(&buffer[0..length], store, reply);
-            Ok(true)
-        }
     }
 }
 
@@ -52,12 +34,15 @@ fn put_part<W: Write>(out: &mut W, part: u32, store: &[u8], buffer: &mut [u8]) -
     out.write_all(&buffer[0..length])
 }
 
+// Takes the messages of the records; one that is too long for the buffer is left out.
 fn take_all<R: Read>(input: &mut R, buffer: &mut [u8], store: &mut [u8]) -> io::Result<()> {
     let mut reply = [0u8; 20];
-    let mut turns = u64::MAX;
-    while turns > 0 && take_record(input, buffer, store, &mut reply)? {
-        turns -= 1;
-    }
+    each_record(input, buffer, |_, _, message| {
+        if let Some(message) = message {
+            take(message, store, &mut reply);
+        }
+        Ok(())
+    })?;
     Ok(())
 }
 
@@ -68,10 +53,8 @@ fn main(rt: HostRuntime) -> io::Result<()> {
     let mut store = [0u8; HANDHELD_SIZE];
     start(&mut store);
     take_all(&mut input, &mut buffer, &mut store)?;
-    let mut part = 1;
-    while part <= PARTS {
+    for part in 1..=PARTS {
         put_part(&mut out, part, &store, &mut buffer)?;
-        part += 1;
     }
     out.flush()
 }

@@ -6,16 +6,10 @@ use std::io::Write;
 use values::answers::Target;
 use values::handheld::{entry, entry_digits};
 
-fn wide(digit: u8) -> u64 {
-    digit as u64
-}
-
 // The first digits, as many as are counted.
 fn digits<W: Write>(out: &mut W, buffer: &[u8], count: usize) -> io::Result<()> {
-    let mut i = 0;
-    while i < buffer.len() && i < count {
-        decimal(out, wide(buffer[i]))?;
-        i += 1;
+    for digit in &buffer[..count.min(buffer.len())] {
+        decimal(out, *digit)?;
     }
     Ok(())
 }

@@ -10,13 +10,13 @@ mod rows;
 use call::call;
 use messages::tell;
 use printing::output::text;
-use records::{Record, read_record};
+use records::each_record;
 use room::room;
 use rows::rows;
 use station::answers::{Answer, Refusal, number};
 use station::handheld::{commit, judge, start};
 use std::io;
-use std::io::{Read, Write};
+use std::io::Write;
 use tables::limits::HANDHELD_SIZE;
 
 // What the set shows: rows, the menu's line, and who calls.
@@ -27,6 +27,7 @@ fn show<W: Write>(out: &mut W, store: &[u8]) -> io::Result<()> {
 }
 
 // Judges a message, and commits it where it is good: what committing answers then, and what judging does where it is not.
+// take, put and shift each have it: a crate for these lines would be no plainer.
 fn take(message: &[u8], store: &mut [u8], reply: &mut [u8]) -> Answer {
     let answer = judge(message, store, reply);
     if number(answer) != 0 {
@@ -48,33 +49,6 @@ fn receive<W: Write>(
     show(out, store)
 }
 
-// Takes message n, the next record: is there another?
-fn next<R: Read, W: Write>(
-    input: &mut R,
-    out: &mut W,
-    n: u64,
-    buffer: &mut [u8],
-    store: &mut [u8],
-    reply: &mut [u8],
-) -> io::Result<bool> {
-    let record = read_record(input, buffer)?;
-    match record {
-        Record::End => Ok(false),
-        Record::Cut => {
-            text(out, b"\nThe input ends within a record.\n")?;
-            Ok(false)
-        }
-        Record::TooLong(_) => {
-            tell(out, n, b"", Answer::Untouched(Refusal::MessageSize), reply)?;
-            Ok(true)
-        }
-        Record::Whole(_, length) => {
-            receive(out, n, &buffer[0..length], store, reply)?;
-            Ok(true)
-        }
-    }
-}
-
 fn main(rt: HostRuntime) -> io::Result<()> {
     let mut input = rt.reader();
     let mut out = rt.stdout();
@@ -84,9 +58,15 @@ fn main(rt: HostRuntime) -> io::Result<()> {
     start(&mut store);
     text(&mut out, b"A fresh store\n")?;
     show(&mut out, &store)?;
-    let mut n: u64 = 1;
-    while n < u64::MAX && next(&mut input, &mut out, n, &mut buffer, &mut store, &mut reply)? {
-        n += 1;
+    let whole = each_record(&mut input, &mut buffer, |n, _, message| match message {
+        Some(message) => receive(&mut out, n, message, &mut store, &mut reply),
+        None => {
+            let answer = Answer::Untouched(Refusal::MessageSize);
+            tell(&mut out, n, b"", answer, &reply)
+        }
+    })?;
+    if !whole {
+        text(&mut out, b"\nThe input ends within a record.\n")?;
     }
     out.flush()
 }

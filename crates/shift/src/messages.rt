@@ -30,7 +30,7 @@ fn meaning<W: Write>(out: &mut W, number: u8) -> io::Result<()> {
 // The words for 0, or for another number with the setting at fault.
 fn outcome<W: Write>(out: &mut W, answer: Answer, query: bool) -> io::Result<()> {
     let n = number(answer);
-    decimal(out, n as u64)?;
+    decimal(out, n)?;
     text(out, b", ")?;
     if n != 0 {
         meaning(out, n)?;
@@ -42,7 +42,7 @@ fn outcome<W: Write>(out: &mut W, answer: Answer, query: bool) -> io::Result<()>
     let failed = failed_id(answer);
     if failed != 0 {
         text(out, b"; failed ID ")?;
-        decimal(out, failed as u64)?;
+        decimal(out, failed)?;
     }
     Ok(())
 }

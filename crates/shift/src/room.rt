@@ -8,9 +8,9 @@ use tables::limits::HANDHELD;
 // So many of so many.
 fn taken<W: Write>(out: &mut W, what: &[u8], held: u16, room: usize) -> io::Result<()> {
     text(out, what)?;
-    decimal(out, held as u64)?;
+    decimal(out, held)?;
     text(out, b" of ")?;
-    decimal(out, room as u64)
+    decimal(out, room)
 }
 
 pub(crate) fn room<W: Write>(out: &mut W, store: &[u8]) -> io::Result<()> {

@@ -8,16 +8,16 @@ use screen::rows::row_of;
 use std::io;
 use std::io::Write;
 
-// The first place of each table, and the one behind its last.
-const PLACES: [[u32; 2]; 8] = [
-    [0, 32],
-    [0, 64],
-    [32, 128],
-    [0, 16],
-    [0, 16],
-    [0, 64],
-    [0, 64],
-    [0, 16],
+// Each table, its first place, and the one behind its last.
+const PLACES: [(u32, u32, u32); 8] = [
+    (1, 0, 32),
+    (2, 0, 64),
+    (3, 32, 128),
+    (4, 0, 16),
+    (5, 0, 16),
+    (6, 0, 64),
+    (7, 0, 64),
+    (8, 0, 16),
 ];
 
 fn name<W: Write>(out: &mut W, table: u32) -> io::Result<()> {
@@ -41,7 +41,7 @@ fn is_there(store: &[u8], table: u32, place: u32) -> bool {
 
 // The place of a row and what it shows.
 pub(crate) fn row<W: Write>(out: &mut W, store: &[u8], table: u32, place: u32) -> io::Result<()> {
-    decimal(out, place as u64)?;
+    decimal(out, place)?;
     text(out, b" ")?;
     let mut scratch = [0u8; 36];
     show_text(out, row_part(store, &mut scratch, row_of(table, place)))
@@ -65,15 +65,13 @@ fn table_rows<W: Write>(
     end: u32,
 ) -> io::Result<bool> {
     let mut first = true;
-    let mut place = start;
-    while place < end {
+    for place in start..end {
         if is_there(store, table, place) {
             before(out, table, first)?;
             row(out, store, table, place)?;
             behind(out, store, table, place)?;
             first = false;
         }
-        place += 1;
     }
     if !first {
         text(out, b"\n")?;
@@ -84,13 +82,10 @@ fn table_rows<W: Write>(
 // The rows of every table.
 pub(crate) fn rows<W: Write>(out: &mut W, store: &[u8]) -> io::Result<()> {
     let mut none = true;
-    let mut table: u32 = 1;
-    for places in 0..8 {
-        let ends = PLACES[places];
-        if table_rows(out, store, table, ends[0], ends[1])? {
+    for (table, start, end) in &PLACES {
+        if table_rows(out, store, *table, *start, *end)? {
             none = false;
         }
-        table += 1;
     }
     if none {
         text(out, b"  no rows\n")?;

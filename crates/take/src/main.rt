@@ -9,6 +9,7 @@ use std::io::Write;
 use tables::limits::HANDHELD_SIZE;
 
 // Judges a message, and commits it where it is good: what committing answers then, and what judging does where it is not.
+// take, put and shift each have it: a crate for these lines would be no plainer.
 fn take(message: &[u8], store: &mut [u8], reply: &mut [u8]) -> Answer {
     let answer = judge(message, store, reply);
     if number(answer) != 0 {
