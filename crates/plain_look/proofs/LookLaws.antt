@@ -1,5 +1,5 @@
 -- Laws of looking through deeds for one key of one table. Assumes nothing.
-use Rattle.lists.proofs.Kit.{ℕ, suc, ◌+◌, ◌-◌, ◌≤◌, ◌<◌, ◌≡◌, refl, sym, ap, ◌∙◌, subst, subst⁻¹, arith, Bool, true, false, cond, List, [], ◌∷◌, ◌++◌, length, Option, none, some, eqb, eqb-true, eqb-false, eq-eqb, ne_eqb, add-zero, add-suc, suc-add, add-one, ◌⊎◌, inl, inr}
+use Rattle.lists.proofs.Kit.{ℕ, suc, ◌+◌, ◌-◌, ◌≤◌, ◌<◌, ◌≡◌, refl, sym, ap, ◌∙◌, subst, subst⁻¹, arith, Bool, true, false, cond, List, [], ◌∷◌, ◌++◌, length, Option, none, some, eqb, eqb-true, eqb-false, eq-eqb, ne_eqb, add-zero, add-suc, suc-add}
 use denote.Enum.Declared.{tag_of}
 use types.Run.{OneOf, miss}
 use Rattle.writing.specs.declared.Kind.{Kind}
@@ -12,16 +12,17 @@ use Rattle.events.specs.Events.{birth}
 use Rattle.events.specs.Deeds.{Seen, nothing, clears, puts, removes}
 use Rattle.events.specs.Deeds as D
 use Rattle.events.specs.Knowing.{Known, unknown, first_stays, staying, put_known, know_step, know_on}
-use Rattle.events.proofs.Finding.{clash}
 use Rattle.read_deeds.specs.declared.cursors.Cursor.{Cursor}
 use Rattle.read_deeds.specs.declared.cursors.Moved.{Moved}
 use Rattle.read_deeds.specs.declared.deeds.Deed.TheVariants.{Nothing, Clears, Puts, Removes}
 use Rattle.read_deeds.specs.declared.deeds.Put.{Put}
 use Rattle.read_deeds.specs.Cursors.{Follow, NextDeed}
 use Rattle.read_deeds.specs.ReadDeeds.{TextSeen, PutIs}
+use Rattle.std.specs.declared.option.Option.{Option as Maybe}
+use Rattle.std.specs.declared.option.Option.TheVariants.{Some, None}
+use Rattle.plain_look.specs.declared.known.Found.{Found}
 use Rattle.plain_look.specs.declared.known.Looked.{Looked}
 use Rattle.plain_look.specs.Looking.{Where, anywhere, inside, Reads, PutSeen, FoundIs, LookedIs, deeds_most, LookIs, kind_number, KnowPut, KnowStep}
-use Rattle.writing.specs.declared.Coding.TheVariants.{Unicode16}
 
 -- ---- kinds by number
 
@@ -87,13 +88,9 @@ latest_stays k other = go (first_stays k) refl
 
 -- ---- what is known
 
--- the code's constant for it
-abbrev pub unknown_looked : Looked
-unknown_looked = record { there = false; birth = 0; often = 0; put = record { key = 0; name = 0; hidden = false; text = record { start = 0; units = 0; coding = Unicode16 } } }
-
--- nothing is known where nothing is there
-pub unknown_is : (w : Where) (r : Looked) → r.there ≡ false → r.often ≡ 0 → LookedIs w r unknown
-unknown_is w r t z = record { found_at = t; often = z }
+-- nothing is known where nothing is found
+pub unknown_is : (w : Where) (r : Looked) → r.found ≡ None → r.often ≡ 0 → LookedIs w r unknown
+unknown_is w r t z = record { found_at = subst⁻¹ (λ (x : Maybe Found). FoundIs w x none) t tt; often = z }
 
 -- what is known after two runs of deeds
 pub know_append : (k : Kind) (c n : ℕ) (xs ys : List D.Deed) (o : Known) → know_on k c n (xs ++ ys) o ≡ know_on k c (n + length xs) ys (know_on k c n xs o)
@@ -129,46 +126,19 @@ seen_in : (w : Where) (m : List ℕ) (p : Put) (a : Seen) → Reads w m → PutI
 seen_in anywhere m p a r is = record { key = is.key; name = is.name; hidden = is.hidden; text = is.text.units }
 seen_in (inside x) m p a r is = record { key = is.key; name = is.name; hidden = is.hidden; text = subst⁻¹ (λ (l : List ℕ). TextSeen l p.text a.text) r is.text }
 
--- found as new where none was there
-new_found : (w : Where) (k : Kind) (n t : ℕ) (p : Put) (a : Seen) (known : Looked) (f : Option (ℕ × Seen)) → PutSeen w p a → known.there ≡ false → FoundIs w known f
-    → FoundIs w (record { there = true; birth = n; often = t; put = p }) (some (birth n f, staying (first_stays k) f a))
-new_found w k n t p a known none is no_entry h = (refl, refl, is)
-new_found w k n t p a known (some e) is no_entry h = absurd (clash h.0 no_entry)
-
 -- found where the one before was born, as the one that stays
-again_found : (w : Where) (k : Kind) (n t : ℕ) (q : Put) (a : Seen) (known : Looked) (f : Option (ℕ × Seen)) → known.there ≡ true → FoundIs w known f
-    → ((e : ℕ × Seen) → PutSeen w known.put e.1 → PutSeen w q (cond (first_stays k) e.1 a))
-    → FoundIs w (record { there = known.there; birth = known.birth; often = t; put = q }) (some (birth n f, staying (first_stays k) f a))
-again_found w k n t q a known none there h s = absurd (clash there h)
-again_found w k n t q a known (some e) there h s = (there, h.1, s e h.2)
+again_found : (w : Where) (k : Kind) (n : ℕ) (b : Found) (q : Put) (a : Seen) (f : Option (ℕ × Seen)) → FoundIs w (Some b) f → ((e : ℕ × Seen) → PutSeen w b.put e.1 → PutSeen w q (cond (first_stays k) e.1 a))
+    → FoundIs w (Some (record { birth = b.birth; put = q })) (some (birth n f, staying (first_stays k) f a))
+again_found w k n b q a none h s = absurd h
+again_found w k n b q a (some e) h s = (h.0, s e h.1)
 
--- counted once more where the count is not at its end
-pub once_more : (t o : ℕ) {X Y : Type 0} → X ⊎ Y → (X → t ≡ o + 1) → (Y → deeds_most ≤ o) → o < deeds_most → t ≡ suc o
-once_more t o (inl x) f g h = f x ∙ add-one o
-once_more t o (inr y) f g h = absurd (omega (arith, g y, h))
-
-module _ (k : Kind) (n : ℕ) (p : Put) (known : Looked) (t : ℕ) (once : known.often < deeds_most → t ≡ suc known.often) where
-  -- put once more
-  more_often : (w : Where) (o : Known) → o.often < deeds_most → LookedIs w known o → t ≡ suc o.often
-  more_often w o few h = once (subst⁻¹ (λ (i : ℕ). i < deeds_most) h.often few) ∙ ap suc h.often
-
-  -- where none was there
-  pub put_new : known.there ≡ false → KnowPut k n p known (record { there = true; birth = n; often = t; put = p })
-  put_new no_entry w a o is few h = record { found_at = new_found w k n t p a known o.found_at is no_entry h.found_at; often = more_often w o few h }
-
-  -- where the first stays
-  pub put_first : known.there ≡ true → first_stays k ≡ true → KnowPut k n p known (record { there = known.there; birth = known.birth; often = t; put = known.put })
-  put_first there first w a o is few h = record {
-    found_at = again_found w k n t known.put a known o.found_at there h.found_at (λ e s. subst⁻¹ (λ (b : Bool). PutSeen w known.put (cond b e.1 a)) first s);
-    often = more_often w o few h;
-  }
-
-  -- where the latest stays
-  pub put_latest : known.there ≡ true → first_stays k ≡ false → KnowPut k n p known (record { there = known.there; birth = known.birth; often = t; put = p })
-  put_latest there latest w a o is few h = record {
-    found_at = again_found w k n t p a known o.found_at there h.found_at (λ e s. subst⁻¹ (λ (b : Bool). PutSeen w p (cond b e.1 a)) latest is);
-    often = more_often w o few h;
-  }
+-- put once more where the latest stays
+pub put_latest : (k : Kind) (n : ℕ) (p : Put) (known : Looked) (t : ℕ) (once : known.often < deeds_most → t ≡ suc known.often) (b : Found) → known.found ≡ Some b → first_stays k ≡ false
+    → KnowPut k n p known (record { found = Some (record { birth = b.birth; put = p }); often = t })
+put_latest k n p known t once b there latest w a o is few h = record {
+  found_at = again_found w k n b p a o.found_at (subst (λ (x : Maybe Found). FoundIs w x o.found_at) there h.found_at) (λ e s. subst⁻¹ (λ (c : Bool). PutSeen w p (cond c e.1 a)) latest is);
+  often = once (subst⁻¹ (λ (i : ℕ). i < deeds_most) h.often few) ∙ ap suc h.often;
+}
 
 -- ---- one deed
 

@@ -1,6 +1,8 @@
 -- What looking through deeds answers: what is known of a key, and what stands in a row.
-use Rattle.std.specs.Prelude.{ℕ, ◌+◌, ◌≤◌, ◌<◌, ◌≡◌, Bool, true, false, cond, List, ◌++◌, length}
+use Rattle.std.specs.Prelude.{ℕ, ◌+◌, ◌≤◌, ◌<◌, ◌≡◌, Bool, cond, List, ◌++◌, length}
 use Rattle.std.proofs.Math.Option.{Option, none, some}
+use Rattle.std.specs.declared.option.Option.{Option as Maybe}
+use Rattle.std.specs.declared.option.Option.TheVariants.{Some, None}
 use Rattle.writing.specs.declared.Kind.{Kind}
 use Rattle.writing.specs.declared.Kind.TheVariants as kinds
 use Rattle.writing.specs.Settings.{Text}
@@ -15,6 +17,7 @@ use Rattle.read_deeds.specs.declared.deeds.Deed.{Deed}
 use Rattle.read_deeds.specs.declared.deeds.Put.{Put}
 use Rattle.read_deeds.specs.Cursors.{Follow}
 use Rattle.read_deeds.specs.ReadDeeds.{TextSeen, DeedIs}
+use Rattle.plain_look.specs.declared.known.Found.{Found}
 use Rattle.plain_look.specs.declared.known.Looked.{Looked}
 
 -- ---- what is known of a key
@@ -40,13 +43,15 @@ pub record PutSeen (w : Where) (p : Put) (a : Seen) : Type 0 where
   pub hidden : p.hidden ≡ a.hidden
   pub text : TextIn w p.text a.text
 
-abbrev pub FoundIs : Where → Looked → Option (ℕ × Seen) → Type 0
-FoundIs w r none = r.there ≡ false
-FoundIs w r (some e) = (r.there ≡ true) × (r.birth ≡ e.0) × PutSeen w r.put e.1
+abbrev pub FoundIs : Where → Maybe Found → Option (ℕ × Seen) → Type 0
+FoundIs w None none = Unit {0}
+FoundIs w None (some e) = ⊥
+FoundIs w (Some r) none = ⊥
+FoundIs w (Some r) (some e) = (r.birth ≡ e.0) × PutSeen w r.put e.1
 
 -- what was found is what is known
 pub record LookedIs (w : Where) (r : Looked) (o : Known) : Type 0 where
-  pub found_at : FoundIs w r o.found_at
+  pub found_at : FoundIs w r.found o.found_at
   pub often : r.often ≡ o.often
 
 -- so many deeds can be told apart by number
@@ -62,12 +67,14 @@ LookIs m c first count k key known r =
 -- ---- rows
 
 -- what was found in a row
-abbrev pub SeenIs : List ℕ → Looked → Option Seen → Type 0
-SeenIs m r none = r.there ≡ false
-SeenIs m r (some a) = (r.there ≡ true) × PutSeen (inside m) r.put a
+abbrev pub SeenIs : List ℕ → Maybe Put → Option Seen → Type 0
+SeenIs m None none = Unit {0}
+SeenIs m None (some a) = ⊥
+SeenIs m (Some r) none = ⊥
+SeenIs m (Some r) (some a) = PutSeen (inside m) r a
 
 -- what looking for a row answers
-abbrev pub RowIs : List ℕ → Cursor → (count : ℕ) → Kind → ℕ → Looked → Type 0
+abbrev pub RowIs : List ℕ → Cursor → (count : ℕ) → Kind → ℕ → Maybe Put → Type 0
 RowIs m c count k i r = (ds : List D.Deed) → Follow m c ds → length ds ≡ count → count < deeds_most → SeenIs m r (row_seen k ds i)
 
 -- ---- kinds by number
@@ -116,10 +123,10 @@ born_of k all n (D.clears j) = none
 born_of k all n (D.puts j a) = cond (only j k) (born n (know k a.key all).found_at) none
 born_of k all n (D.removes j c) = none
 
-abbrev pub BornHere : List ℕ → Cursor → (count : ℕ) → Kind → ℕ → Deed → Looked → Type 0
+abbrev pub BornHere : List ℕ → Cursor → (count : ℕ) → Kind → ℕ → Deed → Maybe Put → Type 0
 BornHere m c count k n d r =
     (ds : List D.Deed) (e : D.Deed) → Follow m c ds → length ds ≡ count → count < deeds_most → DeedIs m d e → SeenIs m r (born_of k ds n e)
 
 -- the entry of a list in a position
-abbrev pub RowOn : List ℕ → Cursor → (count : ℕ) → Kind → ℕ → Looked → Type 0
+abbrev pub RowOn : List ℕ → Cursor → (count : ℕ) → Kind → ℕ → Maybe Put → Type 0
 RowOn m c count k i r = (ds : List D.Deed) → Follow m c ds → length ds ≡ count → count < deeds_most → SeenIs m r (row_on k ds 0 ds i)

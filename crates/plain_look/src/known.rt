@@ -2,16 +2,20 @@
 ghost use Rattle.plain_look.specs.Looking.{KindNumber, KindsSame, KnowPut, KnowStep};
 
 use read_deeds::deeds::{Deed, Put};
-use read_fields::texts::TextPlace;
-use writing::{Coding, Kind};
+use writing::Kind;
 
-// Whether an entry has the key, the number of the deed that it was born at, how often it was put since it last was not there, and the entry.
+// An entry that has the key, and the number of the deed that it was born at.
+#[derive(Clone, Copy)]
+pub struct Found {
+    pub birth: usize,
+    pub put: Put,
+}
+
+// The entry that has the key, where one does, and how often it was put since it last was not there.
 #[derive(Clone, Copy)]
 pub struct Looked {
-    pub there: bool,
-    pub birth: usize,
+    pub found: Option<Found>,
     pub often: usize,
-    pub put: Put,
 }
 
 // Deeds that are numbered under this many are looked at.
@@ -19,19 +23,8 @@ pub const DEEDS: usize = 0x1_0000_0000;
 
 // Nothing is known.
 pub const UNKNOWN: Looked = Looked {
-    there: false,
-    birth: 0,
+    found: None,
     often: 0,
-    put: Put {
-        key: 0,
-        name: 0,
-        hidden: false,
-        text: TextPlace {
-            start: 0,
-            units: 0,
-            coding: Coding::Unicode16,
-        },
-    },
 };
 
 // The number of a kind, in the order of the type bytes.
@@ -71,21 +64,21 @@ fn know_put(kind: Kind, number: usize, put: Put, known: Looked) -> Looked
     } else {
         known.often
     };
-    if !known.there {
-        return Looked {
-            there: true,
-            birth: number,
-            often,
-            put,
-        };
-    }
-    let mut next = known;
-    next.often = often;
+    let Some(before) = known.found else {
+        let found = Some(Found { birth: number, put });
+        return Looked { found, often };
+    };
     match kind {
-        Kind::QuickTexts => {}
-        _ => next.put = put,
+        Kind::QuickTexts => Looked {
+            found: Some(before),
+            often,
+        },
+        _ => {
+            let birth = before.birth;
+            let found = Some(Found { birth, put });
+            Looked { found, often }
+        }
     }
-    next
 }
 
 // After a deed.

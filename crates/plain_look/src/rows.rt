@@ -3,13 +3,13 @@ ghost use Rattle.std.specs.Prelude.{◌≡◌};
 ghost use Rattle.events.specs.Knowing.{listed};
 ghost use Rattle.plain_look.specs.Looking.{BornHere, RowOn, RowIs};
 
-use super::known::{DEEDS, Looked, UNKNOWN, same_kind};
+use super::known::{DEEDS, UNKNOWN, same_kind};
 use super::look::look;
 use read_deeds::cursors::{Cursor, next_deed};
-use read_deeds::deeds::Deed;
+use read_deeds::deeds::{Deed, Put};
 use writing::Kind;
 
-// What is known after all deeds of the entry that the deed of this number put, where it is the one that the entry was born at.
+// The entry that the deed of this number put, as it is after all deeds, where that deed is the one that it was born at.
 fn born_here(
     m: &[u8],
     cursor: Cursor,
@@ -17,43 +17,43 @@ fn born_here(
     kind: Kind,
     number: usize,
     deed: Deed,
-) -> Looked
+) -> Option<Put>
     ensures { BornHere m.now cursor count kind number deed result }
 {
     let Deed::Puts(of, put) = deed else {
-        return UNKNOWN;
+        return None;
     };
     if !same_kind(of, kind) {
-        return UNKNOWN;
+        return None;
     }
-    let found = look(m, cursor, 0, count, kind, put.key, UNKNOWN);
-    if !found.there || found.birth != number {
-        return UNKNOWN;
+    let known = look(m, cursor, 0, count, kind, put.key, UNKNOWN);
+    let found = known.found?;
+    if found.birth != number {
+        return None;
     }
-    found
+    Some(found.put)
 }
 
 // The entry of a list in a position.
-fn listed_row(m: &[u8], cursor: Cursor, count: usize, kind: Kind, position: usize) -> Looked
+fn listed_row(m: &[u8], cursor: Cursor, count: usize, kind: Kind, position: usize) -> Option<Put>
     ensures { RowOn m.now cursor count kind position result }
 {
     if DEEDS <= count {
-        return UNKNOWN;
+        return None;
     }
     let mut here = cursor;
     let mut before = position;
     for i in 0..count {
         let moved = next_deed(m, here);
-        let found = born_here(m, cursor, count, kind, i, moved.deed);
-        if found.there {
+        if let Some(put) = born_here(m, cursor, count, kind, i, moved.deed) {
             if before == 0 {
-                return found;
+                return Some(put);
             }
             before -= 1;
         }
         here = moved.cursor;
     }
-    UNKNOWN
+    None
 }
 
 // Whether rows of a kind go by position.
@@ -67,11 +67,13 @@ fn is_listed(kind: Kind) -> bool
 }
 
 // The entry in a row, after so many deeds from a cursor on.
-pub fn row_seen(m: &[u8], cursor: Cursor, count: usize, kind: Kind, row: usize) -> Looked
+pub fn row_seen(m: &[u8], cursor: Cursor, count: usize, kind: Kind, row: usize) -> Option<Put>
     ensures { RowIs m.now cursor count kind row result }
 {
     if is_listed(kind) {
         return listed_row(m, cursor, count, kind, row);
     }
-    look(m, cursor, 0, count, kind, row as u64, UNKNOWN)
+    let known = look(m, cursor, 0, count, kind, row as u64, UNKNOWN);
+    let found = known.found?;
+    Some(found.put)
 }

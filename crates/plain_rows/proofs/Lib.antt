@@ -5,5 +5,4 @@ pub mod LineDigits
 pub mod NameLaws
 pub mod RowAnswers
 pub mod RowsDetermined
-pub mod SpotLaws
 pub mod TextCopies

@@ -2,7 +2,8 @@
 use Rattle.lists.proofs.Kit.{ℕ, ◌≤◌, ◌≡◌, refl, sym, ap, ◌∙◌, ◌⊎◌, inl, inr, List, some, option_none_ne_some, arith}
 use Rattle.lists.specs.Ladder.{Answers}
 use Rattle.tables.specs.Tables.{Tables}
-use Rattle.plain_look.specs.declared.known.Looked.{Looked}
+use Rattle.std.specs.declared.option.Option.{Option as Maybe}
+use Rattle.read_deeds.specs.declared.deeds.Put.{Put}
 use Rattle.plain_log.specs.declared.checks.Area.{Area}
 use Rattle.plain_log.specs.Area.{AreaOf}
 use Rattle.plain_log.specs.Checking.{AreaSeen}
@@ -32,7 +33,7 @@ module _ (s : List ℕ) (row : Row) (log : List (List ℕ)) (t : Tables) (area :
   found_answers (Ok (IndividualNumber a)) y = inr (there _ y, (log, t, area, y))
 
 -- what was found in an area that was read is the answer of the tests
-pub name_answers : (s ws : List ℕ) (row : Row) (room : ℕ) (a : Area) (found : Looked) (r : Naming) → 64 ≤ room → AreaSeen s ws a → FoundIn s a.deeds row found → NameFound row found r → Answers (plain_naming s room row) r
+pub name_answers : (s ws : List ℕ) (row : Row) (room : ℕ) (a : Area) (found : Maybe Put) (r : Naming) → 64 ≤ room → AreaSeen s ws a → FoundIn s a.deeds row found → NameFound row found r → Answers (plain_naming s room row) r
 name_answers s ws row room a found r big x f n =
     let l = x.logged in
     let (p, is, seen) = f x.deeds l.follow l.count (omega (arith, l.few)) in

@@ -1,5 +1,5 @@
 -- How a row's text is found and written: inner steps, no promise cites these.
-use Rattle.std.specs.Prelude.{ℕ, ◌-◌, ◌≤◌, ◌<◌, ◌≡◌, false, List, [], map, length, take}
+use Rattle.std.specs.Prelude.{ℕ, ◌-◌, ◌≤◌, ◌<◌, ◌≡◌, List, [], map, length, take}
 use Rattle.std.proofs.Math.Option.{none, some}
 use Rattle.std.specs.declared.option.Option.{Option as Maybe}
 use Rattle.std.specs.declared.option.Option.TheVariants.{Some, None}
@@ -17,9 +17,9 @@ use Rattle.tables.specs.Tables.{Tables}
 use Rattle.events.specs.Deeds.{number_code}
 use Rattle.events.specs.Deeds as D
 use Rattle.events.specs.Knowing.{row_seen, Telling}
+use Rattle.read_deeds.specs.declared.deeds.Put.{Put}
 use Rattle.read_deeds.specs.Cursors.{Follow}
 use Rattle.read_deeds.specs.ReadDeeds.{TextSeen}
-use Rattle.plain_look.specs.declared.known.Looked.{Looked}
 use Rattle.plain_look.specs.Looking.{SeenIs}
 use Rattle.plain_weigh.specs.Weighing.{log_start}
 use Rattle.screen.specs.declared.answers.Place.{Place}
@@ -59,11 +59,11 @@ SpotIs NoTable r = r ≡ None
 -- ---- names
 
 -- what was found is what the deeds have in the row
-abbrev pub SpotSeen : List ℕ → Spot → List D.Deed → Looked → Type 0
+abbrev pub SpotSeen : List ℕ → Spot → List D.Deed → Maybe Put → Type 0
 SpotSeen s (Some p) ds r = SeenIs s r (row_seen p.0 ds p.1)
-SpotSeen s None ds r = r.there ≡ false
+SpotSeen s None ds r = r ≡ None
 
-abbrev pub FoundIn : List ℕ → ℕ → Row → Looked → Type 0
+abbrev pub FoundIn : List ℕ → ℕ → Row → Maybe Put → Type 0
 FoundIn s n row r = (ds : List D.Deed) → Follow s log_start ds → length ds ≡ n → n < 0x100000000 → (p : Spot) × SpotIs row p × SpotSeen s p ds r
 
 abbrev pub AddressOf : ℕ → ℕ → Type 0
@@ -84,7 +84,7 @@ Named t s row (Ok (GroupNumber a)) = caption t row ≡ some (group [] a)
 Named t s row (Ok (IndividualNumber a)) = caption t row ≡ some (individual [] a)
 
 -- by what was found in an area of these requests
-abbrev pub NameFound : Row → Looked → Naming → Type 0
+abbrev pub NameFound : Row → Maybe Put → Naming → Type 0
 NameFound row found r =
     (s : List ℕ) (log : List (List ℕ)) (t : Tables) (ds : List D.Deed) (p : Spot) → AreaOf s log t → Telling handheld ds t → SpotIs row p → SpotSeen s p ds found → Named t s row r
 

@@ -4,10 +4,10 @@ ghost use Rattle.plain_rows.specs.Naming.{FoundIn, AddressOf, NameFound, plain_n
 
 use super::spots::spot_of;
 use plain_log::checks::check_area;
-use plain_look::known::{Looked, UNKNOWN};
 use plain_look::rows::row_seen;
 use plan::numbers::{GroupAddress, IndividualAddress};
 use read_deeds::cursors::at_settings;
+use read_deeds::deeds::Put;
 use read_fields::texts::TextPlace;
 use screen::rows::{Refusal, Row};
 use writing::Coding;
@@ -22,12 +22,10 @@ pub enum Name {
 }
 
 // What the deeds of an area, so many, have in a row.
-fn find(area: &[u8], deeds: usize, row: Row) -> Looked
+fn find(area: &[u8], deeds: usize, row: Row) -> Option<Put>
     ensures { FoundIn area.now deeds row result }
 {
-    let Some((kind, n)) = spot_of(row) else {
-        return UNKNOWN;
-    };
+    let (kind, n) = spot_of(row)?;
     row_seen(area, at_settings(4, 0, Coding::Unicode16), deeds, kind, n)
 }
 
@@ -39,13 +37,12 @@ fn address_of(name: u64) -> u32
 }
 
 // By what was found.
-fn name_found(row: Row, found: Looked) -> Result<Name, Refusal>
+fn name_found(row: Row, found: Option<Put>) -> Result<Name, Refusal>
     ensures { NameFound row found result }
 {
-    if !found.there {
+    let Some(put) = found else {
         return Err(Refusal::Absent);
-    }
-    let put = found.put;
+    };
     if put.hidden {
         return Err(Refusal::Absent);
     }

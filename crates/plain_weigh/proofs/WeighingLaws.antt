@@ -9,7 +9,7 @@ use Rattle.events.specs.Deeds as D
 use Rattle.events.specs.Knowing.{Known, unknown, staying, first_stays, put_known, know_step, know_on, know, known_for}
 use Rattle.read_deeds.specs.declared.cursors.Cursor.{Cursor}
 use Rattle.read_deeds.specs.declared.deeds.Deed.{Deed}
-use Rattle.read_deeds.specs.declared.deeds.Deed.TheVariants.{Nothing, Clears, Puts, Removes}
+use Rattle.read_deeds.specs.declared.deeds.Deed.TheVariants.{Puts, Removes}
 use Rattle.read_deeds.specs.declared.deeds.Put.{Put}
 use Rattle.read_deeds.specs.Cursors.{Follow}
 use Rattle.plain_look.specs.declared.known.Looked.{Looked}

@@ -36,7 +36,7 @@ fn takes_place(kind: Kind, known: Looked) -> bool
 {
     match kind {
         Kind::Channels => false,
-        _ => known.there,
+        _ => known.found.is_some(),
     }
 }
 
@@ -62,7 +62,7 @@ fn gone(kind: Kind, known: Looked) -> usize
 {
     match kind {
         Kind::Channels => known.often,
-        _ => { if known.there { 1 } else { 0 } }
+        _ => { if known.found.is_some() { 1 } else { 0 } }
     }
 }
 
@@ -80,10 +80,10 @@ fn bytes_of(units: usize) -> usize
 fn known_bytes(known: Looked) -> usize
     ensures { KnownBytes known result }
 {
-    if !known.there {
-        return 0;
+    match known.found {
+        None => 0,
+        Some(found) => bytes_of(found.put.text.units),
     }
-    bytes_of(known.put.text.units)
 }
 
 // The bytes of the text that stands when an entry was put: of quick texts the first stays.
@@ -91,11 +91,11 @@ fn standing_bytes(kind: Kind, put: Put, known: Looked) -> usize
     ensures { BytesPut kind put known result }
 {
     let anew = bytes_of(put.text.units);
-    if !known.there {
+    let Some(before) = known.found else {
         return anew;
-    }
+    };
     match kind {
-        Kind::QuickTexts => known_bytes(known),
+        Kind::QuickTexts => bytes_of(before.put.text.units),
         _ => anew,
     }
 }
