@@ -1,5 +1,5 @@
 -- Looking a caller up: the bytes of a key, and what the entry found among the slots says of the lines. Assumes nothing.
-use Rattle.lists.proofs.Kit.{ℕ, zero, suc, ◌+◌, ◌*◌, ◌-◌, ◌≤◌, ◌<◌, ◌≡◌, refl, sym, ap, ap₂, ◌∙◌, subst, subst₂, Bool, true, false, List, [], ◌∷◌, ◌++◌, map, map-append, head-eq_of_cons-eq, tail-eq_of_cons-eq, Option, none, some, inr, not-suc-le-zero, le_of_suc-le-suc, add-one, arith, mid_of, length, take, drop, get_or, set, length-map, take-suc, length-take-le, take_all}
+use Rattle.lists.proofs.Kit.{ℕ, zero, suc, ◌+◌, ◌*◌, ◌≤◌, ◌<◌, ◌≡◌, refl, sym, ap, ap₂, ◌∙◌, subst, subst₂, Bool, true, false, List, [], ◌∷◌, ◌++◌, map, map-append, head-eq_of_cons-eq, tail-eq_of_cons-eq, Option, none, some, inr, not-suc-le-zero, le_of_suc-le-suc, add-one, arith, mid_of, length, take, get_or, set, length-map, take-suc, length-take-le, take_all}
 use Rattle.lists.specs.Every.{All}
 use Rattle.lists.specs.Ladder.{Answers}
 use Rattle.lists.proofs.Every.{all_any}
@@ -19,12 +19,12 @@ use Rattle.tables.specs.Allowed.{LineOk}
 use Rattle.tables.specs.Forms.{Roomy, layout, region_start, slot_width, line_as}
 use Rattle.tables.specs.Heads.{line_own}
 use Rattle.tables.specs.Layout.{count_size, digit_bytes, line_key_at, line_key_size}
-use Rattle.tables.specs.Store.{StoreOf, Holds}
+use Rattle.tables.specs.Store.{StoreOf}
 use Rattle.tables.specs.Tables.{Line, Tables}
 use Rattle.tables.proofs.EntryCodes.{key_of}
 use Rattle.tables.proofs.TextCodes.{digits_length, digits_one}
 use Rattle.shared_texts.proofs.FormLists.{line_as_keyed, lines_ordered}
-use Rattle.callers.specs.declared.lookup.Caller.TheVariants.{Row, NoRow}
+use Rattle.std.specs.Prelude.{Some, None, Ok}
 use Rattle.callers.specs.Callers.{told, Calls, ByNumber, looking_up, LineFound}
 
 -- ---- the key
@@ -128,11 +128,11 @@ module _ (lim : Limits) (idtype : ℕ) (digits store : List ℕ) (s : StoreOf li
     has = f s.store.tables (s.store.allowed, s.store.bytes_are) long
 
     -- the line at p
-    pub answered_row : (p : ℕ) → fd ≡ At p → Answers (looking_up lim idtype digits store) (told (Row p))
+    pub answered_row : (p : ℕ) → fd ≡ At p → Answers (looking_up lim idtype digits store) (told (Ok (Some p)))
     answered_row p e =
         looked_up (some p) (line_there lim.texts idtype digits n key is long s.store.tables s.store.allowed.lines.1 p (subst (Has line_key_at key (map (line_as lim.texts) s.store.tables.lines)) e has))
 
     -- no line
-    pub answered_none : fd ≡ Nothing → Answers (looking_up lim idtype digits store) (told NoRow)
+    pub answered_none : fd ≡ Nothing → Answers (looking_up lim idtype digits store) (told (Ok None))
     answered_none e =
         looked_up none (no_line lim.texts idtype digits n key is long s.store.tables s.store.allowed.lines.1 (subst (Has line_key_at key (map (line_as lim.texts) s.store.tables.lines)) e has))

@@ -1,5 +1,5 @@
 -- What a caller may rely on: one answer, the row of the line that has the number, exactly. Assumes nothing.
-use Rattle.lists.proofs.Kit.{ℕ, zero, suc, ◌≤◌, ◌<◌, ◌≡◌, ◌≢◌, refl, sym, ap, ap₂, ◌∙◌, subst, ◌↔◌, List, [], ◌∷◌, map, Option, none, some, option_some_injective, option_none_ne_some, not-suc-le-zero, get_or, length, inl, inr, arith, Bool, true, false, ltb, ltb-true, ltb-false}
+use Rattle.lists.proofs.Kit.{ℕ, zero, suc, ◌<◌, ◌≡◌, ◌≢◌, refl, sym, ap, ◌∙◌, subst, ◌↔◌, List, [], ◌∷◌, map, Option, none, some, option_some_injective, option_none_ne_some, get_or, length, inl, inr, arith, Bool, true, false, cond, eqb, ltb, ltb-true, ltb-false}
 use Rattle.lists.specs.Every.{All}
 use Rattle.lists.specs.Ladder.{Answers}
 use Rattle.lists.proofs.Ladder.{one_answer}
@@ -13,8 +13,9 @@ use Rattle.tables.specs.Store.{StoreOf, Holds}
 use Rattle.tables.specs.Tables.{Line, line_key, Tables}
 use Rattle.tables.proofs.EntryCodes.{bit_one}
 use Rattle.shared_texts.proofs.Forms.{layout_one, holds_store}
-use Rattle.callers.specs.declared.lookup.Caller.{Caller}
-use Rattle.callers.specs.declared.lookup.Caller.TheVariants.{Row, NoRow, NotAStore, NotANumber}
+use Rattle.std.specs.Prelude.{Option as Maybe, Some, None, Result, Ok, Err}
+use Rattle.callers.specs.declared.lookup.NoCaller.{NoCaller}
+use Rattle.callers.specs.declared.lookup.NoCaller.TheVariants.{NotAStore, NotANumber}
 use Rattle.callers.specs.Callers.{Told, told, Calls, ByNumber, looking_up}
 
 -- ---- one row
@@ -73,34 +74,34 @@ module _ (lim : Limits) (idtype : ℕ) (digits store : List ℕ) where
   line_of_one = one_answer (looking_up lim idtype digits store) one_foot
 
   -- the number and the row of an answer say which case it is
-  abbrev answered : Option ℕ → Caller
-  answered none = NoRow
-  answered (some r) = Row r
+  abbrev answered : Option ℕ → Result (Maybe ℕ) NoCaller
+  answered none = Ok None
+  answered (some r) = Ok (Some r)
 
-  abbrev answer_of : Told → Caller
-  answer_of a = get_or (answered a.row ∷ NotAStore ∷ NotAStore ∷ NotAStore ∷ NotAStore ∷ NotAStore ∷ NotAStore ∷ NotAStore ∷ NotAStore ∷ NotAStore ∷ NotAStore ∷ NotAStore ∷ []) a.number NotANumber
+  abbrev answer_of : Told → Result (Maybe ℕ) NoCaller
+  answer_of a = cond (eqb a.number 0) (answered a.row) (Err (cond (eqb a.number 11) NotAStore NotANumber))
 
-  answer_back : (a : Caller) → answer_of (told a) ≡ a
-  answer_back (Row r) = refl
-  answer_back NoRow = refl
-  answer_back NotAStore = refl
-  answer_back NotANumber = refl
+  answer_back : (a : Result (Maybe ℕ) NoCaller) → answer_of (told a) ≡ a
+  answer_back (Ok (Some r)) = refl
+  answer_back (Ok None) = refl
+  answer_back (Err NotAStore) = refl
+  answer_back (Err NotANumber) = refl
 
   -- LINE-OF-DETERMINED: the contract of the caller's call allows one answer of the code
-  pub line_of_determined : (a b : Caller) → Answers (looking_up lim idtype digits store) (told a) → Answers (looking_up lim idtype digits store) (told b) → a ≡ b
+  pub line_of_determined : (a b : Result (Maybe ℕ) NoCaller) → Answers (looking_up lim idtype digits store) (told a) → Answers (looking_up lim idtype digits store) (told b) → a ≡ b
   line_of_determined a b x y = decoded told answer_of answer_back a b (line_of_one (told a) (told b) x y)
 
   -- ---- the row
 
   -- a row is below the room for lines, so it fits a byte
-  pub row_small : (a : Caller) (r : ℕ) → Answers (looking_up lim idtype digits store) (told a) → a ≡ Row r → r < 256
-  row_small a r x e = go (subst (λ (c : Caller). Answers (looking_up lim idtype digits store) (told c)) e x)
+  pub row_small : (a : Result (Maybe ℕ) NoCaller) (r : ℕ) → Answers (looking_up lim idtype digits store) (told a) → a ≡ Ok (Some r) → r < 256
+  row_small a r x e = go (subst (λ (c : Result (Maybe ℕ) NoCaller). Answers (looking_up lim idtype digits store) (told c)) e x)
     where
       low : (t : Tables) → Holds lim t store → r < length t.lines → ((StoreOf lim store → ⊥) → ⊥) → (b : Bool) → ltb r 256 ≡ b → r < 256
       low t h i n true e = ltb-true r 256 e
       low t h i n false e = absurd (n (λ s. omega (arith, i, ltb-false r 256 e, s.roomy.few_lines, h.0.lines.0)))
 
-      go : Answers (looking_up lim idtype digits store) (told (Row r)) → r < 256
+      go : Answers (looking_up lim idtype digits store) (told (Ok (Some r))) → r < 256
       go (inl (n, d)) = let z : ◌≡◌ {A = ℕ} 0 11 = ap (λ (a : Told). a.number) d in absurd (omega arith)
       go (inr (n, inl (m, d))) = let z : ◌≡◌ {A = ℕ} 0 20 = ap (λ (a : Told). a.number) d in absurd (omega arith)
       go (inr (n, inr (m, (t, h, z, (l, f, c))))) = low t h (at_low t.lines r l f) n (ltb r 256) refl

@@ -1,5 +1,5 @@
 -- Which line contact a caller is: document 02, A7.
-use Rattle.std.specs.Prelude.{ℕ, ◌≡◌, List, map, get_or, length}
+use Rattle.std.specs.Prelude.{ℕ, ◌≡◌, List, map, get_or, length, Option as Maybe, Some, None, Result, Ok, Err}
 use Rattle.std.proofs.Math.Option.{Option, none, some}
 use Rattle.lists.specs.Every.{All}
 use Rattle.lists.specs.Ladder.{Ladder, rung, foot}
@@ -13,8 +13,8 @@ use Rattle.tables.specs.Forms.{line_as}
 use Rattle.tables.specs.Layout.{line_key_at, line_key_size}
 use Rattle.tables.specs.Store.{StoreOf, Holds}
 use Rattle.tables.specs.Tables.{Line, Tables}
-use Rattle.callers.specs.declared.lookup.Caller.{Caller}
-use Rattle.callers.specs.declared.lookup.Caller.TheVariants.{Row, NoRow, NotAStore, NotANumber}
+use Rattle.callers.specs.declared.lookup.NoCaller.{NoCaller}
+use Rattle.callers.specs.declared.lookup.NoCaller.TheVariants.{NotAStore, NotANumber}
 
 -- the number that the call answers, and the row where there is one
 pub record Told : Type 0 where
@@ -22,11 +22,11 @@ pub record Told : Type 0 where
   pub row : Option ℕ
 
 -- "a refusal carries no row"; that no row has the number is no refusal
-abbrev pub told : Caller → Told
-told (Row r) = record { number = 0; row = some r }
-told NoRow = record { number = 0; row = none }
-told NotAStore = record { number = 11; row = none }
-told NotANumber = record { number = 20; row = none }
+abbrev pub told : Result (Maybe ℕ) NoCaller → Told
+told (Ok (Some r)) = record { number = 0; row = some r }
+told (Ok None) = record { number = 0; row = none }
+told (Err NotAStore) = record { number = 11; row = none }
+told (Err NotANumber) = record { number = 20; row = none }
 
 -- a line has this IDtype and these digits
 abbrev pub Calls : ℕ → Number → Line → Type 0

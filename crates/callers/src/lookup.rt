@@ -14,25 +14,18 @@ use tables::limits::Limits;
 use tables::list_places::{line_slot, line_slots, lines_at};
 use tables::places::{COUNT, KEY_BYTES, LINE_KEY};
 
-#[derive(Clone, Copy)]
-pub enum Caller {
-    Row(usize),
-    NoRow,
-    NotAStore,
-    NotANumber,
+// Why no row is looked up: C's numbers.
+#[derive(Clone, Copy, PartialEq, Eq)]
+pub enum NoCaller {
+    NotAStore = 11,
+    NotANumber = 20,
 }
 
 // Whether the digits are a number: 1 to 18 of them.
 fn is_number(digits: &[u8]) -> bool
     ensures { (result ≡ true) ↔ InNumber digits.now }
 {
-    if digits.len() < 1 {
-        return false;
-    }
-    if 18 < digits.len() {
-        return false;
-    }
-    at_most(digits, 9)
+    matches!(digits.len(), 1..=18) && at_most(digits, 9)
 }
 
 // The key of a line with these: its IDtype, then each digit one more than itself, and zeros behind the last.
@@ -42,10 +35,8 @@ fn key_of(idtype: u8, digits: &[u8]) -> [u8; KEY_BYTES]
 {
     let mut key = [0u8; KEY_BYTES];
     key[0] = idtype;
-    let mut i = 0;
-    while i < digits.len() {
-        key[i + 1] = digits[i] + 1;
-        i += 1;
+    for (i, digit) in digits.iter().enumerate() {
+        key[i + 1] = digit + 1;
     }
     key
 }
@@ -66,23 +57,28 @@ fn find_line(store: &[u8], limits: Limits, key: &[u8]) -> Found
     )
 }
 
-// The row of the line that has an IDtype and digits, in a store of a set with these limits.
-pub fn line_of_in(idtype: u32, digits: &[u8], store: &[u8], limits: Limits) -> Caller
+// The row of the line that has an IDtype and digits, or that none has them, in a store of a set with these limits.
+pub fn line_of_in(
+    idtype: u32,
+    digits: &[u8],
+    store: &[u8],
+    limits: Limits,
+) -> Result<Option<usize>, NoCaller>
     ensures { Answers (looking_up limits idtype digits.now store.now) (told result) }
 {
     if !is_store(store, limits) {
-        return Caller::NotAStore;
+        return Err(NoCaller::NotAStore);
     }
     if !is_number(digits) {
-        return Caller::NotANumber;
+        return Err(NoCaller::NotANumber);
     }
     if 1 < idtype {
-        return Caller::NoRow;
+        return Ok(None);
     }
     let key = key_of(idtype as u8, digits);
     let found = find_line(store, limits, &key);
     match found {
-        Found::At(row) => Caller::Row(row),
-        Found::Nothing => Caller::NoRow,
+        Found::At(row) => Ok(Some(row)),
+        Found::Nothing => Ok(None),
     }
 }

@@ -1,4 +1,4 @@
-use Rattle.lists.proofs.Kit.{rules, arith, ◌+◌, ◌-◌}
+use Rattle.lists.proofs.Kit.{arith, ◌+◌, ◌-◌}
 use Rattle.tables.specs.Layout.{count_size}
 use Rattle.callers.proofs.LookupLaws.{found_line}
 use Rattle.callers.proofs.lookup.find_line.Goals as goal

@@ -1,6 +1,6 @@
-use Rattle.lists.proofs.Kit.{rules, arith, refl, ◌-◌, ◌≤◌, length}
+use Rattle.lists.proofs.Kit.{arith, refl, ◌≤◌}
 use Rattle.lists.proofs.Every.{all_get}
-use Rattle.callers.proofs.LookupLaws.{KeySoFar, key_more, key_done}
+use Rattle.callers.proofs.LookupLaws.{key_more, key_done}
 use Rattle.callers.proofs.lookup.key_of.Goals as goal
 
 pub loop-i-init : goal.loop-i-init

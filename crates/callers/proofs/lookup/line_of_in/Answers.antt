@@ -1,4 +1,4 @@
-use Rattle.lists.proofs.Kit.{rules, arith, refl, none, inl, inr}
+use Rattle.lists.proofs.Kit.{refl, none, inl, inr}
 use Rattle.tables.proofs.AnswerLaws.{not_said, was_said}
 use Rattle.callers.proofs.LookupLaws.{looked_up, no_idtype, answered_row, answered_none}
 use Rattle.callers.proofs.lookup.line_of_in.Goals as goal
