@@ -6,7 +6,6 @@ ghost use Rattle.values.specs.Entries.{DigitsAre, DigitsWritten, own_of};
 
 use super::answers::Digits;
 use super::entries::filled_slot;
-use screen::names::SlotPlace;
 use screen::rows::Row;
 use store_check::checks::is_store;
 use tables::limits::Limits;
@@ -55,7 +54,7 @@ pub fn digits_in(row: Row, store: &[u8], buffer: &mut [u8], limits: Limits) -> D
     if !is_store(store, limits) {
         return Digits::NotAStore;
     }
-    let SlotPlace::At(slot) = filled_slot(row, store, limits) else {
+    let Some(slot) = filled_slot(row, store, limits) else {
         return Digits::Absent;
     };
     let start = slot.start;
