@@ -7,8 +7,6 @@ use Rattle.slots.specs.Slots.{pad, put_at}
 use Rattle.slots.proofs.Tables.{put_end}
 use Rattle.counted_lists.specs.Counted.{Without}
 use Rattle.counted_lists.proofs.CountLaws.{pad_put}
-use Rattle.orders.specs.declared.orders.Found.{Found}
-use Rattle.orders.specs.declared.orders.Found.TheVariants.{At, Nothing}
 use Rattle.orders.specs.OrderedLists.{slot_key, Has, OrderedList, EntryFound}
 use Rattle.writing.specs.Ranges.{text_limits, InNumber}
 use Rattle.writing.specs.Settings.{Number}
@@ -24,7 +22,7 @@ use Rattle.tables.specs.Tables.{Line, Tables}
 use Rattle.tables.proofs.EntryCodes.{key_of}
 use Rattle.tables.proofs.TextCodes.{digits_length, digits_one}
 use Rattle.shared_texts.proofs.FormLists.{line_as_keyed, lines_ordered}
-use Rattle.std.specs.Prelude.{Some, None, Ok}
+use Rattle.std.specs.Prelude.{Option as Maybe, Some, None, Ok}
 use Rattle.callers.specs.Callers.{told, Calls, ByNumber, looking_up, LineFound}
 
 -- ---- the key
@@ -73,14 +71,14 @@ module _ (form : Texts) where
 
 module _ (form : Texts) (id : ℕ) (ds : Number) (n : InNumber ds) (key : List ℕ) (is : key ≡ id ∷ digit_bytes ds) (long : length key ≡ line_key_size) (t : Tables) (ok : All LineOk t.lines) where
   -- a line was found
-  pub line_there : (p : ℕ) → Has line_key_at key (map (line_as form) t.lines) (At p) → ByNumber t id ds (some p)
+  pub line_there : (p : ℕ) → Has line_key_at key (map (line_as form) t.lines) (Some p) → ByNumber t id ds (some p)
   line_there p (h, e) =
       let (l, at, b, q) = there LineOk (line_as form) [] t.lines p ok (subst (λ (i : ℕ). p < i) (length-map t.lines (line_as form)) h) in
       let k : slot_key line_key_at line_key_size (line_as form l) ≡ id ∷ digit_bytes ds = sym (ap₂ (λ (i : ℕ) (x : List ℕ). slot_key line_key_at i x) long b) ∙ e ∙ is in
       (l, at, key_calls form id ds n l q k)
 
   -- no line has the key
-  pub no_line : Has line_key_at key (map (line_as form) t.lines) Nothing → ByNumber t id ds none
+  pub no_line : Has line_key_at key (map (line_as form) t.lines) None → ByNumber t id ds none
   no_line w = none_of t.lines w
     where
       none_of : (ls : List Line) → Without (slot_key line_key_at (length key)) key (map (line_as form) ls) → All (λ l. Calls id ds l → ⊥) ls
@@ -103,7 +101,7 @@ ordered_width lim = count_size + lim.lines * slot_width lim.texts line_own text_
 
 -- what was found in the lines' region was found among the lines
 pub found_line : (lim : Limits) → Roomy lim → (store key : List ℕ) (w i k : ℕ) → w ≡ slot_width lim.texts line_own text_limits.short → i ≡ region_start lim 12 → k ≡ ordered_width lim
-    → (r : Found) → EntryFound w line_key_at lim.lines key (mid_of i k store) r → LineFound lim store key r
+    → (r : Maybe ℕ) → EntryFound w line_key_at lim.lines key (mid_of i k store) r → LineFound lim store key r
 found_line lim room store key w i k p q e r f t h long =
     let xs : List (List ℕ) = map (line_as lim.texts) t.lines in
     let v : ℕ = slot_width lim.texts line_own text_limits.short in
@@ -119,7 +117,7 @@ module _ (lim : Limits) (idtype : ℕ) (digits store : List ℕ) (s : StoreOf li
   pub looked_up : (r : Option ℕ) → ByNumber s.store.tables idtype digits r → Answers (looking_up lim idtype digits store) (record { number = 0; row = r })
   looked_up r p = inr (λ m. m s, inr (λ m. m n, (s.store.tables, (s.store.allowed, s.store.bytes_are), refl, p)))
 
-  module _ (key : List ℕ) (is : key ≡ idtype ∷ digit_bytes digits) (fd : Found) (f : LineFound lim store key fd) where
+  module _ (key : List ℕ) (is : key ≡ idtype ∷ digit_bytes digits) (fd : Maybe ℕ) (f : LineFound lim store key fd) where
     long : length key ≡ line_key_size
     long = ap length is ∙ ap suc (digits_length digits)
 
@@ -128,11 +126,19 @@ module _ (lim : Limits) (idtype : ℕ) (digits store : List ℕ) (s : StoreOf li
     has = f s.store.tables (s.store.allowed, s.store.bytes_are) long
 
     -- the line at p
-    pub answered_row : (p : ℕ) → fd ≡ At p → Answers (looking_up lim idtype digits store) (told (Ok (Some p)))
+    answered_row : (p : ℕ) → fd ≡ Some p → Answers (looking_up lim idtype digits store) (told (Ok (Some p)))
     answered_row p e =
         looked_up (some p) (line_there lim.texts idtype digits n key is long s.store.tables s.store.allowed.lines.1 p (subst (Has line_key_at key (map (line_as lim.texts) s.store.tables.lines)) e has))
 
     -- no line
-    pub answered_none : fd ≡ Nothing → Answers (looking_up lim idtype digits store) (told (Ok None))
+    answered_none : fd ≡ None → Answers (looking_up lim idtype digits store) (told (Ok None))
     answered_none e =
         looked_up none (no_line lim.texts idtype digits n key is long s.store.tables s.store.allowed.lines.1 (subst (Has line_key_at key (map (line_as lim.texts) s.store.tables.lines)) e has))
+
+    -- either way
+    pub answered : Answers (looking_up lim idtype digits store) (told (Ok fd))
+    answered = go fd refl
+      where
+        go : (r : Maybe ℕ) → fd ≡ r → Answers (looking_up lim idtype digits store) (told (Ok r))
+        go (Some p) e = answered_row p e
+        go None e = answered_none e

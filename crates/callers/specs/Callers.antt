@@ -3,7 +3,6 @@ use Rattle.std.specs.Prelude.{ℕ, ◌≡◌, List, map, get_or, length, Option 
 use Rattle.std.proofs.Math.Option.{Option, none, some}
 use Rattle.lists.specs.Every.{All}
 use Rattle.lists.specs.Ladder.{Ladder, rung, foot}
-use Rattle.orders.specs.declared.orders.Found.{Found}
 use Rattle.orders.specs.OrderedLists.{Has}
 use Rattle.writing.specs.Ranges.{InNumber}
 use Rattle.writing.specs.Settings.{Number}
@@ -47,5 +46,5 @@ looking_up lim idtype digits store =
 -- ---- inner steps: no promise cites these
 
 -- the line found is one that has the key, or none has it
-abbrev pub LineFound : Limits → List ℕ → List ℕ → Found → Type 0
+abbrev pub LineFound : Limits → List ℕ → List ℕ → Maybe ℕ → Type 0
 LineFound lim store key r = (t : Tables) → Holds lim t store → length key ≡ line_key_size → Has line_key_at key (map (line_as lim.texts) t.lines) r

@@ -6,7 +6,6 @@ ghost use Rattle.tables.specs.Forms.{Roomy};
 ghost use Rattle.tables.specs.Layout.{digit_bytes};
 ghost use Rattle.callers.specs.Callers.{LineFound, looking_up, told};
 
-use orders::orders::Found;
 use orders::search::find_entry;
 use store_check::checks::is_store;
 use store_check::checks_entries::at_most;
@@ -42,7 +41,7 @@ fn key_of(idtype: u8, digits: &[u8]) -> [u8; KEY_BYTES]
 }
 
 // The line that has a key.
-fn find_line(store: &[u8], limits: Limits, key: &[u8]) -> Found
+fn find_line(store: &[u8], limits: Limits, key: &[u8]) -> Option<usize>
     requires { Roomy limits × (length store.now ≡ limits.size) }
     ensures { LineFound limits store.now key.now result }
 {
@@ -76,9 +75,5 @@ pub fn line_of_in(
         return Ok(None);
     }
     let key = key_of(idtype as u8, digits);
-    let found = find_line(store, limits, &key);
-    match found {
-        Found::At(row) => Ok(Some(row)),
-        Found::Nothing => Ok(None),
-    }
+    Ok(find_line(store, limits, &key))
 }

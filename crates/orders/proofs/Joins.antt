@@ -9,7 +9,7 @@ use Rattle.slots.proofs.Tables.{flat_get}
 use Rattle.orders.specs.Orders.{order_of, order, key_in, DistinctTo, DistinctKeys}
 use Rattle.orders.specs.OrderParts.{key_at, order_bytes, Shaped, InOrder, Finds, Inserted, Dropped}
 use Rattle.orders.specs.OrderedLists.{slot_key}
-use Rattle.orders.specs.declared.orders.Found.TheVariants.{At, Nothing}
+use Rattle.std.specs.Prelude.{Some, None}
 use Rattle.orders.proofs.Laws.{order_of_same}
 use Rattle.orders.proofs.KeyLists.{order_gone}
 
@@ -82,10 +82,10 @@ module _ (w o k n : ℕ) (xs : List (List ℕ)) (inside : o + k ≤ w) (each : S
   in_order_part g = (distinct_part g.distinct, sym (drop_at (row w n xs) t (n * w) row_long) ∙ g.bytes ∙ ap (order_bytes n) part_order)
 
   -- the lookup among the places is one among the slots: one that has the key, or nothing where none has
-  pub part_found : (x : List ℕ) (p : ℕ) → Finds w o k (length xs) (row w n xs ++ t) x (At p) → (p < length xs) × (key_in (map (slot_key o k) xs) p ≡ x)
+  pub part_found : (x : List ℕ) (p : ℕ) → Finds w o k (length xs) (row w n xs ++ t) x (Some p) → (p < length xs) × (key_in (map (slot_key o k) xs) p ≡ x)
   part_found x p g = (g.0, sym (part_key_is p g.0) ∙ g.1)
 
-  pub part_none : (x : List ℕ) → Finds w o k (length xs) (row w n xs ++ t) x Nothing → (p : ℕ) → p < length xs → key_in (map (slot_key o k) xs) p ≡ x → ⊥
+  pub part_none : (x : List ℕ) → Finds w o k (length xs) (row w n xs ++ t) x None → (p : ℕ) → p < length xs → key_in (map (slot_key o k) xs) p ≡ x → ⊥
   part_none x g p h e = g p h (part_key_is p h ∙ e)
 
 -- ---- changes

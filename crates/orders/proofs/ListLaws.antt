@@ -1,19 +1,18 @@
 -- Lists with the order of their keys behind them: what is read of them, and what putting a slot in and taking one out leave. Assumes nothing.
-use Rattle.lists.proofs.Kit.{◌≡◌, refl, sym, ap, ap₂, ◌∙◌, subst, ◌↔◌, Bool, true, false, cond, true≢false, List, [], ◌∷◌, ◌++◌, map, append-nil, Option, none, some, option_some_injective, option_none_ne_some, ℕ, zero, suc, ◌+◌, ◌*◌, ◌-◌, ◌≤◌, ◌<◌, not-suc-le-zero, le_of_suc-le-suc, arith, lt-ltb, ltb-true, ltb-false, put_mid, mid_of, ltb, length, take, drop, replicate, length-append, length-drop, length-take, drop_of_length-le, replicate-append-replicate, take-append-drop, take_at, drop_at, take_all}
+use Rattle.lists.proofs.Kit.{◌≡◌, refl, sym, ap, ap₂, ◌∙◌, subst, ◌↔◌, Bool, true, false, cond, true≢false, List, [], ◌∷◌, ◌++◌, map, append-nil, none, some, option_some_injective, option_none_ne_some, ℕ, suc, ◌+◌, ◌*◌, ◌-◌, ◌≤◌, ◌<◌, not-suc-le-zero, le_of_suc-le-suc, arith, lt-ltb, ltb-true, ltb-false, put_mid, mid_of, ltb, length, take, drop, replicate, length-append, length-drop, length-take, drop_of_length-le, replicate-append-replicate, take-append-drop, take_at, drop_at, take_all}
 use Rattle.lists.proofs.Seqs.{get_d_map}
-use Rattle.slots.specs.Slots.{pad, u16, same?, hit, unless, index_of, put_at}
+use Rattle.slots.specs.Slots.{u16, same?, hit, unless, index_of, put_at}
 use Rattle.slots.proofs.Pads.{pad_length, pad_nil}
 use Rattle.slots.proofs.Runs.{same_are, same_refl}
 use Rattle.slots.proofs.Tables.{index_le, put_end}
-use Rattle.counted_lists.specs.Counted.{put_keyed, Counted, Tried, KeyedPut, KeyDropped, Distinct, Told}
+use Rattle.counted_lists.specs.Counted.{put_keyed, Counted, KeyedPut, KeyDropped, Distinct, Told}
 use Rattle.counted_lists.proofs.CountLaws.{counted_length, counted_fresh, put_known}
 use Rattle.counted_lists.proofs.KeyedLists.{put_distinct, unless_distinct}
 use Rattle.counted_lists.proofs.ListLaws.{tried_room, tried_full}
 use Rattle.orders.specs.Orders.{order, key_in}
 use Rattle.orders.specs.OrderParts.{order_bytes, Shaped, InOrder, Finds, Inserted, Dropped}
 use Rattle.orders.specs.OrderedLists.{slot_key, OrderedList, OrderedPut, OrderedDrop, EntryFound}
-use Rattle.orders.specs.declared.orders.Found.{Found}
-use Rattle.orders.specs.declared.orders.Found.TheVariants.{At, Nothing}
+use Rattle.std.specs.Prelude.{Option as Maybe, Some, None}
 use Rattle.orders.proofs.KeyLists.{all_none, apart_distinct, distinct_apart, unless_none, unless_one, keys_overwritten}
 use Rattle.orders.proofs.Joins.{row, row_long, part_shaped, part_in_order, in_order_part, part_found, part_none, part_inserted, part_dropped}
 
@@ -81,20 +80,20 @@ module _ (w o k n : ℕ) (xs : List (List ℕ)) (s : List ℕ) (g : OrderedList 
 
   module _ (x : List ℕ) (held : ℕ) (m : held ≡ length xs) where
     -- a slot has it
-    pub ordered_found : (p : ℕ) → (Shaped w o k n (mid_of 2 (length s - 2) s) → InOrder w o k n held (mid_of 2 (length s - 2) s) → Finds w o k held (mid_of 2 (length s - 2) s) x (At p))
+    pub ordered_found : (p : ℕ) → (Shaped w o k n (mid_of 2 (length s - 2) s) → InOrder w o k n held (mid_of 2 (length s - 2) s) → Finds w o k held (mid_of 2 (length s - 2) s) x (Some p))
         → (p < length xs) × (key_in (map (slot_key o k) xs) p ≡ x)
     ordered_found p q =
-        let f : Finds w o k (length xs) (mid_of 2 (length s - 2) s) x (At p)
-        = subst (λ (i : ℕ). (Shaped w o k n (mid_of 2 (length s - 2) s) → InOrder w o k n i (mid_of 2 (length s - 2) s) → Finds w o k i (mid_of 2 (length s - 2) s) x (At p))) m q places_shaped places_ordered in
-        part_found w o k n xs g.inside g.counted.each g.counted.few behind x p (subst (λ (v : List ℕ). Finds w o k (length xs) v x (At p)) places_are f)
+        let f : Finds w o k (length xs) (mid_of 2 (length s - 2) s) x (Some p)
+        = subst (λ (i : ℕ). (Shaped w o k n (mid_of 2 (length s - 2) s) → InOrder w o k n i (mid_of 2 (length s - 2) s) → Finds w o k i (mid_of 2 (length s - 2) s) x (Some p))) m q places_shaped places_ordered in
+        part_found w o k n xs g.inside g.counted.each g.counted.few behind x p (subst (λ (v : List ℕ). Finds w o k (length xs) v x (Some p)) places_are f)
 
     -- none has it
-    pub ordered_none : (Shaped w o k n (mid_of 2 (length s - 2) s) → InOrder w o k n held (mid_of 2 (length s - 2) s) → Finds w o k held (mid_of 2 (length s - 2) s) x Nothing)
+    pub ordered_none : (Shaped w o k n (mid_of 2 (length s - 2) s) → InOrder w o k n held (mid_of 2 (length s - 2) s) → Finds w o k held (mid_of 2 (length s - 2) s) x None)
         → (p : ℕ) → p < length xs → key_in (map (slot_key o k) xs) p ≡ x → ⊥
     ordered_none q =
-        let f : Finds w o k (length xs) (mid_of 2 (length s - 2) s) x Nothing
-        = subst (λ (i : ℕ). (Shaped w o k n (mid_of 2 (length s - 2) s) → InOrder w o k n i (mid_of 2 (length s - 2) s) → Finds w o k i (mid_of 2 (length s - 2) s) x Nothing)) m q places_shaped places_ordered in
-        part_none w o k n xs g.inside g.counted.each g.counted.few behind x (subst (λ (v : List ℕ). Finds w o k (length xs) v x Nothing) places_are f)
+        let f : Finds w o k (length xs) (mid_of 2 (length s - 2) s) x None
+        = subst (λ (i : ℕ). (Shaped w o k n (mid_of 2 (length s - 2) s) → InOrder w o k n i (mid_of 2 (length s - 2) s) → Finds w o k i (mid_of 2 (length s - 2) s) x None)) m q places_shaped places_ordered in
+        part_none w o k n xs g.inside g.counted.each g.counted.few behind x (subst (λ (v : List ℕ). Finds w o k (length xs) v x None) places_are f)
 
   -- as many zeros are the list of no slots
   pub ordered_fresh : OrderedList w o k n [] (replicate (length s) 0)
@@ -271,20 +270,20 @@ ordered_not w o k n x s h = record { kept = λ _. refl; tried = λ l xs g. absur
 pub undropped : (w o n : ℕ) (key s : List ℕ) → length s < n + 2 → OrderedDrop w o n key s s
 undropped w o n key s h xs g = absurd (omega (arith, ordered_length w o (length key) n xs s g))
 
-module _ (w o n : ℕ) (key s : List ℕ) (base held : ℕ) (is : base ≡ length s - n) (was : Told (mid_of 0 (base - 0) s) held) (fd : Found)
+module _ (w o n : ℕ) (key s : List ℕ) (base held : ℕ) (is : base ≡ length s - n) (was : Told (mid_of 0 (base - 0) s) held) (fd : Maybe ℕ)
     (q : Shaped w o (length key) n (mid_of 2 (length s - 2) s) → InOrder w o (length key) n held (mid_of 2 (length s - 2) s) → Finds w o (length key) held (mid_of 2 (length s - 2) s) key fd) where
-  abbrev Looks : Found → Type 0
+  abbrev Looks : Maybe ℕ → Type 0
   Looks v = Shaped w o (length key) n (mid_of 2 (length s - 2) s) → InOrder w o (length key) n held (mid_of 2 (length s - 2) s) → Finds w o (length key) held (mid_of 2 (length s - 2) s) key v
 
   -- none had the key
-  pub ordered_kept : fd ≡ Nothing → OrderedDrop w o n key s s
+  pub ordered_kept : fd ≡ None → OrderedDrop w o n key s s
   ordered_kept e xs g =
       let m : held ≡ length xs = was.says w n xs (list_counted w o (length key) n xs s g base is) in
       let f = ordered_none w o (length key) n xs s g key held m (subst Looks e q) in
       subst (λ (z : List (List ℕ)). OrderedList w o (length key) n z s) (sym (unless_none (slot_key o (length key)) key xs f)) g
 
   -- slot p had it
-  pub ordered_dropped : (p : ℕ) (y t : List ℕ) → fd ≡ At p → KeyDropped w o key (mid_of 0 (base - 0) s) y
+  pub ordered_dropped : (p : ℕ) (y t : List ℕ) → fd ≡ Some p → KeyDropped w o key (mid_of 0 (base - 0) s) y
       → Dropped n p (mid_of 2 (length (put_mid 0 (base - 0) s y) - 2) (put_mid 0 (base - 0) s y)) t
       → OrderedDrop w o n key s (put_mid 2 (length (put_mid 0 (base - 0) s y) - 2) (put_mid 0 (base - 0) s y) t)
   ordered_dropped p y t e rm d xs g =
@@ -313,17 +312,17 @@ module _ (w o n : ℕ) (key s : List ℕ) (base held : ℕ) (is : base ≡ lengt
 
 -- ---- a lookup
 
-pub unfound : (w o n : ℕ) (key s : List ℕ) → length s < n + 2 → EntryFound w o n key s Nothing
+pub unfound : (w o n : ℕ) (key s : List ℕ) → length s < n + 2 → EntryFound w o n key s None
 unfound w o n key s h xs g = absurd (omega (arith, ordered_length w o (length key) n xs s g))
 
 -- what was found among the places is an entry, or none has the key
-pub entry_found : (w o n : ℕ) (key s : List ℕ) (base held : ℕ) → base ≡ length s - n → Told (mid_of 0 (base - 0) s) held → (fd : Found)
+pub entry_found : (w o n : ℕ) (key s : List ℕ) (base held : ℕ) → base ≡ length s - n → Told (mid_of 0 (base - 0) s) held → (fd : Maybe ℕ)
     → (Shaped w o (length key) n (mid_of 2 (length s - 2) s) → InOrder w o (length key) n held (mid_of 2 (length s - 2) s) → Finds w o (length key) held (mid_of 2 (length s - 2) s) key fd)
     → EntryFound w o n key s fd
-entry_found w o n key s base held is was (At p) q xs g =
+entry_found w o n key s base held is was (Some p) q xs g =
     let m : held ≡ length xs = was.says w n xs (list_counted w o (length key) n xs s g base is) in
     let (i, j) = ordered_found w o (length key) n xs s g key held m p q in
     (i, sym (get_d_map (slot_key o (length key)) xs p [] [] i) ∙ j)
-entry_found w o n key s base held is was Nothing q xs g =
+entry_found w o n key s base held is was None q xs g =
     let m : held ≡ length xs = was.says w n xs (list_counted w o (length key) n xs s g base is) in
     all_none (slot_key o (length key)) key xs (ordered_none w o (length key) n xs s g key held m q)

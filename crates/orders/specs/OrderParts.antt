@@ -1,10 +1,8 @@
 -- A part that holds n slots of w bytes with a key of k bytes at o, and behind them an order of those in use. Assumes nothing.
-use Rattle.std.specs.Prelude.{ℕ, suc, ◌+◌, ◌*◌, ◌-◌, ◌≤◌, ◌<◌, ◌≡◌, true, false, List, ◌++◌, map, length, take, drop, get_or}
+use Rattle.std.specs.Prelude.{ℕ, Option, Some, None, suc, ◌+◌, ◌*◌, ◌-◌, ◌≤◌, ◌<◌, ◌≡◌, true, false, List, ◌++◌, map, length, take, drop, get_or}
 use Rattle.lists.specs.Every.{All}
 use Rattle.slots.specs.Slots.{pad}
 use Rattle.orders.specs.Orders.{before, order_of, Ascends, DistinctTo, lift}
-use Rattle.orders.specs.declared.orders.Found.{Found}
-use Rattle.orders.specs.declared.orders.Found.TheVariants.{At, Nothing}
 
 -- the key of slot p
 abbrev pub key_at : (w o k : ℕ) → List ℕ → ℕ → List ℕ
@@ -28,9 +26,9 @@ pub record InOrder (w o k n count : ℕ) (s : List ℕ) : Type 0 where
   pub bytes : drop (n * w) s ≡ order_bytes n (order_of (key_at w o k s) count)
 
 -- what a lookup answers: a slot that has the key, or nothing where none has
-abbrev pub Finds : (w o k count : ℕ) → (s key : List ℕ) → Found → Type 0
-Finds w o k count s key (At p) = (p < count) × (key_at w o k s p ≡ key)
-Finds w o k count s key Nothing = (p : ℕ) → p < count → key_at w o k s p ≡ key → ⊥
+abbrev pub Finds : (w o k count : ℕ) → (s key : List ℕ) → Option ℕ → Type 0
+Finds w o k count s key (Some p) = (p < count) × (key_at w o k s p ≡ key)
+Finds w o k count s key None = (p : ℕ) → p < count → key_at w o k s p ≡ key → ⊥
 
 -- t is s with the slot behind the first count in order too
 abbrev pub Inserted : (w o k n count : ℕ) → (s t : List ℕ) → Type 0

@@ -1,11 +1,9 @@
 -- Lists in bytes with their count and, behind their places, the order of their keys; and what the functions over them do. Assumes nothing.
-use Rattle.std.specs.Prelude.{ℕ, ◌+◌, ◌≤◌, ◌<◌, ◌≡◌, Bool, false, List, [], ◌++◌, map, length, get_or, take, drop}
+use Rattle.std.specs.Prelude.{ℕ, Option, Some, None, ◌+◌, ◌≤◌, ◌<◌, ◌≡◌, Bool, false, List, [], ◌++◌, map, length, get_or, take, drop}
 use Rattle.slots.specs.Slots.{hit, unless}
 use Rattle.counted_lists.specs.Counted.{put_keyed, Counted, Without, Distinct, Tried}
 use Rattle.orders.specs.Orders.{order}
 use Rattle.orders.specs.OrderParts.{order_bytes}
-use Rattle.orders.specs.declared.orders.Found.{Found}
-use Rattle.orders.specs.declared.orders.Found.TheVariants.{At, Nothing}
 
 -- the key of a slot: k bytes at o
 abbrev pub slot_key : (o k : ℕ) → List ℕ → List ℕ
@@ -34,9 +32,9 @@ OrderedDrop w o n key s t = (xs : List (List ℕ)) → OrderedList w o (length k
 -- ---- what a lookup answers
 
 -- slot p has the key at o, or none has it
-abbrev pub Has : (o : ℕ) → (key : List ℕ) → List (List ℕ) → Found → Type 0
-Has o key xs (At p) = (p < length xs) × (slot_key o (length key) (get_or xs p []) ≡ key)
-Has o key xs Nothing = Without (slot_key o (length key)) key xs
+abbrev pub Has : (o : ℕ) → (key : List ℕ) → List (List ℕ) → Option ℕ → Type 0
+Has o key xs (Some p) = (p < length xs) × (slot_key o (length key) (get_or xs p []) ≡ key)
+Has o key xs None = Without (slot_key o (length key)) key xs
 
-abbrev pub EntryFound : (w o n : ℕ) → (key s : List ℕ) → Found → Type 0
+abbrev pub EntryFound : (w o n : ℕ) → (key s : List ℕ) → Option ℕ → Type 0
 EntryFound w o n key s r = (xs : List (List ℕ)) → OrderedList w o (length key) n xs s → Has o key xs r

@@ -1,5 +1,5 @@
 -- "A background group, in C8 or D1, gets no row on the screen (17); a response or member group does". Assumes nothing.
-use Rattle.lists.proofs.Kit.{ℕ, ◌≤◌, ◌≡◌, refl, ap, ◌∙◌, ◌≢◌, inl, inr, List, [], map, cond, none, some, arith, eqb, eq-eqb, ne_eqb, length, get_or}
+use Rattle.lists.proofs.Kit.{ℕ, ◌≤◌, ◌≡◌, refl, ap, ◌∙◌, ◌≢◌, inl, inr, List, [], map, cond, none, some, arith, eq-eqb, ne_eqb, length, get_or}
 use denote.Ref.{Bor}
 use Rattle.lists.specs.Ladder.{Answers}
 use Rattle.tables.specs.declared.limits.Limits.{Limits}

@@ -22,7 +22,7 @@ use Rattle.tables.proofs.TextCodes.{digits_length, text_length}
 use Rattle.shared_texts.proofs.FormFrames.{quick_slots, status_slots, group_slots, individual_slots, line_slots, group_contact_slots, individual_contact_slots, line_contact_slots}
 use Rattle.shared_texts.proofs.HeadCodes.{quick_kept, group_kept, individual_kept, line_kept}
 use Rattle.screen.specs.declared.names.Slot.{Slot}
-use Rattle.screen.specs.declared.names.SlotPlace.TheVariants.{At}
+use Rattle.std.specs.Prelude.{Some}
 use Rattle.screen.specs.declared.rows.Row.{Row}
 use Rattle.screen.specs.declared.rows.Row.TheVariants.{Line, QuickText, StatusText, Group, Individual, GroupContact, IndividualContact, LineSlot, NoTable}
 use Rattle.screen.specs.contracts.rows.Row.{the_type}
@@ -109,7 +109,7 @@ record Sees {A : Type 0} (P : A → Type 0) (f : A → List ℕ) (cap : A → Ca
 
 -- a slot of a table, whatever its entries are
 module _ {A : Type 0} {P : A → Type 0} {w : ℕ} {f : A → List ℕ} (long : (a : A) → length (f a) ≡ w)
-    (h n base : ℕ) (os : List (Option A)) {s l : List ℕ} (same : s ≡ l) (p : Placed P w f n os (mid_of base (n * w) l)) (i : ℕ) (slot : Slot) (at : Slotted base n i w h (At slot)) where
+    (h n base : ℕ) (os : List (Option A)) {s l : List ℕ} (same : s ≡ l) (p : Placed P w f n os (mid_of base (n * w) l)) (i : ℕ) (slot : Slot) (at : Slotted base n i w h (Some slot)) where
   -- the table's part of the store
   placed : Placed P w f n os (mid_of base (n * w) s)
   placed = subst (λ (v : List ℕ). Placed P w f n os (mid_of base (n * w) v)) (sym same) p
@@ -141,7 +141,7 @@ pub listed_placed : {A : Type 0} {P : A → Type 0} {w : ℕ} {f : A → List �
 listed_placed {P = P} {n = n} {xs = xs} p = record { many = front_length n xs; each = all_front P n xs p.each; bytes = p.bytes }
 
 module _ {A : Type 0} {x : Texts} {P : A → Type 0} {own units : ℕ} {f : A → List ℕ} {cap : A → Caption} (y : Entries x P own units f cap) {row : Row} {see : Option A → Option Caption} (v : Sees P f cap row see)
-    (n base : ℕ) (os : List (Option A)) {s l : List ℕ} (same : s ≡ l) (p : Placed P (slot_width x own units) f n os (mid_of base (n * slot_width x own units) l)) (i : ℕ) (slot : Slot) (at : Slotted base n i (slot_width x own units) own (At slot)) where
+    (n base : ℕ) (os : List (Option A)) {s l : List ℕ} (same : s ≡ l) (p : Placed P (slot_width x own units) f n os (mid_of base (n * slot_width x own units) l)) (i : ℕ) (slot : Slot) (at : Slotted base n i (slot_width x own units) own (Some slot)) where
   -- the slot's width
   abbrev w : ℕ
   w = slot_width x own units
@@ -192,7 +192,7 @@ module _ {A : Type 0} {x : Texts} {P : A → Type 0} {own units : ℕ} {f : A �
 
 -- and so does the slot of a list: an entry's place is its position
 list_seen : {A : Type 0} {x : Texts} {P : A → Type 0} {own units : ℕ} {f : A → List ℕ} {cap : A → Caption} (y : Entries x P own units f cap) {row : Row} {see : Option A → Option Caption} (v : Sees P f cap row see)
-    (n base : ℕ) (xs : List A) {s l : List ℕ} (same : s ≡ l) (p : Listed P (slot_width x own units) f n xs (mid_of base (n * slot_width x own units) l)) (i : ℕ) (slot : Slot) (at : Slotted base n i (slot_width x own units) own (At slot))
+    (n base : ℕ) (xs : List A) {s l : List ℕ} (same : s ≡ l) (p : Listed P (slot_width x own units) f n xs (mid_of base (n * slot_width x own units) l)) (i : ℕ) (slot : Slot) (at : Slotted base n i (slot_width x own units) own (Some slot))
     → Seen x s slot row (see (get_or (map some xs) i none))
 list_seen {A} {x} {P} {own} {units} {f} {cap} y {row} {see} v n base xs {s} same p i slot at =
     subst (λ (o : Option A). Seen x s slot row (see o)) (front_get n xs i at.0)
@@ -325,7 +325,7 @@ pub status_there : (t : Tables) (n : ℕ) → 32 ≤ n → caption t (StatusText
 status_there t n h = rw (le-ltb n 32 h)
 
 -- ROW SEEN: a row's slot shows what stands in the row
-pub row_seen : (lim : Limits) (t : Tables) (s : List ℕ) (row : Row) (slot : Slot) → Holds lim t s → SlotIs lim row (At slot) → Seen lim.texts s slot row (caption t row)
+pub row_seen : (lim : Limits) (t : Tables) (s : List ℕ) (row : Row) (slot : Slot) → Holds lim t s → SlotIs lim row (Some slot) → Seen lim.texts s slot row (caption t row)
 row_seen lim t s (Line n) slot (ok, e) z = list_seen (lines lim.texts) (sees_all (λ l. refl) (λ b. refl)) lim.lines (region_start lim 12 + count_size) t.lines e (line_contact_slots lim t ok) n slot z
 row_seen lim t s (QuickText n) slot (ok, e) z = seen (quick lim.texts) (sees_all (λ us. refl) (λ b. refl)) quick_places (region_start lim 4) t.quick e (quick_slots lim t ok) n slot z
 row_seen lim t s (StatusText n) slot (ok, e) (h, z) =
@@ -341,7 +341,7 @@ row_seen lim t s (LineSlot n) slot (ok, e) z = seen (lines lim.texts) (sees_all 
 row_seen lim t s NoTable slot h z = absurd z
 
 -- ROW CAPTIONED: the slot of a row that stands in the tables holds its caption
-pub row_captioned : (lim : Limits) (t : Tables) (s : List ℕ) (row : Row) (slot : Slot) → Holds lim t s → SlotIs lim row (At slot) → (c : Caption) → caption t row ≡ some c
+pub row_captioned : (lim : Limits) (t : Tables) (s : List ℕ) (row : Row) (slot : Slot) → Holds lim t s → SlotIs lim row (Some slot) → (c : Caption) → caption t row ≡ some c
     → (k : Captioned lim.texts s slot row (caption t row)) × (k.row_is ≡ c)
 row_captioned lim t s row slot h z c e = go (zeros? (mid_of slot.start (slot.end - slot.start) s)) (hidden row (get_or s slot.start 0)) refl refl
   where
@@ -368,17 +368,17 @@ within os n places g h e = within_seen (of g) os n places refl h e
 
 -- place n of a table in which it is seen
 there_at : {A : Type 0} (see : Option A → Option Caption) (os : List (Option A)) (base places n w h : ℕ) {c : Caption} → see none ≡ none → length os ≤ places → see (get_or os n none) ≡ some c
-    → (slot : Slot) × Slotted base places n w h (At slot)
+    → (slot : Slot) × Slotted base places n w h (Some slot)
 there_at see os base places n w h z l e =
     (record { start = base + n * w; text = base + n * w + h; end = base + n * w + w }, (within_seen see os n places z l e, refl, refl, refl))
 
 -- ROW THERE: a row that stands in the tables has a slot
-pub row_there : (lim : Limits) (t : Tables) → Allowed lim t → (row : Row) (c : Caption) → caption t row ≡ some c → (slot : Slot) × SlotIs lim row (At slot)
+pub row_there : (lim : Limits) (t : Tables) → Allowed lim t → (row : Row) (c : Caption) → caption t row ≡ some c → (slot : Slot) × SlotIs lim row (Some slot)
 row_there lim t ok (Line n) c e = there_at (of line_row) (map some t.lines) _ lim.lines n _ line_own refl (omega (arith, length-map t.lines some, ok.lines.0)) e
 row_there lim t ok (QuickText n) c e = there_at (of text) t.quick _ quick_places n _ quick_own refl (omega (arith, ok.quick.0)) e
 row_there lim t ok (StatusText n) c e = go (ltb n 32) refl
   where
-    go : (b : Bool) → ltb n 32 ≡ b → (slot : Slot) × SlotIs lim (StatusText n) (At slot)
+    go : (b : Bool) → ltb n 32 ≡ b → (slot : Slot) × SlotIs lim (StatusText n) (Some slot)
     go true h = let z : none ≡ some c = (rw h at e) in absurd (option_none_ne_some c z)
     go false h =
         let k : 32 ≤ n = ltb-false n 32 h in

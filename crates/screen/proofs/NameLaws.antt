@@ -18,8 +18,7 @@ use Rattle.screen.specs.declared.names.Name.{Name}
 use Rattle.screen.specs.declared.names.Name.TheVariants.{Refused, Text as TextAt, Digits, Group as GroupNumber, Individual as IndividualNumber}
 use Rattle.screen.specs.declared.rows.Refusal.TheVariants.{Absent}
 use Rattle.screen.specs.declared.names.Slot.{Slot}
-use Rattle.screen.specs.declared.names.SlotPlace.{SlotPlace}
-use Rattle.screen.specs.declared.names.SlotPlace.TheVariants.{At, Beyond}
+use Rattle.std.specs.Prelude.{Option as Maybe, Some, None}
 use Rattle.screen.specs.declared.rows.Row.{Row}
 use Rattle.screen.specs.declared.rows.Row.TheVariants.{Line, QuickText, StatusText, Group, Individual, GroupContact, IndividualContact, LineSlot, NoTable}
 use Rattle.screen.specs.contracts.rows.Row.{the_type}
@@ -31,7 +30,7 @@ use Rattle.screen.proofs.SlotLaws.{SlotFits, slot_fits, head_at, text_behind}
 -- ---- rows beyond the tables
 
 -- a row that has no slot is absent
-row_beyond : (lim : Limits) (t : Tables) → Allowed lim t → (row : Row) → SlotIs lim row Beyond → caption t row ≡ none
+row_beyond : (lim : Limits) (t : Tables) → Allowed lim t → (row : Row) → SlotIs lim row None → caption t row ≡ none
 row_beyond lim t ok (Line n) x = none_past (of line_row) (map some t.lines) n refl (omega (arith, length-map t.lines some, ok.lines.0))
 row_beyond lim t ok (QuickText n) x = none_past (of text) t.quick n refl (omega (arith, ok.quick.0))
 row_beyond lim t ok (StatusText n) x = go (ltb n 32) refl
@@ -48,7 +47,7 @@ row_beyond lim t ok (IndividualContact n) x =
 row_beyond lim t ok (LineSlot n) x = none_past (of line_row) t.line_slots n refl (omega (arith, ok.line_slots.0))
 row_beyond lim t ok NoTable x = refl
 
-pub named_beyond : (lim : Limits) (s : List ℕ) (row : Row) (r : SlotPlace) → SlotIs lim row r → r ≡ Beyond → NameIs lim s row (Refused Absent)
+pub named_beyond : (lim : Limits) (s : List ℕ) (row : Row) (r : Maybe Slot) → SlotIs lim row r → r ≡ None → NameIs lim s row (Refused Absent)
 named_beyond lim s row r x e t h = row_beyond lim t h.0 row (subst (SlotIs lim row) e x)
 
 -- ---- rows with a slot
@@ -136,9 +135,9 @@ hidden_other row b k =
 -- a slot in the store, found for the row
 pub record Here (lim : Limits) (s : List ℕ) (row : Row) (slot : Slot) : Type 0 where
   pub store : StoreOf lim s
-  pub is : SlotIs lim row (At slot)
+  pub is : SlotIs lim row (Some slot)
 
-pub here : {lim : Limits} {s : List ℕ} {row : Row} {r : SlotPlace} {slot : Slot} → StoreOf lim s → SlotIs lim row r → r ≡ At slot → Here lim s row slot
+pub here : {lim : Limits} {s : List ℕ} {row : Row} {r : Maybe Slot} {slot : Slot} → StoreOf lim s → SlotIs lim row r → r ≡ Some slot → Here lim s row slot
 here {lim} {s} {row} store x e = record { store = store; is = subst (SlotIs lim row) e x }
 
 module _ {lim : Limits} {s : List ℕ} {row : Row} {slot : Slot} (h : Here lim s row slot) where

@@ -14,8 +14,7 @@ use Rattle.tables.specs.SharedLayout.{heads_size}
 use Rattle.shared_texts.specs.declared.Run.{Run}
 use Rattle.working.specs.Runs.{run_of, Small}
 use Rattle.screen.specs.declared.names.Slot.{Slot}
-use Rattle.screen.specs.declared.names.SlotPlace.{SlotPlace}
-use Rattle.screen.specs.declared.names.SlotPlace.TheVariants.{At, Beyond}
+use Rattle.std.specs.Prelude.{Option as Maybe, Some, None}
 use Rattle.screen.specs.declared.rows.Row.{Row}
 use Rattle.screen.specs.declared.rows.Row.TheVariants.{Line, QuickText, StatusText, Group, Individual, GroupContact, IndividualContact, LineSlot, NoTable}
 use Rattle.screen.specs.declared.spots.Spot.{Spot}
@@ -66,24 +65,24 @@ bases (Shared a) lim = (refl, refl, refl, refl, refl, refl, refl, omega arith)
 -- ---- the row's slot
 
 -- a slot for a row of a table
-abbrev pub SlottedAt : Texts → Limits → Spot → SlotPlace → Type 0
+abbrev pub SlottedAt : Texts → Limits → Spot → Maybe Slot → Type 0
 SlottedAt x lim at r = let y = run_of lim at.table in Slotted (base_in x y) y.many at.place (width_in x y) y.own r
 
 module _ (x : Texts) (lim : Limits) where
   -- a slot that stands elsewhere
-  moved : (places n w h : ℕ) (r : SlotPlace) {a b : ℕ} → a ≡ b → Slotted a places n w h r → Slotted b places n w h r
+  moved : (places n w h : ℕ) (r : Maybe Slot) {a b : ℕ} → a ≡ b → Slotted a places n w h r → Slotted b places n w h r
   moved places n w h r e z = subst (λ (b : ℕ). Slotted b places n w h r) e z
 
   -- of the row
-  of_row : (row : Row) (r : SlotPlace) → (spot_of row).table < 8 → SlottedAt x lim (spot_of row) r → SlotBy x lim row r
+  of_row : (row : Row) (r : Maybe Slot) → (spot_of row).table < 8 → SlottedAt x lim (spot_of row) r → SlotBy x lim row r
   of_row (Line n) r h z = moved lim.lines n (slot_width x line_own text_limits.short) line_own r (bases x lim).7 z
   of_row (QuickText n) r h z = moved quick_places n (slot_width x quick_own text_limits.quick) quick_own r (bases x lim).0 z
   of_row (StatusText n) r h z = go (ltb n 32) refl r h z
     where
-      go : (b : Bool) → ltb n 32 ≡ b → (r : SlotPlace) → (cond b (spot 8 0) (spot 1 (n - 32))).table < 8 → SlottedAt x lim (cond b (spot 8 0) (spot 1 (n - 32))) r → SlotBy x lim (StatusText n) r
+      go : (b : Bool) → ltb n 32 ≡ b → (r : Maybe Slot) → (cond b (spot 8 0) (spot 1 (n - 32))).table < 8 → SlottedAt x lim (cond b (spot 8 0) (spot 1 (n - 32))) r → SlotBy x lim (StatusText n) r
       go true e r h z = absurd (omega arith)
-      go false e (At s) h z = (ltb-false n 32 e, moved status_places (n - 32) (slot_width x status_own text_limits.short) status_own (At s) (bases x lim).1 z)
-      go false e Beyond h z = λ k. z
+      go false e (Some s) h z = (ltb-false n 32 e, moved status_places (n - 32) (slot_width x status_own text_limits.short) status_own (Some s) (bases x lim).1 z)
+      go false e None h z = λ k. z
   of_row (Group n) r h z = moved slot_places n (slot_width x member_own text_limits.short) member_own r (bases x lim).2 z
   of_row (Individual n) r h z = moved slot_places n (slot_width x member_own text_limits.short) member_own r (bases x lim).3 z
   of_row (GroupContact n) r h z = moved contact_places n (slot_width x member_own text_limits.short) member_own r (bases x lim).5 z
@@ -92,7 +91,7 @@ module _ (x : Texts) (lim : Limits) where
   of_row NoTable r h z = absurd (omega arith)
 
   -- SLOT-FOUND: where the code looks for the row's slot, there it is
-  pub slot_found : (row : Row) (at : Spot) (y : Run) (base width : ℕ) (r : SlotPlace) → at ≡ spot_of row → at.table < 8 → y ≡ run_of lim at.table → base ≡ base_in x y → width ≡ width_in x y
+  pub slot_found : (row : Row) (at : Spot) (y : Run) (base width : ℕ) (r : Maybe Slot) → at ≡ spot_of row → at.table < 8 → y ≡ run_of lim at.table → base ≡ base_in x y → width ≡ width_in x y
       → Slotted base y.many at.place width y.own r → SlotBy x lim row r
   slot_found row at y base width r e h p q d z =
       let v : Slotted (base_in x y) y.many at.place (width_in x y) y.own r = subst (λ (w : ℕ). Slotted (base_in x y) y.many at.place w y.own r) d (moved y.many at.place width y.own r q z) in
@@ -100,10 +99,10 @@ module _ (x : Texts) (lim : Limits) where
       of_row row r (subst (λ (o : Spot). o.table < 8) e h) (subst (λ (o : Spot). SlottedAt x lim o r) e u)
 
   -- and a row of none of the tables has none
-  pub slot_nowhere : (row : Row) (at : Spot) → at ≡ spot_of row → 8 ≤ at.table → SlotBy x lim row Beyond
+  pub slot_nowhere : (row : Row) (at : Spot) → at ≡ spot_of row → 8 ≤ at.table → SlotBy x lim row None
   slot_nowhere row at e h = go row (subst (λ (o : Spot). 8 ≤ o.table) e h)
     where
-      go : (row : Row) → 8 ≤ (spot_of row).table → SlotBy x lim row Beyond
+      go : (row : Row) → 8 ≤ (spot_of row).table → SlotBy x lim row None
       go (Line n) h = absurd (omega arith)
       go (QuickText n) h = absurd (omega arith)
       go (StatusText n) h = λ k. let f : 8 ≤ 1 = subst (λ (b : Bool). 8 ≤ (cond b (spot 8 0) (spot 1 (n - 32))).table) (le-ltb n 32 k) h in absurd (omega arith)
@@ -120,7 +119,7 @@ pub record Rowed (lim : Limits) (row : Row) : Type 0 where
   pub table : table_of row < 8
   pub place : place_of row < (run_of lim (table_of row)).many
 
-pub slot_rowed : (x : Texts) (lim : Limits) (row : Row) (s : Slot) → SlotBy x lim row (At s) → Rowed lim row
+pub slot_rowed : (x : Texts) (lim : Limits) (row : Row) (s : Slot) → SlotBy x lim row (Some s) → Rowed lim row
 slot_rowed x lim (Line n) s z = record { spot_is = refl; table = omega arith; place = z.0 }
 slot_rowed x lim (QuickText n) s z = record { spot_is = refl; table = omega arith; place = z.0 }
 slot_rowed x lim (StatusText n) s (h, z) = record { spot_is = sym (spot_from n h); table = omega arith; place = z.0 }
@@ -166,7 +165,7 @@ module _ (x : Texts) (lim : Limits) (room : Roomy lim) (area : AreaFits x lim) w
       go Placed = omega arith
       go (Shared a) = omega arith
 
-  slotted_fits : (base places n h u : ℕ) (s : Slot) → 0 < u → base + places * slot_width x h u ≤ slots_size x lim → Slotted base places n (slot_width x h u) h (At s) → SlotFits s lim.size
+  slotted_fits : (base places n h u : ℕ) (s : Slot) → 0 < u → base + places * slot_width x h u ≤ slots_size x lim → Slotted base places n (slot_width x h u) h (Some s) → SlotFits s lim.size
   slotted_fits base places n h u s k e z =
       let w : ℕ = slot_width x h u in
       let i : n * w + w ≤ places * w = slot_within n places w z.0 in
@@ -179,7 +178,7 @@ module _ (x : Texts) (lim : Limits) (room : Roomy lim) (area : AreaFits x lim) w
       }
 
   -- SLOT-FITS: the row's slot does
-  pub slot_fits : (row : Row) (s : Slot) → SlotBy x lim row (At s) → SlotFits s lim.size
+  pub slot_fits : (row : Row) (s : Slot) → SlotBy x lim row (Some s) → SlotFits s lim.size
   slot_fits (Line n) s z = slotted_fits (start_in x lim 12 + count_size) lim.lines n line_own text_limits.short s (omega arith) (ends_in x lim).7 z
   slot_fits (QuickText n) s z = slotted_fits (start_in x lim 4) quick_places n quick_own text_limits.quick s (omega arith) (ends_in x lim).0 z
   slot_fits (StatusText n) s (h, z) = slotted_fits (start_in x lim 5) status_places (n - 32) status_own text_limits.short s (omega arith) (ends_in x lim).1 z
@@ -195,7 +194,7 @@ abbrev pub head_at : ℕ → ℕ
 head_at n = get_or (20 ∷ 0 ∷ 1 ∷ 4 ∷ 4 ∷ 4 ∷ 4 ∷ 20 ∷ []) n 0
 
 -- the text, or how many units it has, stands that far behind the slot's start
-pub text_behind : (x : Texts) (lim : Limits) (row : Row) (s : Slot) → SlotBy x lim row (At s) → s.text ≡ s.start + head_at (tag_of the_type row)
+pub text_behind : (x : Texts) (lim : Limits) (row : Row) (s : Slot) → SlotBy x lim row (Some s) → s.text ≡ s.start + head_at (tag_of the_type row)
 text_behind x lim (Line n) s z = omega (arith, z.1, z.2)
 text_behind x lim (QuickText n) s z = omega (arith, z.1, z.2)
 text_behind x lim (StatusText n) s (h, z) = omega (arith, z.1, z.2)

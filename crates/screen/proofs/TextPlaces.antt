@@ -19,7 +19,7 @@ use Rattle.shared_texts.proofs.SharedLaws.{text_stands as shared_stands, text_in
 use Rattle.shared_texts.proofs.WorkLaws.{row_place}
 use Rattle.screen.specs.declared.areas.Span.{Span}
 use Rattle.screen.specs.declared.names.Slot.{Slot}
-use Rattle.screen.specs.declared.names.SlotPlace.TheVariants.{At}
+use Rattle.std.specs.Prelude.{Some}
 use Rattle.screen.specs.declared.rows.Row.{Row}
 use Rattle.screen.specs.declared.rows.Row.TheVariants.{Line, QuickText, StatusText, Group, Individual, GroupContact, IndividualContact, LineSlot, NoTable}
 use Rattle.screen.specs.declared.spots.Spot.{Spot}
@@ -79,7 +79,7 @@ row_text t NoTable c e = absurd (option_none_ne_some c e)
 -- ---- where it starts
 
 -- where a slot has a place for the text, there
-text_starts : (lim : Limits) (row : Row) (slot : Slot) → SlotBy Placed lim row (At slot) → slot.text ≡ placed_start lim row
+text_starts : (lim : Limits) (row : Row) (slot : Slot) → SlotBy Placed lim row (Some slot) → slot.text ≡ placed_start lim row
 text_starts lim (Line n) slot x = x.2
 text_starts lim (QuickText n) slot x = omega (arith, x.2)
 text_starts lim (StatusText n) slot (h, x) = x.2
@@ -94,9 +94,9 @@ text_starts lim NoTable slot x = absurd x
 
 module _ (lim : Limits) (t : Tables) (s : List ℕ) (h : Holds lim t s) (row : Row) (c : Caption) (e : caption t row ≡ some c) where
   -- a place for it
-  module _ (q : lim.texts ≡ Placed) (slot : Slot) (z : SlotIs lim row (At slot)) where
-    in_place : SlotBy Placed lim row (At slot)
-    in_place = subst (λ (x : Texts). SlotBy x lim row (At slot)) q z
+  module _ (q : lim.texts ≡ Placed) (slot : Slot) (z : SlotIs lim row (Some slot)) where
+    in_place : SlotBy Placed lim row (Some slot)
+    in_place = subst (λ (x : Texts). SlotBy x lim row (Some slot)) q z
 
     held : (k : Captioned Placed s slot row (caption t row)) × (k.row_is ≡ c)
     held = subst (λ (x : Texts). (k : Captioned x s slot row (caption t row)) × (k.row_is ≡ c)) q (row_captioned lim t s row slot h z c e)
@@ -146,7 +146,7 @@ module _ (lim : Limits) (t : Tables) (s : List ℕ) (h : Holds lim t s) (row : R
         omega (arith, shared_inside lim a t ok (table_of row) (place_of row) (text_of c) (row_text t row c e))
 
     -- its slot says how many units it has
-    area_units : (slot : Slot) → SlotIs lim row (At slot) → slot.text < slot.end → get_or s slot.text 0 ≡ length (text_of c)
+    area_units : (slot : Slot) → SlotIs lim row (Some slot) → slot.text < slot.end → get_or s slot.text 0 ≡ length (text_of c)
     area_units slot z f =
         let (k, d) = subst (λ (x : Texts). (k : Captioned x s slot row (caption t row)) × (k.row_is ≡ c)) q (row_captioned lim t s row slot h z c e) in
         part_first s (length (text_of k.row_is) ∷ []) slot.text (slot.end - slot.text) (omega arith) k.keeps ∙ ap (λ (b : Caption). length (text_of b)) d
@@ -179,7 +179,7 @@ module _ (lim : Limits) (t : Tables) (s : List ℕ) (h : Holds lim t s) (row : R
 
 -- ---- what is found of it
 
-module _ (lim : Limits) (s : List ℕ) (store : StoreOf lim s) (row : Row) (slot : Slot) (z : SlotIs lim row (At slot)) where
+module _ (lim : Limits) (s : List ℕ) (store : StoreOf lim s) (row : Row) (slot : Slot) (z : SlotIs lim row (Some slot)) where
   fits : SlotFits slot lim.size
   fits = slot_fits lim.texts lim store.roomy store.roomy.area row slot z
 

@@ -16,8 +16,8 @@ use Rattle.screen.specs.declared.rows.Refusal.TheVariants.{ScratchSize, NotAStor
 use Rattle.screen.specs.declared.areas.Span.{Span}
 use Rattle.screen.specs.declared.names.Name.{Name}
 use Rattle.screen.specs.declared.names.Name.TheVariants.{Refused, Text as TextAt, Digits, Group as GroupNumber, Individual as IndividualNumber}
-use Rattle.screen.specs.declared.names.SlotPlace.{SlotPlace}
-use Rattle.screen.specs.declared.names.SlotPlace.TheVariants.{At, Beyond}
+use Rattle.std.specs.Prelude.{Option as Maybe, Some, None}
+use Rattle.screen.specs.declared.names.Slot.{Slot}
 use Rattle.screen.specs.declared.rows.Row.{Row}
 use Rattle.screen.specs.declared.rows.Row.TheVariants.{Line, QuickText, StatusText, Group, Individual, GroupContact, IndividualContact, LineSlot, NoTable}
 use Rattle.screen.specs.Rows.{Caption, line, group, individual, caption, text_of, Displays, stored, text_start, judged}
@@ -25,26 +25,26 @@ use Rattle.screen.specs.Rows.{Caption, line, group, individual, caption, text_of
 -- ---- slots
 
 -- place n of a table of slots of w bytes, of which h stand before the text or before how many units it has
-abbrev pub Slotted : (base places n w h : ℕ) → SlotPlace → Type 0
-Slotted base places n w h (At s) = (n < places) × (s.start ≡ base + n * w) × (s.text ≡ base + n * w + h) × (s.end ≡ base + n * w + w)
-Slotted base places n w h Beyond = places ≤ n
+abbrev pub Slotted : (base places n w h : ℕ) → Maybe Slot → Type 0
+Slotted base places n w h (Some s) = (n < places) × (s.start ≡ base + n * w) × (s.text ≡ base + n * w + h) × (s.end ≡ base + n * w + w)
+Slotted base places n w h None = places ≤ n
 
 -- the row's slot, in a form of the store
-abbrev pub SlotBy : Texts → Limits → Row → SlotPlace → Type 0
+abbrev pub SlotBy : Texts → Limits → Row → Maybe Slot → Type 0
 SlotBy x lim (Line n) r = Slotted (start_in x lim 12 + count_size) lim.lines n (slot_width x line_own text_limits.short) line_own r
 SlotBy x lim (QuickText n) r = Slotted (start_in x lim 4) quick_places n (slot_width x quick_own text_limits.quick) quick_own r
-SlotBy x lim (StatusText n) (At s) = (32 ≤ n) × Slotted (start_in x lim 5) status_places (n - 32) (slot_width x status_own text_limits.short) status_own (At s)
-SlotBy x lim (StatusText n) Beyond = 32 ≤ n → status_places ≤ n - 32
+SlotBy x lim (StatusText n) (Some s) = (32 ≤ n) × Slotted (start_in x lim 5) status_places (n - 32) (slot_width x status_own text_limits.short) status_own (Some s)
+SlotBy x lim (StatusText n) None = 32 ≤ n → status_places ≤ n - 32
 SlotBy x lim (Group n) r = Slotted (start_in x lim 6) slot_places n (slot_width x member_own text_limits.short) member_own r
 SlotBy x lim (Individual n) r = Slotted (start_in x lim 7) slot_places n (slot_width x member_own text_limits.short) member_own r
 SlotBy x lim (GroupContact n) r = Slotted (start_in x lim 9 + count_size) contact_places n (slot_width x member_own text_limits.short) member_own r
 SlotBy x lim (IndividualContact n) r = Slotted (start_in x lim 10 + count_size) contact_places n (slot_width x member_own text_limits.short) member_own r
 SlotBy x lim (LineSlot n) r = Slotted (start_in x lim 8) slot_places n (slot_width x line_own text_limits.short) line_own r
-SlotBy x lim NoTable (At s) = ⊥
-SlotBy x lim NoTable Beyond = Unit {0}
+SlotBy x lim NoTable (Some s) = ⊥
+SlotBy x lim NoTable None = Unit {0}
 
 -- in that of the limits
-abbrev pub SlotIs : Limits → Row → SlotPlace → Type 0
+abbrev pub SlotIs : Limits → Row → Maybe Slot → Type 0
 SlotIs lim row r = SlotBy lim.texts lim row r
 
 -- whether a slot with these flags has no row: that of a background group

@@ -1,10 +1,9 @@
 // What a row shows: the place of its text, or the number of what it names.
-ghost use Rattle.std.specs.Prelude.{ℕ, ◌+◌, ◌*◌, ◌^◌, ◌≤◌, ◌<◌, ◌≡◌};
+ghost use Rattle.std.specs.Prelude.{ℕ, ◌+◌, ◌*◌, ◌^◌, ◌≤◌, ◌<◌, ◌≡◌, Some};
 ghost use Rattle.lists.specs.Ladder.{Answers};
 ghost use Rattle.slots.specs.Slots.{u24};
 ghost use Rattle.tables.specs.Forms.{Roomy};
 ghost use Rattle.tables.specs.Store.{StoreOf};
-ghost use Rattle.screen.specs.declared.names.SlotPlace.TheVariants.{At};
 ghost use Rattle.screen.specs.Naming.{Slotted, SlotIs, hidden, TextIs, NameIs, naming};
 
 use super::areas::{Span, shared_text};
@@ -28,12 +27,6 @@ pub struct Slot {
     pub end: usize,
 }
 
-#[derive(Clone, Copy)]
-pub enum SlotPlace {
-    At(Slot),
-    Beyond,
-}
-
 // A text in the store, digits in the store, or an address whose number is to be written.
 #[derive(Clone, Copy)]
 pub enum Name {
@@ -45,31 +38,31 @@ pub enum Name {
 }
 
 // Place n of a table of slots that starts at base.
-fn slot_in(n: usize, places: usize, base: usize, width: usize, head: usize) -> SlotPlace
+fn slot_in(n: usize, places: usize, base: usize, width: usize, head: usize) -> Option<Slot>
     requires { (base + places * width < 2 ^ 64) × (head ≤ width) }
     ensures { Slotted base places n width head result }
 {
     if n < places {
         let start = base + n * width;
-        SlotPlace::At(Slot {
+        Some(Slot {
             start: start,
             text: start + head,
             end: start + width,
         })
     } else {
-        SlotPlace::Beyond
+        None
     }
 }
 
 // Where the row's slot stands: docs/STORE.md.
-fn slot_of(row: Row, limits: Limits) -> SlotPlace
+fn slot_of(row: Row, limits: Limits) -> Option<Slot>
     requires { Roomy limits }
     ensures { SlotIs limits row result }
 {
     let spot = spot_of(row);
     let k = spot.table;
     if TEXT_TABLES <= k {
-        return SlotPlace::Beyond;
+        return None;
     }
     let run = table_run(limits, k);
     let texts = limits.texts;
@@ -79,11 +72,11 @@ fn slot_of(row: Row, limits: Limits) -> SlotPlace
 }
 
 // The same, of any limits: where the tables have no room in their store, no row has a slot.
-pub fn row_slot(row: Row, limits: Limits) -> SlotPlace
+pub fn row_slot(row: Row, limits: Limits) -> Option<Slot>
     ensures { Roomy limits → SlotIs limits row result }
 {
     if !roomy(limits) {
-        return SlotPlace::Beyond;
+        return None;
     }
     slot_of(row, limits)
 }
@@ -117,7 +110,7 @@ fn is_hidden(row: Row, flags: u8) -> bool
 
 // Where the text of a row with this slot stands: in its place in the slot, or in the area.
 fn text_in(store: &[u8], row: Row, slot: Slot, limits: Limits) -> Span
-    requires { StoreOf limits store.now × SlotIs limits row (At slot) }
+    requires { StoreOf limits store.now × SlotIs limits row (Some slot) }
     ensures { TextIs limits store.now row result }
 {
     let text = slot.text;
@@ -140,7 +133,7 @@ fn name_in(store: &[u8], row: Row, limits: Limits) -> Name
     requires { StoreOf limits store.now }
     ensures { NameIs limits store.now row result }
 {
-    let SlotPlace::At(slot) = slot_of(row, limits) else {
+    let Some(slot) = slot_of(row, limits) else {
         return Name::Refused(Refusal::Absent);
     };
     let start = slot.start;

@@ -31,12 +31,10 @@ fn write_digits(scratch: &mut [u8], x: u64, base: u64, n: usize) -> usize
     requires { (2 * n ≤ length scratch.old) × (1 < base) × (base ≤ 16) }
     ensures { Written (map ascii (digits base n x)) scratch.old scratch.new result }
 {
-    let mut left = n;
     let mut rest = x;
-    while 0 < left {
-        left -= 1;
+    for left in (0..n).rev() {
         put_digit(scratch, left, (rest % base) as u8);
-        rest = rest / base;
+        rest /= base;
     }
     2 * n
 }
@@ -46,14 +44,11 @@ pub(crate) fn write_line(scratch: &mut [u8], kept: &[u8]) -> usize
     requires { (36 ≤ length scratch.old) × EntryOf InNumber digit_bytes kept.now }
     ensures { DigitsWritten kept.now scratch.old scratch.new result }
 {
-    let mut i = 0;
-    while i < 18 {
-        let digit = kept[i];
-        if digit == 0 {
+    for (i, digit) in kept.iter().enumerate() {
+        if *digit == 0 {
             return 2 * i;
         }
         put_digit(scratch, i, digit - 1);
-        i += 1;
     }
     36
 }

@@ -12,8 +12,7 @@ use Rattle.tables.specs.Store.{StoreOf, Holds}
 use Rattle.tables.specs.Tables.{Line as LineEntry, Tables}
 use Rattle.tables.proofs.TextCodes.{digits_length}
 use Rattle.screen.specs.declared.names.Slot.{Slot}
-use Rattle.screen.specs.declared.names.SlotPlace.{SlotPlace}
-use Rattle.screen.specs.declared.names.SlotPlace.TheVariants.{At, Beyond}
+use Rattle.std.specs.Prelude.{Option as Maybe, Some, None}
 use Rattle.screen.specs.declared.rows.Row.{Row}
 use Rattle.screen.specs.declared.rows.Row.TheVariants.{Line, QuickText, StatusText, Group, Individual, GroupContact, IndividualContact, LineSlot, NoTable}
 use Rattle.screen.specs.Rows.{of}
@@ -84,15 +83,15 @@ number_stands t (IndividualContact n) = seen_of individual (λ o. none) (λ o. a
 number_stands t (LineSlot n) = seen_of line (of (λ (l : LineEntry). l.number)) (λ o. and_then o number_of) refl (λ l. refl) (get_or t.line_slots n none)
 number_stands t NoTable = refl
 
-module _ {lim : Limits} {s : List ℕ} (row : Row) (before : List ℕ) (big : 18 ≤ length before) (store : StoreOf lim s) (place : SlotPlace) (f : Filled lim s row place) where
+module _ {lim : Limits} {s : List ℕ} (row : Row) (before : List ℕ) (big : 18 ≤ length before) (store : StoreOf lim s) (place : Maybe Slot) (f : Filled lim s row place) where
   told_digits : (r : Result ℕ NoValue) (after : List ℕ) → ((t : Tables) → Holds lim t s → digits_told r after ≡ digits_said before (and_then (standing t row) number_of)) → Answers (writing_digits lim row s before) (digits_told r after)
   told_digits r after is =
       inr (λ h. omega arith, inr (λ m. m store, answered lim (λ t. number_at t row) s store _ _ (digits_told r after) (λ t h. is t h ∙ ap (digits_said before) (sym (number_stands t row)))))
 
   -- DIGITS-NONE: nothing stands there
-  pub digits_none : place ≡ Beyond → Answers (writing_digits lim row s before) (digits_told (Err Absent) before)
+  pub digits_none : place ≡ None → Answers (writing_digits lim row s before) (digits_told (Err Absent) before)
   digits_none e = let g = subst (Filled lim s row) e f in told_digits (Err Absent) before (λ t h. ap (λ o. digits_said before (and_then o number_of)) (sym (g t h)))
 
   -- DIGITS-THERE: what was written of the slot
-  pub digits_there : (slot : Slot) → place ≡ At slot → (r : Result ℕ NoValue) (after : List ℕ) → DigitsAre row (own_part slot s) before after r → Answers (writing_digits lim row s before) (digits_told r after)
+  pub digits_there : (slot : Slot) → place ≡ Some slot → (r : Result ℕ NoValue) (after : List ℕ) → DigitsAre row (own_part slot s) before after r → Answers (writing_digits lim row s before) (digits_told r after)
   digits_there slot e r after is = let g = subst (Filled lim s row) e f in told_digits r after (λ t h. is (standing t row) (g.2 t h))

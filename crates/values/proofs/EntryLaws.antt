@@ -24,8 +24,7 @@ use Rattle.shared_texts.proofs.Forms.{layout_one}
 use Rattle.shared_texts.proofs.FormFrames.{short_units, group_slots, individual_slots, line_slots, group_contact_slots, individual_contact_slots, line_contact_slots}
 use Rattle.shared_texts.proofs.FormLists.{line_as_keyed, group_as_keyed, individual_as_keyed}
 use Rattle.screen.specs.declared.names.Slot.{Slot}
-use Rattle.screen.specs.declared.names.SlotPlace.{SlotPlace}
-use Rattle.screen.specs.declared.names.SlotPlace.TheVariants.{At, Beyond}
+use Rattle.std.specs.Prelude.{Option as Maybe, Some, None}
 use Rattle.screen.specs.declared.rows.Row.{Row}
 use Rattle.screen.specs.declared.rows.Row.TheVariants.{Line, QuickText, StatusText, Group, Individual, GroupContact, IndividualContact, LineSlot, NoTable}
 use Rattle.screen.specs.Naming.{Slotted, SlotIs}
@@ -64,7 +63,7 @@ record Stands {A : Type 0} (P : A → Type 0) (w h : ℕ) (f : A → List ℕ) (
 
 -- IN-TABLE: a slot of a table
 in_table : {A : Type 0} {P : A → Type 0} {w h : ℕ} {f : A → List ℕ} {k : ℕ} {as_one : A → Standing} (x : Stands P w h f k as_one) (row : Row) → kind_of row ≡ k
-    → (n base : ℕ) (os : List (Option A)) {s l : List ℕ} (same : s ≡ l) (p : Placed P w f n os (mid_of base (n * w) l)) (i : ℕ) (slot : Slot) (at : Slotted base n i w h (At slot))
+    → (n base : ℕ) (os : List (Option A)) {s l : List ℕ} (same : s ≡ l) (p : Placed P w f n os (mid_of base (n * w) l)) (i : ℕ) (slot : Slot) (at : Slotted base n i w h (Some slot))
     → InSlot row s slot (of as_one (get_or os i none))
 in_table {w = w} {h = h} {as_one = as_one} x row r n base os {s} same p i slot at =
     record {
@@ -79,7 +78,7 @@ in_table {w = w} {h = h} {as_one = as_one} x row r n base os {s} same p i slot a
 
 -- and one of a list
 in_list : {A : Type 0} {P : A → Type 0} {w h : ℕ} {f : A → List ℕ} {k : ℕ} {as_one : A → Standing} (x : Stands P w h f k as_one) (row : Row) → kind_of row ≡ k
-    → (n base : ℕ) (xs : List A) {s l : List ℕ} (same : s ≡ l) (p : Listed P w f n xs (mid_of base (n * w) l)) (i : ℕ) (slot : Slot) (at : Slotted base n i w h (At slot))
+    → (n base : ℕ) (xs : List A) {s l : List ℕ} (same : s ≡ l) (p : Listed P w f n xs (mid_of base (n * w) l)) (i : ℕ) (slot : Slot) (at : Slotted base n i w h (Some slot))
     → InSlot row s slot (of as_one (get_or (map some xs) i none))
 in_list {A = A} {as_one = as_one} x row r n base xs {s} same p i slot at =
     subst (λ (o : Option A). InSlot row s slot (of as_one o)) (front_get n xs i at.0) (in_table x row r n base (front n xs) same (listed_placed p) i slot at)
@@ -127,7 +126,7 @@ in_text : (row : Row) (s : List ℕ) (slot : Slot) → kind_of row ≡ 0 → InS
 in_text row s slot k = record { gone = λ z. refl; kept = λ z. text k }
 
 -- ROW-KEPT: a row's slot keeps what stands behind the row
-row_kept : (lim : Limits) (t : Tables) (s : List ℕ) (row : Row) (slot : Slot) → Holds lim t s → SlotIs lim row (At slot) → InSlot row s slot (standing t row)
+row_kept : (lim : Limits) (t : Tables) (s : List ℕ) (row : Row) (slot : Slot) → Holds lim t s → SlotIs lim row (Some slot) → InSlot row s slot (standing t row)
 row_kept lim t s (Line n) slot (ok, e) z = in_list (lines lim.texts) (Line n) refl lim.lines (region_start lim 12 + count_size) t.lines e (line_contact_slots lim t ok) n slot z
 row_kept lim t s (QuickText n) slot h z = in_text (QuickText n) s slot refl
 row_kept lim t s (StatusText n) slot h z = in_text (StatusText n) s slot refl
@@ -141,7 +140,7 @@ row_kept lim t s (LineSlot n) slot (ok, e) z = in_table (lines lim.texts) (LineS
 row_kept lim t s NoTable slot h z = absurd z
 
 -- OWN-BEHIND: and it has as many bytes of its own as the row says
-own_behind : (lim : Limits) (row : Row) (slot : Slot) → SlotIs lim row (At slot) → slot.text ≡ slot.start + own_of row
+own_behind : (lim : Limits) (row : Row) (slot : Slot) → SlotIs lim row (Some slot) → slot.text ≡ slot.start + own_of row
 own_behind lim (Line n) slot z = omega (arith, z.1, z.2)
 own_behind lim (QuickText n) slot z = omega (arith, z.1, z.2)
 own_behind lim (StatusText n) slot (h, z) = omega (arith, z.1, z.2)
@@ -153,7 +152,7 @@ own_behind lim (LineSlot n) slot z = omega (arith, z.1, z.2)
 own_behind lim NoTable slot z = absurd z
 
 -- ROW-BEYOND: behind a row that has no slot nothing stands
-row_beyond : (lim : Limits) (t : Tables) → Allowed lim t → (row : Row) → SlotIs lim row Beyond → standing t row ≡ none
+row_beyond : (lim : Limits) (t : Tables) → Allowed lim t → (row : Row) → SlotIs lim row None → standing t row ≡ none
 row_beyond lim t ok (Line n) x = none_past (of line) (map some t.lines) n refl (omega (arith, length-map t.lines some, ok.lines.0))
 row_beyond lim t ok (QuickText n) x = refl
 row_beyond lim t ok (StatusText n) x = refl
@@ -166,14 +165,14 @@ row_beyond lim t ok NoTable x = refl
 
 -- ---- the slot that was found
 
-pub filled_beyond : (lim : Limits) (s : List ℕ) (row : Row) (r : SlotPlace) → SlotIs lim row r → r ≡ Beyond → Filled lim s row Beyond
+pub filled_beyond : (lim : Limits) (s : List ℕ) (row : Row) (r : Maybe Slot) → SlotIs lim row r → r ≡ None → Filled lim s row None
 filled_beyond lim s row r x e t h = row_beyond lim t h.0 row (subst (SlotIs lim row) e x)
 
 module _ {lim : Limits} {s : List ℕ} {row : Row} {slot : Slot} (h : Here lim s row slot) where
-  pub filled_gone : zeros? (mid_of slot.start (slot.end - slot.start) s) ≡ true → Filled lim s row Beyond
+  pub filled_gone : zeros? (mid_of slot.start (slot.end - slot.start) s) ≡ true → Filled lim s row None
   filled_gone z t o = (row_kept lim t s row slot o h.is).gone z
 
-  pub filled_here : zeros? (mid_of slot.start (slot.end - slot.start) s) ≡ false → Filled lim s row (At slot)
+  pub filled_here : zeros? (mid_of slot.start (slot.end - slot.start) s) ≡ false → Filled lim s row (Some slot)
   filled_here z =
       let f = found_fits h in
       (own_behind lim row slot h.is, omega (arith, f.ends, f.inside), λ t o. (row_kept lim t s row slot o h.is).kept z)
@@ -184,7 +183,7 @@ pub record SlotIn (s : List ℕ) (row : Row) (slot : Slot) : Type 0 where
   pub inside : slot.text ≤ length s
   pub many : own_of row ≤ length (own_part slot s)
 
-pub slot_in : (lim : Limits) (s : List ℕ) (row : Row) {place : SlotPlace} (slot : Slot) → Filled lim s row place → place ≡ At slot → SlotIn s row slot
+pub slot_in : (lim : Limits) (s : List ℕ) (row : Row) {place : Maybe Slot} (slot : Slot) → Filled lim s row place → place ≡ Some slot → SlotIn s row slot
 slot_in lim s row slot f e =
     let g = subst (Filled lim s row) e f in
     record { own = g.0; inside = g.1; many = omega (arith, g.0, mid_len slot.start slot.text s g.1) }
@@ -332,14 +331,14 @@ entry_stands t (IndividualContact n) = seen_of individual (of individual_target)
 entry_stands t (LineSlot n) = seen_of line (of line_target) (of target_of) refl (λ l. refl) (get_or t.line_slots n none)
 entry_stands t NoTable = refl
 
-module _ {lim : Limits} {s : List ℕ} (row : Row) (store : StoreOf lim s) (place : SlotPlace) (f : Filled lim s row place) where
+module _ {lim : Limits} {s : List ℕ} (row : Row) (store : StoreOf lim s) (place : Maybe Slot) (f : Filled lim s row place) where
   entered : (r : Result Target NoValue) → ((t : Tables) → Holds lim t s → told r ≡ said (of target_of (standing t row))) → Answers (entering lim row s) (told r)
   entered r is = inr (λ m. m store, answered lim (λ t. entry_at t row) s store _ _ (told r) (λ t h. is t h ∙ ap said (sym (entry_stands t row))))
 
   -- ENTRY-NONE: nothing stands there
-  pub entry_none : place ≡ Beyond → Answers (entering lim row s) (told (Err Absent))
+  pub entry_none : place ≡ None → Answers (entering lim row s) (told (Err Absent))
   entry_none e = let g = subst (Filled lim s row) e f in entered (Err Absent) (λ t h. ap (λ o. said (of target_of o)) (sym (g t h)))
 
   -- ENTRY-THERE: what was read of the slot
-  pub entry_there : (slot : Slot) → place ≡ At slot → (r : Result Target NoValue) → TargetIs row (own_part slot s) r → Answers (entering lim row s) (told r)
+  pub entry_there : (slot : Slot) → place ≡ Some slot → (r : Result Target NoValue) → TargetIs row (own_part slot s) r → Answers (entering lim row s) (told r)
   entry_there slot e r is = let g = subst (Filled lim s row) e f in entered r (λ t h. is (standing t row) (g.2 t h))

@@ -16,8 +16,8 @@ use Rattle.tables.specs.Layout.{line_flags, group_flags, individual_flags, digit
 use Rattle.tables.specs.LineHeads.{head_bytes}
 use Rattle.tables.specs.Store.{Holds}
 use Rattle.tables.specs.Tables.{Line as LineEntry, GroupMember, IndividualMember, Tables}
-use Rattle.screen.specs.declared.names.SlotPlace.{SlotPlace}
-use Rattle.screen.specs.declared.names.SlotPlace.TheVariants.{At, Beyond}
+use Rattle.std.specs.Prelude.{Option as Maybe, Some, None}
+use Rattle.screen.specs.declared.names.Slot.{Slot}
 use Rattle.screen.specs.declared.rows.Row.{Row}
 use Rattle.screen.specs.declared.rows.Row.TheVariants.{Line, QuickText, StatusText, Group, Individual, GroupContact, IndividualContact, LineSlot, NoTable}
 use Rattle.screen.specs.Rows.{of}
@@ -127,11 +127,11 @@ pub data Kept (row : Row) (slot : List ℕ) : Option Standing → Type 0 where
   entry : (x : Standing) → kind_of row ≡ kind_is x → EntryOk x → slot ≡ own_bytes x → Kept row slot (some x)
 
 -- the row's slot, where something stands in it
-abbrev pub Filled : Limits → List ℕ → Row → SlotPlace → Type 0
-Filled lim s row (At slot) =
+abbrev pub Filled : Limits → List ℕ → Row → Maybe Slot → Type 0
+Filled lim s row (Some slot) =
     (slot.text ≡ slot.start + own_of row) × (slot.text ≤ length s)
     × ((t : Tables) → Holds lim t s → Kept row (take (slot.text - slot.start) (drop slot.start s)) (standing t row))
-Filled lim s row Beyond = (t : Tables) → Holds lim t s → standing t row ≡ none
+Filled lim s row None = (t : Tables) → Holds lim t s → standing t row ≡ none
 
 -- what was read of the bytes of any entry
 abbrev pub Reads : {A B : Type 0} → (A → Type 0) → (A → List ℕ) → (A → B) → List ℕ → B → Type 0

@@ -6,7 +6,6 @@ ghost use Rattle.values.specs.Entries.{DigitsAre, DigitsWritten, own_of};
 
 use super::answers::NoValue;
 use super::entries::filled_slot;
-use screen::names::SlotPlace;
 use screen::rows::Row;
 use store_check::checks::is_store;
 use tables::limits::Limits;
@@ -56,7 +55,7 @@ pub fn digits_in(
     if !is_store(store, limits) {
         return Err(NoValue::NotAStore);
     }
-    let SlotPlace::At(slot) = filled_slot(row, store, limits) else {
+    let Some(slot) = filled_slot(row, store, limits) else {
         return Err(NoValue::Absent);
     };
     digits_of(row, &store[slot.start..slot.text], buffer)

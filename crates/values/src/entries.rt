@@ -10,7 +10,7 @@ ghost use Rattle.values.specs.Values.{entering, told, group_target, individual_t
 use super::answers::{NoValue, Target};
 use super::flags::{group_flags_of, individual_flags_of, line_flags_of};
 use plan::numbers::{GroupAddress, IndividualAddress};
-use screen::names::{SlotPlace, address_of, row_slot};
+use screen::names::{Slot, address_of, row_slot};
 use screen::rows::Row;
 use slots::bytes::is_zeros;
 use store_check::checks::is_store;
@@ -60,17 +60,17 @@ fn target_of(row: Row, slot: &[u8]) -> Result<Target, NoValue>
 }
 
 // The row's slot in a store, where something stands in it.
-pub(crate) fn filled_slot(row: Row, store: &[u8], limits: Limits) -> SlotPlace
+pub(crate) fn filled_slot(row: Row, store: &[u8], limits: Limits) -> Option<Slot>
     requires { StoreOf limits store.now }
     ensures { Filled limits store.now row result }
 {
-    let SlotPlace::At(slot) = row_slot(row, limits) else {
-        return SlotPlace::Beyond;
+    let Some(slot) = row_slot(row, limits) else {
+        return None;
     };
     if is_zeros(&store[slot.start..slot.end]) {
-        return SlotPlace::Beyond;
+        return None;
     }
-    SlotPlace::At(slot)
+    Some(slot)
 }
 
 // What stands behind a row, in a store of a set with these limits.
@@ -80,7 +80,7 @@ pub fn entry_in(row: Row, store: &[u8], limits: Limits) -> Result<Target, NoValu
     if !is_store(store, limits) {
         return Err(NoValue::NotAStore);
     }
-    let SlotPlace::At(slot) = filled_slot(row, store, limits) else {
+    let Some(slot) = filled_slot(row, store, limits) else {
         return Err(NoValue::Absent);
     };
     target_of(row, &store[slot.start..slot.text])

@@ -1,6 +1,6 @@
 use Rattle.lists.proofs.Kit.{refl, none, inl, inr}
 use Rattle.tables.proofs.AnswerLaws.{not_said, was_said}
-use Rattle.callers.proofs.LookupLaws.{looked_up, no_idtype, answered_row, answered_none}
+use Rattle.callers.proofs.LookupLaws.{looked_up, no_idtype, answered}
 use Rattle.callers.proofs.lookup.line_of_in.Goals as goal
 
 pub returns-then-not-is_store : goal.returns-then-not-is_store
@@ -21,19 +21,12 @@ returns-then-idtype-gt1 c =
 pub key_of-key-requires : goal.key_of-key-requires
 key_of-key-requires c = was_said c.is_number.result c.is_number.ensures c.if-not-is_number.false-raw
 
-pub find_line-found-requires : goal.find_line-found-requires
-find_line-found-requires c = let s = was_said c.is_store.result c.is_store.ensures c.if-not-is_store.false-raw in (s.roomy, s.size)
+pub find_line-requires : goal.find_line-requires
+find_line-requires c = let s = was_said c.is_store.result c.is_store.ensures c.if-not-is_store.false-raw in (s.roomy, s.size)
 
-pub returns-in-At : goal.returns-in-At
-returns-in-At c =
+pub returns : goal.returns
+returns c =
     let a = c.args in
     let s = was_said c.is_store.result c.is_store.ensures c.if-not-is_store.false-raw in
     let n = was_said c.is_number.result c.is_number.ensures c.if-not-is_number.false-raw in
-    answered_row a.limits a.idtype a.digits.now a.store.now s n c.key_of-key.result c.key_of-key.ensures c.find_line-found.result c.find_line-found.ensures _ c.in-At.is
-
-pub returns-in-Nothing : goal.returns-in-Nothing
-returns-in-Nothing c =
-    let a = c.args in
-    let s = was_said c.is_store.result c.is_store.ensures c.if-not-is_store.false-raw in
-    let n = was_said c.is_number.result c.is_number.ensures c.if-not-is_number.false-raw in
-    answered_none a.limits a.idtype a.digits.now a.store.now s n c.key_of-key.result c.key_of-key.ensures c.find_line-found.result c.find_line-found.ensures c.in-Nothing.is
+    answered a.limits a.idtype a.digits.now a.store.now s n c.key_of-key.result c.key_of-key.ensures c.find_line.result c.find_line.ensures

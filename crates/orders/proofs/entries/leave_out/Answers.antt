@@ -1,17 +1,10 @@
-use borrow.Author.Rules.{rules}
-use Prim.Native.Nat.{◌-◌}
 use native.Mathlib.Omega.{arith}
-use lib.ListN.{length}
-use mathlib.Core.Logic.{⊎_elim}
-use Rattle.orders.proofs.Steps.{Out, out_start, out_moved, out_stayed, out_end}
+use Rattle.orders.proofs.Steps.{out_start, out_moved, out_stayed, out_end}
 use Rattle.orders.proofs.entries.leave_out.Goals as goal
 use Rattle.orders.proofs.entries.leave_out.Goals.{then-b-v, else-b-v}
 
 pub loop-i-init : goal.loop-i-init
 loop-i-init c = out_start _ _
-
-pub loop-i-smaller : goal.loop-i-smaller
-loop-i-smaller c = let l = c.loop-i in omega (arith, l.invariant.long)
 
 pub loop-i-preserved : goal.loop-i-preserved
 loop-i-preserved c =

@@ -1,25 +1,8 @@
-use borrow.Author.Rules.{rules}
 use Prim.Native.Nat.{◌-◌}
 use mathlib.Core.Path.{refl}
 use native.Mathlib.Omega.{arith}
-use Rattle.orders.proofs.Checking.{entry_zero, entry_past, entry_first, entry_next}
+use Rattle.orders.proofs.Checking.{entry_first, entry_next}
 use Rattle.orders.proofs.orders.entry_ok.Goals as goal
-
-pub returns-then-s-n : goal.returns-then-s-n
-returns-then-s-n c = λ h m l u. absurd (omega (arith, h.size, c.if-s-n.true))
-
-pub returns-then-n-i : goal.returns-then-n-i
-returns-then-n-i c = λ h m l u. absurd (omega (arith, c.if-n-i.true))
-
-pub returns-then-b-eq0 : goal.returns-then-b-eq0
-returns-then-b-eq0 c =
-    let a = c.args in
-    λ h m l u. entry_zero a.w a.o a.k a.n a.count a.s.now h a.i c.wide-b.result l m c.wide-b.ensures.0 c.if-b-eq0.true
-
-pub returns-then-count-b : goal.returns-then-count-b
-returns-then-count-b c =
-    let a = c.args in
-    λ h m l u. entry_past a.w a.o a.k a.n a.count a.s.now h a.i c.wide-b.result l m c.wide-b.ensures.0 (omega arith)
 
 pub returns-then-i-eq0 : goal.returns-then-i-eq0
 returns-then-i-eq0 c =

@@ -1,16 +1,8 @@
-use borrow.Author.Rules.{rules}
-use Prim.Native.Nat.{ℕ, ◌≤◌, ◌-◌, ◌+◌, ◌/◌}
-use mathlib.Core.List.{List}
+use Prim.Native.Nat.{◌-◌, ◌+◌, ◌/◌}
 use native.Mathlib.Omega.{arith}
-use Rattle.orders.specs.OrderParts.{Lists, Parts, key_at}
+use Rattle.orders.specs.OrderParts.{key_at}
 use Rattle.orders.proofs.Lookups.{parts_start, parts_up, parts_down, parts_end}
 use Rattle.orders.proofs.orders.place.Goals as goal
-
-pub returns-then-s-n : goal.returns-then-s-n
-returns-then-s-n c = record { within = omega arith; parts = λ ps g. absurd (omega (arith, g.shape.size, c.if-s-n.true)) }
-
-pub returns-then-n-count : goal.returns-then-n-count
-returns-then-n-count c = record { within = omega arith; parts = λ ps g. absurd (omega (arith, g.room, c.if-n-count.true)) }
 
 pub loop-lo-init : goal.loop-lo-init
 loop-lo-init c = let a = c.args in (omega arith, (omega arith, λ ps g. parts_start a.w a.o a.k a.n a.count a.s.now ps g a.key.now))

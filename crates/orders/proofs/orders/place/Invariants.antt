@@ -1,9 +1,6 @@
-use borrow.Author.Rules.{rules}
-use Prim.Native.Nat.{ℕ, ◌≤◌, ◌-◌, ◌+◌, ◌/◌}
+use Prim.Native.Nat.{ℕ, ◌≤◌, ◌-◌}
 use mathlib.Core.List.{List}
-use native.Mathlib.Omega.{arith}
 use Rattle.orders.specs.OrderParts.{Lists, Parts, key_at}
-use Rattle.orders.proofs.Lookups.{parts_start, parts_up, parts_down, parts_end}
 use Rattle.orders.proofs.orders.place.Given as goal
 
 abbrev pub invariant-loop-lo : goal.invariant-loop-lo

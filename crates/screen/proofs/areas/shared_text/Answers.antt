@@ -1,4 +1,3 @@
-use Rattle.lists.proofs.Kit.{rules}
 use Rattle.screen.proofs.AreaLaws.{span_is}
 use Rattle.screen.proofs.areas.shared_text.Goals as goal
 

@@ -1,4 +1,4 @@
-use Rattle.lists.proofs.Kit.{rules, ap, length}
+use Rattle.lists.proofs.Kit.{ap, length}
 use Rattle.screen.proofs.SlotLaws.{address_is}
 use Rattle.screen.proofs.names.address_of.Goals as goal
 

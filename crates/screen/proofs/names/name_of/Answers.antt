@@ -1,4 +1,4 @@
-use Rattle.lists.proofs.Kit.{refl, inl, inr, rules, arith}
+use Rattle.lists.proofs.Kit.{refl, inl, inr, arith}
 use Rattle.tables.proofs.AnswerLaws.{not_said, was_said}
 use Rattle.screen.proofs.RowAnswers.{name_answers}
 use Rattle.screen.proofs.names.name_of.Goals as goal

@@ -1,4 +1,3 @@
-use Rattle.lists.proofs.Kit.{rules}
 use Rattle.tables.proofs.AnswerLaws.{not_said, was_said}
 use Rattle.screen.proofs.names.row_slot.Goals as goal
 

@@ -1,4 +1,4 @@
-use Rattle.lists.proofs.Kit.{rules, arith}
+use Rattle.lists.proofs.Kit.{arith}
 use Rattle.screen.proofs.SlotLaws.{slot_within}
 use Rattle.screen.proofs.names.slot_in.Goals as goal
 

@@ -1,4 +1,4 @@
-use Rattle.lists.proofs.Kit.{rules, arith}
+use Rattle.lists.proofs.Kit.{arith}
 use Rattle.screen.proofs.SlotLaws.{run_near, slot_found, slot_nowhere}
 use Rattle.screen.proofs.names.slot_of.Goals as goal
 

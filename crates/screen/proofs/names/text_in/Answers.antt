@@ -1,4 +1,4 @@
-use Rattle.lists.proofs.Kit.{rules, arith}
+use Rattle.lists.proofs.Kit.{arith}
 use Rattle.screen.proofs.NameLaws.{Here, found_fits}
 use Rattle.screen.proofs.TextPlaces.{text_placed, text_in_heads, text_shared}
 use Rattle.screen.proofs.names.text_in.Goals as goal

@@ -1,4 +1,4 @@
-use Rattle.lists.proofs.Kit.{rules, arith}
+use Rattle.lists.proofs.Kit.{arith}
 use Rattle.screen.proofs.NumberLaws.{ascii_low, ascii_high}
 use Rattle.screen.proofs.numbers.code.Goals as goal
 

@@ -1,4 +1,4 @@
-use Rattle.lists.proofs.Kit.{◌*◌, ◌+◌, refl, rules, arith, length-set}
+use Rattle.lists.proofs.Kit.{◌*◌, ◌+◌, refl, arith, length-set}
 use Rattle.screen.proofs.NumberLaws.{digit_put}
 use Rattle.screen.proofs.numbers.put_digit.Goals as goal
 

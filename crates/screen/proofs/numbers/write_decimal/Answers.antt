@@ -1,4 +1,4 @@
-use Rattle.lists.proofs.Kit.{rules, arith}
+use Rattle.lists.proofs.Kit.{arith}
 use Rattle.screen.proofs.numbers.write_decimal.Goals as goal
 
 -- `screen::numbers::write_decimal` meets its contract. Assumes nothing.

@@ -1,4 +1,4 @@
-use Rattle.lists.proofs.Kit.{rules, arith}
+use Rattle.lists.proofs.Kit.{arith}
 use Rattle.screen.proofs.numbers.write_dialled.Goals as goal
 
 -- `screen::numbers::write_dialled` meets its contract. Assumes nothing.

@@ -1,5 +1,5 @@
-use Rattle.lists.proofs.Kit.{◌-◌, ◌%◌, ◌≡◌, refl, rules, mod-lt, arith, length}
-use Rattle.screen.proofs.NumberLaws.{DigitsLeft, left_start, left_more, left_end}
+use Rattle.lists.proofs.Kit.{◌-◌, ◌%◌, refl, rules, mod-lt, arith}
+use Rattle.screen.proofs.NumberLaws.{left_start, left_more, left_end}
 use Rattle.screen.proofs.numbers.write_digits.Goals as goal
 
 pub loop-left-init : goal.loop-left-init

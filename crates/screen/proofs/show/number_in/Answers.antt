@@ -1,4 +1,3 @@
-use Rattle.lists.proofs.Kit.{rules}
 use Rattle.screen.proofs.ShowLaws.{number_refused, number_shown}
 use borrow.Enum.Refused.{opened as is_one_of}
 use Rattle.screen.proofs.show.number_in.Goals as goal

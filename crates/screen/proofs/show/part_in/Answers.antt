@@ -1,4 +1,4 @@
-use Rattle.lists.proofs.Kit.{refl, rules}
+use Rattle.lists.proofs.Kit.{refl}
 use Rattle.screen.specs.Screen.{lent}
 use Rattle.screen.proofs.ShowLaws.{part_given}
 use Rattle.screen.proofs.show.part_in.Goals as goal

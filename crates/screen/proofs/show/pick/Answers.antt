@@ -1,4 +1,4 @@
-use Rattle.lists.proofs.Kit.{◌+◌, ◌-◌, ◌≡◌, ap, ◌∙◌, rules, add_comm, zero-add, arith, take, drop}
+use Rattle.lists.proofs.Kit.{◌+◌, ◌-◌, ◌≡◌, ap, ◌∙◌, add_comm, zero-add, arith, take, drop}
 use Rattle.screen.proofs.ShowLaws.{fits_as, block_as, offset_as, bytes_as}
 use Rattle.screen.proofs.show.pick.Goals as goal
 

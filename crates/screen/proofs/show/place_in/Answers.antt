@@ -1,4 +1,4 @@
-use Rattle.lists.proofs.Kit.{rules, arith, ◌≡◌, refl, []}
+use Rattle.lists.proofs.Kit.{arith, ◌≡◌, refl, []}
 use Rattle.screen.specs.declared.names.Name.TheVariants.{Text as TextAt, Digits, Group as GroupNumber, Individual as IndividualNumber}
 use Rattle.screen.specs.declared.names.Name.{Name}
 use Rattle.screen.specs.Rows.{group, individual}

@@ -1,4 +1,4 @@
-use Rattle.lists.proofs.Kit.{◌∙◌, rules, arith}
+use Rattle.lists.proofs.Kit.{◌∙◌, arith}
 use Rattle.screen.proofs.SlotLaws.{spot_as, spot_before, spot_from}
 use Rattle.screen.proofs.spots.spot_of.Goals as goal
 

@@ -27,22 +27,22 @@ returns-in_default c =
 
 pub slice_bounds-digits_of-count : goal.slice_bounds-digits_of-count
 slice_bounds-digits_of-count c =
-    let slot_here : SlotIn c.args.store.now c.args.row c.in-At.slot = slot_in c.args.limits c.args.store.now c.args.row c.in-At.slot c.filled_slot.ensures c.in-At.is in
+    let slot_here : SlotIn c.args.store.now c.args.row c.in-Some.slot = slot_in c.args.limits c.args.store.now c.args.row c.in-Some.slot c.filled_slot.ensures c.in-Some.is in
     let f = slot_here in omega (arith, f.own, f.inside)
 
 pub slice_bounds-digits_of-start : goal.slice_bounds-digits_of-start
 slice_bounds-digits_of-start c =
-    let slot_here : SlotIn c.args.store.now c.args.row c.in-At.slot = slot_in c.args.limits c.args.store.now c.args.row c.in-At.slot c.filled_slot.ensures c.in-At.is in
+    let slot_here : SlotIn c.args.store.now c.args.row c.in-Some.slot = slot_in c.args.limits c.args.store.now c.args.row c.in-Some.slot c.filled_slot.ensures c.in-Some.is in
     let f = slot_here in omega (arith, f.own, f.inside)
 
 pub slice_bounds-digits_of-end : goal.slice_bounds-digits_of-end
 slice_bounds-digits_of-end c =
-    let slot_here : SlotIn c.args.store.now c.args.row c.in-At.slot = slot_in c.args.limits c.args.store.now c.args.row c.in-At.slot c.filled_slot.ensures c.in-At.is in
+    let slot_here : SlotIn c.args.store.now c.args.row c.in-Some.slot = slot_in c.args.limits c.args.store.now c.args.row c.in-Some.slot c.filled_slot.ensures c.in-Some.is in
     let f = slot_here in omega (arith, f.own, f.inside)
 
 pub digits_of-requires : goal.digits_of-requires
 digits_of-requires c =
-    let slot_here : SlotIn c.args.store.now c.args.row c.in-At.slot = slot_in c.args.limits c.args.store.now c.args.row c.in-At.slot c.filled_slot.ensures c.in-At.is in
+    let slot_here : SlotIn c.args.store.now c.args.row c.in-Some.slot = slot_in c.args.limits c.args.store.now c.args.row c.in-Some.slot c.filled_slot.ensures c.in-Some.is in
     (slot_here.many, omega (arith, c.if-buffer-lt-MOST.false))
 
 pub returns : goal.returns
@@ -51,4 +51,4 @@ returns c =
     let a = c.args in
     let f = c.filled_slot in
     let d = c.digits_of in
-    digits_there a.row a.buffer.now (omega (arith, c.if-buffer-lt-MOST.false)) store_here f.result f.ensures c.in-At.slot c.in-At.is d.result d.new.buffer d.ensures
+    digits_there a.row a.buffer.now (omega (arith, c.if-buffer-lt-MOST.false)) store_here f.result f.ensures c.in-Some.slot c.in-Some.is d.result d.new.buffer d.ensures

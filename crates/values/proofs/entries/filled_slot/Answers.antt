@@ -8,25 +8,25 @@ returns-in_default c = filled_beyond c.args.limits c.args.store.now c.args.row c
 
 pub slice_bounds-is_zeros-count : goal.slice_bounds-is_zeros-count
 slice_bounds-is_zeros-count c =
-    let slot_here : Here c.args.limits c.args.store.now c.args.row c.in-At.slot = here c.requires (c.row_slot.ensures c.requires.roomy) c.in-At.is in
+    let slot_here : Here c.args.limits c.args.store.now c.args.row c.in-Some.slot = here c.requires (c.row_slot.ensures c.requires.roomy) c.in-Some.is in
     let f = found_fits slot_here in omega (arith, f.text_in, f.ends, f.inside)
 
 pub slice_bounds-is_zeros-start : goal.slice_bounds-is_zeros-start
 slice_bounds-is_zeros-start c =
-    let slot_here : Here c.args.limits c.args.store.now c.args.row c.in-At.slot = here c.requires (c.row_slot.ensures c.requires.roomy) c.in-At.is in
+    let slot_here : Here c.args.limits c.args.store.now c.args.row c.in-Some.slot = here c.requires (c.row_slot.ensures c.requires.roomy) c.in-Some.is in
     let f = found_fits slot_here in omega (arith, f.text_in, f.ends, f.inside)
 
 pub slice_bounds-is_zeros-end : goal.slice_bounds-is_zeros-end
 slice_bounds-is_zeros-end c =
-    let slot_here : Here c.args.limits c.args.store.now c.args.row c.in-At.slot = here c.requires (c.row_slot.ensures c.requires.roomy) c.in-At.is in
+    let slot_here : Here c.args.limits c.args.store.now c.args.row c.in-Some.slot = here c.requires (c.row_slot.ensures c.requires.roomy) c.in-Some.is in
     let f = found_fits slot_here in omega (arith, f.text_in, f.ends, f.inside)
 
 pub returns-then-is_zeros : goal.returns-then-is_zeros
 returns-then-is_zeros c =
-    let slot_here : Here c.args.limits c.args.store.now c.args.row c.in-At.slot = here c.requires (c.row_slot.ensures c.requires.roomy) c.in-At.is in
+    let slot_here : Here c.args.limits c.args.store.now c.args.row c.in-Some.slot = here c.requires (c.row_slot.ensures c.requires.roomy) c.in-Some.is in
     filled_gone slot_here (sym c.is_zeros.ensures ∙ c.if-is_zeros.true)
 
 pub returns : goal.returns
 returns c =
-    let slot_here : Here c.args.limits c.args.store.now c.args.row c.in-At.slot = here c.requires (c.row_slot.ensures c.requires.roomy) c.in-At.is in
+    let slot_here : Here c.args.limits c.args.store.now c.args.row c.in-Some.slot = here c.requires (c.row_slot.ensures c.requires.roomy) c.in-Some.is in
     filled_here slot_here (sym c.is_zeros.ensures ∙ c.if-is_zeros.false)
