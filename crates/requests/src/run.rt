@@ -2,7 +2,7 @@
 ghost use Rattle.requests.specs.Running.{FlagsAre, StepIs, RunIs, RunFrom};
 
 use super::trying::{Held, all_bytes, try_setting};
-use read_setting::reader::{SettingRead, read_setting};
+use read_setting::reader::{SettingFault, read_setting};
 use settings::settings::Setting;
 use tables::limits::Limits;
 use writing::{Coding, LastFlags, Result};
@@ -46,9 +46,8 @@ fn take_setting(
 ) -> Step
     ensures { StepIs coding limits left m.now at sum work.old work.new result }
 {
-    let read = read_setting(m, at, left, coding);
-    match read {
-        SettingRead::Taken(setting, next) => {
+    match read_setting(m, at, left, coding) {
+        Ok((setting, next)) => {
             let flags = flags_of(setting);
             let held = try_setting(work, limits, m, setting, sum);
             match held {
@@ -56,9 +55,9 @@ fn take_setting(
                 Held::NoRoom => Step::Fault(Result::NoRoom),
             }
         }
-        SettingRead::Missing => Step::Fault(Result::BadField),
-        SettingRead::Unknown => Step::Fault(Result::UnknownType),
-        SettingRead::Field => Step::Fault(Result::BadField),
+        Err(SettingFault::Missing) => Step::Fault(Result::BadField),
+        Err(SettingFault::Unknown) => Step::Fault(Result::UnknownType),
+        Err(SettingFault::Field) => Step::Fault(Result::BadField),
     }
 }
 

@@ -3,7 +3,7 @@ use native.Mathlib.Nat.{sub-zero}
 use Rattle.read_setting.specs.SettingAt.{SettingAt}
 use Rattle.working.specs.Parts.{copied?}
 use Rattle.requests.specs.Parts.{OnlyOf}
-use Rattle.requests.proofs.KindLaws.{UpTo, up_to_fault, up_to_end, up_to_next, only_missing, only_unknown, only_field}
+use Rattle.requests.proofs.KindLaws.{UpTo, up_to_fault, up_to_end, up_to_next, only_fault}
 use Rattle.requests.proofs.part.only_of.Given as goal
 
 abbrev pub invariant-loop-seen : goal.invariant-loop-seen
