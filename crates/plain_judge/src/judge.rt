@@ -6,7 +6,7 @@ use super::trying::{Deeds, try_setting};
 use plain_weigh::weighing::Before;
 use read_deeds::cursors::at_settings;
 use read_fields::hashes::HashPlace;
-use read_setting::reader::{SettingRead, read_setting};
+use read_setting::reader::{SettingFault, read_setting};
 use requests::run::flags_of;
 use settings::settings::Setting;
 use writing::{Coding, LastFlags, Result};
@@ -76,9 +76,8 @@ fn judge_setting(
     }
     let left = (request.count - taken - 1) as usize;
     let coding = request.coding;
-    let read = read_setting(m, at, left, coding);
-    match read {
-        SettingRead::Taken(setting, next) => {
+    match read_setting(m, at, left, coding) {
+        Ok((setting, next)) => {
             let before = Before {
                 logged,
                 first: at_settings(request.at, taken as usize + 1, coding),
@@ -97,9 +96,9 @@ fn judge_setting(
                 Deeds::NoRoom => Step::Fault(Result::NoRoom),
             }
         }
-        SettingRead::Missing => Step::Fault(Result::BadField),
-        SettingRead::Unknown => Step::Fault(Result::UnknownType),
-        SettingRead::Field => Step::Fault(Result::BadField),
+        Err(SettingFault::Missing) => Step::Fault(Result::BadField),
+        Err(SettingFault::Unknown) => Step::Fault(Result::UnknownType),
+        Err(SettingFault::Field) => Step::Fault(Result::BadField),
     }
 }
 
