@@ -16,12 +16,15 @@ use Rattle.read_fields.proofs.Parts.{bytes_left}
 use Rattle.read_carrier.specs.Message.{OpenedIs, MessageIs}
 use Rattle.read_carrier.specs.declared.carrier.Message.{Message}
 use Rattle.read_carrier.specs.declared.carrier.Message.TheVariants.{Size, Carrier, «Type» as AnotherType, Version, NoRequest as NotRequest, Request as ARequest, NoQuery as NotQuery, Query as AQuery}
-use Rattle.read_carrier.specs.declared.carrier.Opened.TheVariants.{Size as OutOfSize, Carrier as Uncarried, Open}
+use Rattle.read_carrier.specs.declared.carrier.Opening.{Opening}
+use Rattle.read_carrier.specs.declared.carrier.Unopened.{Unopened}
+use Rattle.read_carrier.specs.declared.carrier.Unopened.TheVariants.{Size as OutOfSize, Carrier as Uncarried}
 use Rattle.read_carrier.proofs.CarrierLaws.{wide_bytes}
 use Rattle.read_carrier.proofs.KindLaws.{uncounted}
 use Rattle.read_carrier.proofs.MessageOne.{opens_one, query_opens}
 use Rattle.read_setting.specs.SettingAt.{SettingAt}
-use Rattle.read_setting.specs.declared.reader.SettingRead.TheVariants.{Taken, Missing, Unknown, Field as BadField}
+use Rattle.std.specs.Prelude.{Ok, Err}
+use Rattle.read_setting.specs.declared.reader.SettingFault.TheVariants.{Missing, Unknown, Field as BadField}
 use Rattle.settings.specs.declared.settings.Setting.{Setting as Read}
 use Rattle.settings.specs.contracts.settings.Setting.{the_type}
 use Rattle.settings.specs.declared.settings.Setting.TheVariants.{GroupContacts, IndividualContacts, Lines, Key, QuickTexts, Home, Channels, System, StatusTexts, Group, Individual, LineSlot, Last}
@@ -92,13 +95,13 @@ module _ (Tables : Type 0) (apply : Setting → Tables → Option Tables) (c : C
       )
 
   module _ (m : List ℕ) (left : ℕ) (u : Tables) (p : ℕ) where
-    pub at_end : SettingAt c left m p Missing → Fault left u (drop p m) 4
+    pub at_end : SettingAt c left m p (Err Missing) → Fault left u (drop p m) 4
     at_end h = subst (λ (l : List ℕ). Fault left u l 4) (sym (drop_of_length-le m h)) missing
 
-    pub at_unknown : SettingAt c left m p Unknown → Fault left u (drop p m) 3
+    pub at_unknown : SettingAt c left m p (Err Unknown) → Fault left u (drop p m) 3
     at_unknown (h, never) = subst (λ (l : List ℕ). Fault left u l 3) (sym (drop-cons m p 0 h)) (unknown (λ k. never k.0 k.1))
 
-    pub at_field : SettingAt c left m p BadField → Fault left u (drop p m) 4
+    pub at_field : SettingAt c left m p (Err BadField) → Fault left u (drop p m) 4
     at_field (h, k, e, never) =
         subst (λ (l : List ℕ). Fault left u l 4) (sym (drop-cons m p 0 h))
         (field (k, e) (λ s w r q x i. never s (p + length w) i (record { bytes = w; rest = r; split = drop-cons m p 0 h ∙ q; ends = refl; written = x.0 })))
@@ -106,7 +109,7 @@ module _ (Tables : Type 0) (apply : Setting → Tables → Option Tables) (c : C
 -- ---- one setting
 
 module _ (c : Coding) (left : ℕ) (m : List ℕ) (at : ℕ) where
-  pub step_next : (r : Read) (next : ℕ) (b : Bool) → SettingAt c left m at (Taken r next) → IsLast r b → StepIs c left m at (Next next b)
+  pub step_next : (r : Read) (next : ℕ) (b : Bool) → SettingAt c left m at (Ok (r, next)) → IsLast r b → StepIs c left m at (Next next b)
   step_next r next b (s, means, i, stands) h = (s, i, stands, h m s means)
 
 -- ---- all of them
@@ -169,9 +172,9 @@ module _ (m : List ℕ) (at : ℕ) (h : Head) where
 -- ---- the request
 
 -- a message that opens with this type
-pub opens_else : (most : ℕ) (m : List ℕ) (v k c : ℕ) (b : Bool) → OpenedIs most m (Open v k c) → not (eqb k 0) ≡ b → OpensElse most m b
-opens_else most m v k c true (i, o) e = (i, v, k, c, _, o, eqb-false k 0 (not-true (eqb k 0) e))
-opens_else most m v k c false (i, o) e = λ v' k' c' d j p. (opens_one p o).1 ∙ eqb-true k 0 (not-false (eqb k 0) e)
+pub opens_else : (most : ℕ) (m : List ℕ) (x : Opening) (b : Bool) → OpenedIs most m (Ok x) → not (eqb x.kind 0) ≡ b → OpensElse most m b
+opens_else most m x true (i, o) e = (i, x.version, x.kind, x.coding, _, o, eqb-false x.kind 0 (not-true (eqb x.kind 0) e))
+opens_else most m x false (i, o) e = λ v' k' c' d j p. (opens_one p o).1 ∙ eqb-true x.kind 0 (not-false (eqb x.kind 0) e)
 
 -- a request counts the settings that it comes to
 pub sound_count : (c : Coding) {n : ℕ} {bs : List ℕ} {l : List Setting} {t : Unit {0}} → Sound c n bs (kept l t) → length l ≡ n
@@ -189,11 +192,9 @@ long_enough {c} {n} {s} {m} r =
 
 module _ (most : ℕ) (m : List ℕ) where
   -- one that does not open has no type
-  pub out_of_size : OpenedIs most m OutOfSize → OpensElse most m false
-  out_of_size n v k c d i o = absurd (n i)
-
-  pub not_carried : OpenedIs most m Uncarried → OpensElse most m false
-  not_carried n v k c d i o = absurd (n.1 c d o.carried)
+  pub not_opened : (f : Unopened) → OpenedIs most m (Err f) → OpensElse most m false
+  not_opened OutOfSize n v k c d i o = absurd (n i)
+  not_opened Uncarried n v k c d i o = absurd (n.1 c d o.carried)
 
   pub is_other : OpensElse most m true → Faulty most m 14 0
   is_other (i, v, k, c, d, o, n) = other_type i o n

@@ -2,8 +2,8 @@
 ghost use Rattle.joining.specs.Checking.{IsLast, StepIs, SettingsAre, OpensElse, RequestIs};
 
 use super::answers::Fault;
-use read_carrier::carrier::{Message, Opened, open_message, read_message};
-use read_setting::reader::{SettingRead, read_setting};
+use read_carrier::carrier::{Message, open_message, read_message};
+use read_setting::reader::{SettingFault, read_setting};
 use settings::settings::Setting;
 use writing::Coding;
 
@@ -43,12 +43,11 @@ fn is_last(setting: Setting) -> bool
 fn check_setting(m: &[u8], at: usize, left: usize, coding: Coding) -> Step
     ensures { StepIs coding left m.now at result }
 {
-    let read = read_setting(m, at, left, coding);
-    match read {
-        SettingRead::Taken(setting, next) => Step::Next(next, is_last(setting)),
-        SettingRead::Missing => Step::Field,
-        SettingRead::Unknown => Step::Unknown,
-        SettingRead::Field => Step::Field,
+    match read_setting(m, at, left, coding) {
+        Ok((setting, next)) => Step::Next(next, is_last(setting)),
+        Err(SettingFault::Missing) => Step::Field,
+        Err(SettingFault::Unknown) => Step::Unknown,
+        Err(SettingFault::Field) => Step::Field,
     }
 }
 
@@ -87,11 +86,9 @@ fn check_settings(m: &[u8], at: usize, head: Head) -> Request
 fn is_other(m: &[u8], most: usize) -> bool
     ensures { OpensElse most m.now result }
 {
-    let opened = open_message(m, most);
-    match opened {
-        Opened::Size => false,
-        Opened::Carrier => false,
-        Opened::Open(_, kind, _) => kind != 0,
+    match open_message(m, most) {
+        Ok(opened) => opened.kind != 0,
+        Err(_) => false,
     }
 }
 

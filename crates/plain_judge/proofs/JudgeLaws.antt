@@ -12,7 +12,7 @@ use Rattle.writing.specs.Ranges.{text_limits, InRange, no_hash}
 use Rattle.writing.specs.Settings.{Setting}
 use Rattle.read_fields.specs.declared.hashes.HashPlace.{HashPlace}
 use Rattle.read_fields.specs.Places.{StandsAt}
-use Rattle.read_setting.specs.declared.reader.SettingRead.TheVariants.{Taken}
+use Rattle.std.specs.Prelude.{Ok, Err}
 use Rattle.read_setting.specs.SettingAt.{SettingAt}
 use Rattle.settings.specs.declared.settings.Setting.{Setting as SettingRead}
 use Rattle.settings.specs.declared.settings.Setting.TheVariants.{GroupContacts, IndividualContacts, Lines, Key, QuickTexts, Home, Channels, System, StatusTexts, Group, Individual, LineSlot, Last}
@@ -95,7 +95,7 @@ module _ (log : List ℕ) (n : ℕ) (m : List ℕ) (q : Request) (at so passed :
         short = all_append Short (all_deeds l) (deeds s) a.short (deeds_short (q.count - so - 1) s i);
       }
 
-  module _ (x : SettingRead) (next : ℕ) (first : Cursor) (read : SettingAt q.coding (q.count - so - 1) m at (Taken x next)) (e : AtSettings q.at (so + 1) q.coding first) (vs : List ℕ) where
+  module _ (x : SettingRead) (next : ℕ) (first : Cursor) (read : SettingAt q.coding (q.count - so - 1) m at (Ok (x, next))) (e : AtSettings q.at (so + 1) q.coding first) (vs : List ℕ) where
     -- it had room
     pub step_taken : (i : Item) (k : ℕ) → FlagsAre x i.flags → HashOf x i.hash → TryIs log m (record { logged = n; first = first; passed = passed }) x ws vs (Some k)
         → StepIs log n m q at so passed ws vs (Ok (record { next = next; item = i; deeds = k }))

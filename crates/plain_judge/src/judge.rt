@@ -6,7 +6,7 @@ use super::trying::try_setting;
 use plain_weigh::weighing::Before;
 use read_deeds::cursors::at_settings;
 use read_fields::hashes::HashPlace;
-use read_setting::reader::{SettingRead, read_setting};
+use read_setting::reader::{SettingFault, read_setting};
 use requests::run::flags_of;
 use settings::settings::Setting;
 use writing::{Coding, LastFlags, Result as Outcome};
@@ -77,9 +77,8 @@ fn judge_setting(
     }
     let left = (request.count - taken - 1) as usize;
     let coding = request.coding;
-    let read = read_setting(m, at, left, coding);
-    match read {
-        SettingRead::Taken(setting, next) => {
+    match read_setting(m, at, left, coding) {
+        Ok((setting, next)) => {
             let before = Before {
                 logged,
                 first: at_settings(request.at, taken as usize + 1, coding),
@@ -94,9 +93,9 @@ fn judge_setting(
             };
             Ok(Step { next, item, deeds })
         }
-        SettingRead::Missing => Err(Outcome::BadField),
-        SettingRead::Unknown => Err(Outcome::UnknownType),
-        SettingRead::Field => Err(Outcome::BadField),
+        Err(SettingFault::Missing) => Err(Outcome::BadField),
+        Err(SettingFault::Unknown) => Err(Outcome::UnknownType),
+        Err(SettingFault::Field) => Err(Outcome::BadField),
     }
 }
 

@@ -87,9 +87,9 @@ module _ (kept : List ℕ) (code i : ℕ) (ds : Number) (g : CodeLeft kept code 
   pub code_done : 18 ≤ i → code ≡ number_code ds
   code_done h = none_counted g.rest (omega (arith, g.few)) code ∙ g.coded
 
--- no digits are kept in so few bytes
-pub kept_short : (kept : List ℕ) (ds : Number) → kept ≡ digit_bytes ds → length kept < 18 → ⊥
-kept_short kept ds e h = omega (arith, ap length e, digits_length ds)
+-- digits are kept in 18 bytes
+pub kept_long : (kept : List ℕ) (ds : Number) → kept ≡ digit_bytes ds → 18 ≤ length kept
+kept_long kept ds e = omega (arith, ap length e, digits_length ds)
 
 -- ---- the number at a place
 

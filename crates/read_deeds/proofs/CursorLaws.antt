@@ -1,7 +1,5 @@
 -- Deeds that follow a cursor: those of entries, of settings and of requests, in turn. Assumes nothing.
 use Rattle.lists.proofs.Kit.{ℕ, ◌+◌, ◌-◌, ◌%◌, ◌≤◌, ◌<◌, ◌≡◌, refl, sym, ap, ap₂, ◌∙◌, subst, subst⁻¹, subst₂, zero-add, List, [], ◌∷◌, ◌++◌, append_assoc, append-nil, head-eq_of_cons-eq, tail-eq_of_cons-eq, cons≢nil, arith, length, drop, get_or, drop-drop, drop-append-le}
-use denote.Enum.Declared.{tag_of}
-use types.Run.{OneOf, miss}
 use Rattle.lists.specs.Bytes.{Bytes}
 use Rattle.writing.specs.declared.Coding.{Coding}
 use Rattle.writing.specs.declared.Coding.TheVariants.{Unicode16, EightBit}
@@ -13,9 +11,8 @@ use Rattle.read_fields.specs.Places.{FieldsAt, StandsAt}
 use Rattle.settings.specs.Meant.{Meant}
 use Rattle.settings.specs.declared.settings.Setting.{Setting as Read}
 use Rattle.read_setting.specs.SettingAt.{SettingAt}
-use Rattle.read_setting.specs.declared.reader.SettingRead.{SettingRead}
-use Rattle.read_setting.specs.declared.reader.SettingRead.TheVariants.{Taken, Missing, Unknown, Field as BadField}
-use Rattle.read_setting.specs.contracts.reader.SettingRead.{the_type}
+use Rattle.std.specs.Prelude.{Result, Ok, Err}
+use Rattle.read_setting.specs.declared.reader.SettingFault.{SettingFault}
 use Rattle.read_setting.proofs.Theorems.{Refused, refused_exactly, read_exactly}
 use Rattle.events.specs.Deeds.{nothing, deeds, all_deeds}
 use Rattle.events.specs.Deeds as D
@@ -191,15 +188,8 @@ module _ (m : List ℕ) (c : Cursor) (d : D.Deed) (ds : List D.Deed) (none : c.l
         },
       )
 
--- an answer that is not taken is a refusal
-pub not_taken : (a : SettingRead) → OneOf (1 ∷ 2 ∷ 3 ∷ []) (tag_of the_type a) → Refused a
-not_taken (Taken s next) k = miss (1 ∷ 2 ∷ 3 ∷ []) 0 tt k
-not_taken Missing k = tt
-not_taken Unknown k = tt
-not_taken BadField k = tt
-
 -- the answer that the reader gives for the next setting
-module _ (m : List ℕ) (c : Cursor) (bytes : Bytes m) (a : SettingRead) (read : SettingAt c.coding (c.settings - 1) m c.at a) where
+module _ (m : List ℕ) (c : Cursor) (bytes : Bytes m) (a : Result (Read × ℕ) SettingFault) (read : SettingAt c.coding (c.settings - 1) m c.at a) where
   -- it is no refusal
   pub setting_refused : (r : Moved) → Refused a → NextSetting m c r
   setting_refused r refused d ds none some x =
@@ -207,23 +197,20 @@ module _ (m : List ℕ) (c : Cursor) (bytes : Bytes m) (a : SettingRead) (read :
       absurd ((refused_exactly c.coding (c.settings - 1) m c.at bytes a read).0 refused y.setting y.next y.range y.stands)
 
   -- the setting begins
-  pub setting_moved : (s : Read) (next : ℕ) (t : Turn) → a ≡ Taken s next → Begins m s t → NextSetting m c (record { deed = t.deed; cursor = after c t next })
+  pub setting_moved : (s : Read) (next : ℕ) (t : Turn) → a ≡ Ok (s, next) → Begins m s t → NextSetting m c (record { deed = t.deed; cursor = after c t next })
   setting_moved s next t e begins d ds none some x =
       let y = ahead m c d ds none x some in
       let (r, e', means) = (read_exactly c.coding (c.settings - 1) m c.at bytes a read y.setting y.next).0 y.range y.stands in
-      let (same, at) = one_answer r s y.next next (sym e' ∙ e) in
+      let one : (r, y.next) ≡ (s, next) = ap (taken (r, y.next)) (sym e' ∙ e) in
+      let same : r ≡ s = ap (λ k. k.0) one in
+      let at : y.next ≡ next = ap (λ k. k.1) one in
       subst (λ (k : ℕ). DeedIs m t.deed d × Follow m (after c t k) ds) at
       (begun m c d ds none x y t (begins y.setting (c.settings - 1) (subst (λ (k : Read). Meant m k y.setting) same means) y.range))
     where
-      -- two settings that were taken are one
-      one_answer : (r q : Read) (i j : ℕ) → Taken r i ≡ Taken q j → (r ≡ q) × (i ≡ j)
-      one_answer r q i j e = (λ k. (taken (e k)).0, λ k. (taken (e k)).1)
-        where
-          taken : SettingRead → Read × ℕ
-          taken (Taken u n) = (u, n)
-          taken Missing = (r, i)
-          taken Unknown = (r, i)
-          taken BadField = (r, i)
+      -- what was taken
+      taken : Read × ℕ → Result (Read × ℕ) SettingFault → Read × ℕ
+      taken none (Ok x) = x
+      taken none (Err f) = none
 
 -- ---- the next request
 

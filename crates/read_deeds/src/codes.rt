@@ -1,4 +1,5 @@
 // A line's number as one number: its digits behind a 1.
+ghost use Rattle.std.specs.Prelude.{◌≤◌, length};
 ghost use Rattle.read_deeds.specs.ReadDeeds.{KeptCode, NumberCode, KeyCode};
 
 use read_fields::numbers::NumberPlace;
@@ -14,22 +15,17 @@ const NO_FLAGS: LineFlags = LineFlags {
     pabx: false,
 };
 
-// The number of digits that are kept as one more than themselves.
+// The number of at most 18 digits that are kept as one more than themselves.
 fn kept_code(kept: &[u8]) -> u64
+    requires { length kept.now ≤ 18 }
     ensures { KeptCode kept.now result }
 {
     let mut code: u64 = 1;
-    let mut i = 0;
-    while i < 18 {
-        if kept.len() <= i {
+    for digit in kept {
+        if *digit == 0 {
             return code;
         }
-        let digit = kept[i];
-        if digit == 0 {
-            return code;
-        }
-        code = code * 10 + ((digit - 1) % 10) as u64;
-        i += 1;
+        code = code * 10 + ((*digit - 1) % 10) as u64;
     }
     code
 }

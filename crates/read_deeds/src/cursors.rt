@@ -5,7 +5,7 @@ ghost use Rattle.read_deeds.specs.Cursors.{AtSettings, NextSetting, CodingIs, Ne
 use super::beginnings::begin;
 use super::deeds::{Deed, Left, NONE_LEFT};
 use super::entries::next_entry;
-use read_setting::reader::{SettingRead, read_setting};
+use read_setting::reader::read_setting;
 use writing::Coding;
 
 // The entries left of a setting; where the next setting stands, or the next request where none is left, with how many are still counted and their coding.
@@ -55,8 +55,7 @@ fn next_setting(m: &[u8], cursor: Cursor) -> Moved
     }
     let settings = cursor.settings - 1;
     let coding = cursor.coding;
-    let read = read_setting(m, cursor.at, settings, coding);
-    let SettingRead::Taken(setting, next) = read else {
+    let Ok((setting, next)) = read_setting(m, cursor.at, settings, coding) else {
         return stay(cursor);
     };
     let turn = begin(m, setting);
@@ -88,10 +87,7 @@ fn next_record(m: &[u8], cursor: Cursor) -> Moved
     ensures { NextRecord m.now cursor result }
 {
     let at = cursor.at;
-    if m.len() < 10 {
-        return stay(cursor);
-    }
-    if m.len() - 10 < at {
+    if m.len() < 10 || m.len() - 10 < at {
         return stay(cursor);
     }
     Moved {

@@ -58,9 +58,8 @@ pub(crate) fn doing(kind: Kind, operation: Operation, put: Put) -> Deed
     ensures { DoingIs kind operation put result }
 {
     match operation {
-        Operation::Add => Deed::Puts(kind, put),
+        Operation::Add | Operation::Replace => Deed::Puts(kind, put),
         Operation::Delete => Deed::Removes(kind, put.key),
-        Operation::Replace => Deed::Puts(kind, put),
     }
 }
 
@@ -69,8 +68,7 @@ pub(crate) fn opening(kind: Kind, operation: Operation) -> Deed
     ensures { OpeningIs kind operation result }
 {
     match operation {
-        Operation::Add => Deed::Nothing,
-        Operation::Delete => Deed::Nothing,
+        Operation::Add | Operation::Delete => Deed::Nothing,
         Operation::Replace => Deed::Clears(kind),
     }
 }

@@ -5,9 +5,7 @@ ghost use Rattle.read_deeds.specs.ReadDeeds.{contact_entries, line_entries, quic
 use super::codes::{line_key, number_code};
 use super::deeds::{Deed, Left, Put, Turn, doing};
 use read_fields::channels::channel_at;
-use read_fields::entries::{
-    AddressedRead, ContactRead, EntryRead, read_addressed, read_contact, read_quick, read_status,
-};
+use read_fields::entries::{read_addressed, read_contact, read_quick, read_status};
 use read_fields::texts::TextPlace;
 use writing::{Coding, Kind};
 
@@ -53,9 +51,7 @@ fn stay(left: Left) -> Turn
 fn next_contact(m: &[u8], left: Left) -> Turn
     ensures { NextOf contact_entries m.now left result }
 {
-    let coding = left.coding;
-    let read = read_addressed(m, left.start, coding);
-    let AddressedRead::Contact(place, next) = read else {
+    let Some((place, next)) = read_addressed(m, left.start, left.coding) else {
         return stay(left);
     };
     let text = place.text;
@@ -72,9 +68,7 @@ fn next_contact(m: &[u8], left: Left) -> Turn
 fn next_line(m: &[u8], left: Left) -> Turn
     ensures { NextOf line_entries m.now left result }
 {
-    let coding = left.coding;
-    let read = read_contact(m, left.start, coding);
-    let ContactRead::Contact(place, next) = read else {
+    let Some((place, next)) = read_contact(m, left.start, left.coding) else {
         return stay(left);
     };
     let digits = place.number;
@@ -93,9 +87,7 @@ fn next_line(m: &[u8], left: Left) -> Turn
 fn next_quick(m: &[u8], left: Left) -> Turn
     ensures { NextOf quick_entries m.now left result }
 {
-    let coding = left.coding;
-    let read = read_quick(m, left.start, 0, coding);
-    let EntryRead::Entry(place, next) = read else {
+    let Some((place, next)) = read_quick(m, left.start, 0, left.coding) else {
         return stay(left);
     };
     let text = place.text;
@@ -112,9 +104,7 @@ fn next_quick(m: &[u8], left: Left) -> Turn
 fn next_status(m: &[u8], left: Left) -> Turn
     ensures { NextOf status_entries m.now left result }
 {
-    let coding = left.coding;
-    let read = read_status(m, left.start, coding);
-    let EntryRead::Entry(place, next) = read else {
+    let Some((place, next)) = read_status(m, left.start, left.coding) else {
         return stay(left);
     };
     if place.index < 32 {
@@ -153,8 +143,7 @@ pub fn next_entry(m: &[u8], left: Left) -> Turn
 {
     let kind = left.kind;
     match kind {
-        Kind::GroupContacts => next_contact(m, left),
-        Kind::IndividualContacts => next_contact(m, left),
+        Kind::GroupContacts | Kind::IndividualContacts => next_contact(m, left),
         Kind::Lines => next_line(m, left),
         Kind::QuickTexts => next_quick(m, left),
         Kind::StatusTexts => next_status(m, left),

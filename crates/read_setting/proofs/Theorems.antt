@@ -84,9 +84,7 @@ meant_one m (Last f p) s t (v, d, x, n) (w, e, y, k) =
 -- the answer is not a setting
 abbrev pub Refused : Result (Read × ℕ) SettingFault → Type 0
 Refused (Ok (r, next)) = ⊥
-Refused (Err Missing) = Unit {0}
-Refused (Err Unknown) = Unit {0}
-Refused (Err BadField) = Unit {0}
+Refused (Err f) = Unit {0}
 
 -- no setting in range stands at the place, where so many settings are still counted after it
 abbrev pub NoneStands : Coding → ℕ → List ℕ → ℕ → Type 0

@@ -1,4 +1,5 @@
 -- The fields behind the type byte: a head, read as one number, whose result and reason are 0, and what follows it. Assumes nothing.
+use Rattle.std.specs.Prelude.{Option as Maybe, Some, None}
 use Rattle.lists.proofs.Kit.{ℕ, ◌+◌, ◌*◌, ◌/◌, ◌%◌, ◌^◌, ◌≤◌, ◌<◌, ◌≡◌, refl, sym, ap, ◌∙◌, subst, subst⁻¹, ◌≢◌, List, [], ◌∷◌, ◌++◌, arith, length, drop, take, pow_pos, shr-shr, div-lt_iff_lt-mul}
 use native.Mathlib.Nat.{div-eq_of_lt}
 use lib.Pow.{shr_lt}
@@ -11,8 +12,6 @@ use Rattle.writing.proofs.Unique.{text_ends}
 use Rattle.read_fields.specs.Places.{FieldsAt, be}
 use Rattle.read_fields.specs.TextsAndNumbers.{TextAt}
 use Rattle.read_fields.specs.declared.texts.TextPlace.{TextPlace}
-use Rattle.read_fields.specs.declared.texts.TextRead.{TextRead}
-use Rattle.read_fields.specs.declared.texts.TextRead.TheVariants.{Text as AText, NoText}
 use Rattle.read_fields.proofs.Heads.{Cut, head_in, head_out, be_small}
 use Rattle.read_fields.proofs.TextWalk.{text_read}
 use Rattle.read_fields.proofs.Walk.{one_part}
@@ -22,10 +21,7 @@ use Rattle.reports.specs.Contents.{Contents, make}
 use Rattle.reports.specs.Items.{good, item_body, InItem}
 use Rattle.report_reading.specs.Reading.{TextEnds, Says}
 use Rattle.report_reading.specs.Readers.{HeadIs, ItemAt}
-use Rattle.report_reading.specs.declared.heads.HeadRead.{HeadRead}
-use Rattle.report_reading.specs.declared.heads.HeadRead.TheVariants.{Head, NoHead}
 use Rattle.report_reading.specs.declared.items.Item.{Item as Found}
-use Rattle.report_reading.specs.declared.items.ItemRead.TheVariants.{Item as AnItem, NoItem}
 
 -- ---- result and reason
 
@@ -96,18 +92,18 @@ module _ (K : Asked) (f : Headed K) (m : List ℕ) (p : ℕ) (h : Bytes m) where
       (r, subst (λ (w : ℕ). N < 2 ^ w) (f.wide x) l, c, z)
 
   -- none where no such head is there
-  pub no_head : {r : HeadRead} → HeadIs m p f.size (2 ^ f.bits) r → r ≡ NoHead → ItemAt K m p NoItem
+  pub no_head : {r : Maybe ℕ} → HeadIs m p f.size (2 ^ f.bits) r → r ≡ None → ItemAt K m p None
   no_head s e x next i y =
       let (r, l, k, z) = parts x next y in
       subst (HeadIs m p f.size (2 ^ f.bits)) e s r l
 
-  module _ {r : HeadRead} (n : ℕ) (s : HeadIs m p f.size (2 ^ f.bits) r) (e : r ≡ Head n) where
+  module _ {r : Maybe ℕ} (n : ℕ) (s : HeadIs m p f.size (2 ^ f.bits) r) (e : r ≡ Some n) where
     -- room for the head
     pub room : p + f.size ≤ length m
     room = (subst (HeadIs m p f.size (2 ^ f.bits)) e s).0
 
     -- none where no contents have this head and what follows
-    pub no_item : ((x : Contents K) (next : ℕ) → Cut (f.head x) n → InItem (make K x) → FieldsAt (f.tail x) m (p + f.size) next → ⊥) → ItemAt K m p NoItem
+    pub no_item : ((x : Contents K) (next : ℕ) → Cut (f.head x) n → InItem (make K x) → FieldsAt (f.tail x) m (p + f.size) next → ⊥) → ItemAt K m p None
     no_item never x next i y =
         let is = subst (HeadIs m p f.size (2 ^ f.bits)) e s in
         let (r, l, k, z) = parts x next y in
@@ -115,7 +111,7 @@ module _ (K : Asked) (f : Headed K) (m : List ℕ) (p : ℕ) (h : Bytes m) where
 
     -- these contents, which have this head and what follows
     pub the_item : (x : Contents K) (found : Found) (next : ℕ) → Cut (f.head x) n → InItem (make K x) → FieldsAt (f.tail x) m (p + f.size) next
-        → Says m next (make K x) found → ItemAt K m p (AnItem found next)
+        → Says m next (make K x) found → ItemAt K m p (Some (found, next))
     the_item x found next k i y says =
         let is = subst (HeadIs m p f.size (2 ^ f.bits)) e s in
         let l : n < 2 ^ widths (f.head x) = subst⁻¹ (λ (w : ℕ). n < 2 ^ w) (f.wide x) is.2 in (
@@ -146,26 +142,26 @@ pub record TextFound (m : List ℕ) (from limit : ℕ) (u : TextPlace) (next : �
   pub ends : TextEnds m u us next
   pub stands : FieldsAt (text unicode16 us) m from next
 
-pub text_found : {t : TextRead} (m : List ℕ) (from limit : ℕ) (u : TextPlace) (next : ℕ) → TextAt unicode16 m from limit t → t ≡ AText u next
+pub text_found : {t : Maybe (TextPlace × ℕ)} (m : List ℕ) (from limit : ℕ) (u : TextPlace) (next : ℕ) → TextAt unicode16 m from limit t → t ≡ Some (u, next)
     → TextFound m from limit u next
 text_found m from limit u next at e =
     let (us, l, is, y) = text_read unicode16 m from limit u next at e in
     let there = subst (TextAt unicode16 m from limit) e at in
     record { us = us; start = there.1; ok = text_ok limit us m from next l y; units = is.units; ends = record { coding = there.2; is = is }; stands = y }
 
-module _ (K : Asked) (f : Headed K) (units : Contents K → Text) (last : (x : Contents K) → f.tail x ≡ text unicode16 (units x)) (m : List ℕ) (p : ℕ) (h : Bytes m) {r : HeadRead}
-    (n : ℕ) (s : HeadIs m p f.size (2 ^ f.bits) r) (e : r ≡ Head n) (limit : ℕ) where
+module _ (K : Asked) (f : Headed K) (units : Contents K → Text) (last : (x : Contents K) → f.tail x ≡ text unicode16 (units x)) (m : List ℕ) (p : ℕ) (h : Bytes m) {r : Maybe ℕ}
+    (n : ℕ) (s : HeadIs m p f.size (2 ^ f.bits) r) (e : r ≡ Some n) (limit : ℕ) where
   abbrev tail_text : (x : Contents K) (next : ℕ) → FieldsAt (f.tail x) m (p + f.size) next → FieldsAt (text unicode16 (units x)) m (p + f.size) next
   tail_text x next y = subst (λ (l : List Field). FieldsAt l m (p + f.size) next) (last x) y
 
   -- none where no text stands behind the head
-  pub no_text : {t : TextRead} → ((x : Contents K) → InItem (make K x) → length (units x) ≤ limit) → TextAt unicode16 m (p + f.size) limit t → t ≡ NoText → ItemAt K m p NoItem
+  pub no_text : {t : Maybe (TextPlace × ℕ)} → ((x : Contents K) → InItem (make K x) → length (units x) ≤ limit) → TextAt unicode16 m (p + f.size) limit t → t ≡ None → ItemAt K m p None
   no_text short at d =
       no_item K f m p h n s e (λ x next k i y. subst (TextAt unicode16 m (p + f.size) limit) d at (units x) next (short x i) (tail_text x next y))
 
   -- none where the text that stands there is out of range
-  pub no_such_text : {t : TextRead} (u : TextPlace) (next : ℕ) → TextAt unicode16 m (p + f.size) limit t → t ≡ AText u next
-      → ((x : Contents K) → InItem (make K x) → length (units x) ≡ u.units → ⊥) → ItemAt K m p NoItem
+  pub no_such_text : {t : Maybe (TextPlace × ℕ)} (u : TextPlace) (next : ℕ) → TextAt unicode16 m (p + f.size) limit t → t ≡ Some (u, next)
+      → ((x : Contents K) → InItem (make K x) → length (units x) ≡ u.units → ⊥) → ItemAt K m p None
   no_such_text u next at d never = no_item K f m p h n s e (λ x after k i y.
       let z = text_found m (p + f.size) limit u next at d in
       let same : z.us ≡ units x

@@ -1,4 +1,5 @@
 -- ITEM DETERMINED: reading a parameter has one answer, places included; and a report's parameters are read one after the other. Assumes nothing.
+use Rattle.std.specs.Prelude.{Option as Maybe, Some, None}
 use Rattle.lists.proofs.Kit.{ℕ, ◌+◌, ◌*◌, ◌≤◌, ◌≡◌, refl, sym, ap, ◌∙◌, subst, subst₂, mul_comm, List, [], ◌∷◌, ◌++◌, map, none, some, arith, length, drop, length-append, length-drop}
 use Rattle.lists.specs.Every.{All}
 use Rattle.writing.specs.Fields.{Field, val, widths}
@@ -18,8 +19,7 @@ use Rattle.reports.proofs.ItemOne.{item_one}
 use Rattle.report_reading.specs.Reading.{TextEnds, HashEnds, Says, ReadAt, IsRead, Walked}
 use Rattle.report_reading.specs.declared.items.Item.{Item as Found}
 use Rattle.report_reading.specs.declared.items.Item.TheVariants.{Group, Individual, Line, Quick, Status, Hash}
-use Rattle.report_reading.specs.declared.items.ItemRead.{ItemRead}
-use Rattle.report_reading.specs.declared.items.ItemRead.TheVariants.{Item as AnItem, NoItem}
+use Rattle.report_reading.specs.Reading.{ItemRead}
 use Rattle.report_reading.proofs.MessageLaws.{head_stands, items_stand}
 use Rattle.report_reading.proofs.WalkLaws.{walk_on, first_stands}
 
@@ -82,20 +82,20 @@ stands_one m at i j n k a b x y =
 
 -- ITEM DETERMINED: two answers that the contract of reading a parameter allows are equal
 pub item_determined : (m : List ℕ) (at : ℕ) (a b : ItemRead) → ReadAt m at a → ReadAt m at b → a ≡ b
-item_determined m at (AnItem r n) (AnItem s k) (i, x, p, y) (j, z, q, w) =
+item_determined m at (Some (r, n)) (Some (s, k)) (i, x, p, y) (j, z, q, w) =
     let (e, d) = stands_one m at i j n k p q y w in
     let o : r ≡ s = says_one m k j r s (subst₂ (λ (l : ℕ) (t : Item). Says m l t r) d e x) z in
-    λ t. AnItem (o t) (d t)
-item_determined m at (AnItem r n) NoItem (i, x, p, y) never = absurd (never i n p y)
-item_determined m at NoItem (AnItem s k) never (j, z, q, w) = absurd (never j k q w)
-item_determined m at NoItem NoItem x y = refl
+    λ t. Some (o t, d t)
+item_determined m at (Some (r, n)) None (i, x, p, y) never = absurd (never i n p y)
+item_determined m at None (Some (s, k)) never (j, z, q, w) = absurd (never j k q w)
+item_determined m at None None x y = refl
 
 -- ITEM READ: a parameter in range that stands at a place is what reading there gives
 pub item_read : (m : List ℕ) (at next : ℕ) (i : Item) → InItem i → FieldsAt (item_fields i) m at next → IsRead m at next i
-item_read m at next i p y (AnItem s k) (j, z, q, w) =
+item_read m at next i p y (Some (s, k)) (j, z, q, w) =
     let (e, d) = stands_one m at j i k next q p w y in
-    (s, ap (AnItem s) d, subst₂ (λ (l : ℕ) (t : Item). Says m l t s) d e z)
-item_read m at next i p y NoItem never = absurd (never i next p y)
+    (s, ap (λ (n : ℕ). Some (s, n)) d, subst₂ (λ (l : ℕ) (t : Item). Says m l t s) d e z)
+item_read m at next i p y None never = absurd (never i next p y)
 
 -- parameters that are written from a place on are walked
 walked : (m : List ℕ) (at : ℕ) (l : List Item) → at ≤ length m → All InItem l → ItemsWritten l (drop at m) → Walked m at l

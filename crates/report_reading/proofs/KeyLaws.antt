@@ -9,7 +9,7 @@ use Rattle.writing.specs.Ranges.{InAddress}
 use Rattle.read_fields.specs.TextsAndNumbers.{AddressRefused}
 use Rattle.settings.proofs.BodyLaws.{flag_bit}
 use Rattle.report_reading.specs.Readers.{TargetIs}
-use Rattle.report_reading.specs.declared.fixed.TargetRead.TheVariants.{Target, NoTarget}
+use Rattle.std.specs.Prelude.{Some, None}
 
 -- ---- flags
 
@@ -27,11 +27,11 @@ target_bits y {b} e k = subst⁻¹ (λ (x : Bool). y % 2 ≡ bit x) k (flag_bit 
 -- ---- where the key calls
 
 -- the current place, with address 0
-pub calls_0 : {g c : Bool} {a : ℕ} → c ≡ true → a ≡ 0 → TargetIs g c a (Target (Current g))
+pub calls_0 : {g c : Bool} {a : ℕ} → c ≡ true → a ≡ 0 → TargetIs g c a (Some (Current g))
 calls_0 e z l = record { group = refl; place = sym e; address = sym z; in_range = tt }
 
 -- no target is current with another address
-pub no_place : {g c : Bool} {a : ℕ} → c ≡ true → (a ≡ 0 → ⊥) → TargetIs g c a NoTarget
+pub no_place : {g c : Bool} {a : ℕ} → c ≡ true → (a ≡ 0 → ⊥) → TargetIs g c a None
 no_place {g} {c} {a} e n t k = go t (k.place ∙ e) k.address
   where
     go : (t : KeyTarget) → current t ≡ true → key_address t ≡ a → ⊥
@@ -40,7 +40,7 @@ no_place {g} {c} {a} e n t k = go t (k.place ∙ e) k.address
     go (ToIndividual x) p q = false≢true p
 
 -- none calls an address out of range
-pub no_address : {g c r : Bool} {a : ℕ} → c ≡ false → AddressRefused a r → r ≡ true → TargetIs g c a NoTarget
+pub no_address : {g c r : Bool} {a : ℕ} → c ≡ false → AddressRefused a r → r ≡ true → TargetIs g c a None
 no_address {g} {c} {r} {a} e s d t k = go t (k.place ∙ e) k.address k.in_range
   where
     never : InAddress a → ⊥
@@ -52,8 +52,8 @@ no_address {g} {c} {r} {a} e s d t k = go t (k.place ∙ e) k.address k.in_range
     go (ToIndividual x) p q i = never (subst InAddress q i.0)
 
 -- an address in range, of the kind that the group bit says
-pub calls_group : {g c r : Bool} {a : ℕ} → c ≡ false → g ≡ true → AddressRefused a r → r ≡ false → TargetIs g c a (Target (ToGroup (record { 0 = a })))
+pub calls_group : {g c r : Bool} {a : ℕ} → c ≡ false → g ≡ true → AddressRefused a r → r ≡ false → TargetIs g c a (Some (ToGroup (record { 0 = a })))
 calls_group {a} e d s n l = record { group = sym d; place = sym e; address = refl; in_range = (subst (AddressRefused a) n s, l) }
 
-pub calls_individual : {g c r : Bool} {a : ℕ} → c ≡ false → g ≡ false → AddressRefused a r → r ≡ false → TargetIs g c a (Target (ToIndividual (record { 0 = a })))
+pub calls_individual : {g c r : Bool} {a : ℕ} → c ≡ false → g ≡ false → AddressRefused a r → r ≡ false → TargetIs g c a (Some (ToIndividual (record { 0 = a })))
 calls_individual {a} e d s n l = record { group = sym d; place = sym e; address = refl; in_range = (subst (AddressRefused a) n s, l) }

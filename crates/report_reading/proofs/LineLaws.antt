@@ -1,4 +1,5 @@
 -- What stands behind the head of a line: a number, and a text. Assumes nothing.
+use Rattle.std.specs.Prelude.{Option as Maybe, Some, None}
 use Rattle.lists.proofs.Kit.{ℕ, ◌+◌, ◌≡◌, sym, subst, List, ◌++◌}
 use Rattle.writing.specs.Ranges.{InNumber}
 use Rattle.writing.specs.Settings.{Number, Text, unicode16}
@@ -8,8 +9,6 @@ use Rattle.writing.proofs.Whole.{number_whole}
 use Rattle.read_fields.specs.Places.{FieldsAt}
 use Rattle.read_fields.specs.TextsAndNumbers.{NumberIs, NumberAt}
 use Rattle.read_fields.specs.declared.numbers.NumberPlace.{NumberPlace}
-use Rattle.read_fields.specs.declared.numbers.NumberRead.{NumberRead}
-use Rattle.read_fields.specs.declared.numbers.NumberRead.TheVariants.{Number as ANumber, NoNumber}
 use Rattle.read_fields.proofs.Parts.{part_join, part_split}
 use Rattle.read_fields.proofs.Walk.{one_part}
 
@@ -22,11 +21,11 @@ module _ (m : List ℕ) (from : ℕ) where
       (from + n, a, b)
 
   -- neither stands where no number does
-  pub no_number : {r : NumberRead} → NumberAt m from r → r ≡ NoNumber → (ds : Number) (us : Text) (next : ℕ) → InNumber ds
+  pub no_number : {r : Maybe (NumberPlace × ℕ)} → NumberAt m from r → r ≡ None → (ds : Number) (us : Text) (next : ℕ) → InNumber ds
       → FieldsAt (number ds ++ text unicode16 us) m from next → ⊥
   no_number at e ds us next i y = let (q, a, b) = line_parts ds us next y in subst (NumberAt m from) e at ds q i a
 
-  module _ {r : NumberRead} (p : NumberPlace) (q : ℕ) (at : NumberAt m from r) (e : r ≡ ANumber p q) where
+  module _ {r : Maybe (NumberPlace × ℕ)} (p : NumberPlace) (q : ℕ) (at : NumberAt m from r) (e : r ≡ Some (p, q)) where
     -- the number that was read
     pub number_found : (ds : Number) × InNumber ds × NumberIs m p ds q × FieldsAt (number ds) m from q
     number_found =

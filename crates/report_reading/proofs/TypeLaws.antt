@@ -1,4 +1,5 @@
 -- A parameter by its type byte and the byte behind it: what reading one answers, by what the reader of its type does. Assumes nothing.
+use Rattle.std.specs.Prelude.{Option as Maybe, Some, None}
 use Rattle.lists.proofs.Kit.{ℕ, ◌+◌, ◌%◌, ◌≤◌, ◌≡◌, refl, sym, ◌∙◌, subst, ◌≢◌, Bool, true, false, List, [], arith, eqb-true, eqb-false, eqb, length, drop, take}
 use Rattle.lists.specs.Bytes.{Bytes}
 use Rattle.read_fields.specs.Places.{FieldsAt, be}
@@ -15,8 +16,7 @@ use Rattle.reports.proofs.ItemOne.{no_error}
 use Rattle.report_reading.specs.Reading.{ReadAt}
 use Rattle.report_reading.specs.Readers.{ItemAt, FailedAt, AsksIs, TypeAt}
 use Rattle.report_reading.specs.declared.items.Item.TheVariants.{Unknown}
-use Rattle.report_reading.specs.declared.items.ItemRead.{ItemRead}
-use Rattle.report_reading.specs.declared.items.ItemRead.TheVariants.{Item as AnItem, NoItem}
+use Rattle.report_reading.specs.Reading.{ItemRead}
 use Rattle.report_reading.proofs.HeadLaws.{byte_out, byte_in}
 
 -- ---- which byte asks
@@ -70,11 +70,11 @@ module _ (m : List ℕ) (p : ℕ) (h : Bytes m) where
 
 -- the reader of the type that has the byte says it
 pub of_type : {b : ℕ} (m : List ℕ) (p : ℕ) (k : Asked) → b ≡ report_byte k → (r : ItemRead) → ItemAt k m p r → TypeAt b m p r
-of_type m p k e (AnItem r next) z = (k, e, z)
-of_type m p k e NoItem z = λ l d. subst (λ (o : Asked). ItemAt o m p NoItem) (one_type k l (sym e ∙ d)) z
+of_type m p k e (Some (r, next)) z = (k, e, z)
+of_type m p k e None z = λ l d. subst (λ (o : Asked). ItemAt o m p None) (one_type k l (sym e ∙ d)) z
 
 -- none where no type has it
-pub no_such_type : {b : ℕ} (m : List ℕ) (p : ℕ) → ((k : Asked) → b ≡ report_byte k → ⊥) → TypeAt b m p NoItem
+pub no_such_type : {b : ℕ} (m : List ℕ) (p : ℕ) → ((k : Asked) → b ≡ report_byte k → ⊥) → TypeAt b m p None
 no_such_type m p never k e = absurd (never k e)
 
 -- a byte that is none of the ten
@@ -95,7 +95,7 @@ none_of n₁ n₂ n₃ n₄ n₅ n₆ n₇ n₈ n₉ n₁₀ Hash e = n₁₀ e
 
 module _ (m : List ℕ) (at : ℕ) (h : Bytes m) where
   -- none where no byte is left
-  pub no_first : (at + 1 ≤ length m → ⊥) → ReadAt m at NoItem
+  pub no_first : (at + 1 ≤ length m → ⊥) → ReadAt m at None
   no_first never i next p q = never (byte_out m at h (item_byte i) (item_body i) next q).0
 
   module _ {N : ℕ} (byte : N ≡ be 0 (take 1 (drop at m))) (room : at + 1 ≤ length m) where
@@ -104,9 +104,9 @@ module _ (m : List ℕ) (at : ℕ) (h : Bytes m) where
 
     -- no error stands behind the type byte: the reader of its type says it
     pub by_type : {f : Bool} → FailedAt m (at + 1) f → f ≡ false → (r : ItemRead) → TypeAt (N % 256) m (at + 1) r → ReadAt m at r
-    by_type w d (AnItem r next) (k, e, (x, says, i, y)) =
+    by_type w d (Some (r, next)) (k, e, (x, says, i, y)) =
         (make k x, says, i, byte_in m at h (item_byte (make k x)) (item_body (make k x)) next room (first ∙ e ∙ sym (byte_make k x)) y)
-    by_type w d NoItem never = λ i next p q. go i (view i) next p q
+    by_type w d None never = λ i next p q. go i (view i) next p q
       where
         go : (i : Item) → View i → (next : ℕ) → InItem i → FieldsAt (item_fields i) m at next → ⊥
         go _ (known k x) next p q =
@@ -119,12 +119,12 @@ module _ (m : List ℕ) (at : ℕ) (h : Bytes m) where
       wrong = (subst (FailedAt m (at + 1)) d w).1
 
       -- an error of a type that isn't supported
-      pub the_error : {a : Bool} → AsksIs (N % 256) a → a ≡ false → ReadAt m at (AnItem (Unknown (N % 256)) (at + 1 + 1))
+      pub the_error : {a : Bool} → AsksIs (N % 256) a → a ≡ false → ReadAt m at (Some (Unknown (N % 256), at + 1 + 1))
       the_error a e =
           (unknown (N % 256), refl, (omega arith, subst (AsksIs (N % 256)) e a), byte_in m at h (N % 256) failed (at + 1 + 1) room first wrong)
 
       -- none where the type is
-      pub known_error : {a : Bool} → AsksIs (N % 256) a → a ≡ true → ReadAt m at NoItem
+      pub known_error : {a : Bool} → AsksIs (N % 256) a → a ≡ true → ReadAt m at None
       known_error a e = λ i next p q. go i (view i) next p q
         where
           go : (i : Item) → View i → (next : ℕ) → InItem i → FieldsAt (item_fields i) m at next → ⊥

@@ -1,4 +1,5 @@
 -- The parameters of a message, one after the other: what a turn of the walk knows. Assumes nothing.
+use Rattle.std.specs.Prelude.{Option as Maybe, Some, None}
 use Rattle.lists.proofs.Kit.{ℕ, suc, ◌+◌, ◌-◌, ◌≤◌, ◌<◌, ◌≡◌, refl, sym, ap, ◌∙◌, subst, subst⁻¹, Bool, true, false, eqb, eqb-true, eqb-false, List, [], ◌∷◌, ◌++◌, arith, length, drop, length-drop, drop_of_length-le}
 use Rattle.lists.specs.Every.{All}
 use Rattle.lists.proofs.Seqs.{cut}
@@ -10,8 +11,7 @@ use Rattle.reports.proofs.ItemOne.{item_one}
 use Rattle.report_reading.specs.Reading.{ReadAt}
 use Rattle.report_reading.specs.Readers.{Standing, WalkIs, Misplaced, error?}
 use Rattle.report_reading.specs.declared.items.Item.{Item as Found}
-use Rattle.report_reading.specs.declared.items.ItemRead.{ItemRead}
-use Rattle.report_reading.specs.declared.items.ItemRead.TheVariants.{Item as AnItem, NoItem}
+use Rattle.report_reading.specs.Reading.{ItemRead}
 use Rattle.report_reading.proofs.ErrorLaws.{ErrorIs, error_is, Placed, placed, not_placed, last_back, last_on}
 
 module _ (m : List ℕ) (p : ℕ) where
@@ -34,7 +34,7 @@ module _ (m : List ℕ) (p : ℕ) where
 
   module _ (Last : Type 0) (left : ℕ) (some_left : 0 < left) where
     -- none stand where no parameter does
-    stops : ReadAt m p NoItem → Standing m Last p left → ⊥
+    stops : ReadAt m p None → Standing m Last p left → ⊥
     stops never s = go s.items s.counted s.in_range s.written
       where
         go : (l : List Item) → length l ≡ left → All InItem l → ItemsWritten l (drop p m) → ⊥
@@ -78,10 +78,10 @@ none_passed m count last = record { back = λ s. s; on = λ s. s }
 
 module _ {m : List ℕ} {count : ℕ} {last : Bool} {p left : ℕ} (w : Passed m count last p left) where
   -- no parameter stands next
-  pub walk_stops : {r : ItemRead} → 0 < left → ReadAt m p r → r ≡ NoItem → WalkIs m count last false
+  pub walk_stops : {r : ItemRead} → 0 < left → ReadAt m p r → r ≡ None → WalkIs m count last false
   walk_stops l z e s = stops m p (last ≡ true) left l (subst (ReadAt m p) e z) (w.on s)
 
-  module _ {r : ItemRead} {error misplaced : Bool} (f : Found) (next : ℕ) (l : 0 < left) (z : ReadAt m p r) (e : r ≡ AnItem f next) (d : error ≡ error? f)
+  module _ {r : ItemRead} {error misplaced : Bool} (f : Found) (next : ℕ) (l : 0 < left) (z : ReadAt m p r) (e : r ≡ Some (f, next)) (d : error ≡ error? f)
       (k : Misplaced error left last misplaced) where
     -- an error stands where none may
     pub walk_wrong : misplaced ≡ true → WalkIs m count last false

@@ -1,5 +1,5 @@
 -- Contracts' words of the functions inside. No promise cites these.
-use Rattle.std.specs.Prelude.{ℕ, ◌+◌, ◌/◌, ◌%◌, ◌≤◌, ◌<◌, ◌≡◌, Bool, true, false, ◌⊎◌, List, ◌∷◌, map, length, drop, take}
+use Rattle.std.specs.Prelude.{ℕ, ◌+◌, ◌/◌, ◌%◌, ◌≤◌, ◌<◌, ◌≡◌, Bool, true, false, ◌⊎◌, List, ◌∷◌, map, length, drop, take, Option, Some, None}
 use Rattle.std.proofs.Math.Option.{some}
 use Rattle.lists.specs.Every.{All}
 use Rattle.writing.specs.declared.GroupFlags.{GroupFlags}
@@ -17,22 +17,16 @@ use Rattle.reports.specs.Contents.{Contents, make}
 use Rattle.reports.specs.Items.{Item, hash, failed, item_body, ItemsWritten, InHash, InItem}
 use Rattle.reports.specs.Reports.{ErrorLast}
 use Rattle.reports.specs.Types.{report_byte, NoType}
-use Rattle.report_reading.specs.declared.fixed.TargetRead.{TargetRead}
-use Rattle.report_reading.specs.declared.fixed.TargetRead.TheVariants.{Target, NoTarget}
-use Rattle.report_reading.specs.declared.heads.HeadRead.{HeadRead}
-use Rattle.report_reading.specs.declared.heads.HeadRead.TheVariants.{Head, NoHead}
 use Rattle.report_reading.specs.declared.items.Item.{Item as Found}
 use Rattle.report_reading.specs.declared.items.Item.TheVariants.{Group, Individual, Line, Key, Quick, Home, Channel, System, Status, Hash, NoHash, Unknown}
-use Rattle.report_reading.specs.declared.items.ItemRead.{ItemRead}
-use Rattle.report_reading.specs.declared.items.ItemRead.TheVariants.{Item as AnItem, NoItem}
-use Rattle.report_reading.specs.Reading.{Says}
+use Rattle.report_reading.specs.Reading.{ItemRead, Says}
 
 -- ---- the fields behind the type byte
 
 -- the number of so many bytes at p, below a limit, or none is there
-abbrev pub HeadIs : List ℕ → ℕ → ℕ → ℕ → HeadRead → Type 0
-HeadIs m p size limit (Head n) = (p + size ≤ length m) × (n ≡ be 0 (take size (drop p m))) × (n < limit)
-HeadIs m p size limit NoHead = p + size ≤ length m → be 0 (take size (drop p m)) < limit → ⊥
+abbrev pub HeadIs : List ℕ → ℕ → ℕ → ℕ → Option ℕ → Type 0
+HeadIs m p size limit (Some n) = (p + size ≤ length m) × (n ≡ be 0 (take size (drop p m))) × (n < limit)
+HeadIs m p size limit None = p + size ≤ length m → be 0 (take size (drop p m)) < limit → ⊥
 
 -- "attribute 2, broadcast 1, encryption 1, OVCM 1, emergency 1, priority 2, reserved 4"
 pub record GroupFlagsAre (n : ℕ) (f : GroupFlags) : Type 0 where
@@ -64,20 +58,20 @@ pub record Calls (g c : Bool) (a : ℕ) (t : KeyTarget) : Type 0 where
   pub in_range : TargetOk t
 
 -- the fields of 24 bits and less say a target in range, or none
-abbrev pub TargetIs : Bool → Bool → ℕ → TargetRead → Type 0
-TargetIs g c a (Target t) = a < 16777216 → Calls g c a t
-TargetIs g c a NoTarget = (t : KeyTarget) → Calls g c a t → ⊥
+abbrev pub TargetIs : Bool → Bool → ℕ → Option KeyTarget → Type 0
+TargetIs g c a (Some t) = a < 16777216 → Calls g c a t
+TargetIs g c a None = (t : KeyTarget) → Calls g c a t → ⊥
 
 -- the fields behind the type byte of a parameter in range of this type stand at p, or none do
 abbrev pub ItemAt : Asked → List ℕ → ℕ → ItemRead → Type 0
-ItemAt k m p (AnItem r next) = (x : Contents k) × Says m next (make k x) r × InItem (make k x) × FieldsAt (item_body (make k x)) m p next
-ItemAt k m p NoItem = (x : Contents k) (next : ℕ) → InItem (make k x) → FieldsAt (item_body (make k x)) m p next → ⊥
+ItemAt k m p (Some (r, next)) = (x : Contents k) × Says m next (make k x) r × InItem (make k x) × FieldsAt (item_body (make k x)) m p next
+ItemAt k m p None = (x : Contents k) (next : ℕ) → InItem (make k x) → FieldsAt (item_body (make k x)) m p next → ⊥
 
 -- a hash in range stands at p, or none does
 abbrev pub KeptAt : List ℕ → ℕ → ItemRead → Type 0
-KeptAt m p (AnItem r next) =
+KeptAt m p (Some (r, next)) =
     (h : AHash) × Says m next (hash (some h)) r × InHash (some h) × FieldsAt (val 8 h.code ∷ map (val 8) h.value) m p next
-KeptAt m p NoItem = (h : AHash) (next : ℕ) → InHash (some h) → FieldsAt (val 8 h.code ∷ map (val 8) h.value) m p next → ⊥
+KeptAt m p None = (h : AHash) (next : ℕ) → InHash (some h) → FieldsAt (val 8 h.code ∷ map (val 8) h.value) m p next → ⊥
 
 -- ---- by the type byte
 
@@ -93,8 +87,8 @@ AsksIs b false = NoType b
 
 -- the fields of the type that has this byte stand at p, or none do
 abbrev pub TypeAt : ℕ → List ℕ → ℕ → ItemRead → Type 0
-TypeAt b m p (AnItem r next) = (k : Asked) × (b ≡ report_byte k) × ItemAt k m p (AnItem r next)
-TypeAt b m p NoItem = (k : Asked) → b ≡ report_byte k → ItemAt k m p NoItem
+TypeAt b m p (Some (r, next)) = (k : Asked) × (b ≡ report_byte k) × ItemAt k m p (Some (r, next))
+TypeAt b m p None = (k : Asked) → b ≡ report_byte k → ItemAt k m p None
 
 -- ---- all parameters of a message
 

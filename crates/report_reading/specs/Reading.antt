@@ -1,5 +1,5 @@
 -- What the office's reader answers of a message, and of the parameter at a place of one: docs/RULES.md, Q14, and docs/REPORTS.md, "For C".
-use Rattle.std.specs.Prelude.{ℕ, ◌≡◌, List, [], ◌∷◌, map, length}
+use Rattle.std.specs.Prelude.{ℕ, ◌≡◌, List, [], ◌∷◌, map, length, Option, Some, None}
 use Rattle.std.proofs.Math.Option.{none, some}
 use Rattle.lists.specs.Ladder.{Answers}
 use Rattle.writing.specs.Fields.{val}
@@ -13,8 +13,6 @@ use Rattle.reports.specs.Items.{Item, group, individual, line, key, quick, home,
 use Rattle.reports.specs.Reading.{Read, refused, reading}
 use Rattle.report_reading.specs.declared.items.Item.{Item as Found}
 use Rattle.report_reading.specs.declared.items.Item.TheVariants.{Group, Individual, Line, Key, Quick, Home, Channel, System, Status, Hash, NoHash, Unknown}
-use Rattle.report_reading.specs.declared.items.ItemRead.{ItemRead}
-use Rattle.report_reading.specs.declared.items.ItemRead.TheVariants.{Item as AnItem, NoItem}
 use Rattle.report_reading.specs.declared.messages.ReportRead.{ReportRead}
 use Rattle.report_reading.specs.declared.messages.ReportRead.TheVariants.{Size, Carrier, OtherType, Version, NoReport, Report}
 
@@ -46,10 +44,14 @@ Says m next (hash none) r = r ≡ NoHash
 Says m next (hash (some h)) r = (p : HashPlace) × (r ≡ Hash p) × HashEnds m p h next
 Says m next (unknown b) r = r ≡ Unknown b
 
+-- what reading a parameter answers: it and the place behind it, or none
+abbrev pub ItemRead : Type 0
+ItemRead = Option (Found × ℕ)
+
 -- a parameter in range stands at `at`, up to `next`, and this was read of it; or none does
 abbrev pub ReadAt : List ℕ → ℕ → ItemRead → Type 0
-ReadAt m at (AnItem r next) = (i : Item) × Says m next i r × InItem i × FieldsAt (item_fields i) m at next
-ReadAt m at NoItem = (i : Item) (next : ℕ) → InItem i → FieldsAt (item_fields i) m at next → ⊥
+ReadAt m at (Some (r, next)) = (i : Item) × Says m next i r × InItem i × FieldsAt (item_fields i) m at next
+ReadAt m at None = (i : Item) (next : ℕ) → InItem i → FieldsAt (item_fields i) m at next → ⊥
 
 -- ---- one message
 
@@ -79,7 +81,7 @@ ReadAs most m r = (items : List Item) × (length items ≡ counted r) × Answers
 
 -- whatever the contract of reading a parameter allows here is this parameter, which ends before `next`
 abbrev pub IsRead : List ℕ → ℕ → ℕ → Item → Type 0
-IsRead m at next i = (r : ItemRead) → ReadAt m at r → (f : Found) × (r ≡ AnItem f next) × Says m next i f
+IsRead m at next i = (r : ItemRead) → ReadAt m at r → (f : Found) × (r ≡ Some (f, next)) × Says m next i f
 
 -- "each of the others at the byte behind the one before it", up to the message's end
 abbrev pub Walked : List ℕ → ℕ → List Item → Type 0

@@ -5,25 +5,19 @@ ghost use Rattle.report_reading.specs.Readers.{HeadIs, GroupFlagsAre, Individual
 use read_fields::bytes::{flag, number, remaining};
 use writing::{GroupFlags, IndividualFlags, LineFlags};
 
-#[derive(Clone, Copy)]
-pub enum HeadRead {
-    Head(u64),
-    NoHead,
-}
-
 // A head of so many bytes below the limit, which leaves no bit of result and reason set.
-pub(crate) fn read_head(m: &[u8], p: usize, size: usize, limit: u64) -> HeadRead
+pub(crate) fn read_head(m: &[u8], p: usize, size: usize, limit: u64) -> Option<u64>
     requires { (1 ≤ size) × (size ≤ 8) }
     ensures { HeadIs m.now p size limit result }
 {
     if remaining(m, p) < size {
-        return HeadRead::NoHead;
+        return None;
     }
     let n = number(m, p, size);
     if limit <= n {
-        return HeadRead::NoHead;
+        return None;
     }
-    HeadRead::Head(n)
+    Some(n)
 }
 
 pub(crate) fn group_flags(n: u64) -> GroupFlags

@@ -23,10 +23,3 @@ pub enum Item {
     NoHash,
     Unknown(u8),
 }
-
-// A parameter and the place behind it, or that none in range stands there.
-#[derive(Clone, Copy)]
-pub enum ItemRead {
-    Item(Item, usize),
-    NoItem,
-}

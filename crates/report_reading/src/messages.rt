@@ -4,9 +4,9 @@ ghost use Rattle.writing.specs.Carrier.{Opens, InSize};
 ghost use Rattle.report_reading.specs.Readers.{error?, Misplaced, HeadRefused, WalkIs};
 ghost use Rattle.report_reading.specs.Reading.{ReadAs};
 
-use super::items::{Item, ItemRead};
+use super::items::Item;
 use super::types::read_item;
-use read_carrier::carrier::{Opened, UNICODE16, VERSION, open_message};
+use read_carrier::carrier::{UNICODE16, Unopened, VERSION, open_message};
 use read_fields::bytes::{number, remaining};
 
 // Why no report was read, or its total, its index and how many parameters it has.
@@ -29,39 +29,21 @@ const FIRST: usize = 10;
 fn is_error(item: Item) -> bool
     ensures { result ≡ error? item }
 {
-    match item {
-        Item::Unknown(_) => true,
-        _ => false,
-    }
+    matches!(item, Item::Unknown(_))
 }
 
 // Whether an error stands before the last parameter of the last message; left counts the parameter itself.
 fn misplaced(error: bool, left: u8, last: bool) -> bool
     ensures { Misplaced error left last result }
 {
-    if !error {
-        return false;
-    }
-    if !last {
-        return true;
-    }
-    left != 1
+    error && (!last || left != 1)
 }
 
 // Whether total, index and count are not those of a report: none may have no parameter but the only one.
 fn head_refused(total: u8, index: u8, count: u8) -> bool
     ensures { HeadRefused total index count result }
 {
-    if index < 1 {
-        return true;
-    }
-    if total < index {
-        return true;
-    }
-    if 0 < count {
-        return false;
-    }
-    1 < total
+    index < 1 || total < index || (count < 1 && 1 < total)
 }
 
 // Whether as many parameters as were counted stand up to the message's end, and an error only where it may.
@@ -69,17 +51,15 @@ fn walk(m: &[u8], count: u8, last: bool) -> bool
     ensures { WalkIs m.now count last result }
 {
     let mut p = FIRST;
-    let mut left = count;
-    while 0 < left {
-        let here = read_item(m, p);
-        let ItemRead::Item(item, next) = here else {
+    for read in 0..count {
+        let left = count - read;
+        let Some((item, next)) = read_item(m, p) else {
             return false;
         };
         if misplaced(is_error(item), left, last) {
             return false;
         }
         p = next;
-        left -= 1;
     }
     remaining(m, p) == 0
 }
@@ -109,18 +89,17 @@ fn read_body(m: &[u8]) -> ReportRead
 pub fn read_report_in(m: &[u8], most: usize) -> ReportRead
     ensures { ReadAs most m.now result }
 {
-    let opened = open_message(m, most);
-    match opened {
-        Opened::Size => ReportRead::Size,
-        Opened::Carrier => ReportRead::Carrier,
-        Opened::Open(version, kind, coding) => {
-            if kind != REPORT {
+    match open_message(m, most) {
+        Err(Unopened::Size) => ReportRead::Size,
+        Err(Unopened::Carrier) => ReportRead::Carrier,
+        Ok(opened) => {
+            if opened.kind != REPORT {
                 return ReportRead::OtherType;
             }
-            if version != VERSION {
+            if opened.version != VERSION {
                 return ReportRead::Version;
             }
-            if coding != UNICODE16 {
+            if opened.coding != UNICODE16 {
                 return ReportRead::NoReport;
             }
             read_body(m)

@@ -4,7 +4,7 @@ ghost use Rattle.report_reading.specs.Reading.{ReadAt};
 
 use super::contacts::{read_group, read_individual, read_line};
 use super::fixed::{read_channel, read_hashes, read_home, read_key, read_system};
-use super::items::{Item, ItemRead};
+use super::items::Item;
 use super::texts::{read_quick, read_status};
 use read_fields::bytes::{number, remaining};
 
@@ -33,7 +33,7 @@ fn asks(b: u8) -> bool
 }
 
 // The fields behind a type byte.
-fn read_fields_of(m: &[u8], p: usize, b: u8) -> ItemRead
+fn read_fields_of(m: &[u8], p: usize, b: u8) -> Option<(Item, usize)>
     ensures { TypeAt b m.now p result }
 {
     match b {
@@ -47,24 +47,24 @@ fn read_fields_of(m: &[u8], p: usize, b: u8) -> ItemRead
         0x8F => read_system(m, p),
         0x90 => read_status(m, p),
         0xBF => read_hashes(m, p),
-        _ => ItemRead::NoItem,
+        _ => None,
     }
 }
 
 // The parameter in range at a place, and the place behind it.
-pub fn read_item(m: &[u8], at: usize) -> ItemRead
+pub fn read_item(m: &[u8], at: usize) -> Option<(Item, usize)>
     ensures { ReadAt m.now at result }
 {
     if remaining(m, at) < 1 {
-        return ItemRead::NoItem;
+        return None;
     }
     let b = (number(m, at, 1) % 256) as u8;
     let p = at + 1;
     if failed(m, p) {
         if asks(b) {
-            return ItemRead::NoItem;
+            return None;
         }
-        return ItemRead::Item(Item::Unknown(b), p + 1);
+        return Some((Item::Unknown(b), p + 1));
     }
     read_fields_of(m, p, b)
 }

@@ -4,7 +4,7 @@ ghost use Rattle.writing.specs.Carrier.{Opens};
 ghost use Rattle.reporting.specs.Asking.{AskedIs, TypesIs, QueryIs};
 
 use super::answers::NoReport;
-use read_carrier::carrier::{Opened, VERSION, open_message};
+use read_carrier::carrier::{Unopened, VERSION, open_message};
 use read_fields::bytes::number;
 use reports::Asked;
 
@@ -52,15 +52,14 @@ fn has_types(m: &[u8]) -> bool
 pub(crate) fn read_query(m: &[u8], most: usize) -> Result<(), NoReport>
     ensures { QueryIs most m.now result }
 {
-    let opened = open_message(m, most);
-    match opened {
-        Opened::Size => Err(NoReport::Size),
-        Opened::Carrier => Err(NoReport::Carrier),
-        Opened::Open(version, kind, _) => {
-            if kind != QUERY {
+    match open_message(m, most) {
+        Err(Unopened::Size) => Err(NoReport::Size),
+        Err(Unopened::Carrier) => Err(NoReport::Carrier),
+        Ok(opened) => {
+            if opened.kind != QUERY {
                 return Err(NoReport::OtherType);
             }
-            if version != VERSION {
+            if opened.version != VERSION {
                 return Err(NoReport::Version);
             }
             if !has_types(m) {

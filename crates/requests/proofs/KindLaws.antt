@@ -8,7 +8,9 @@ use Rattle.writing.proofs.Unique.{unique}
 use Rattle.writing.proofs.Whole.{length_written, headed}
 use Rattle.read_fields.specs.Places.{StandsAt}
 use Rattle.read_setting.specs.SettingAt.{SettingAt}
-use Rattle.read_setting.specs.declared.reader.SettingRead.TheVariants.{Taken, Missing, Unknown, Field as BadField}
+use Rattle.std.specs.Prelude.{Ok, Err}
+use Rattle.read_setting.specs.declared.reader.SettingFault.{SettingFault}
+use Rattle.read_setting.specs.declared.reader.SettingFault.TheVariants.{Missing, Unknown, Field as BadField}
 use Rattle.settings.specs.declared.settings.Setting.{Setting as Read}
 use Rattle.working.specs.Parts.{copied?}
 use Rattle.requests.specs.Parts.{OnlyOf}
@@ -19,20 +21,25 @@ use Rattle.requests.proofs.TryLaws.{meant_kind}
 
 module _ (c : Coding) (k : Kind) (m : List ℕ) (left p : ℕ) where
   -- what was read there is no setting in range: no byte, no type, no fields
-  pub only_missing : SettingAt c left m p Missing → OnlyOf c k (suc left) (drop p m)
+  only_missing : SettingAt c left m p (Err Missing) → OnlyOf c k (suc left) (drop p m)
   only_missing h = λ s w r e x i.
       let l = length_written c s w x.0 in
       let d : length m - p ≡ length (w ++ r) = sym (length-drop p m) ∙ ap length e in
       absurd (omega (arith, h, l, d, length-append w r))
 
-  pub only_unknown : SettingAt c left m p Unknown → OnlyOf c k (suc left) (drop p m)
+  only_unknown : SettingAt c left m p (Err Unknown) → OnlyOf c k (suc left) (drop p m)
   only_unknown h = λ s w r e x i.
       let (b, v, f, q) = headed c s w (bytes_all w x.1) x.0 in
       let g : b ≡ get_or m p 0 = ap (λ (l : List ℕ). get_or l 0 0) (ap (λ (l : List ℕ). l ++ r) (sym f) ∙ sym e ∙ drop-cons m p 0 h.0) in
       absurd (h.1 (kind s) (sym q ∙ g))
 
-  pub only_field : SettingAt c left m p BadField → OnlyOf c k (suc left) (drop p m)
+  only_field : SettingAt c left m p (Err BadField) → OnlyOf c k (suc left) (drop p m)
   only_field (_, _, _, never) = λ s w r e x i. absurd (never s (p + length w) i (record { bytes = w; rest = r; split = e; ends = refl; written = x.0 }))
+
+  pub only_fault : (f : SettingFault) → SettingAt c left m p (Err f) → OnlyOf c k (suc left) (drop p m)
+  only_fault Missing h = only_missing h
+  only_fault Unknown h = only_unknown h
+  only_fault BadField h = only_field h
 
   -- a setting of these kinds stands there, and the others behind it
   pub only_one : (next : ℕ) (s : Setting) → StandsAt c m p next s → copied? k (kind s) ≡ true → OnlyOf c k left (drop next m) → OnlyOf c k (suc left) (drop p m)
@@ -61,7 +68,7 @@ module _ (c : Coding) (k : Kind) (m : List ℕ) (count at seen p : ℕ) where
       f (subst (λ (n : ℕ). OnlyOf c k n (drop p m)) e tt)
 
 -- one more is
-pub up_to_next : (c : Coding) (k : Kind) (m : List ℕ) (count at seen p next : ℕ) (r : Read) → UpTo c k m count at seen p → seen < count → SettingAt c (count - seen - 1) m p (Taken r next)
+pub up_to_next : (c : Coding) (k : Kind) (m : List ℕ) (count at seen p next : ℕ) (r : Read) → UpTo c k m count at seen p → seen < count → SettingAt c (count - seen - 1) m p (Ok (r, next))
     → copied? k (read_kind r) ≡ true → UpTo c k m count at (seen + 1) next
 up_to_next c k m count at seen p next r f h (s, means, i, stands) e o =
     let g : count - (seen + 1) ≡ count - seen - 1 = omega arith in

@@ -7,7 +7,8 @@ use Rattle.writing.specs.Ranges.{text_limits, InRange}
 use Rattle.writing.specs.Settings.{Setting, group_contacts, individual_contacts, lines, key, quick_texts, home, channels, system, status_texts, group, individual, line_slot, last}
 use Rattle.read_fields.specs.Places.{StandsAt}
 use Rattle.read_setting.specs.SettingAt.{SettingAt}
-use Rattle.read_setting.specs.declared.reader.SettingRead.TheVariants.{Missing, Unknown, Field as BadField}
+use Rattle.std.specs.Prelude.{Ok, Err}
+use Rattle.read_setting.specs.declared.reader.SettingFault.TheVariants.{Missing, Unknown, Field as BadField}
 use Rattle.read_fields.proofs.Parts.{bytes_left}
 use Rattle.tables.specs.declared.limits.Limits.{Limits}
 use Rattle.tables.specs.Apply.{apply}
@@ -65,16 +66,16 @@ module _ (c : Coding) (lim : Limits) where
     stands_at s w r e (x, _) = record { bytes = w; rest = r; split = e; ends = refl; written = x }
 
     -- no byte is left: 4
-    pub at_end : SettingAt c left m p Missing → Fault c lim left u (drop p m) 4
+    pub at_end : SettingAt c left m p (Err Missing) → Fault c lim left u (drop p m) 4
     at_end h = subst (λ (l : List ℕ). Fault c lim left u l 4) (sym (drop_of_length-le m h)) missing
 
     -- the type is none of the thirteen: 3
-    pub at_unknown : SettingAt c left m p Unknown → Fault c lim left u (drop p m) 3
+    pub at_unknown : SettingAt c left m p (Err Unknown) → Fault c lim left u (drop p m) 3
     at_unknown (h, never) =
         subst (λ (l : List ℕ). Fault c lim left u l 3) (sym (drop-cons m p 0 h)) (unknown (λ k. never k.0 k.1))
 
     -- no setting in range is written there: 4
-    pub at_field : SettingAt c left m p BadField → Fault c lim left u (drop p m) 4
+    pub at_field : SettingAt c left m p (Err BadField) → Fault c lim left u (drop p m) 4
     at_field (h, k, e, never) =
         subst (λ (l : List ℕ). Fault c lim left u l 4) (sym (drop-cons m p 0 h))
         (field (k, e) (λ s w r q x i. never s (p + length w) i (stands_at s w r (drop-cons m p 0 h ∙ q) x)))

@@ -9,7 +9,6 @@ use Rattle.writing.specs.Canonical.{Fits}
 use Rattle.writing.specs.Settings.{Setting}
 use Rattle.writing.proofs.CanonicalLaws.{has_writing}
 use Rattle.writing.proofs.Whole.{length_written}
-use Rattle.read_setting.specs.declared.reader.SettingRead.TheVariants.{Taken}
 use Rattle.settings.specs.declared.settings.Setting.{Setting as Read}
 use Rattle.read_fields.specs.Places.{StandsAt}
 use Rattle.read_setting.specs.SettingAt.{SettingAt}
@@ -39,13 +38,13 @@ module _ (c : Coding) (lim : Limits) (m : List ℕ) where
     fits : (x : Setting) (next : ℕ) → StandsAt c m at next x → Fits c x
     fits x next y = has_writing c x y.bytes y.written
 
-    pub step_taken : (r : Read) (next sum n : ℕ) (f : LastFlags) → SettingAt c left m at (Taken r next) → FlagsAre r f
+    pub step_taken : (r : Read) (next sum n : ℕ) (f : LastFlags) → SettingAt c left m at (Ok (r, next)) → FlagsAre r f
         → TryIs lim m r sum s t (Some n) → StepIs c lim left m at sum s t (Ok (record { next = next; flags = f; sum = n }))
     step_taken r next sum n f (x, means, i, stands) g a was roomy holds is =
         let (u, q, h, e) = a was x c left roomy holds is means i (fits x next stands) in
         record { setting = x; tables = u; range = i; stands = stands; applied = q; holds = h; summed = e; flags = g m x means }
 
-    pub step_full : (r : Read) (next sum : ℕ) → SettingAt c left m at (Taken r next) → TryIs lim m r sum s t None → StepIs c lim left m at sum s t (Err NoRoom)
+    pub step_full : (r : Read) (next sum : ℕ) → SettingAt c left m at (Ok (r, next)) → TryIs lim m r sum s t None → StepIs c lim left m at sum s t (Err NoRoom)
     step_full r next sum (x, means, i, stands) a was roomy holds is =
         at_full c lim m b left was at x next (stands_within x next stands) i stands (a was x c left roomy holds is means i (fits x next stands))
 

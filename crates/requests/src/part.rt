@@ -8,7 +8,7 @@ ghost use Rattle.requests.specs.Parts.{OnlyOf, with_area, CopyIs, PartFrom, Copy
 
 use super::run::{Fault, Request, take_settings_from};
 use super::trying::kind_of;
-use read_setting::reader::{SettingRead, read_setting};
+use read_setting::reader::read_setting;
 use tables::limits::{Limits, Texts};
 use tables::places::{CHANNEL_SLOT, CHANNELS, COUNT, COUNTED, LINE_SLOT, ORDERED};
 use working::copies::Copy;
@@ -59,30 +59,22 @@ fn only_of(m: &[u8], request: Request, kind: Kind) -> bool
     let mut p = request.at;
     for seen in 0..request.count {
         let left = (request.count - seen - 1) as usize;
-        let read = read_setting(m, p, left, request.coding);
-        match read {
-            SettingRead::Taken(setting, next) => {
-                if !is_copied(kind, kind_of(setting)) {
-                    return false;
-                }
-                p = next;
-            }
-            SettingRead::Missing => return true,
-            SettingRead::Unknown => return true,
-            SettingRead::Field => return true,
+        let Ok((setting, next)) = read_setting(m, p, left, request.coding) else {
+            return true;
+        };
+        if !is_copied(kind, kind_of(setting)) {
+            return false;
         }
+        p = next;
     }
     true
 }
 
 // The kind of the setting at a place, or FF's where none is read there.
 fn kind_at(m: &[u8], at: usize, left: usize, coding: Coding) -> Kind {
-    let read = read_setting(m, at, left, coding);
-    match read {
-        SettingRead::Taken(setting, _) => kind_of(setting),
-        SettingRead::Missing => Kind::Last,
-        SettingRead::Unknown => Kind::Last,
-        SettingRead::Field => Kind::Last,
+    match read_setting(m, at, left, coding) {
+        Ok((setting, _)) => kind_of(setting),
+        Err(_) => Kind::Last,
     }
 }
 

@@ -2,7 +2,7 @@
 ghost use Rattle.requests.specs.Running.{FlagsAre, StepIs, RunIs, RunFrom};
 
 use super::trying::{all_bytes, try_setting};
-use read_setting::reader::{SettingRead, read_setting};
+use read_setting::reader::{SettingFault, read_setting};
 use settings::settings::Setting;
 use tables::limits::Limits;
 use writing::{Coding, LastFlags, Result as CfgResult};
@@ -57,18 +57,17 @@ fn take_setting(
 ) -> Result<Taken, CfgResult>
     ensures { StepIs coding limits left m.now at sum work.old work.new result }
 {
-    let read = read_setting(m, at, left, coding);
-    match read {
-        SettingRead::Taken(setting, next) => {
+    match read_setting(m, at, left, coding) {
+        Ok((setting, next)) => {
             let flags = flags_of(setting);
             let Some(sum) = try_setting(work, limits, m, setting, sum) else {
                 return Err(CfgResult::NoRoom);
             };
             Ok(Taken { next, flags, sum })
         }
-        SettingRead::Missing => Err(CfgResult::BadField),
-        SettingRead::Unknown => Err(CfgResult::UnknownType),
-        SettingRead::Field => Err(CfgResult::BadField),
+        Err(SettingFault::Missing) => Err(CfgResult::BadField),
+        Err(SettingFault::Unknown) => Err(CfgResult::UnknownType),
+        Err(SettingFault::Field) => Err(CfgResult::BadField),
     }
 }
 

@@ -1,19 +1,13 @@
-use Rattle.lists.proofs.Kit.{rules, refl, subst}
-use Rattle.read_carrier.specs.Message.{OpenedIs}
-use Rattle.joining.proofs.CheckLaws.{opens_else, out_of_size, not_carried}
+use Rattle.lists.proofs.Kit.{refl}
+use Rattle.joining.proofs.CheckLaws.{opens_else, not_opened}
 use Rattle.joining.proofs.checks.is_other.Goals as goal
 
-pub returns-in-Size : goal.returns-in-Size
-returns-in-Size c =
+pub returns-in-Ok : goal.returns-in-Ok
+returns-in-Ok c =
     let a = c.args in
-    out_of_size a.most a.m.now (subst (OpenedIs a.most a.m.now) c.in-Size.is c.open_message-opened.ensures)
+    opens_else a.most a.m.now c.in-Ok.opened _ c.in-Ok.ensures refl
 
-pub returns-in-Carrier : goal.returns-in-Carrier
-returns-in-Carrier c =
+pub returns-in-Err : goal.returns-in-Err
+returns-in-Err c =
     let a = c.args in
-    not_carried a.most a.m.now (subst (OpenedIs a.most a.m.now) c.in-Carrier.is c.open_message-opened.ensures)
-
-pub returns-in-Open : goal.returns-in-Open
-returns-in-Open c =
-    let a = c.args in
-    opens_else a.most a.m.now _ _ _ _ (subst (OpenedIs a.most a.m.now) c.in-Open.is c.open_message-opened.ensures) refl
+    not_opened a.most a.m.now _ c.in-Err.ensures

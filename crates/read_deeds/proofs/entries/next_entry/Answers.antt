@@ -1,4 +1,4 @@
-use Rattle.lists.proofs.Kit.{rules}
+use Rattle.lists.proofs.Kit.{inl, inr}
 use Rattle.writing.specs.declared.Kind.TheVariants as kinds
 use Rattle.read_deeds.proofs.EntryLaws.{entry_by, entry_none}
 use borrow.Enum.Refused.{opened as is_one_of}
@@ -7,12 +7,10 @@ use Rattle.read_deeds.proofs.entries.next_entry.Goals as goal
 pub returns-in-GroupContacts : goal.returns-in-GroupContacts
 returns-in-GroupContacts c =
     let a = c.args in
-    entry_by kinds.GroupContacts a.m.now a.left c.next_contact.result c.in-GroupContacts.is c.next_contact.ensures
-
-pub returns-in-IndividualContacts : goal.returns-in-IndividualContacts
-returns-in-IndividualContacts c =
-    let a = c.args in
-    entry_by kinds.IndividualContacts a.m.now a.left c.next_contact-in-IndividualContacts.result c.in-IndividualContacts.is c.next_contact-in-IndividualContacts.ensures
+    elim c.in-GroupContacts.is [
+      | inl e ↦ entry_by kinds.GroupContacts a.m.now a.left c.next_contact.result e c.next_contact.ensures
+      | inr e ↦ entry_by kinds.IndividualContacts a.m.now a.left c.next_contact.result e c.next_contact.ensures
+    ]
 
 pub returns-in-Lines : goal.returns-in-Lines
 returns-in-Lines c =
@@ -37,4 +35,4 @@ returns-in-Channels c =
 pub returns-in_default : goal.returns-in_default
 returns-in_default c =
     let a = c.args in
-    entry_none a.m.now a.left c.stay.result (is_one_of c.in_default.in_default-own.keys7)
+    entry_none a.m.now a.left c.stay.result (is_one_of c.in_default.in_default-own.keys6)

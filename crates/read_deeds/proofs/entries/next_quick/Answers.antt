@@ -1,6 +1,4 @@
 use Rattle.lists.proofs.Kit.{rules, subst}
-use Rattle.writing.specs.Ranges.{text_limits}
-use Rattle.read_fields.specs.Entries.{QuickAt}
 use Rattle.read_deeds.specs.ReadDeeds.{quick_entries}
 use Rattle.read_deeds.proofs.EntryLaws.{plain_quick, none_next, entry_next, quick_put}
 use Rattle.read_deeds.proofs.entries.next_quick.Goals as goal
@@ -8,10 +6,10 @@ use Rattle.read_deeds.proofs.entries.next_quick.Goals as goal
 pub returns-in_default : goal.returns-in_default
 returns-in_default c =
     let a = c.args in
-    none_next quick_entries plain_quick a.m.now a.left c.stay.result (subst (QuickAt a.left.coding text_limits 0 a.m.now a.left.start) c.in_default.is c.read_quick-read.ensures)
+    none_next quick_entries plain_quick a.m.now a.left c.stay.result c.in_default.ensures
 
 pub returns : goal.returns
 returns c =
     let a = c.args in
-    let (e, i, is, x) = subst (QuickAt a.left.coding text_limits 0 a.m.now a.left.start) c.in-Entry.is c.read_quick-read.ensures in
+    let (e, i, is, x) = c.in-Some.ensures in
     entry_next quick_entries plain_quick a.m.now a.left c.pass.result _ e _ x (λ range. quick_put a.m.now a.left _ e is) c.pass.ensures

@@ -6,11 +6,11 @@ use Rattle.report_reading.proofs.types.failed.Goals as goal
 pub returns-then-remaining-lt1 : goal.returns-then-remaining-lt1
 returns-then-remaining-lt1 c =
     let a = c.args in
-    let h : Bytes a.m.now = λ i. (c.shared_slice_known-1.given i).fits in
+    let h : Bytes a.m.now = λ i. (c.type_inv.m i).fits in
     not_failed a.m.now a.p h (omega arith)
 
 pub returns : goal.returns
 returns c =
     let a = c.args in
-    let h : Bytes a.m.now = λ i. (c.shared_slice_known-1.given i).fits in
+    let h : Bytes a.m.now = λ i. (c.type_inv.m i).fits in
     failed_by a.m.now a.p h _ (c.number.ensures (omega arith, omega arith)) (omega arith) refl
