@@ -1,9 +1,8 @@
 -- What exporting answers, packed: the length of a request that was exported has 16 bits. Assumes nothing.
+use Rattle.std.specs.Prelude.{Result, Ok, Err}
 use Rattle.lists.proofs.Kit.{ℕ, ◌*◌, ◌≤◌, ◌<◌, ◌≡◌, sym, ap, subst, inl, inr, List, arith, length}
 use Rattle.lists.specs.Ladder.{Answers}
 use Rattle.tables.specs.declared.limits.Limits.{Limits}
-use Rattle.export.specs.declared.parts.Export.{Export}
-use Rattle.export.specs.declared.parts.Export.TheVariants.{Written, Untouched}
 use Rattle.export.specs.declared.parts.NoExport.{NoExport}
 use Rattle.export.specs.declared.parts.NoExport.TheVariants.{Buffer, NotAStore, NoPart}
 use Rattle.export.specs.Exported.{exported, request_bytes}
@@ -15,10 +14,10 @@ use Rattle.packing.specs.Packing.{Packable, PacksExport, Exports}
 -- ---- an answer by its case
 
 -- a request that was written, where its length fits
-pub written_packed : (x : Export) (n r : ℕ) → x ≡ Written n → (n < 65536 → r ≡ n) → (told x).request_length < 65536 → PacksExport (told x) (r * 65536)
-written_packed x n r e p = subst (λ (y : Export). (told y).request_length < 65536 → PacksExport (told y) (r * 65536)) (sym e) packs
+pub written_packed : (x : Result ℕ NoExport) (n r : ℕ) → x ≡ Ok n → (n < 65536 → r ≡ n) → (told x).request_length < 65536 → PacksExport (told x) (r * 65536)
+written_packed x n r e p = subst (λ (y : Result ℕ NoExport). (told y).request_length < 65536 → PacksExport (told y) (r * 65536)) (sym e) packs
   where
-    packs : n < 65536 → PacksExport (told (Written n)) (r * 65536)
+    packs : n < 65536 → PacksExport (told (Ok n)) (r * 65536)
     packs h = record { number = omega arith; request_length = h; bits = omega (arith, p h) }
 
 -- a refusal's number has its bits
@@ -28,9 +27,9 @@ refusal_small NotAStore = omega arith
 refusal_small NoPart = omega arith
 
 -- a refusal is its number
-pub refusal_packed : (x : Export) (why : NoExport) (r : ℕ) → x ≡ Untouched why → r ≡ no_export why → PacksExport (told x) r
+pub refusal_packed : (x : Result ℕ NoExport) (why : NoExport) (r : ℕ) → x ≡ Err why → r ≡ no_export why → PacksExport (told x) r
 refusal_packed x why r e p =
-    subst (λ (y : Export). PacksExport (told y) r) (sym e) (record { number = refusal_small why; request_length = omega arith; bits = omega (arith, p) })
+    subst (λ (y : Result ℕ NoExport). PacksExport (told y) r) (sym e) (record { number = refusal_small why; request_length = omega arith; bits = omega (arith, p) })
 
 -- ---- what the call answers
 
@@ -48,6 +47,6 @@ module _ (lim : Limits) (ok : Packable lim) (part : ℕ) (store buffer after : L
       omega arith
 
   -- EXPORTS: what the call answers is packed whole
-  pub exports_packed : (x : Export) (r : ℕ) → Answers (exporting lim part store buffer) (record { answer = told x; buffer = after })
+  pub exports_packed : (x : Result ℕ NoExport) (r : ℕ) → Answers (exporting lim part store buffer) (record { answer = told x; buffer = after })
       → ((told x).request_length < 65536 → PacksExport (told x) r) → Exports lim part store buffer after r
   exports_packed x r a packs = record { answer = told x; allowed = a; packs = packs (length_small (told x) a) }
