@@ -1,4 +1,4 @@
-use Rattle.lists.proofs.Kit.{rules, some, subst}
+use Rattle.lists.proofs.Kit.{some, subst}
 use Rattle.read_setting.specs.SettingAt.{SettingAt}
 use Rattle.joining.proofs.CheckLaws.{at_end, at_unknown, at_field, step_next}
 use Rattle.joining.proofs.checks.check_setting.Goals as goal

@@ -1,4 +1,4 @@
-use Rattle.lists.proofs.Kit.{rules, refl, subst}
+use Rattle.lists.proofs.Kit.{refl, subst}
 use Rattle.read_carrier.specs.Message.{OpenedIs}
 use Rattle.joining.proofs.CheckLaws.{opens_else, out_of_size, not_carried}
 use Rattle.joining.proofs.checks.is_other.Goals as goal
