@@ -1,5 +1,6 @@
 -- What the report call answers, packed: one number and one buffer, and its bits give the values back. Assumes nothing.
 use Rattle.lists.proofs.Kit.{ℕ, ◌+◌, ◌*◌, ◌/◌, ◌%◌, ◌<◌, ◌≡◌, refl, sym, ap, ◌∙◌, subst, List, arith}
+use Rattle.std.specs.Prelude.{Result, Ok, Err}
 use Rattle.lists.specs.Every.{All}
 use Rattle.lists.specs.Ladder.{Answers}
 use Rattle.writing.specs.Canonical.{side_by_side, FitsField}
@@ -8,8 +9,7 @@ use Rattle.reports.specs.Reporting.{After, Told, Reportable, reporting}
 use Rattle.reports.proofs.Determined.{report_determined}
 use Rattle.reports.proofs.Theorems.{report_small}
 use Rattle.reporting.specs.declared.answers.NoReport.{NoReport}
-use Rattle.reporting.specs.declared.answers.Report.{Report}
-use Rattle.reporting.specs.declared.answers.Report.TheVariants.{Written, Untouched}
+use Rattle.reporting.specs.declared.answers.Written.{Written}
 use Rattle.reporting.specs.Told.{no_report, told}
 use Rattle.packing.specs.PackedReports.{report_fields, AnswersReport}
 use Rattle.packing.specs.PackedValues.{PacksFields, WhereFit}
@@ -17,17 +17,17 @@ use Rattle.packing.proofs.SideBySide.{read_back}
 
 -- ---- an answer by its case
 
-pub written_packed : (x : Report) (total n r : ℕ) → x ≡ Written total n → (n < 65536 → r ≡ n) → WhereFit (report_fields (told x)) (total * 256 + r * 65536)
-written_packed x total n r e p = subst (λ (y : Report). WhereFit (report_fields (told y)) (total * 256 + r * 65536)) (sym e) (λ f. omega (arith, p f.0))
+pub written_packed : (x : Result Written NoReport) (w : Written) (r : ℕ) → x ≡ Ok w → (w.length < 65536 → r ≡ w.length) → WhereFit (report_fields (told x)) (w.total * 256 + r * 65536)
+written_packed x w r e p = subst (λ (y : Result Written NoReport). WhereFit (report_fields (told y)) (w.total * 256 + r * 65536)) (sym e) (λ f. omega (arith, p f.0))
 
-pub refusal_packed : (x : Report) (why : NoReport) (r : ℕ) → x ≡ Untouched why → r ≡ no_report why → WhereFit (report_fields (told x)) r
-refusal_packed x why r e p = subst (λ (y : Report). WhereFit (report_fields (told y)) r) (sym e) (λ f. omega (arith, p))
+pub refusal_packed : (x : Result Written NoReport) (why : NoReport) (r : ℕ) → x ≡ Err why → r ≡ no_report why → WhereFit (report_fields (told x)) r
+refusal_packed x why r e p = subst (λ (y : Result Written NoReport). WhereFit (report_fields (told y)) r) (sym e) (λ f. omega (arith, p))
 
 -- ---- what the call answers
 
 module _ (lim : Limits) (query : List ℕ) (index : ℕ) (store buffer : List ℕ) where
   -- REPORTS: what the call answers is packed whole
-  pub report_packed : All (◌< 256) query → Reportable lim → (after : List ℕ) (x : Report) (r : ℕ)
+  pub report_packed : All (◌< 256) query → Reportable lim → (after : List ℕ) (x : Result Written NoReport) (r : ℕ)
       → Answers (reporting lim query index store buffer) (record { answer = told x; buffer = after }) → WhereFit (report_fields (told x)) r
       → AnswersReport lim query index store buffer after r
   report_packed b can after x r a packs =
