@@ -3,11 +3,11 @@ use super::count_lines::held;
 use case_lines::printing::{decimal, text, yes_or_no};
 use case_lines::sets::Set;
 use case_lines::taking::answer_for;
-use export::parts::{Export, PARTS};
+use export::parts::{NoExport, PARTS};
 use std::io;
 use std::io::Write;
 
-pub fn export_of(set: Set, part: u32, store: &[u8], buffer: &mut [u8]) -> Export {
+pub fn export_of(set: Set, part: u32, store: &[u8], buffer: &mut [u8]) -> Result<usize, NoExport> {
     match set {
         Set::Handheld => export::handheld::export(part, store, buffer),
         Set::Vehicle => export::vehicle::export(part, store, buffer),
@@ -17,7 +17,7 @@ pub fn export_of(set: Set, part: u32, store: &[u8], buffer: &mut [u8]) -> Export
 // Whether a set's part is exported as these bytes.
 fn is_exported(set: Set, part: u32, request: &[u8], store: &[u8], buffer: &mut [u8]) -> bool {
     let written = export_of(set, part, store, buffer);
-    let Export::Written(length) = written else {
+    let Ok(length) = written else {
         return false;
     };
     if buffer.len() < length {
@@ -56,7 +56,7 @@ fn move_by<W: Write>(
     buffer: &mut [u8],
 ) -> io::Result<()> {
     let written = export_of(sender, part, from, buffer);
-    let Export::Written(length) = written else {
+    let Ok(length) = written else {
         return Ok(());
     };
     if buffer.len() < length {

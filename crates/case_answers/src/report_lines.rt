@@ -3,7 +3,7 @@ use case_lines::building::put_bytes;
 use case_lines::printing::{decimal, hex, text};
 use case_lines::sets::Set;
 use report_reading::messages::ReportRead;
-use reporting::answers::{NoReport, Report};
+use reporting::answers::{NoReport, Written};
 use std::io;
 use std::io::Write;
 
@@ -31,7 +31,13 @@ fn field<W: Write>(out: &mut W, name: &[u8], value: u32) -> io::Result<()> {
     decimal(out, value)
 }
 
-fn report(set: Set, query: &[u8], index: u32, store: &[u8], buffer: &mut [u8]) -> Report {
+fn report(
+    set: Set,
+    query: &[u8],
+    index: u32,
+    store: &[u8],
+    buffer: &mut [u8],
+) -> Result<Written, NoReport> {
     match set {
         Set::Handheld => reporting::handheld::report(query, index, store, buffer),
         Set::Vehicle => reporting::vehicle::report(query, index, store, buffer),
@@ -77,7 +83,7 @@ pub fn ask<W: Write>(
     field(out, b"  index ", index)?;
     let answer = report(set, query, index, store, buffer);
     match answer {
-        Report::Written(total, length) => {
+        Ok(Written { total, length }) => {
             field(out, b": 0, total ", total as u32)?;
             field(out, b", length ", (length % 65536) as u32)?;
             text(out, b",")?;
@@ -86,7 +92,7 @@ pub fn ask<W: Write>(
             }
             Ok(())
         }
-        Report::Untouched(why) => {
+        Err(why) => {
             field(out, b": ", number_of(why))?;
             text(out, b", buffer")?;
             hex(out, buffer, 2)

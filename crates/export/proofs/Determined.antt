@@ -1,4 +1,5 @@
 -- Exporting answers one thing. Assumes nothing.
+use Rattle.std.specs.Prelude.{Result, Ok, Err}
 use Rattle.lists.proofs.Kit.{ℕ, ◌-◌, ◌≡◌, refl, sym, ap, ap₂, ◌∙◌, List, [], ◌∷◌, get_or}
 use Rattle.lists.specs.Ladder.{Answers}
 use Rattle.lists.proofs.Ladder.{one_answer}
@@ -8,8 +9,7 @@ use Rattle.tables.specs.Tables.{Tables}
 use Rattle.shared_texts.proofs.Forms.{layout_one}
 use Rattle.export.specs.declared.parts.Part.{Part}
 use Rattle.export.specs.declared.parts.NoExport.TheVariants.{Buffer, NotAStore, NoPart}
-use Rattle.export.specs.declared.parts.Export.{Export}
-use Rattle.export.specs.declared.parts.Export.TheVariants.{Written, Untouched}
+use Rattle.export.specs.declared.parts.NoExport.{NoExport}
 use Rattle.export.specs.declared.parts.Part.TheVariants.{Lines, Fixed, QuickTexts, Channels, StatusTexts, Groups, Individuals, GroupContacts, IndividualContacts, LineSlots}
 use Rattle.export.specs.Exported.{ten, part_number, exported, request_bytes}
 use Rattle.export.specs.Exporting.{Told, told, AfterExport, exporting, writes, Exports}
@@ -31,17 +31,17 @@ one_part p q e = sym (ten_back p) ∙ ap (λ n. get_or ten (n - 1) Lines) e ∙ 
     ten_back LineSlots = refl
 
 -- the number of an answer says which case it is: 0, or a refusal's, counted here from 11
-abbrev answer_of : Told → Export
+abbrev answer_of : Told → Result ℕ NoExport
 answer_of t =
     get_or
-    (Written t.request_length ∷ get_or (Untouched NotAStore ∷ Written 0 ∷ Written 0 ∷ Written 0 ∷ Untouched Buffer ∷ Untouched NoPart ∷ []) (t.number - 11) (Written 0) ∷ [])
-    (t.number - (t.number - 1)) (Written 0)
+    (Ok t.request_length ∷ get_or (Err NotAStore ∷ Ok 0 ∷ Ok 0 ∷ Ok 0 ∷ Err Buffer ∷ Err NoPart ∷ []) (t.number - 11) (Ok 0) ∷ [])
+    (t.number - (t.number - 1)) (Ok 0)
 
-answer_back : (a : Export) → answer_of (told a) ≡ a
-answer_back (Written n) = refl
-answer_back (Untouched Buffer) = refl
-answer_back (Untouched NotAStore) = refl
-answer_back (Untouched NoPart) = refl
+answer_back : (a : Result ℕ NoExport) → answer_of (told a) ≡ a
+answer_back (Ok n) = refl
+answer_back (Err Buffer) = refl
+answer_back (Err NotAStore) = refl
+answer_back (Err NoPart) = refl
 
 -- one number with its length, and one buffer
 pub outcome_determined : (lim : Limits) (part : ℕ) (store buffer : List ℕ) (a b : AfterExport) → Answers (exporting lim part store buffer) a → Answers (exporting lim part store buffer) b → a ≡ b
@@ -54,7 +54,7 @@ outcome_determined lim part store buffer = one_answer (exporting lim part store 
         x.after ∙ ap₂ (λ (q : Part) (u : Tables). writes lim part store buffer (request_bytes (exported q u))) p t ∙ sym y.after
 
 -- DETERMINED: the contract of exporting allows one answer of the code, and one buffer
-pub export_determined : (lim : Limits) (part : ℕ) (store buffer : List ℕ) (a b : Export) (s t : List ℕ)
+pub export_determined : (lim : Limits) (part : ℕ) (store buffer : List ℕ) (a b : Result ℕ NoExport) (s t : List ℕ)
     → Answers (exporting lim part store buffer) (record { answer = told a; buffer = s }) → Answers (exporting lim part store buffer) (record { answer = told b; buffer = t }) → (a ≡ b) × (s ≡ t)
 export_determined lim part store buffer a b s t x y =
     let e = outcome_determined lim part store buffer _ _ x y in

@@ -1,4 +1,6 @@
 -- What exporting answers, refusal by refusal, and for a request that was written. Assumes nothing.
+use Rattle.std.specs.Prelude.{Result, Ok, Err, IsErrAnd}
+use Rattle.export.specs.declared.parts.NoExport.{NoExport}
 use Rattle.lists.proofs.Kit.{ℕ, ◌≤◌, ◌<◌, ◌≡◌, refl, sym, ap, ◌∙◌, inl, inr, List, ◌++◌, zero-add, arith, length, drop, length-append}
 use Rattle.lists.specs.Ladder.{Answers}
 use Rattle.writing.specs.Canonical.{canonical_all}
@@ -7,7 +9,6 @@ use Rattle.tables.specs.declared.limits.Limits.{Limits}
 use Rattle.tables.specs.Store.{StoreOf, Holds, Works}
 use Rattle.tables.specs.Tables.{Tables}
 use Rattle.working.specs.Seen.{Seen}
-use Rattle.export.specs.declared.parts.Export.TheVariants.{Written}
 use Rattle.export.specs.declared.parts.Part.{Part}
 use Rattle.export_write.specs.declared.writers.Settings.{Settings}
 use Rattle.export.specs.Exported.{part_number, exported, request_bytes}
@@ -15,6 +16,11 @@ use Rattle.export.specs.Exporting.{AfterExport, told, exporting, stays}
 use Rattle.export.specs.PartWriters.{PartWritten, Headed}
 use Rattle.export_write.specs.Writers.{Wrote}
 use Rattle.export_write.proofs.WroteLaws.{wrote_length}
+
+-- the refusal that `?` hands on
+pub refused_as : (r : Result ℕ NoExport) (why : NoExport) → IsErrAnd r (λ e. e ≡ why) → r ≡ Err why
+refused_as (Ok n) why h = absurd h
+refused_as (Err e) why h = ap Err h
 
 module _ (lim : Limits) (part : ℕ) (store buffer : List ℕ) where
   -- "15"
@@ -56,7 +62,7 @@ module _ (lim : Limits) (part : ℕ) (store buffer : List ℕ) where
       )
 
   -- a request that was written is within the buffer
-  pub written_within : (after : List ℕ) (n : ℕ) → Answers (exporting lim part store buffer) (record { answer = told (Written n); buffer = after }) → n ≤ length after
+  pub written_within : (after : List ℕ) (n : ℕ) → Answers (exporting lim part store buffer) (record { answer = told (Ok n); buffer = after }) → n ≤ length after
   written_within after n (inl (_, e)) = absurd (omega (arith, ap (λ (a : AfterExport). a.answer.number) e))
   written_within after n (inr (_, inl (_, e))) = absurd (omega (arith, ap (λ (a : AfterExport). a.answer.number) e))
   written_within after n (inr (_, inr (_, inl (_, e)))) = absurd (omega (arith, ap (λ (a : AfterExport). a.answer.number) e))

@@ -1,5 +1,5 @@
 -- What exporting a part answers and leaves in the buffer: document 01, "Export: 15, 11, 16".
-use Rattle.std.specs.Prelude.{ℕ, ◌<◌, ◌≡◌, List, length}
+use Rattle.std.specs.Prelude.{ℕ, ◌<◌, ◌≡◌, List, length, Result, Ok, Err}
 use Rattle.lists.specs.Ladder.{Ladder, rung, foot}
 use Rattle.tables.specs.declared.limits.Limits.{Limits}
 use Rattle.tables.specs.Store.{StoreOf, Holds}
@@ -8,8 +8,6 @@ use Rattle.slots.specs.Slots.{written_over}
 use Rattle.export.specs.declared.parts.Part.{Part}
 use Rattle.export.specs.declared.parts.NoExport.{NoExport}
 use Rattle.export.specs.declared.parts.NoExport.TheVariants.{Buffer, NotAStore, NoPart}
-use Rattle.export.specs.declared.parts.Export.{Export}
-use Rattle.export.specs.declared.parts.Export.TheVariants.{Written, Untouched}
 use Rattle.export.specs.Exported.{part_number, exported, request_bytes}
 
 -- a number and a length
@@ -23,9 +21,9 @@ no_export NotAStore = 11
 no_export NoPart = 16
 
 -- each case's number and length; "11 and 15 to 17 from export or screen return length 0"
-abbrev pub told : Export → Told
-told (Written n) = record { number = 0; request_length = n }
-told (Untouched r) = record { number = no_export r; request_length = 0 }
+abbrev pub told : Result ℕ NoExport → Told
+told (Ok n) = record { number = 0; request_length = n }
+told (Err r) = record { number = no_export r; request_length = 0 }
 
 -- the answer, and the buffer afterwards
 pub record AfterExport : Type 0 where

@@ -8,7 +8,7 @@ ghost use Rattle.export.specs.Exportable.{Exportable};
 ghost use Rattle.export.specs.Exporting.{exporting, told};
 ghost use Rattle.export.specs.PartWriters.{part_from, part_to, WritesPart, PartWritten, Headed};
 
-use super::parts::{Export, NoExport, Part};
+use super::parts::{NoExport, Part};
 use export_write::channels::export_channels;
 use export_write::contacts::export_contacts;
 use export_write::fixed::export_fixed;
@@ -109,30 +109,28 @@ fn start_request(buffer: &mut [u8], count: u8, end: usize) -> usize
     end
 }
 
-// The request that exports a part of a store of a set with these limits, which lends bytes to work in; or why there is none, and the buffer stays.
+// The request that exports a part of a store of a set with these limits, which lends bytes to work in: its length; or why there is none, and the buffer stays.
 pub fn export_in(
     part: u32,
     store: &[u8],
     buffer: &mut [u8],
     limits: Limits,
     work: &mut [u8],
-) -> Export
+) -> Result<usize, NoExport>
     ensures { ((told result).request_length ≤ length buffer.new) × (Exportable limits → Lends limits work.old → Answers (exporting limits part store.now buffer.old) (record { answer = told result; buffer = buffer.new })) }
 {
     if buffer.len() < limits.message {
-        return Export::Untouched(NoExport::Buffer);
+        return Err(NoExport::Buffer);
     }
     if !is_store(store, limits) {
-        return Export::Untouched(NoExport::NotAStore);
+        return Err(NoExport::NotAStore);
     }
-    let Ok(which) = Part::try_from(part) else {
-        return Export::Untouched(NoExport::NoPart);
-    };
+    let which = Part::try_from(part)?;
     let from = seen(store, work, limits);
     // What is lent to work in has another size.
     if from.len() != limits.size {
-        return Export::Untouched(NoExport::NotAStore);
+        return Err(NoExport::NotAStore);
     }
     let settings = write_part(buffer, which, from, limits);
-    Export::Written(start_request(buffer, settings.count, settings.end))
+    Ok(start_request(buffer, settings.count, settings.end))
 }

@@ -4,11 +4,11 @@ ghost use Rattle.tables.specs.Limits.{handheld};
 ghost use Rattle.export.specs.Exporting.{told, exporting};
 
 use super::exporting::export_in;
-use super::parts::Export;
+use super::parts::NoExport;
 use tables::limits::{HANDHELD, HANDHELD_SIZE};
 
-// The request that exports a part of a store, or why there is none, and the buffer stays.
-pub fn export(part: u32, store: &[u8], buffer: &mut [u8]) -> Export
+// The length of the request that exports a part of a store, or why there is none, and the buffer stays.
+pub fn export(part: u32, store: &[u8], buffer: &mut [u8]) -> Result<usize, NoExport>
     ensures { Answers (exporting handheld part store.now buffer.old) (record { answer = told result; buffer = buffer.new }) }
 {
     let mut work = [0u8; HANDHELD_SIZE];

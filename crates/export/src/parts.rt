@@ -48,10 +48,3 @@ impl TryFrom<u32> for Part {
         }
     }
 }
-
-// The length of the request that was written, or why none was.
-#[derive(Clone, Copy)]
-pub enum Export {
-    Written(usize),
-    Untouched(NoExport),
-}

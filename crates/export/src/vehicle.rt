@@ -4,11 +4,11 @@ ghost use Rattle.tables.specs.Limits.{vehicle};
 ghost use Rattle.export.specs.Exporting.{told, exporting};
 
 use super::exporting::export_in;
-use super::parts::Export;
+use super::parts::NoExport;
 use tables::limits::VEHICLE;
 
-// The request that exports a part of a store, or why there is none, and the buffer stays.
-pub fn export(part: u32, store: &[u8], buffer: &mut [u8]) -> Export
+// The length of the request that exports a part of a store, or why there is none, and the buffer stays.
+pub fn export(part: u32, store: &[u8], buffer: &mut [u8]) -> Result<usize, NoExport>
     ensures { Answers (exporting vehicle part store.now buffer.old) (record { answer = told result; buffer = buffer.new }) }
 {
     let mut none = [0u8; 0];

@@ -32,9 +32,9 @@ use Rattle.requests.specs.Judge as Judge
 use Rattle.requests.specs.Judge.{Outcome, kept, refused, done, step, missing, unknown, field, taken, over, fault}
 use Rattle.requests.specs.Requests.{WrittenIn, Known, item_of}
 use Rattle.requests.proofs.Joining.{then_run}
+use Rattle.std.specs.Prelude.{Result, Ok, Err}
+use Rattle.joining.specs.declared.answers.Fault.{Fault as Refusal}
 use Rattle.joining.specs.declared.checks.Head.{Head}
-use Rattle.joining.specs.declared.checks.Request.{Request}
-use Rattle.joining.specs.declared.checks.Request.TheVariants.{Good, Wrong}
 use Rattle.joining.specs.declared.checks.Step.TheVariants.{Next}
 use Rattle.joining.specs.Joins.{Sound, EndsRequest}
 use Rattle.joining.specs.Checking.{EndsAs, TurnsDown, IsLast, StepIs, FaultAt, SettingsAre, OpensElse, Faulty, size, carrier, other_type, other_version, no_request, at_settings, Fine, RequestIs}
@@ -166,7 +166,7 @@ module _ (m : List ℕ) (at : ℕ) (h : Head) where
           let k : length l.settings ≡ n = l.counted in
           (kept l.settings tt, along_end le, (subst (λ (x : Bool). EndsAs x l.settings) e l.ends, refl, omega arith))
 
-      pub along_good : length m ≤ p → b ≡ false → SettingsAre m at h (Good h)
+      pub along_good : length m ≤ p → b ≡ false → SettingsAre m at h (Ok h)
       along_good le e = (refl, l.settings, along_end le, subst (λ (x : Bool). EndsAs x l.settings) e l.ends)
 
 -- ---- the request
@@ -208,7 +208,7 @@ module _ (most : ℕ) (m : List ℕ) where
   ByMessage NotRequest = Faulty most m 4 0
   ByMessage NotQuery = Faulty most m 14 0
   ByMessage (AQuery p) = Faulty most m 14 0
-  ByMessage (ARequest count at c) = (r : Request) → SettingsAre m at (record { count = count; coding = c }) r → RequestIs most m r
+  ByMessage (ARequest count at c) = (r : Result Head Refusal) → SettingsAre m at (record { count = count; coding = c }) r → RequestIs most m r
 
   pub by_message : (k : Message) → MessageIs most m k → OpensElse most m false → ByMessage k
   by_message Size z n = size z
@@ -223,8 +223,8 @@ module _ (most : ℕ) (m : List ℕ) where
       request : RequestOf c count (drop 8 m) m
       request = subst (λ (j : ℕ). RequestOf c count (drop j m) m) e (record { data_bytes = d; carried = k; counted = z })
 
-      by : (r : Request) → SettingsAre m at (record { count = count; coding = c }) r → RequestIs most m r
-      by (Good g) (same, l, s, never) =
+      by : (r : Result Head Refusal) → SettingsAre m at (record { count = count; coding = c }) r → RequestIs most m r
+      by (Ok g) (same, l, s, never) =
           let x : Sound c count (drop 8 m) (kept l tt) = subst (λ (j : ℕ). Sound c count (drop j m) (kept l tt)) e s in
           subst⁻¹ (Fine most m) same (record { settings = l; counted = sound_count c x; size = i; long = long_enough request; request = request; sound = x; no_ff = never })
-      by (Wrong f) (o, s, t) = at_settings o i request (subst (λ (j : ℕ). Sound c count (drop j m) o) e s) t
+      by (Err f) (o, s, t) = at_settings o i request (subst (λ (j : ℕ). Sound c count (drop j m) o) e s) t

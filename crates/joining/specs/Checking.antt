@@ -1,5 +1,5 @@
 -- One of the two requests, checked, and both joined. No promise cites these.
-use Rattle.std.specs.Prelude.{ℕ, ◌≤◌, ◌≡◌, ◌≢◌, Bool, true, false, List, [], ◌∷◌, length, drop}
+use Rattle.std.specs.Prelude.{ℕ, ◌≤◌, ◌≡◌, ◌≢◌, Bool, true, false, List, [], ◌∷◌, length, drop, Result, Ok, Err}
 use Rattle.std.proofs.Math.Option.{some}
 use Rattle.lists.specs.Ladder.{Answers}
 use Rattle.writing.specs.declared.Coding.{Coding}
@@ -12,10 +12,9 @@ use Rattle.read_fields.specs.Places.{StandsAt}
 use Rattle.requests.specs.Judge as Judge
 use Rattle.requests.specs.Judge.{Outcome, kept, refused}
 use Rattle.requests.specs.Requests.{WrittenIn, Known}
+use Rattle.joining.specs.declared.answers.Fault.{Fault as Refusal}
 use Rattle.joining.specs.declared.answers.Join.{Join}
 use Rattle.joining.specs.declared.checks.Head.{Head}
-use Rattle.joining.specs.declared.checks.Request.{Request}
-use Rattle.joining.specs.declared.checks.Request.TheVariants.{Good, Wrong}
 use Rattle.joining.specs.declared.checks.Step.{Step}
 use Rattle.joining.specs.declared.checks.Step.TheVariants.{Next, Unknown, Field}
 use Rattle.joining.specs.Joins.{Sound, EndsRequest, both_of}
@@ -48,9 +47,9 @@ TurnsDown (refused n i) number failed = (n ≡ number) × (i ≡ failed)
 TurnsDown (kept l t) number failed = EndsRequest l × (4 ≡ number) × (length l ≡ failed)
 
 -- what the settings from a place on come to, with what the head says
-abbrev pub SettingsAre : List ℕ → (at : ℕ) → Head → Request → Type 0
-SettingsAre m at h (Good g) = (g ≡ h) × (l : List Setting) × Sound h.coding h.count (drop at m) (kept l tt) × (EndsRequest l → ⊥)
-SettingsAre m at h (Wrong f) =
+abbrev pub SettingsAre : List ℕ → (at : ℕ) → Head → Result Head Refusal → Type 0
+SettingsAre m at h (Ok g) = (g ≡ h) × (l : List Setting) × Sound h.coding h.count (drop at m) (kept l tt) × (EndsRequest l → ⊥)
+SettingsAre m at h (Err f) =
     (o : Outcome Setting (Unit {0})) × Sound h.coding h.count (drop at m) o × TurnsDown o (fault_number f) (fault_id f)
 
 -- ---- the request
@@ -80,9 +79,9 @@ pub record Fine (most : ℕ) (m : List ℕ) (h : Head) : Type 0 where
   pub sound : Sound h.coding h.count (drop 8 m) (kept settings tt)
   pub no_ff : EndsRequest settings → ⊥
 
-abbrev pub RequestIs : ℕ → List ℕ → Request → Type 0
-RequestIs most m (Good h) = Fine most m h
-RequestIs most m (Wrong f) = Faulty most m (fault_number f) (fault_id f)
+abbrev pub RequestIs : ℕ → List ℕ → Result Head Refusal → Type 0
+RequestIs most m (Ok h) = Fine most m h
+RequestIs most m (Err f) = Faulty most m (fault_number f) (fault_id f)
 
 -- ---- both
 

@@ -1,6 +1,6 @@
 -- What the call that joins answers, and leaves in the buffer: docs/RULES.md, D7 and D8.
 use Rattle.std.specs.Prelude.{ℕ, ◌+◌, ◌<◌, ◌≡◌, ◌≢◌, ◌⊎◌, Bool, true, false, List, [], ◌∷◌, ◌++◌, length}
-use Rattle.std.proofs.Math.Option.{Option, none, some}
+use Rattle.std.proofs.Math.Option.{none, some}
 use Rattle.lists.specs.Ladder.{Ladder, rung, foot, Answers}
 use Rattle.slots.specs.Slots.{written_over}
 use Rattle.writing.specs.declared.Coding.{Coding}

@@ -22,13 +22,6 @@ pub(crate) enum Step {
     Field,
 }
 
-// A request that may be joined, or what is wrong with it.
-#[derive(Clone, Copy)]
-pub(crate) enum Request {
-    Good(Head),
-    Wrong(Fault),
-}
-
 // Whether a setting is an FF item.
 fn is_last(setting: Setting) -> bool
     ensures { IsLast setting result }
@@ -52,15 +45,14 @@ fn check_setting(m: &[u8], at: usize, left: usize, coding: Coding) -> Step
 }
 
 // So many settings from a place to the message's end, none of them an FF item.
-fn check_settings(m: &[u8], at: usize, head: Head) -> Request
+fn check_settings(m: &[u8], at: usize, head: Head) -> Result<Head, Fault>
     ensures { SettingsAre m.now at head result }
 {
     let count = head.count;
     let coding = head.coding;
     let mut p = at;
-    let mut taken: u8 = 0;
     let mut last = false;
-    while taken < count {
+    for taken in 0..count {
         let left = (count - taken - 1) as usize;
         let step = check_setting(m, p, left, coding);
         match step {
@@ -68,18 +60,17 @@ fn check_settings(m: &[u8], at: usize, head: Head) -> Request
                 p = next;
                 last = is;
             }
-            Step::Unknown => return Request::Wrong(Fault::Unknown(taken + 1)),
-            Step::Field => return Request::Wrong(Fault::Field(taken + 1)),
+            Step::Unknown => return Err(Fault::Unknown(taken + 1)),
+            Step::Field => return Err(Fault::Field(taken + 1)),
         }
-        taken += 1;
     }
     if p < m.len() {
-        return Request::Wrong(Fault::LeftOver);
+        return Err(Fault::LeftOver);
     }
     if last {
-        return Request::Wrong(Fault::LastItem(count));
+        return Err(Fault::LastItem(count));
     }
-    Request::Good(head)
+    Ok(head)
 }
 
 // Whether a message opens with another type than a request's, whatever its version.
@@ -92,22 +83,22 @@ fn is_other(m: &[u8], most: usize) -> bool
     }
 }
 
-// A request of at most so many bytes.
-pub(crate) fn check_request(m: &[u8], most: usize) -> Request
+// A request of at most so many bytes that may be joined, or what is wrong with it.
+pub(crate) fn check_request(m: &[u8], most: usize) -> Result<Head, Fault>
     ensures { RequestIs most m.now result }
 {
     if is_other(m, most) {
-        return Request::Wrong(Fault::OtherType);
+        return Err(Fault::OtherType);
     }
     let message = read_message(m, most);
     match message {
-        Message::Size => Request::Wrong(Fault::Size),
-        Message::Carrier => Request::Wrong(Fault::Carrier),
-        Message::Type => Request::Wrong(Fault::OtherType),
-        Message::Version => Request::Wrong(Fault::Version),
-        Message::NoRequest => Request::Wrong(Fault::NoRequest),
-        Message::NoQuery => Request::Wrong(Fault::OtherType),
-        Message::Query(_) => Request::Wrong(Fault::OtherType),
+        Message::Size => Err(Fault::Size),
+        Message::Carrier => Err(Fault::Carrier),
+        Message::Type => Err(Fault::OtherType),
+        Message::Version => Err(Fault::Version),
+        Message::NoRequest => Err(Fault::NoRequest),
+        Message::NoQuery => Err(Fault::OtherType),
+        Message::Query(_) => Err(Fault::OtherType),
         Message::Request(count, at, coding) => {
             let head = Head { count, coding };
             check_settings(m, at, head)

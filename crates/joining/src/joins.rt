@@ -8,7 +8,7 @@ ghost use Rattle.joining.specs.Joins.{joined_bytes, joining};
 ghost use Rattle.joining.specs.Told.{told, CanJoin};
 
 use super::answers::Join;
-use super::checks::{Head, Request, check_request};
+use super::checks::{Head, check_request};
 use export_write::fields::put_bytes;
 use export_write::writers::FIRST;
 use read_carrier::carrier::{EIGHT_BIT, MFID, START, UNICODE16};
@@ -84,15 +84,13 @@ pub fn join_in(first: &[u8], second: &[u8], buffer: &mut [u8], most: usize) -> J
     if buffer.len() < most {
         return Join::Buffer;
     }
-    let one = check_request(first, most);
-    match one {
-        Request::Wrong(fault) => Join::First(fault),
-        Request::Good(a) => {
-            let two = check_request(second, most);
-            match two {
-                Request::Wrong(fault) => Join::Second(fault),
-                Request::Good(b) => join_both(first, second, buffer, most, a, b),
-            }
-        }
-    }
+    let a = match check_request(first, most) {
+        Ok(a) => a,
+        Err(fault) => return Join::First(fault),
+    };
+    let b = match check_request(second, most) {
+        Ok(b) => b,
+        Err(fault) => return Join::Second(fault),
+    };
+    join_both(first, second, buffer, most, a, b)
 }

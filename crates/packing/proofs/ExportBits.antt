@@ -2,7 +2,8 @@
 use Rattle.lists.proofs.Kit.{ℕ, ◌≤◌, ◌<◌, ◌≡◌, ap, inl, inr, List, arith, length}
 use Rattle.lists.specs.Ladder.{Answers}
 use Rattle.tables.specs.declared.limits.Limits.{Limits}
-use Rattle.export.specs.declared.parts.Export.{Export}
+use Rattle.export.specs.declared.parts.NoExport.{NoExport}
+use Rattle.std.specs.Prelude.{Result}
 use Rattle.export.specs.Exported.{exported, request_bytes}
 use Rattle.export.specs.Exporting.{AfterExport, Told, told, exporting}
 use Rattle.restore.specs.Restored.{longest}
@@ -25,6 +26,6 @@ module _ (lim : Limits) (ok : Packable lim) (part : ℕ) (store buffer after : L
       omega arith
 
   -- EXPORTS: what the call answers is packed whole
-  pub exports_packed : (x : Export) (r : ℕ) → Answers (exporting lim part store buffer) (record { answer = told x; buffer = after })
+  pub exports_packed : (x : Result ℕ NoExport) (r : ℕ) → Answers (exporting lim part store buffer) (record { answer = told x; buffer = after })
       → ((told x).request_length < 65536 → PacksExport (told x) r) → Exports lim part store buffer after r
   exports_packed x r a packs = record { answer = told x; allowed = a; packs = packs (length_small (told x) a) }

@@ -1,5 +1,6 @@
 -- What the report call answers, packed: one number and one buffer, and its bits give the values back. Assumes nothing.
 use Rattle.lists.proofs.Kit.{ℕ, ◌/◌, ◌%◌, ◌<◌, ◌≡◌, sym, ap, ◌∙◌, List, arith}
+use Rattle.std.specs.Prelude.{Result}
 use Rattle.lists.specs.Every.{All}
 use Rattle.lists.specs.Ladder.{Answers}
 use Rattle.writing.specs.Canonical.{side_by_side, FitsField}
@@ -7,7 +8,8 @@ use Rattle.tables.specs.declared.limits.Limits.{Limits}
 use Rattle.reports.specs.Reporting.{After, Told, Reportable, reporting}
 use Rattle.reports.proofs.Determined.{report_determined}
 use Rattle.reports.proofs.Theorems.{report_small}
-use Rattle.reporting.specs.declared.answers.Report.{Report}
+use Rattle.reporting.specs.declared.answers.NoReport.{NoReport}
+use Rattle.reporting.specs.declared.answers.Written.{Written}
 use Rattle.reporting.specs.Told.{told}
 use Rattle.packing.specs.PackedReports.{report_fields, AnswersReport}
 use Rattle.packing.specs.PackedValues.{PacksFields, WhereFit}
@@ -17,7 +19,7 @@ use Rattle.packing.proofs.SideBySide.{read_back}
 
 module _ (lim : Limits) (query : List ℕ) (index : ℕ) (store buffer : List ℕ) where
   -- REPORTS: what the call answers is packed whole
-  pub report_packed : All (◌< 256) query → Reportable lim → (after : List ℕ) (x : Report) (r : ℕ)
+  pub report_packed : All (◌< 256) query → Reportable lim → (after : List ℕ) (x : Result Written NoReport) (r : ℕ)
       → Answers (reporting lim query index store buffer) (record { answer = told x; buffer = after }) → WhereFit (report_fields (told x)) r
       → AnswersReport lim query index store buffer after r
   report_packed b can after x r a packs =

@@ -4,7 +4,7 @@ ghost use Rattle.export.specs.Exporting.{no_export, told};
 ghost use Rattle.packing.specs.Packing.{PacksExport};
 
 use super::bits::low;
-use export::parts::{Export, NoExport};
+use export::parts::NoExport;
 
 fn number_of(why: NoExport) -> u64
     ensures { result ≡ no_export why }
@@ -17,11 +17,11 @@ fn number_of(why: NoExport) -> u64
 }
 
 // Bits 0 to 7 number, 16 to 31 length.
-pub fn pack_export(answer: Export) -> u64
+pub fn pack_export(answer: Result<usize, NoExport>) -> u64
     ensures { (told answer).request_length < 65536 → PacksExport (told answer) result }
 {
     match answer {
-        Export::Written(length) => low(length) * 65536,
-        Export::Untouched(why) => number_of(why),
+        Ok(length) => low(length) * 65536,
+        Err(why) => number_of(why),
     }
 }

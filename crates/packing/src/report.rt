@@ -5,7 +5,7 @@ ghost use Rattle.packing.specs.PackedReports.{report_fields};
 ghost use Rattle.packing.specs.PackedValues.{WhereFit};
 
 use super::bits::low;
-use reporting::answers::{NoReport, Report};
+use reporting::answers::{NoReport, Written};
 
 fn number_of(why: NoReport) -> u64
     ensures { result ≡ no_report why }
@@ -23,11 +23,11 @@ fn number_of(why: NoReport) -> u64
 }
 
 // Bits 0 to 7 number, 8 to 15 total, 16 to 31 length.
-pub fn pack_report(answer: Report) -> u64
+pub fn pack_report(answer: Result<Written, NoReport>) -> u64
     ensures { WhereFit (report_fields (told answer)) result }
 {
     match answer {
-        Report::Written(total, length) => total as u64 * 256 + low(length) * 65536,
-        Report::Untouched(why) => number_of(why),
+        Ok(written) => written.total as u64 * 256 + low(written.length) * 65536,
+        Err(why) => number_of(why),
     }
 }

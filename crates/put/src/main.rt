@@ -2,7 +2,7 @@
 #![tactic(auto)]
 
 use export::handheld::export;
-use export::parts::{Export, PARTS};
+use export::parts::PARTS;
 use records::each_record;
 use station::answers::number;
 use station::handheld::{commit, judge, start};
@@ -21,7 +21,7 @@ fn take(message: &[u8], store: &mut [u8], reply: &mut [u8]) {
 // Writes the record of a part: length and kind, each two bytes little-endian, then the request.
 fn put_part<W: Write>(out: &mut W, part: u32, store: &[u8], buffer: &mut [u8]) -> io::Result<()> {
     let written = export(part, store, buffer);
-    let Export::Written(length) = written else {
+    let Ok(length) = written else {
         return Ok(());
     };
     let head = [

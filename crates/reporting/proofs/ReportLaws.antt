@@ -1,5 +1,6 @@
 -- What the call answers, refusal by refusal, and for a message that was written. Assumes nothing.
 use Rattle.lists.proofs.Kit.{ℕ, ◌+◌, ◌-◌, ◌%◌, ◌≤◌, ◌<◌, ◌≡◌, refl, sym, ap, ◌∙◌, subst, subst⁻¹, inl, inr, List, [], ◌++◌, zero-add, mod-eq_of_lt, arith, length, get_or, take, drop}
+use Rattle.std.specs.Prelude.{Result, Ok, Err, IsErrAnd}
 use Rattle.lists.specs.Every.{All}
 use Rattle.lists.proofs.Every.{all_get}
 use Rattle.lists.specs.Ladder.{Answers}
@@ -20,12 +21,17 @@ use Rattle.reports.proofs.ReadBack.{items_length, queries_one, messages_fit}
 use Rattle.reports.proofs.SplitLaws.{Fit}
 use Rattle.reporting.specs.declared.answers.NoReport.{NoReport}
 use Rattle.reporting.specs.declared.answers.NoReport.TheVariants.{Buffer, NotAStore, Size, Carrier, OtherType, Version, BadQuery, NoMessage}
-use Rattle.reporting.specs.declared.answers.Report.TheVariants.{Written, Untouched}
+use Rattle.reporting.specs.declared.answers.Written.{Written}
 use Rattle.reporting.specs.declared.planning.Walk.{Walk}
 use Rattle.reporting.specs.Asking.{RefusedAs}
 use Rattle.reporting.specs.Plans.{items_from, PlanIs}
 use Rattle.reporting.specs.Told.{told}
 use Rattle.reporting.specs.Written.{ItemsPut, Headed, answering}
+
+-- the refusal that `?` hands on
+pub refused_as : (r : Result Written NoReport) (why : NoReport) → IsErrAnd r (λ e. e ≡ why) → r ≡ Err why
+refused_as (Ok w) why h = absurd h
+refused_as (Err e) why h = ap Err h
 
 -- ---- before the plan
 
@@ -41,7 +47,7 @@ module _ (lim : Limits) (query : List ℕ) (index : ℕ) (store buffer : List �
 
     module _ (s : StoreOf lim store) where
       -- "12, 13, 14, 1, 4"
-      pub says_refused : (why : NoReport) → RefusedAs lim.message query why → Answers (reporting lim query index store buffer) (record { answer = told (Untouched why); buffer = buffer })
+      pub says_refused : (why : NoReport) → RefusedAs lim.message query why → Answers (reporting lim query index store buffer) (record { answer = told (Err why); buffer = buffer })
       says_refused Size n = inr (λ l. omega arith, inr (λ k. k s, inl (n, refl)))
       says_refused Carrier (i, n) = inr (λ l. omega arith, inr (λ k. k s, inr (λ k. k i, inl (n, refl))))
       says_refused OtherType (i, c, n) = inr (λ l. omega arith, inr (λ k. k s, inr (λ k. k i, inr (c, inl (n, refl)))))
@@ -89,12 +95,12 @@ module _ (lim : Limits) (query : List ℕ) (index : ℕ) (store work buffer type
   total_is t r a = ap (λ (x : List ℕ). length (messages lim t x)) (queries_one a.asks q) ∙ p.total t (see.1 t a.holds)
 
   -- "4"
-  pub says_many : 255 < w.closed + 1 → Answers (answering lim query index store buffer) (record { answer = told (Untouched BadQuery); buffer = buffer })
+  pub says_many : 255 < w.closed + 1 → Answers (answering lim query index store buffer) (record { answer = told (Err BadQuery); buffer = buffer })
   says_many l = inl (λ t r a. omega (arith, total_is t r a), refl)
 
   module _ (few : w.closed + 1 ≤ 255) where
     -- "16"
-    pub says_none : (1 ≤ index → index ≤ w.closed + 1 → ⊥) → Answers (answering lim query index store buffer) (record { answer = told (Untouched NoMessage); buffer = buffer })
+    pub says_none : (1 ≤ index → index ≤ w.closed + 1 → ⊥) → Answers (answering lim query index store buffer) (record { answer = told (Err NoMessage); buffer = buffer })
     says_none n = inr (λ k. omega (arith, k s.store.tables types asks, total_is s.store.tables types asks), inl (λ t r a o l. n o (omega (arith, total_is t r a)), refl))
 
     module _ (low : 1 ≤ index) (high : index ≤ w.closed + 1) where
@@ -107,7 +113,7 @@ module _ (lim : Limits) (query : List ℕ) (index : ℕ) (store work buffer type
       -- the message was written
       pub says_0 : Reportable lim → All (◌< 256) types → lim.message ≤ length buffer → (mid after : List ℕ) (end r : ℕ) → ItemsPut lim types work w buffer mid end
           → ((10 ≤ end) × (end ≤ length mid) × (end < 65540) → Headed (w.closed + 1) index (w.own % 256) end mid after r)
-          → Answers (answering lim query index store buffer) (record { answer = told (Written (w.closed + 1) r); buffer = after })
+          → Answers (answering lim query index store buffer) (record { answer = told (Ok (record { total = w.closed + 1; length = r })); buffer = after })
       says_0 rep b big mid after end r put head =
           let t : Tables = s.store.tables in
           let ms : List (List Item) = messages lim t types in

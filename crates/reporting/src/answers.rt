@@ -13,9 +13,9 @@ pub enum NoReport {
     NoMessage,
 }
 
-// How many messages the report has and the length of the one that was written, or why none was.
+// How many messages the report has, and the length of the one that was written.
 #[derive(Clone, Copy)]
-pub enum Report {
-    Written(u8, usize),
-    Untouched(NoReport),
+pub struct Written {
+    pub total: u8,
+    pub length: usize,
 }

@@ -9,7 +9,7 @@ ghost use Rattle.reports.specs.Reports.{TypesOf};
 ghost use Rattle.reporting.specs.Told.{told};
 ghost use Rattle.reporting.specs.Written.{answering};
 
-use super::answers::{NoReport, Report};
+use super::answers::{NoReport, Written};
 use super::asking::{TYPES, read_query};
 use super::message::{FIRST, put_items, start_report};
 use super::planning::plan_report;
@@ -35,7 +35,13 @@ fn messages_before(index: u32) -> usize
 }
 
 // The message of this index of the report that answers these types, from what is seen of a store.
-fn report_types(types: &[u8], index: u32, work: &[u8], buffer: &mut [u8], limits: Limits) -> Report
+fn report_types(
+    types: &[u8],
+    index: u32,
+    work: &[u8],
+    buffer: &mut [u8],
+    limits: Limits,
+) -> Result<Written, NoReport>
     requires { Roomy limits × (length work.now ≡ limits.size) × (length types.now ≤ 255) × (limits.message ≤ length buffer.old) }
     ensures { Reportable limits → (query store : List ℕ) → TypesOf types.now query → StoreOf limits store → Seen limits store work.now → Answers (answering limits query index store buffer.old) (record { answer = told result; buffer = buffer.new }) }
 {
@@ -44,20 +50,23 @@ fn report_types(types: &[u8], index: u32, work: &[u8], buffer: &mut [u8], limits
     let plan = plan_report(types, work, limits, room, j);
     let total = plan.closed + 1;
     if MESSAGES < total {
-        return Report::Untouched(NoReport::BadQuery);
+        return Err(NoReport::BadQuery);
     }
     if index < 1 {
-        return Report::Untouched(NoReport::NoMessage);
+        return Err(NoReport::NoMessage);
     }
     let wanted = index as usize;
     if total < wanted {
-        return Report::Untouched(NoReport::NoMessage);
+        return Err(NoReport::NoMessage);
     }
     let end = put_items(buffer, types, work, limits, plan);
     // At most 255, so that the remainder loses nothing.
     let count = (plan.own % 256) as u8;
     let length = start_report(buffer, total as u8, wanted as u8, count, end);
-    Report::Written(total as u8, length)
+    Ok(Written {
+        total: total as u8,
+        length,
+    })
 }
 
 // The message of this index of the report that answers a query to a set with these limits, which lends bytes to work in; or why there is none, and the buffer stays.
@@ -68,22 +77,20 @@ pub fn report_in(
     buffer: &mut [u8],
     limits: Limits,
     work: &mut [u8],
-) -> Report
+) -> Result<Written, NoReport>
     ensures { Reportable limits → Lends limits work.old → Answers (reporting limits query.now index store.now buffer.old) (record { answer = told result; buffer = buffer.new }) }
 {
     if buffer.len() < limits.message {
-        return Report::Untouched(NoReport::Buffer);
+        return Err(NoReport::Buffer);
     }
     if !is_store(store, limits) {
-        return Report::Untouched(NoReport::NotAStore);
+        return Err(NoReport::NotAStore);
     }
-    if let Err(why) = read_query(query, limits.message) {
-        return Report::Untouched(why);
-    }
+    read_query(query, limits.message)?;
     let from = seen(store, work, limits);
     // What is lent to work in has another size.
     if from.len() != limits.size {
-        return Report::Untouched(NoReport::NotAStore);
+        return Err(NoReport::NotAStore);
     }
     report_types(&query[TYPES..], index, from, buffer, limits)
 }

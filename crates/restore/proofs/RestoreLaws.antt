@@ -1,4 +1,5 @@
 -- Moving parts from one set to another, one after the other. Assumes nothing.
+use Rattle.std.specs.Prelude.{Ok, Err}
 use Rattle.lists.proofs.Kit.{ℕ, zero, suc, ◌+◌, ◌-◌, ◌≤◌, ◌<◌, ◌≡◌, refl, sym, ap, ap₂, ◌∙◌, subst, inl, inr, List, [], ◌∷◌, ◌++◌, arith, mid_of, length, get_or, take, drop, take-suc, split_at, take-append_seam, drop-append_seam}
 use Rattle.lists.specs.Ladder.{Answers}
 use Rattle.tables.specs.declared.limits.Limits.{Limits}
@@ -17,7 +18,6 @@ use Rattle.requests.specs.Requests.{forget}
 use Rattle.station.specs.Taking.{leaves, taken, AfterTaking as TakeAfter}
 use Rattle.export.specs.declared.parts.Part.{Part}
 use Rattle.export.specs.declared.parts.Part.TheVariants.{Lines}
-use Rattle.export.specs.declared.parts.Export.TheVariants.{Written, Untouched}
 use Rattle.export.specs.declared.parts.NoExport.{NoExport}
 use Rattle.export.specs.declared.parts.NoExport.TheVariants.{Buffer, NotAStore, NoPart}
 use Rattle.export.specs.Exportable.{Exportable}
@@ -42,7 +42,7 @@ started_fresh lim before after s a (inr h) = (fresh_allowed lim, ap (λ (b : Beg
 
 -- nothing is said of a part that was not written
 pub not_moved : (lim : Limits) (part : ℕ) (from to buffer buffer_after reply to_after reply_after work : List ℕ) (k : NoExport)
-    → (Exportable lim → Lends lim work → Answers (exporting lim part from buffer) (record { answer = told (Untouched k); buffer = buffer_after }))
+    → (Exportable lim → Lends lim work → Answers (exporting lim part from buffer) (record { answer = told (Err k); buffer = buffer_after }))
     → Moved lim part from to to_after buffer buffer_after reply reply_after work
 not_moved lim part from to buffer buffer_after reply to_after reply_after work k answers p t u n x roomy a b turn lent =
     absurd (never k (ap (λ (y : AfterExport). y.answer.number) (written_one lim part from buffer t p roomy a n lent.message _ (answers x (lends lim work lent.copy)))))
@@ -54,7 +54,7 @@ not_moved lim part from to buffer buffer_after reply to_after reply_after work k
 
 -- a part that was written and taken
 pub moved : (lim : Limits) (part : ℕ) (from to buffer buffer_after reply to_after reply_after work message : List ℕ) (n : ℕ) (a : Answer)
-    → (Exportable lim → Lends lim work → Answers (exporting lim part from buffer) (record { answer = told (Written n); buffer = buffer_after }))
+    → (Exportable lim → Lends lim work → Answers (exporting lim part from buffer) (record { answer = told (Ok n); buffer = buffer_after }))
     → message ≡ mid_of 0 (n - 0) buffer_after → (length work ≡ lim.size → Answers (taken lim message to reply) (leaves a to_after reply_after))
     → Moved lim part from to to_after buffer buffer_after reply reply_after work
 moved lim part from to buffer buffer_after reply to_after reply_after work message n a answers e takes p t u number x roomy holds there turn lent =

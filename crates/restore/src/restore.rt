@@ -5,7 +5,7 @@ ghost use Rattle.export.specs.Exportable.{Exportable};
 ghost use Rattle.restore.specs.Restoring.{number, restoring, Moved, AllMoved};
 
 use export::exporting::export_in;
-use export::parts::{Export, PARTS};
+use export::parts::PARTS;
 use station::commit::commit_for;
 use store_check::checks::is_store;
 use tables::limits::Limits;
@@ -32,7 +32,7 @@ fn move_part(
     ensures { Moved limits part from.now to.old to.new buffer.old buffer.new reply.old reply.new work.old }
 {
     let written = export_in(part, from, buffer, limits, work);
-    let Export::Written(length) = written else {
+    let Ok(length) = written else {
         return;
     };
     commit_for(&buffer[0..length], to, reply, limits, work);
@@ -49,10 +49,8 @@ fn move_parts(
 )
     ensures { AllMoved limits from.now to.old to.new buffer.old buffer.new reply.old reply.new work.old }
 {
-    let mut done = 0;
-    while done < PARTS {
+    for done in 0..PARTS {
         move_part(done + 1, from, to, buffer, reply, limits, work);
-        done += 1;
     }
 }
 

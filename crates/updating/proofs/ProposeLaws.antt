@@ -1,5 +1,6 @@
 -- Exports compared part by part, and what proposing answers. Assumes nothing.
 use Rattle.lists.proofs.Kit.{ℕ, ◌+◌, ◌-◌, ◌≤◌, ◌<◌, ◌≡◌, refl, ap, ap₂, ◌∙◌, subst⁻¹, inl, inr, List, [], ◌∷◌, Bool, arith, mid_of, length, get_or, take}
+use Rattle.std.specs.Prelude.{Ok, Err}
 use denote.Enum.Declared.{tag_of}
 use types.Run.{OneOf, miss}
 use Rattle.lists.specs.Ladder.{Answers}
@@ -13,7 +14,6 @@ use Rattle.tables.specs.Tables.{Tables}
 use Rattle.working.specs.Seen.{LendsIn, Lends}
 use Rattle.export.specs.declared.parts.Part.{Part}
 use Rattle.export.specs.declared.parts.Part.TheVariants.{Lines}
-use Rattle.export.specs.declared.parts.Export.TheVariants.{Written, Untouched}
 use Rattle.export.specs.declared.parts.NoExport.{NoExport}
 use Rattle.export.specs.declared.parts.NoExport.TheVariants.{Buffer, NotAStore, NoPart}
 use Rattle.export.specs.Exportable.{Exportable}
@@ -58,11 +58,11 @@ not_0 NoPart e = omega arith
 
 module _ (lim : Limits) (part : ℕ) (store buffer after : List ℕ) (t : Tables) (p : Part) (roomy : Roomy lim) (h : Holds lim t store) (n : part_number p ≡ part) (size : lim.message ≤ length buffer) where
   -- from a store, into a buffer of a message's size, a part is not refused
-  pub not_refused : (k : NoExport) → Answers (exporting lim part store buffer) (record { answer = export_told (Untouched k); buffer = after }) → ⊥
+  pub not_refused : (k : NoExport) → Answers (exporting lim part store buffer) (record { answer = export_told (Err k); buffer = after }) → ⊥
   not_refused k a = not_0 k (exported_bytes lim part store buffer t p roomy h n size _ a).0
 
   -- its request stands at the start
-  at_start : (m : ℕ) → Answers (exporting lim part store buffer) (record { answer = export_told (Written m); buffer = after }) → mid_of 0 (m - 0) after ≡ request_bytes (exported p t)
+  at_start : (m : ℕ) → Answers (exporting lim part store buffer) (record { answer = export_told (Ok m); buffer = after }) → mid_of 0 (m - 0) after ≡ request_bytes (exported p t)
   at_start m a =
       let i : m - 0 ≡ m = omega arith in
       ap (λ (k : ℕ). take k after) i ∙ (exported_bytes lim part store buffer t p roomy h n size _ a).1
@@ -71,19 +71,19 @@ module _ (lim : Limits) (part : ℕ) (store buffer after : List ℕ) (t : Tables
 
 module _ (lim : Limits) (part : ℕ) (first second a b work : List ℕ) where
   -- nothing is said of a part that was not written
-  pub first_unwritten : (after : List ℕ) (k : NoExport) (r : Bool) → (Exportable lim → Lends lim work → Answers (exporting lim part first a) (record { answer = export_told (Untouched k); buffer = after }))
+  pub first_unwritten : (after : List ℕ) (k : NoExport) (r : Bool) → (Exportable lim → Lends lim work → Answers (exporting lim part first a) (record { answer = export_told (Err k); buffer = after }))
       → Compared lim part first second a b work r
   first_unwritten after k r e p t u n h = absurd (not_refused lim part first a after t p h.roomy h.here n h.lent.one k (e h.able h.lent.copy))
 
   module _ (work' : List ℕ) (same : length work' ≡ length work) where
-    pub second_unwritten : (after : List ℕ) (k : NoExport) (r : Bool) → (Exportable lim → Lends lim work' → Answers (exporting lim part second b) (record { answer = export_told (Untouched k); buffer = after }))
+    pub second_unwritten : (after : List ℕ) (k : NoExport) (r : Bool) → (Exportable lim → Lends lim work' → Answers (exporting lim part second b) (record { answer = export_told (Err k); buffer = after }))
         → Compared lim part first second a b work r
     second_unwritten after k r e p t u n h =
         absurd (not_refused lim part second b after u p h.roomy h.there n h.lent.other k (e h.able (lends_same lim work work' same h.lent.copy)))
 
     -- where both were, their requests were compared
-    pub compared : (a' b' : List ℕ) (m n : ℕ) (r : Bool) → (Exportable lim → Lends lim work → Answers (exporting lim part first a) (record { answer = export_told (Written m); buffer = a' }))
-        → (Exportable lim → Lends lim work' → Answers (exporting lim part second b) (record { answer = export_told (Written n); buffer = b' }))
+    pub compared : (a' b' : List ℕ) (m n : ℕ) (r : Bool) → (Exportable lim → Lends lim work → Answers (exporting lim part first a) (record { answer = export_told (Ok m); buffer = a' }))
+        → (Exportable lim → Lends lim work' → Answers (exporting lim part second b) (record { answer = export_told (Ok n); buffer = b' }))
         → r ≡ same? (mid_of 0 (m - 0) a') (mid_of 0 (n - 0) b') → Compared lim part first second a b work r
     compared a' b' m n r e d is p t u number h =
         let x : mid_of 0 (m - 0) a' ≡ request_bytes (exported p t) = at_start lim part first a a' t p h.roomy h.here number h.lent.one m (e h.able h.lent.copy) in
@@ -152,7 +152,7 @@ module _ (lim : Limits) (first second buffer : List ℕ) where
         found = known_sole t u n (c t u (both t u here there))
 
         -- one part alone differs, and is written
-        pub says_written : (m : ℕ) → (Exportable lim → Lends lim work' → Answers (exporting lim n second buffer) (record { answer = export_told (Written m); buffer = after }))
+        pub says_written : (m : ℕ) → (Exportable lim → Lends lim work' → Answers (exporting lim n second buffer) (record { answer = export_told (Ok m); buffer = after }))
             → Answers (proposing lim first second buffer) (record { answer = P.Written m; buffer = after })
         says_written m e =
             let (p, number, sole) = found in
@@ -173,7 +173,7 @@ module _ (lim : Limits) (first second buffer : List ℕ) where
             )
 
         -- and never refused
-        pub says_nothing : (k : NoExport) (q : AfterProposal) → (Exportable lim → Lends lim work' → Answers (exporting lim n second buffer) (record { answer = export_told (Untouched k); buffer = after }))
+        pub says_nothing : (k : NoExport) (q : AfterProposal) → (Exportable lim → Lends lim work' → Answers (exporting lim n second buffer) (record { answer = export_told (Err k); buffer = after }))
             → Answers (proposing lim first second buffer) q
         says_nothing k q e =
             let (p, number, _) = found in

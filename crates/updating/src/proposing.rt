@@ -7,7 +7,7 @@ ghost use Rattle.updating.specs.Updating.{proposing, Compared, noted, AllCompare
 
 use super::answers::Proposal;
 use export::exporting::export_in;
-use export::parts::{Export, PARTS};
+use export::parts::PARTS;
 use slots::bytes::alike;
 use store_check::checks::is_store;
 use tables::limits::Limits;
@@ -33,11 +33,11 @@ fn same_part(
     ensures { Compared limits part first.now second.now a.old b.old work.old result }
 {
     let one = export_in(part, first, a, limits, work);
-    let Export::Written(m) = one else {
+    let Ok(m) = one else {
         return false;
     };
     let other = export_in(part, second, b, limits, work);
-    let Export::Written(n) = other else {
+    let Ok(n) = other else {
         return false;
     };
     alike(&a[0..m], &b[0..n])
@@ -69,11 +69,9 @@ fn compare_parts(
     ensures { AllCompared limits first.now second.now a.old b.old work.old result }
 {
     let mut found = Differing::Nothing;
-    let mut done = 0;
-    while done < PARTS {
+    for done in 0..PARTS {
         let alike = same_part(done + 1, first, second, limits, a, b, work);
         found = note(found, done + 1, alike);
-        done += 1;
     }
     found
 }
@@ -104,7 +102,7 @@ pub fn propose_in(
         return Proposal::NoSinglePart;
     };
     let written = export_in(part, second, buffer, limits, work);
-    let Export::Written(length) = written else {
+    let Ok(length) = written else {
         return Proposal::NoSinglePart;
     };
     Proposal::Written(length)

@@ -5,7 +5,7 @@ use case_answers::report_lines::asked;
 use case_lines::printing::{decimal, started, text};
 use case_lines::sets::{Set, start};
 use case_lines::taking::answer_for;
-use export::parts::{Export, NoExport};
+use export::parts::NoExport;
 use std::io;
 use std::io::Write;
 
@@ -25,11 +25,11 @@ fn exported<W: Write>(out: &mut W, what: &[u8], store: &[u8], buffer: &mut [u8])
     text(out, what)?;
     let answer = export_of(Set::Vehicle, 1, store, buffer);
     match answer {
-        Export::Written(length) => {
+        Ok(length) => {
             text(out, b": 0, length ")?;
             decimal(out, (length % 65536) as u32)?;
         }
-        Export::Untouched(why) => {
+        Err(why) => {
             text(out, b": ")?;
             decimal(out, number_of(why))?;
         }

@@ -1,7 +1,11 @@
 use Rattle.export.specs.PartWriters.{Numbered}
-use Rattle.lists.proofs.Kit.{subst, arith}
+use Rattle.lists.proofs.Kit.{ℕ, ◌≤◌, sym, ap, ◌∙◌, subst, arith, length}
+use Rattle.lists.specs.Ladder.{Answers}
+use Rattle.std.specs.Prelude.{Result, Err}
+use Rattle.export.specs.declared.parts.NoExport.{NoExport}
+use Rattle.export.specs.Exporting.{exporting, told}
 use Rattle.tables.proofs.AnswerLaws.{not_said, was_said}
-use Rattle.export.proofs.ExportLaws.{says_15, says_11, says_16, says_0}
+use Rattle.export.proofs.ExportLaws.{refused_as, says_15, says_11, says_16, says_0}
 use Rattle.export.proofs.exporting.export_in.Goals as goal
 
 pub returns-then-buffer-limits : goal.returns-then-buffer-limits
@@ -12,12 +16,6 @@ returns-then-not-is_store c =
     let a = c.args in
     let k = c.is_store in
     (omega arith, λ x l. says_11 a.limits a.part a.store.now a.buffer.now (omega arith) (not_said k.result k.ensures c.if-not-is_store.true-raw))
-
-pub returns-in_default : goal.returns-in_default
-returns-in_default c =
-    let a = c.args in
-    let k = c.is_store in
-    (omega arith, λ x l. says_16 a.limits a.part a.store.now a.buffer.now (omega arith) (was_said k.result k.ensures c.if-not-is_store.false-raw) (subst (Numbered a.part) c.in_default.is c.try_from.ensures).1)
 
 pub returns-then-from-limits : goal.returns-then-from-limits
 returns-then-from-limits c =
@@ -31,6 +29,17 @@ write_part-settings-requires c =
     let s = was_said k.result k.ensures c.if-not-is_store.false-raw in
     (s.roomy, omega arith, omega arith)
 
+pub returns-in_err-which : goal.returns-in_err-which
+returns-in_err-which c =
+    let a = c.args in
+    let k = c.is_store in
+    let n = c.in_err-which.ensures in
+    let e = sym (refused_as _ _ c.from_residual.ensures.1 ∙ ap Err n.0) in (
+      subst (λ (r : Result ℕ NoExport). (told r).request_length ≤ length a.buffer.now) e (omega arith),
+      λ x l. subst (λ (r : Result ℕ NoExport). Answers (exporting a.limits a.part a.store.now a.buffer.now) (record { answer = told r; buffer = a.buffer.now })) e
+          (says_16 a.limits a.part a.store.now a.buffer.now (omega arith) (was_said k.result k.ensures c.if-not-is_store.false-raw) n.1),
+    )
+
 pub returns : goal.returns
 returns c =
     let a = c.args in
@@ -40,6 +49,6 @@ returns c =
     let w = c.write_part-settings in
     let z = c.start_request in (
       z.ensures.0,
-      λ x l. says_0 a.limits a.part a.store.now a.buffer.now c.in-Ok.which v.result.now w.new.buffer z.new.buffer w.result z.result (omega (arith, c.if-buffer-limits.false)) s (v.ensures s l)
-          (subst (Numbered a.part) c.in-Ok.is c.try_from.ensures) (w.ensures x) z.ensures.1,
+      λ x l. says_0 a.limits a.part a.store.now a.buffer.now c.in_ok-which.which v.result.now w.new.buffer z.new.buffer w.result z.result (omega (arith, c.if-buffer-limits.false)) s (v.ensures s l)
+          (subst (Numbered a.part) c.in_ok-which.was c.try_from.ensures) (w.ensures x) z.ensures.1,
     )

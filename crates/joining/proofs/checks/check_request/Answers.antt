@@ -1,4 +1,4 @@
-use Rattle.lists.proofs.Kit.{rules, subst}
+use Rattle.lists.proofs.Kit.{subst}
 use Rattle.read_carrier.specs.Message.{MessageIs}
 use Rattle.read_carrier.specs.declared.carrier.Message.TheVariants.{Size, Carrier, «Type» as AnotherType, Version, NoRequest as NotRequest, Request as ARequest, NoQuery as NotQuery, Query as AQuery}
 use Rattle.joining.specs.Checking.{OpensElse}

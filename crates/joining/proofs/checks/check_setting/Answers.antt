@@ -1,7 +1,7 @@
 use Rattle.read_setting.specs.declared.reader.SettingFault.{SettingFault}
 use Rattle.read_setting.specs.SettingAt.{SettingAt}
 use Rattle.std.specs.Prelude.{Err}
-use Rattle.lists.proofs.Kit.{rules, some, subst}
+use Rattle.lists.proofs.Kit.{some, subst}
 use Rattle.joining.proofs.CheckLaws.{at_end, at_unknown, at_field, step_next}
 use Rattle.joining.proofs.checks.check_setting.Goals as goal
 

@@ -1,6 +1,6 @@
-use Rattle.lists.proofs.Kit.{rules, ◌≤◌, ◌-◌, refl, subst, arith}
+use Rattle.lists.proofs.Kit.{◌-◌, refl, subst, arith}
 use Rattle.joining.specs.Checking.{StepIs}
-use Rattle.joining.proofs.CheckLaws.{Along, along_start, along_on, along_fault, along_over, along_ff, along_good}
+use Rattle.joining.proofs.CheckLaws.{along_start, along_on, along_fault, along_over, along_ff, along_good}
 use Rattle.joining.proofs.checks.check_settings.Goals as goal
 
 pub loop-taken-init : goal.loop-taken-init

@@ -1,4 +1,4 @@
-use Rattle.lists.proofs.Kit.{rules, subst⁻¹, true}
+use Rattle.lists.proofs.Kit.{subst⁻¹, true}
 use Rattle.settings.specs.declared.settings.Setting.{Setting as Read}
 use Rattle.joining.specs.Checking.{IsLast}
 use Rattle.joining.proofs.CheckLaws.{last_is, last_none}

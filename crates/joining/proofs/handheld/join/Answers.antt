@@ -1,4 +1,3 @@
-use Rattle.lists.proofs.Kit.{rules}
 use Rattle.joining.proofs.JoinLaws.{handheld_can}
 use Rattle.joining.proofs.handheld.join.Goals as goal
 

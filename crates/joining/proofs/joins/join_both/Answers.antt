@@ -1,4 +1,4 @@
-use Rattle.lists.proofs.Kit.{rules, arith, sym, ◌∙◌}
+use Rattle.lists.proofs.Kit.{arith, sym, ◌∙◌}
 use Rattle.joining.proofs.JoinLaws.{both_codings, both_many, both_long, both_written}
 use Rattle.joining.proofs.joins.join_both.Goals as goal
 

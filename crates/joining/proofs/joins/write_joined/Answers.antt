@@ -1,4 +1,4 @@
-use Rattle.lists.proofs.Kit.{rules, arith}
+use Rattle.lists.proofs.Kit.{arith}
 use Rattle.joining.proofs.JoinLaws.{all_written}
 use Rattle.joining.proofs.joins.write_joined.Goals as goal
 

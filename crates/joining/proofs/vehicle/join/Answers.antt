@@ -1,4 +1,3 @@
-use Rattle.lists.proofs.Kit.{rules}
 use Rattle.joining.proofs.JoinLaws.{vehicle_can}
 use Rattle.joining.proofs.vehicle.join.Goals as goal
 

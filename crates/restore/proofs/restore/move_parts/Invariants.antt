@@ -12,7 +12,3 @@ use Rattle.restore.proofs.restore.move_parts.Given as goal
 abbrev pub invariant-loop-done : goal.invariant-loop-done
 invariant-loop-done l =
     (length l.to ≡ length l.initial.to) × (length l.buffer ≡ length l.initial.buffer) × (length l.reply ≡ length l.initial.reply) × (length l.work ≡ length l.initial.work) × (l.done ≤ length ten) × ((t u : Tables) → Exportable l.limits → Roomy l.limits → Holds l.limits t l.from → Holds l.limits u l.initial.to → Ready l.limits.texts u → Lent l.limits l.initial.buffer l.initial.reply l.initial.work → SoFar l.limits l.from l.initial.to l.initial.buffer l.initial.reply t u l.done l.to l.buffer l.reply)
-
-abbrev pub decreases-loop-done : goal.decreases-loop-done
-decreases-loop-done l =
-    length ten - l.done

@@ -1,8 +1,9 @@
-use Rattle.lists.proofs.Kit.{rules, ◌≡◌, subst, length}
+use Rattle.std.specs.Prelude.{Result}
+use Rattle.lists.proofs.Kit.{ℕ, rules, ◌≡◌, subst, length}
 use Rattle.lists.specs.Ladder.{Answers}
 use Rattle.tables.proofs.AnswerLaws.{not_said, was_said}
 use Rattle.working.specs.Seen.{Lends}
-use Rattle.export.specs.declared.parts.Export.{Export}
+use Rattle.export.specs.declared.parts.NoExport.{NoExport}
 use Rattle.export.specs.Exportable.{Exportable}
 use Rattle.export.specs.Exporting.{exporting, told}
 use Rattle.updating.specs.Updating.{AllCompared}
@@ -46,7 +47,7 @@ returns-in_default-written c =
     let lent : length p.new.work ≡ length a.work.now = search rules in
     λ x i j k. says_nothing a.limits a.first.now a.second.now a.buffer.now s z c.if-buffer-limits.false x a.a.now a.b.now a.work.now i j k c.in-One.part
     (subst (AllCompared a.limits a.first.now a.second.now a.a.now a.b.now a.work.now) c.in-One.is p.ensures) p.new.work e.new.buffer lent c.in_default-written.field-0 _
-    (subst (λ (r : Export). Exportable a.limits → Lends a.limits p.new.work → Answers (exporting a.limits c.in-One.part a.second.now a.buffer.now) (record { answer = told r; buffer = e.new.buffer })) c.in_default-written.is e.ensures.1)
+    (subst (λ (r : Result ℕ NoExport). Exportable a.limits → Lends a.limits p.new.work → Answers (exporting a.limits c.in-One.part a.second.now a.buffer.now) (record { answer = told r; buffer = e.new.buffer })) c.in_default-written.is e.ensures.1)
 
 pub returns : goal.returns
 returns c =
@@ -57,5 +58,5 @@ returns c =
     let e = c.export_in-written in
     let lent : length p.new.work ≡ length a.work.now = search rules in
     λ x i j k. says_written a.limits a.first.now a.second.now a.buffer.now s z c.if-buffer-limits.false x a.a.now a.b.now a.work.now i j k c.in-One.part
-    (subst (AllCompared a.limits a.first.now a.second.now a.a.now a.b.now a.work.now) c.in-One.is p.ensures) p.new.work e.new.buffer lent c.in-Written.length
-    (subst (λ (r : Export). Exportable a.limits → Lends a.limits p.new.work → Answers (exporting a.limits c.in-One.part a.second.now a.buffer.now) (record { answer = told r; buffer = e.new.buffer })) c.in-Written.is e.ensures.1)
+    (subst (AllCompared a.limits a.first.now a.second.now a.a.now a.b.now a.work.now) c.in-One.is p.ensures) p.new.work e.new.buffer lent c.in-Ok.length
+    (subst (λ (r : Result ℕ NoExport). Exportable a.limits → Lends a.limits p.new.work → Answers (exporting a.limits c.in-One.part a.second.now a.buffer.now) (record { answer = told r; buffer = e.new.buffer })) c.in-Ok.is e.ensures.1)
