@@ -24,6 +24,7 @@ fn set_member(
     set_place(region, MEMBER_SLOT, index, &head, m, operation, text, false);
 }
 
+// No plainer as one function: the two kinds have flags and addresses of two types, and set_member has what they share.
 pub fn apply_group(
     region: &mut [u8],
     m: &[u8],

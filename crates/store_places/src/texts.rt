@@ -79,13 +79,11 @@ pub fn apply_texts(
     empty_to_replace(region, operation);
     let coding = entries.coding;
     let mut p = entries.start;
-    let mut left = entries.count;
-    while 0 < left {
+    for _ in 0..entries.count {
         let Some((place, next)) = read_entry(m, p, table, coding) else {
             return;
         };
         apply_entry(region, m, table, operation, place);
         p = next;
-        left -= 1;
     }
 }

@@ -12,4 +12,3 @@ invariant-loop l =
     (length l.list ≡ length l.initial.list)
     × (l.end ≡ l.fn.entries.count)
     × ((w : Members) (f : FlagsIn w) → l.flags ≡ flags_of w f → FlagsOk w f → KeyedLeft (by_address w f l.fn.entries.coding) l.operation l.m l.fn.entries l.initial.list l.p l.counter l.list)
-

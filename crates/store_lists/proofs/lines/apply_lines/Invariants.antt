@@ -8,4 +8,3 @@ invariant-loop l =
     (length l.list ≡ length l.initial.list)
     × (l.end ≡ l.fn.entries.count)
     × (l.flags.priority < 4 → KeyedLeft (by_number l.flags l.fn.entries.coding) l.operation l.m l.fn.entries l.initial.list l.p l.counter l.list)
-
