@@ -6,7 +6,6 @@ ghost use Rattle.writing.specs.Ranges.{InNumber};
 ghost use Rattle.screen.specs.Rows.{ascii, digits};
 ghost use Rattle.screen.specs.Steps.{Written, DigitsWritten, dialled_digits};
 
-
 // 0 to 9, then A to F.
 fn code(digit: u8) -> u8
     requires { digit < 16 }
