@@ -50,10 +50,6 @@ tried_some : (n : ℕ) (k : Kind) (w : Weight) (p : ℕ) (o : Option Tables) →
 tried_some n k w p none h = absurd h
 tried_some n k w p (some u) h = (u, refl, h.0, h.1)
 
--- numbers of another length are of no tables
-pub tried_short : (log m : List ℕ) (b : Before) (x : SettingRead) (ws vs : List ℕ) → length ws ≢ 27 → TryIs log m b x ws vs None
-tried_short log m b x ws vs h = λ L M s c left t r tells w means i f. absurd (h w.all)
-
 module _ (log m : List ℕ) (b : Before) (x : SettingRead) (ws : List ℕ) (n : ℕ) (number : n ≡ kind_number (read_kind x)) (was : Weight) (at : WeightAt ws n was)
     (turn : Turn) (begins : Begins m x turn) (tried : Maybe (Weight × ℕ)) (weighed : Weighs log m b turn was tried)
   where

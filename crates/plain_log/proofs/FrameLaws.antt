@@ -37,21 +37,6 @@ area_framed log h = frame_of area_size (log_bytes log) h (omega arith)
 pub area_long : (log : List (List ℕ)) → length (area_bytes log) ≡ area_size
 area_long log = pad_length 0 area_size (u32 (length (log_bytes log)) ++ log_bytes log)
 
--- the first byte of four is 0 in an area
-pub starts_zero : (s : List ℕ) (log : List (List ℕ)) → s ≡ area_bytes log → 4 + length (log_bytes log) ≤ area_size → (get_or s 0 0 ≡ 0) × (get_or s 1 0 ≡ 0) × (get_or s 2 0 * 256 + get_or s 3 0 ≡ length (log_bytes log))
-starts_zero s log a h =
-    let n = length (log_bytes log) in
-    let e : s ≡ framed area_size (log_bytes log) = a ∙ area_framed log h in
-    (ap (λ (l : List ℕ). get_or l 0 0) e, ap (λ (l : List ℕ). get_or l 1 0) e, ap₂ (λ (x y : ℕ). x * 256 + y) (ap (λ (l : List ℕ). get_or l 2 0) e) (ap (λ (l : List ℕ). get_or l 3 0) e) ∙ omega arith)
-
--- the used length that was read
-pub used_read : (s : List ℕ) (n r : ℕ) → length s ≡ area_size → n ≡ get_or s 0 0 * 256 + get_or s 1 0 → n ≡ 0 → r ≡ get_or s 2 0 * 256 + get_or s 3 0 → UsedRead s r
-used_read s n r l e z f = record {
-  size = l;
-  there = (omega (arith, e, z), omega (arith, e, z), f);
-  used = λ log a h. f ∙ (starts_zero s log a h).2;
-}
-
 -- ---- a fresh area
 
 -- zeros are the frame of nothing
@@ -77,14 +62,6 @@ number_put s a r p q at n e l =
     ap₂ (λ (t : List ℕ) (i : ℕ). set (set t i (n / 256)) (i + 1) (n % 256)) e (sym l)
     ∙ ap (λ (i : ℕ). set (set (a ++ (p ∷ q ∷ r)) (length a) (n / 256)) i (n % 256)) (add-one (length a))
     ∙ two_at a r p q (n / 256) (n % 256)
-
--- the second of two bytes is inside
-pub second_inside : (s : List ℕ) (at x : ℕ) → at + 2 ≤ length s → at + 1 < length (set s at x)
-second_inside s at x h = simp length-set (omega (arith, h))
-
--- the code's two bytes are the number's
-pub two_written : (s : List ℕ) (at n : ℕ) → PutNumber s at n (set (set s at (n / 256 % 256)) (at + 1) (n % 256))
-two_written s at n = (simp length-set refl, λ h l. (let e : n / 256 % 256 ≡ n / 256 = omega (arith, l) in rw e))
 
 -- ---- one request more
 

@@ -1,10 +1,9 @@
 -- Laws of looking through deeds for one key of one table. Assumes nothing.
-use Rattle.lists.proofs.Kit.{ℕ, suc, ◌+◌, ◌-◌, ◌≤◌, ◌<◌, ◌≡◌, refl, sym, ap, ◌∙◌, subst, subst⁻¹, arith, Bool, true, false, cond, List, [], ◌∷◌, ◌++◌, length, Option, none, some, eqb, eqb-true, eqb-false, eq-eqb, ne_eqb, add-zero, add-suc, suc-add}
+use Rattle.lists.proofs.Kit.{ℕ, suc, ◌+◌, ◌-◌, ◌≤◌, ◌<◌, ◌≡◌, refl, sym, ap, ◌∙◌, subst, subst⁻¹, arith, Bool, true, false, cond, List, [], ◌∷◌, ◌++◌, length, Option, none, some, eqb, add-zero, add-suc, suc-add}
 use denote.Enum.Declared.{tag_of}
 use types.Run.{OneOf, miss}
 use Rattle.writing.specs.declared.Kind.{Kind}
 use Rattle.writing.specs.declared.Kind.TheVariants as kinds
-use Rattle.writing.specs.Writing.{type_byte}
 use Rattle.writing.specs.contracts.Kind.{the_type}
 use Rattle.tables.specs.Owns.{only}
 use Rattle.tables.proofs.Owns.{same_kind}
@@ -14,7 +13,7 @@ use Rattle.events.specs.Deeds as D
 use Rattle.events.specs.Knowing.{Known, unknown, first_stays, staying, put_known, know_step, know_on}
 use Rattle.read_deeds.specs.declared.cursors.Cursor.{Cursor}
 use Rattle.read_deeds.specs.declared.cursors.Moved.{Moved}
-use Rattle.read_deeds.specs.declared.deeds.Deed.TheVariants.{Nothing, Clears, Puts, Removes}
+use Rattle.read_deeds.specs.declared.deeds.Deed.TheVariants.{Puts}
 use Rattle.read_deeds.specs.declared.deeds.Put.{Put}
 use Rattle.read_deeds.specs.Cursors.{Follow, NextDeed}
 use Rattle.read_deeds.specs.ReadDeeds.{TextSeen, PutIs}
@@ -22,57 +21,9 @@ use Rattle.std.specs.declared.option.Option.{Option as Maybe}
 use Rattle.std.specs.declared.option.Option.TheVariants.{Some, None}
 use Rattle.plain_look.specs.declared.known.Found.{Found}
 use Rattle.plain_look.specs.declared.known.Looked.{Looked}
-use Rattle.plain_look.specs.Looking.{Where, anywhere, inside, Reads, PutSeen, FoundIs, LookedIs, deeds_most, LookIs, kind_number, KnowPut, KnowStep}
+use Rattle.plain_look.specs.Looking.{Where, anywhere, inside, Reads, PutSeen, FoundIs, LookedIs, deeds_most, LookIs, KnowPut, KnowStep}
 
--- ---- kinds by number
-
--- the number of a kind by its type byte
-abbrev number_of : ℕ → ℕ
-number_of b = cond (eqb b 0xFF) 12 (b - 0xC8)
-
--- and back
-abbrev byte_of : ℕ → ℕ
-byte_of n = cond (eqb n 12) 0xFF (n + 0xC8)
-
--- each kind's number, one case a kind
-number_of_byte : (k : Kind) → number_of (type_byte k) ≡ kind_number k
-number_of_byte kinds.GroupContacts = refl
-number_of_byte kinds.IndividualContacts = refl
-number_of_byte kinds.Lines = refl
-number_of_byte kinds.Key = refl
-number_of_byte kinds.QuickTexts = refl
-number_of_byte kinds.Home = refl
-number_of_byte kinds.Channels = refl
-number_of_byte kinds.System = refl
-number_of_byte kinds.StatusTexts = refl
-number_of_byte kinds.Group = refl
-number_of_byte kinds.Individual = refl
-number_of_byte kinds.LineSlot = refl
-number_of_byte kinds.Last = refl
-
--- and its type byte
-byte_of_number : (k : Kind) → byte_of (kind_number k) ≡ type_byte k
-byte_of_number kinds.GroupContacts = refl
-byte_of_number kinds.IndividualContacts = refl
-byte_of_number kinds.Lines = refl
-byte_of_number kinds.Key = refl
-byte_of_number kinds.QuickTexts = refl
-byte_of_number kinds.Home = refl
-byte_of_number kinds.Channels = refl
-byte_of_number kinds.System = refl
-byte_of_number kinds.StatusTexts = refl
-byte_of_number kinds.Group = refl
-byte_of_number kinds.Individual = refl
-byte_of_number kinds.LineSlot = refl
-byte_of_number kinds.Last = refl
-
--- numbers of kinds are equal where their type bytes are
-pub kinds_same : (j k : Kind) (x y : ℕ) → x ≡ kind_number j → y ≡ kind_number k → eqb x y ≡ only j k
-kinds_same j k x y p q = go (only j k) refl
-  where
-    go : (b : Bool) → only j k ≡ b → eqb x y ≡ b
-    go true h = eq-eqb x y (p ∙ sym (number_of_byte j) ∙ ap number_of (eqb-true (type_byte j) (type_byte k) h) ∙ number_of_byte k ∙ sym q)
-    go false h = ne_eqb x y (λ e. eqb-false (type_byte j) (type_byte k) h (sym (byte_of_number j) ∙ ap byte_of (sym p ∙ e ∙ q) ∙ byte_of_number k))
+-- ---- kinds
 
 -- the numbers of the kinds other than quick texts
 abbrev others : List ℕ
@@ -143,20 +94,6 @@ put_latest k n p known t once b there latest w a o is few h = record {
 -- ---- one deed
 
 module _ (k : Kind) (key n : ℕ) (known : Looked) where
-  -- nothing is done
-  pub know_nothing : KnowStep k key n Nothing known known
-  know_nothing w m nothing o r is few h = h
-  know_nothing w m (clears j) o r is few h = absurd is
-  know_nothing w m (puts j a) o r is few h = absurd is
-  know_nothing w m (removes j c) o r is few h = absurd is
-
-  -- a table is emptied: what is then found is this, by whether it is the table
-  pub know_clears : (j : Kind) (b : Bool) (r : Looked) → b ≡ only j k → ((w : Where) (o : Known) → LookedIs w known o → LookedIs w r (cond b unknown o)) → KnowStep k key n (Clears j) known r
-  know_clears j b r e f w m nothing o s is few h = absurd is
-  know_clears j b r e f w m (clears i) o s is few h = subst (λ (x : Bool). LookedIs w r (cond x unknown o)) (e ∙ ap (λ (x : Kind). only x k) is) (f w o h)
-  know_clears j b r e f w m (puts i a) o s is few h = absurd is
-  know_clears j b r e f w m (removes i c) o s is few h = absurd is
-
   -- an entry is put
   pub know_puts : (j : Kind) (p : Put) (b d : Bool) (r : Looked) → b ≡ only j k → d ≡ eqb p.key key
       → ((w : Where) (a : Seen) (o : Known) → PutSeen w p a → o.often < deeds_most → LookedIs w known o → LookedIs w r (cond b (cond d (put_known k n a o) o) o)) → KnowStep k key n (Puts j p) known r
@@ -166,16 +103,6 @@ module _ (k : Kind) (key n : ℕ) (known : Looked) where
       subst (λ (x : Bool). LookedIs w r (cond x (cond (eqb a.key key) (put_known k n a o) o) o)) (e ∙ ap (λ (x : Kind). only x k) is.0)
       (subst (λ (y : Bool). LookedIs w r (cond b (cond y (put_known k n a o) o) o)) (g ∙ ap (λ (x : ℕ). eqb x key) is.1.key) (f w a o (seen_in w m p a s is.1) few h))
   know_puts j p b d r e g f w m (removes i c) o s is few h = absurd is
-
-  -- the entries with a key go
-  pub know_removes : (j : Kind) (c : ℕ) (b d : Bool) (r : Looked) → b ≡ only j k → d ≡ eqb c key
-      → ((w : Where) (o : Known) → LookedIs w known o → LookedIs w r (cond b (cond d unknown o) o)) → KnowStep k key n (Removes j c) known r
-  know_removes j c b d r e g f w m nothing o s is few h = absurd is
-  know_removes j c b d r e g f w m (clears i) o s is few h = absurd is
-  know_removes j c b d r e g f w m (puts i a) o s is few h = absurd is
-  know_removes j c b d r e g f w m (removes i x) o s is few h =
-      subst (λ (y : Bool). LookedIs w r (cond y (cond (eqb x key) unknown o) o)) (e ∙ ap (λ (y : Kind). only y k) is.0)
-      (subst (λ (y : Bool). LookedIs w r (cond b (cond y unknown o) o)) (g ∙ ap (λ (y : ℕ). eqb y key) is.1) (f w o h))
 
 -- ---- many deeds
 
@@ -196,18 +123,6 @@ Looks m first count k key cursor known here now_known i =
     → LookLeft w m first count k key here now_known i more (know_on k key first ds o)
 
 module _ (m : List ℕ) (first count : ℕ) (k : Kind) (key : ℕ) where
-  -- at first all are left
-  pub look_starts : (cursor : Cursor) (known : Looked) → Looks m first count k key cursor known cursor known 0
-  look_starts cursor known w ds more o s follow many small few is = record {
-    rest = ds;
-    so_far = o;
-    follow = follow;
-    many = omega (arith, many);
-    few = omega arith;
-    known_is = is;
-    same = ap (λ (j : ℕ). know_on k key j ds o) (add-zero first);
-  }
-
   -- the first of those left is passed
   left_on : (w : Where) (here : Cursor) (now_known r : Looked) (moved : Moved) (i : ℕ) (rest more : List D.Deed) (so_far end : Known) → Reads w m → first + count < deeds_most → i < count
       → NextDeed m here moved → KnowStep k key (first + i) moved.deed now_known r → Follow m here (rest ++ more) → length rest ≡ count - i → so_far.often ≤ first + i
@@ -245,7 +160,3 @@ module _ (m : List ℕ) (first count : ℕ) (k : Kind) (key : ℕ) where
   look_ends cursor known here now_known i h g w ds more o s follow many small few is =
       let l = g w ds more o s follow many small few is in
       none_left w now_known (first + i) l.rest l.so_far (know_on k key first ds o) (omega (arith, l.many)) l.known_is l.same
-
-  -- numbers so high are promised nothing of
-  pub look_high : (cursor : Cursor) (known r : Looked) → deeds_most ≤ first + count → LookIs m cursor first count k key known r
-  look_high cursor known r h w ds more o s follow many small few is = absurd (omega arith)

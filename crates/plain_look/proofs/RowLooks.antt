@@ -1,5 +1,5 @@
 -- Laws of looking through deeds for a row. Assumes nothing.
-use Rattle.lists.proofs.Kit.{ℕ, suc, ◌+◌, ◌-◌, ◌≤◌, ◌<◌, ◌≡◌, ◌≢◌, refl, sym, ap, ◌∙◌, subst, subst⁻¹, arith, Bool, true, false, cond, List, [], ◌∷◌, append-nil, length, Option, none, some, eqb, eq-eqb, ne_eqb, add-one}
+use Rattle.lists.proofs.Kit.{ℕ, suc, ◌+◌, ◌-◌, ◌<◌, ◌≡◌, ◌≢◌, refl, sym, ap, ◌∙◌, subst, subst⁻¹, arith, Bool, true, false, cond, List, [], ◌∷◌, append-nil, length, Option, none, some, eqb, eq-eqb, ne_eqb, add-one}
 use Rattle.writing.specs.declared.Kind.{Kind}
 use Rattle.tables.specs.Owns.{only}
 use Rattle.events.specs.Events.{entry}
@@ -140,10 +140,6 @@ abbrev pub Rows : List ℕ → Cursor → (count : ℕ) → Kind → (position :
 Rows m c count k position here before i = (ds : List D.Deed) → Follow m c ds → length ds ≡ count → count < deeds_most → RowLeft m count k position ds here before i
 
 module _ (m : List ℕ) (c : Cursor) (count : ℕ) (k : Kind) (position : ℕ) where
-  -- at first all are left
-  pub rows_start : Rows m c count k position c position 0
-  rows_start ds follow many small = record { rest = ds; follow = follow; many = omega (arith, many); same = refl }
-
   -- what the first of those left comes to
   record Next (moved : Moved) (found : Maybe Put) (before i : ℕ) (ds : List D.Deed) : Type 0 where
     first : D.Deed
@@ -203,27 +199,7 @@ module _ (m : List ℕ) (c : Cursor) (count : ℕ) (k : Kind) (position : ℕ) w
           same = sym (no_row m (born_of k ds i x.first) before (row_on k ds (i + 1) x.rest) (subst (λ (y : Maybe Put). SeenIs m y (born_of k ds i x.first)) gone x.seen)) ∙ x.same;
         }
 
-  -- none is left
-  none_left : (ds rest : List D.Deed) (before i : ℕ) → length rest ≡ 0 → row_on k ds i rest before ≡ row_on k ds 0 ds position → SeenIs m None (row_on k ds 0 ds position)
-  none_left ds [] before i z same = subst (SeenIs m None) same tt
-  none_left ds (d ∷ rest) before i z same = absurd (omega (arith, z))
-
-  -- there is no such row
-  pub rows_end : (here : Cursor) (before i : ℕ) → count ≤ i → Rows m c count k position here before i → RowOn m c count k position None
-  rows_end here before i h g ds follow many small =
-      let l = g ds follow many small in
-      none_left ds l.rest before i (omega (arith, l.many)) l.same
-
-  -- so many are promised nothing of
-  pub rows_high : (r : Maybe Put) → deeds_most ≤ count → RowOn m c count k position r
-  rows_high r h ds follow many small = absurd (omega arith)
-
   -- ---- a row of any kind
-
-  -- by position
-  pub row_listed : (r : Maybe Put) → listed k ≡ true → RowOn m c count k position r → RowIs m c count k position r
-  row_listed r is on ds follow many small =
-      subst⁻¹ (λ (b : Bool). SeenIs m r (cond b (row_on k ds 0 ds position) (entry (know k position ds).found_at))) is (on ds follow many small)
 
   module _ (u found : Looked) (no_entry : u.found ≡ None) (never : u.often ≡ 0) (place : listed k ≡ false) (look : LookIs m c 0 count k position u found) where
     -- by place

@@ -31,21 +31,7 @@ pub const UNKNOWN: Looked = Looked {
 pub fn kind_number(kind: Kind) -> usize
     ensures { KindNumber kind result }
 {
-    match kind {
-        Kind::GroupContacts => 0,
-        Kind::IndividualContacts => 1,
-        Kind::Lines => 2,
-        Kind::Key => 3,
-        Kind::QuickTexts => 4,
-        Kind::Home => 5,
-        Kind::Channels => 6,
-        Kind::System => 7,
-        Kind::StatusTexts => 8,
-        Kind::Group => 9,
-        Kind::Individual => 10,
-        Kind::LineSlot => 11,
-        Kind::Last => 12,
-    }
+    kind as usize
 }
 
 // Whether two kinds are the same.

@@ -167,17 +167,6 @@ Behind log m b left w r =
     → TriedAs (length M + length S) r (weigh_all handheld (L ++ M) S (weighs w))
 
 module _ (log m : List ℕ) (b : Before) (turn : Turn) (w : Weigh) where
-  -- so many deeds are not read
-  pub setting_high : (r : Answer (Weigh × ℕ)) → 0x100000000 ≤ b.passed → Weighs log m b turn w r
-  setting_high r h L M S read is small few = absurd (omega (arith, h, read.few))
-
-  -- nor so many of one setting
-  pub setting_long : (r : Answer (Weigh × ℕ)) → 0x100000000 ≤ turn.left.count → Weighs log m b turn w r
-  setting_long r h L M S read is small few =
-      let n : length is.rest ≡ turn.left.count = left_counted m turn.left is.rest is.left in
-      let e : length S ≡ suc (length is.rest) = ap length is.parts in
-      absurd (omega (arith, n, e, h, few))
-
   module _ (opened : Answer Weigh) (weighed : WeighNext log m b turn.deed w opened) where
     -- the first deed has no room
     pub setting_full : opened ≡ None → Weighs log m b turn w None
