@@ -24,10 +24,6 @@ pub fn number_of(answer: Answer) -> u8
 {
     match answer {
         Answer::Shown => 0,
-        Answer::Refused(why) => match why {
-            Refusal::ScratchSize => 15,
-            Refusal::NotAStore => 11,
-            Refusal::Absent => 17,
-        },
+        Answer::Refused(why) => why as u8,
     }
 }

@@ -16,12 +16,12 @@ pub enum Row {
     NoTable,
 }
 
-// Why no row is shown.
+// Why no row is shown, with the number of document 01.
 #[derive(Clone, Copy)]
 pub enum Refusal {
-    ScratchSize,
-    NotAStore,
-    Absent,
+    ScratchSize = 15,
+    NotAStore = 11,
+    Absent = 17,
 }
 
 // The row of plain numbers: tables 1 to 8 in this order, any other is no table.
