@@ -1,4 +1,5 @@
 // The call of the vehicle, whose store is read as it is.
+// Kept beside handheld.rt, since the README names both: each only calls export_in, which is generic, with a working copy of its own fixed size.
 ghost use Rattle.lists.specs.Ladder.{Answers};
 ghost use Rattle.tables.specs.Limits.{vehicle};
 ghost use Rattle.export.specs.Exporting.{told, exporting};

@@ -1,4 +1,5 @@
 // The call for the vehicle's message size.
+// Kept beside handheld.rt, since the README names both: each only calls join_in, which is generic, with its own message size.
 ghost use Rattle.lists.specs.Ladder.{Answers};
 ghost use Rattle.tables.specs.Limits.{vehicle};
 ghost use Rattle.joining.specs.Joins.{joining};

@@ -1,4 +1,5 @@
 // The call of the vehicle, which owns the working copy.
+// Kept beside handheld.rt, since the README names both: each only calls restore_in, which is generic, with a working copy of its own fixed size.
 ghost use Rattle.lists.specs.Ladder.{Answers};
 ghost use Rattle.tables.specs.Limits.{vehicle};
 ghost use Rattle.restore.specs.Restoring.{number, restoring};

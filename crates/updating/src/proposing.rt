@@ -12,7 +12,7 @@ use slots::bytes::alike;
 use store_check::checks::is_store;
 use tables::limits::Limits;
 
-// Which parts differ: none so far, the one with this number, or several.
+// Which parts differ: none so far, the one with this number, or several: three cases, which an Option would hide in a second Option.
 #[derive(Clone, Copy)]
 pub(crate) enum Differing {
     Nothing,

@@ -1,4 +1,5 @@
 // The calls for the vehicle's stores, which own the copies and the buffers to compare in.
+// Kept beside handheld.rt, since the README names both: each only calls check_in and propose_in, which are generic, with copies and buffers of its own fixed sizes.
 ghost use Rattle.lists.specs.Ladder.{Answers};
 ghost use Rattle.tables.specs.Limits.{vehicle};
 ghost use Rattle.updating.specs.Updating.{checking, proposing};
