@@ -168,12 +168,10 @@ fn neighbours<W: Write>(
     first: &mut [u8],
     second: &mut [u8],
 ) -> io::Result<()> {
-    let mut part = 1;
-    while part <= PARTS {
+    for part in 1..=PARTS {
         move_part(out, Set::Handheld, Set::Handheld, part, set, second)?;
         proposed(out, b"  proposed", first, second)?;
         copy(first, second);
-        part += 1;
     }
     Ok(())
 }

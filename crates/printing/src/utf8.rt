@@ -135,7 +135,7 @@ fn show_character<W: Write>(out: &mut W, code: u32) -> io::Result<()>
     text(out, &bytes[0..length])
 }
 
-// Writes a text's characters one by one.
+// Writes a text's characters one by one. A character takes one unit or two, so a `for` has nothing to count.
 pub fn show_text<W: Write>(out: &mut W, units: &[u8]) -> io::Result<()>
     ensures { OnOk result (Appends (W.contents out.old) (W.contents out.new) (utf.shown units.now)) }
 {

@@ -24,7 +24,7 @@ fn little_endian(low: u8, high: u8) -> u16
     low as u16 + high as u16 * 256
 }
 
-// Reads until the buffer is full or the input ends: how many bytes came.
+// Reads until the buffer is full or the input ends: how many bytes came. The reader alone knows how many a read gives, so a `for` has nothing to count.
 fn read_full<R: Read>(input: &mut R, buffer: &mut [u8]) -> io::Result<usize>
     ensures bound { IfOk result (λ n. n ≤ length buffer.new) }
     ensures bytes { IfOk result (λ n. Consumes (R.remaining input.old) (R.remaining input.new) (take n buffer.new)) }

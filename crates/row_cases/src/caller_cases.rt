@@ -10,17 +10,11 @@ const ORDER: usize = 2222;
 
 const SHOWN: usize = ORDER + 5;
 
-fn wide(b: u8) -> u32 {
-    b as u32
-}
-
 // Bytes as numbers, with a space before each.
 fn each<W: Write>(out: &mut W, bytes: &[u8]) -> io::Result<()> {
-    let mut i = 0;
-    while i < bytes.len() {
+    for b in bytes {
         text(out, b" ")?;
-        decimal(out, wide(bytes[i]))?;
-        i += 1;
+        decimal(out, *b)?;
     }
     Ok(())
 }
@@ -119,9 +113,7 @@ fn swap<W: Write>(out: &mut W, store: &mut [u8]) -> io::Result<()> {
     if store.len() < ORDER + 2 {
         return Ok(());
     }
-    let first = store[ORDER];
-    store[ORDER] = store[ORDER + 1];
-    store[ORDER + 1] = first;
+    store.swap(ORDER, ORDER + 1);
     text(out, b"the first two of the order change places\n")
 }
 

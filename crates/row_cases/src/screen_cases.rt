@@ -8,28 +8,28 @@ use std::io;
 use std::io::Write;
 
 // A table and a place for each row that is shown.
-const ROWS: [[u32; 2]; 21] = [
-    [1, 0],
-    [1, 1],
-    [1, 2],
-    [2, 7],
-    [2, 8],
-    [2, 64],
-    [3, 32],
-    [3, 127],
-    [3, 31],
-    [3, 33],
-    [4, 0],
-    [4, 1],
-    [4, 2],
-    [4, 3],
-    [4, 16],
-    [5, 0],
-    [5, 1],
-    [5, 2],
-    [5, 3],
-    [0, 0],
-    [9, 0],
+const ROWS: [(u32, u32); 21] = [
+    (1, 0),
+    (1, 1),
+    (1, 2),
+    (2, 7),
+    (2, 8),
+    (2, 64),
+    (3, 32),
+    (3, 127),
+    (3, 31),
+    (3, 33),
+    (4, 0),
+    (4, 1),
+    (4, 2),
+    (4, 3),
+    (4, 16),
+    (5, 0),
+    (5, 1),
+    (5, 2),
+    (5, 3),
+    (0, 0),
+    (9, 0),
 ];
 
 fn fill<W: Write>(out: &mut W, store: &mut [u8]) -> io::Result<()> {
@@ -51,11 +51,8 @@ fn fill<W: Write>(out: &mut W, store: &mut [u8]) -> io::Result<()> {
 }
 
 fn rows<W: Write>(out: &mut W, store: &[u8]) -> io::Result<()> {
-    let mut i = 0;
-    while i < 21 {
-        let named = ROWS[i];
-        row(out, store, named[0], named[1])?;
-        i += 1;
+    for (table, place) in &ROWS {
+        row(out, store, *table, *place)?;
     }
     Ok(())
 }

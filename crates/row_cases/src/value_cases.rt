@@ -14,11 +14,11 @@ fn field<W: Write>(out: &mut W, name: &[u8], value: u32) -> io::Result<()> {
 }
 
 fn bit(b: bool) -> u32 {
-    if b { 1 } else { 0 }
+    u32::from(b)
 }
 
 fn wide(n: u8) -> u32 {
-    n as u32
+    u32::from(n)
 }
 
 // The flags that lines, groups and individuals share.
@@ -147,23 +147,18 @@ fn fixed<W: Write>(out: &mut W, store: &[u8]) -> io::Result<()> {
     key(out, store)?;
     home(out, store)?;
     system(out, store)?;
-    tuned(out, 0, store)?;
-    tuned(out, 1, store)?;
-    tuned(out, 2, store)
+    for position in 0..3 {
+        tuned(out, position, store)?;
+    }
+    Ok(())
 }
 
 // The first place of every table, and what is no table or no place.
 fn every<W: Write>(out: &mut W, store: &[u8]) -> io::Result<()> {
-    behind(out, 0, 0, store)?;
-    behind(out, 1, 0, store)?;
-    behind(out, 2, 0, store)?;
-    behind(out, 3, 0, store)?;
-    behind(out, 4, 0, store)?;
-    behind(out, 5, 0, store)?;
-    behind(out, 6, 0, store)?;
-    behind(out, 7, 0, store)?;
-    behind(out, 8, 0, store)?;
-    behind(out, 9, 0, store)
+    for table in 0..10 {
+        behind(out, table, 0, store)?;
+    }
+    Ok(())
 }
 
 fn fill<W: Write>(out: &mut W, store: &mut [u8]) -> io::Result<()> {
