@@ -1,5 +1,5 @@
 -- A setting tried by numbers: what its table weighs after it, and the sum of texts. Assumes nothing.
-use Rattle.lists.proofs.Kit.{ℕ, ◌+◌, ◌-◌, ◌*◌, ◌≤◌, ◌<◌, ◌≡◌, ◌≢◌, refl, sym, ap, ap₂, ◌∙◌, subst, List, ◌++◌, Option, none, some, inl, inr, arith, length, get_or}
+use Rattle.lists.proofs.Kit.{ℕ, ◌+◌, ◌-◌, ◌*◌, ◌≤◌, ◌<◌, ◌≡◌, refl, sym, ap, ap₂, ◌∙◌, subst, List, ◌++◌, Option, none, some, inl, inr, arith, length, get_or}
 use mathlib.Core.Option.{map}
 use Rattle.writing.specs.declared.Coding.{Coding}
 use Rattle.writing.specs.declared.Kind.{Kind}

@@ -1,11 +1,11 @@
 -- The bytes of an area: its used length, the requests behind it, and zeros. Assumes nothing.
-use Rattle.lists.proofs.Kit.{ℕ, ◌≤◌, ◌<◌, ◌+◌, ◌*◌, ◌-◌, ◌/◌, ◌%◌, suc, ◌≡◌, refl, sym, ap, ap₂, ◌∙◌, subst, subst⁻¹, List, [], ◌∷◌, ◌++◌, map, map-append, append-nil, append_assoc, length, drop, take, get_or, set, replicate, length-set, length-append, length-replicate, take_all, replicate-append-replicate, arith, put_mid, mid_of, add-one}
+use Rattle.lists.proofs.Kit.{ℕ, ◌≤◌, ◌<◌, ◌+◌, ◌-◌, ◌/◌, ◌%◌, suc, ◌≡◌, refl, sym, ap, ap₂, ◌∙◌, subst, subst⁻¹, List, [], ◌∷◌, ◌++◌, map, map-append, append-nil, append_assoc, length, drop, take, set, replicate, length-append, length-replicate, take_all, replicate-append-replicate, arith, put_mid, mid_of, add-one}
 use Rattle.slots.specs.Slots.{flat, pad, u16}
 use Rattle.slots.proofs.Pads.{pad_is, pad_length}
 use Rattle.slots.proofs.Parts.{flat_append, put_part, get_part}
 use Rattle.slots.proofs.Runs.{copy_whole}
 use Rattle.plain_log.specs.Area.{area_size, record_bytes, log_bytes, u32, area_bytes}
-use Rattle.plain_log.specs.Frames.{UsedRead, PutNumber}
+use Rattle.plain_log.specs.Frames.{PutNumber}
 
 -- ---- the used length
 

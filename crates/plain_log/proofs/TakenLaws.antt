@@ -5,7 +5,6 @@ use types.Run.{OneOf, miss}
 use Rattle.lists.specs.Bytes.{Bytes}
 use Rattle.lists.proofs.Bytes.{bytes_drop, bytes_take}
 use Rattle.writing.specs.declared.Coding.{Coding}
-use Rattle.writing.specs.declared.Result.{Result}
 use Rattle.writing.specs.Carrier.{RequestOf, InSize, result_number}
 use Rattle.writing.specs.Settings.{Setting}
 use Rattle.read_fields.specs.declared.hashes.HashPlace.{HashPlace}

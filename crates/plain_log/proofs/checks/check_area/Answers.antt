@@ -1,7 +1,7 @@
-use Rattle.lists.proofs.Kit.{rules, arith, ◌+◌, ◌-◌, ◌≡◌, refl, ap, subst, subst⁻¹, length, not-true, not-false}
+use Rattle.lists.proofs.Kit.{rules, arith, ◌+◌, ◌≡◌, refl, ap, subst, subst⁻¹, length, not-true, not-false}
 use Rattle.lists.specs.Bytes.{Bytes}
 use Rattle.plain_log.specs.Checking.{RecordIs, AreaIs}
-use Rattle.plain_log.proofs.AreaLaws.{Turn, frame_here, frame_not, used_not, turn_start, turn_end, turn_many, turn_none, turn_stuck, turn_much, turn_more}
+use Rattle.plain_log.proofs.AreaLaws.{frame_here, frame_not, used_not, turn_start, turn_end, turn_many, turn_none, turn_stuck, turn_much, turn_more}
 use Rattle.plain_log.proofs.checks.check_area.Goals as goal
 
 pub returns-then-weights-ne-WEIGHTS : goal.returns-then-weights-ne-WEIGHTS
