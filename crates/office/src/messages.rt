@@ -3,7 +3,6 @@ use super::fields::labelled;
 use super::parameters::show_parameter;
 use printing::output::text;
 use report_reading::handheld::read_report;
-use report_reading::items::ItemRead;
 use report_reading::messages::ReportRead;
 use report_reading::types::read_item;
 use std::io;
@@ -22,8 +21,7 @@ fn parameters<W: Write>(out: &mut W, m: &[u8], count: u8) -> io::Result<()> {
     let mut at = FIRST;
     let mut left = count;
     while 0 < left {
-        let here = read_item(m, at);
-        let ItemRead::Item(item, next) = here else {
+        let Some((item, next)) = read_item(m, at) else {
             return Ok(());
         };
         show_parameter(out, m, item)?;
