@@ -3,7 +3,6 @@ use super::fields::labelled;
 use super::parameters::show_parameter;
 use printing::output::text;
 use report_reading::handheld::read_report;
-use report_reading::items::ItemRead;
 use report_reading::messages::ReportRead;
 use report_reading::types::read_item;
 use std::io;
@@ -21,8 +20,7 @@ pub(crate) fn refused<W: Write>(out: &mut W, number: u8) -> io::Result<()> {
 fn parameters<W: Write>(out: &mut W, m: &[u8], count: u8) -> io::Result<()> {
     let mut at = FIRST;
     for _ in 0..count {
-        let here = read_item(m, at);
-        let ItemRead::Item(item, next) = here else {
+        let Some((item, next)) = read_item(m, at) else {
             return Ok(());
         };
         show_parameter(out, m, item)?;

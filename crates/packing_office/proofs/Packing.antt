@@ -5,11 +5,10 @@ use Rattle.writing.specs.declared.KeyTarget.{KeyTarget}
 use Rattle.tables.specs.Layout.{key_flags, key_address}
 use Rattle.reports.specs.Items.{Item}
 use Rattle.report_reading.specs.declared.items.Item.{Item as Found}
-use Rattle.report_reading.specs.declared.items.ItemRead.{ItemRead}
-use Rattle.report_reading.specs.declared.items.ItemRead.TheVariants.{Item as AnItem, NoItem}
+use Rattle.std.specs.Prelude.{Some, None}
 use Rattle.report_reading.specs.declared.messages.ReportRead.{ReportRead}
 use Rattle.report_reading.specs.declared.messages.ReportRead.TheVariants.{Report}
-use Rattle.report_reading.specs.Reading.{told, counted}
+use Rattle.report_reading.specs.Reading.{ItemRead, told, counted}
 use Rattle.packing.specs.PackedValues.{WhereFit}
 use Rattle.packing_office.specs.declared.parameter.Parameter.{Parameter}
 use Rattle.packing_office.specs.declared.places.Places.{Places}
@@ -44,11 +43,11 @@ pub key_case : (t u : KeyTarget) (f : KeyFlags) (r : Parameter) (bits a : ℕ) �
 key_case t u f r bits a e p b z =
     p ∙ ap₂ (λ x y. entry 0xCB x 0 y) b z ∙ ap (λ v. entry 0xCB (key_flags (record { target = v; flags = f })) 0 (key_address v)) (sym e)
 
-pub parameter_packed : (x : ItemRead) (i : Found) (next : ℕ) (p : Parameter) (r : ℕ) → x ≡ AnItem i next → p ≡ parameter i → WhereFit (parameter_fields p) r → WhereFit (parameter_fields (parameter_read x)) r
+pub parameter_packed : (x : ItemRead) (i : Found) (next : ℕ) (p : Parameter) (r : ℕ) → x ≡ Some (i, next) → p ≡ parameter i → WhereFit (parameter_fields p) r → WhereFit (parameter_fields (parameter_read x)) r
 parameter_packed x i next p r e d w =
     subst (λ (y : ItemRead). WhereFit (parameter_fields (parameter_read y)) r) (sym e) (subst (λ (q : Parameter). WhereFit (parameter_fields q) r) d w)
 
-pub no_parameter : (x : ItemRead) → x ≡ NoItem → WhereFit (parameter_fields (parameter_read x)) 0
+pub no_parameter : (x : ItemRead) → x ≡ None → WhereFit (parameter_fields (parameter_read x)) 0
 no_parameter x e = subst (λ (y : ItemRead). WhereFit (parameter_fields (parameter_read y)) 0) (sym e) (λ f. refl)
 
 -- ---- where its parts stand
@@ -56,7 +55,7 @@ no_parameter x e = subst (λ (y : ItemRead). WhereFit (parameter_fields (paramet
 pub places_case : (i j : Found) (next : ℕ) (r : Places) → i ≡ j → r ≡ places j next → r ≡ places i next
 places_case i j next r e p = p ∙ sym (ap (λ k. places k next) e)
 
-module _ (x : ItemRead) (i : Found) (next : ℕ) (e : x ≡ AnItem i next) where
+module _ (x : ItemRead) (i : Found) (next : ℕ) (e : x ≡ Some (i, next)) where
   by_next : (b : Bool) → ltb next 65536 ≡ b → (r : ℕ) → WhereFit (places_fields (cond b (places i next) (bare 0 0 0))) r → WhereFit (places_fields (places_read x)) r
   by_next b d r w =
       subst (λ (y : ItemRead). WhereFit (places_fields (places_read y)) r) (sym e)
@@ -68,5 +67,5 @@ module _ (x : ItemRead) (i : Found) (next : ℕ) (e : x ≡ AnItem i next) where
   pub no_room : ltb next 65536 ≡ false → WhereFit (places_fields (places_read x)) 0
   no_room l = by_next false l 0 (λ f. refl)
 
-pub no_places : (x : ItemRead) → x ≡ NoItem → WhereFit (places_fields (places_read x)) 0
+pub no_places : (x : ItemRead) → x ≡ None → WhereFit (places_fields (places_read x)) 0
 no_places x e = subst (λ (y : ItemRead). WhereFit (places_fields (places_read y)) 0) (sym e) (λ f. refl)

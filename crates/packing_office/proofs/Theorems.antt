@@ -19,10 +19,9 @@ use Rattle.reports.proofs.Determined.{reading_determined}
 use Rattle.reports.proofs.Theorems.{read_small}
 use Rattle.report_reading.specs.declared.items.Item.{Item as Found}
 use Rattle.report_reading.specs.declared.items.Item.TheVariants.{Unknown}
-use Rattle.report_reading.specs.declared.items.ItemRead.{ItemRead}
-use Rattle.report_reading.specs.declared.items.ItemRead.TheVariants.{Item as AnItem, NoItem}
+use Rattle.std.specs.Prelude.{Some, None}
 use Rattle.report_reading.specs.declared.messages.ReportRead.{ReportRead}
-use Rattle.report_reading.specs.Reading.{Says, TextEnds, ReadAt, ReadAs, told}
+use Rattle.report_reading.specs.Reading.{ItemRead, Says, TextEnds, ReadAt, ReadAs, told}
 use Rattle.report_reading.proofs.ItemDetermined.{item_determined}
 use Rattle.packing.specs.PackedValues.{PacksFields, WhereFit}
 use Rattle.packing.proofs.SideBySide.{read_back}
@@ -94,8 +93,8 @@ pub parameter_whole : (m : List ℕ) (at : ℕ) (x : ItemRead) (r : ℕ) → Rea
 parameter_whole m at x r a packs = let f = fits x a in record { read = x; allowed = a; packs = record { fits = f; bits = packs f } }
   where
     fits : (x : ItemRead) → ReadAt m at x → All FitsField (parameter_fields (parameter_read x))
-    fits (AnItem f next) (i, s, ok, _) = said_fits m next i f s ok
-    fits NoItem never = parameter_fits (entry 0 0 0 0) (omega arith) (omega arith) (omega arith) (omega arith)
+    fits (Some (f, next)) (i, s, ok, _) = said_fits m next i f s ok
+    fits None never = parameter_fits (entry 0 0 0 0) (omega arith) (omega arith) (omega arith) (omega arith)
 
 -- PARAMETER DETERMINED: one number
 pub parameter_determined : (m : List ℕ) (at r q : ℕ) → AnswersParameter m at r → AnswersParameter m at q → r ≡ q
@@ -162,8 +161,8 @@ places_whole m at x r a packs = let f = fits x a in record { read = x; allowed =
     by f next false e i s ok = bare_fit 0 (omega arith)
 
     fits : (x : ItemRead) → ReadAt m at x → All FitsField (places_fields (places_read x))
-    fits (AnItem f next) (i, s, ok, _) = by f next (ltb next 65536) refl i s ok
-    fits NoItem never = bare_fit 0 (omega arith)
+    fits (Some (f, next)) (i, s, ok, _) = by f next (ltb next 65536) refl i s ok
+    fits None never = bare_fit 0 (omega arith)
 
 -- PLACES DETERMINED: one number
 pub places_determined : (m : List ℕ) (at r q : ℕ) → AnswersPlaces m at r → AnswersPlaces m at q → r ≡ q

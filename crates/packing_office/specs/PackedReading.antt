@@ -10,9 +10,8 @@ use Rattle.reports.specs.Reading.{Read, reading}
 use Rattle.reports.specs.Types.{ask_byte}
 use Rattle.report_reading.specs.declared.items.Item.{Item}
 use Rattle.report_reading.specs.declared.items.Item.TheVariants.{Group, Individual, Line, Key, Quick, Home, Channel, System, Status, Hash, NoHash, Unknown}
-use Rattle.report_reading.specs.declared.items.ItemRead.{ItemRead}
-use Rattle.report_reading.specs.declared.items.ItemRead.TheVariants.{Item as AnItem, NoItem}
-use Rattle.report_reading.specs.Reading.{ReadAt}
+use Rattle.std.specs.Prelude.{Some, None}
+use Rattle.report_reading.specs.Reading.{ItemRead, ReadAt}
 use Rattle.packing.specs.PackedValues.{PacksFields}
 use Rattle.packing_office.specs.declared.parameter.Parameter.{Parameter}
 use Rattle.packing_office.specs.declared.places.Places.{Places}
@@ -51,8 +50,8 @@ parameter (Unknown b) = record { asked = b; flags = 0; index = 0; unknown = true
 
 -- "answer 0 in all bits where no parameter in range starts there"
 abbrev pub parameter_read : ItemRead → Parameter
-parameter_read (AnItem i next) = parameter i
-parameter_read NoItem = entry 0 0 0 0
+parameter_read (Some (i, next)) = parameter i
+parameter_read None = entry 0 0 0 0
 
 -- 32-55 value, 28 unknown type, 16-27 index or code, 8-15 flags, 0-7 the type asked
 abbrev pub parameter_fields : Parameter → List Field
@@ -90,8 +89,8 @@ places (Unknown b) next = bare next 0 0
 
 -- none where the byte behind the parameter has no 16 bits
 abbrev pub places_read : ItemRead → Places
-places_read (AnItem i next) = cond (ltb next 65536) (places i next) (bare 0 0 0)
-places_read NoItem = (bare 0 0 0)
+places_read (Some (i, next)) = cond (ltb next 65536) (places i next) (bare 0 0 0)
+places_read None = (bare 0 0 0)
 
 -- 56-63 how many digits, or the HashCode; 40-55 number or hash value; 32-39 bytes of the text, two to a unit; 16-31 text; 0-15 the byte behind it
 abbrev pub places_fields : Places → List Field

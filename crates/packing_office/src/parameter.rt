@@ -7,7 +7,7 @@ ghost use Rattle.packing_office.specs.PackedReading.{entry, parameter, parameter
 
 use packing::bits::bit_of;
 use plan::numbers::GroupAddress;
-use report_reading::items::{Item, ItemRead};
+use report_reading::items::Item;
 use writing::{
     GroupFlags, HomeNumbers, IndividualFlags, KeyFlags, KeyTarget, LineFlags, SystemCode,
 };
@@ -119,14 +119,14 @@ fn pack_said(p: Parameter) -> u64
         + p.value % 16777216 * 4294967296
 }
 
-pub fn pack_parameter(answer: ItemRead) -> u64
+pub fn pack_parameter(answer: Option<(Item, usize)>) -> u64
     ensures { WhereFit (parameter_fields (parameter_read answer)) result }
 {
     match answer {
-        ItemRead::Item(item, _) => {
+        Some((item, _)) => {
             let p = said_by(item);
             pack_said(p)
         }
-        ItemRead::NoItem => 0,
+        None => 0,
     }
 }

@@ -5,7 +5,7 @@ ghost use Rattle.packing_office.specs.PackedReading.{bare, texted, places, place
 
 use packing::bits::low;
 use read_fields::texts::TextPlace;
-use report_reading::items::{Item, ItemRead};
+use report_reading::items::Item;
 
 // The byte behind it, its text and how many units that has, its number or hash value, and how many digits or which HashCode; 0 of what it has none of.
 #[derive(Clone, Copy)]
@@ -78,11 +78,11 @@ fn pack_places_of(p: Places) -> u64
         + low_byte(p.size) * 72057594037927936
 }
 
-pub fn pack_places(answer: ItemRead) -> u64
+pub fn pack_places(answer: Option<(Item, usize)>) -> u64
     ensures { WhereFit (places_fields (places_read answer)) result }
 {
     match answer {
-        ItemRead::Item(item, next) => {
+        Some((item, next)) => {
             if next < 65536 {
                 let p = places_of(item, next);
                 pack_places_of(p)
@@ -90,6 +90,6 @@ pub fn pack_places(answer: ItemRead) -> u64
                 0
             }
         }
-        ItemRead::NoItem => 0,
+        None => 0,
     }
 }

@@ -1,6 +1,5 @@
 -- Contacts with one kind of address, as contacts with another that has the same numbers: a group's, an individual's or the number itself. Assumes nothing.
-use Rattle.lists.proofs.Kit.{ℕ, ◌≡◌, refl, ap, ◌∙◌, subst⁻¹, List, [], ◌∷◌, ◌++◌, map, length, length-map}
-use Rattle.lists.specs.Every.{All}
+use Rattle.lists.proofs.Kit.{ℕ, ◌≡◌, refl, ap, ◌∙◌, subst⁻¹, List, [], ◌∷◌, ◌++◌, map, length-map}
 use Rattle.lists.proofs.Every.{all_map}
 use Rattle.writing.specs.declared.Coding.{Coding}
 use Rattle.writing.specs.Fields.{Field, each}

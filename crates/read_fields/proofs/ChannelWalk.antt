@@ -1,15 +1,15 @@
 -- Reading scan channels, two in three bytes. Assumes nothing.
-use Rattle.std.specs.Prelude.{Option, Some, None}
-use Rattle.lists.proofs.Kit.{ℕ, zero, suc, ◌+◌, ◌-◌, ◌*◌, ◌/◌, ◌%◌, ◌^◌, ◌≤◌, ◌<◌, ◌≡◌, refl, sym, ap, ap₂, ◌∙◌, subst, List, [], ◌∷◌, ◌++◌, append-nil, arith, length, get_or, drop, take, length-append}
+use Rattle.std.specs.Prelude.{Some, None}
+use Rattle.lists.proofs.Kit.{ℕ, ◌+◌, ◌-◌, ◌/◌, ◌%◌, ◌≤◌, ◌<◌, ◌≡◌, refl, ap, ap₂, subst, List, [], ◌∷◌, ◌++◌, append-nil, arith, length, drop, take, length-append}
 use Rattle.lists.specs.Bytes.{Bytes}
 use Rattle.lists.specs.Every.{All}
 use Rattle.lists.proofs.Every.{all_append, all_right}
-use Rattle.writing.specs.Fields.{Field, val}
+use Rattle.writing.specs.Fields.{val}
 use Rattle.writing.specs.Ranges.{InChannel}
 use Rattle.writing.proofs.Bits.{length_bits_of}
 use Rattle.read_fields.specs.Places.{FieldsAt, be}
 use Rattle.read_fields.specs.Entries.{Stand, ChannelsAt, channel_list}
-use Rattle.read_fields.proofs.Heads.{Cut, head_in, head_out, be_small}
+use Rattle.read_fields.proofs.Heads.{head_in, head_out, be_small}
 use Rattle.read_fields.proofs.Parts.{nothing}
 use Rattle.read_fields.proofs.Walk.{Walked, not_yet, extend}
 

@@ -1,21 +1,20 @@
 -- Entries at a place: a number and a text, or bytes of a fixed number and a text. Assumes nothing.
 use Rattle.std.specs.Prelude.{Option, Some, None}
-use Rattle.lists.proofs.Kit.{ℕ, zero, suc, ◌+◌, ◌*◌, ◌/◌, ◌%◌, ◌^◌, ◌≤◌, ◌<◌, ◌≡◌, refl, sym, ap, ◌∙◌, subst, subst⁻¹, List, [], ◌∷◌, ◌++◌, mod-eq_of_lt, arith, length, drop, take}
+use Rattle.lists.proofs.Kit.{ℕ, ◌+◌, ◌*◌, ◌%◌, ◌≤◌, ◌<◌, ◌≡◌, refl, sym, ap, ◌∙◌, subst, subst⁻¹, List, [], ◌∷◌, ◌++◌, arith, length, drop, take}
 use Rattle.lists.specs.Bytes.{Bytes}
 use Rattle.writing.specs.Fields.{Field, val, res, widths}
-use Rattle.writing.specs.Ranges.{TextLimits, text_limits, InContact, InNumber, InAddressed}
+use Rattle.writing.specs.Ranges.{TextLimits, text_limits, InAddressed}
 use Rattle.writing.specs.declared.Coding.{Coding}
-use Rattle.writing.specs.Settings.{Contact, Addressed, Entry}
-use Rattle.writing.specs.Writing.{text, number, address, addressed, contact, quick_text, status_text}
+use Rattle.writing.specs.Settings.{Contact, Entry}
+use Rattle.writing.specs.Writing.{text, number, address, contact, quick_text, status_text}
 use Rattle.writing.proofs.Ends.{Ends}
 use Rattle.writing.proofs.Unique.{number_ends, text_ends, address_ends, addressed_ends, contact_ends, quick_ends, status_ends}
 use Rattle.writing.proofs.Whole.{number_whole, entry_whole, contact_whole, addressed_whole}
 use Rattle.read_fields.specs.Places.{FieldsAt, be}
-use Rattle.read_fields.specs.TextsAndNumbers.{TextIs, TextAt, NumberIs, NumberAt}
-use Rattle.read_fields.specs.Entries.{ContactIs, AddressedIs, EntryIs, ContactAt, AddressedAt, EntryAt, EntryOf, form_of, range_of, PassAt}
+use Rattle.read_fields.specs.TextsAndNumbers.{TextAt, NumberAt}
+use Rattle.read_fields.specs.Entries.{ContactAt, AddressedAt, EntryAt, EntryOf, form_of, range_of, PassAt}
 use Rattle.read_fields.specs.declared.numbers.NumberPlace.{NumberPlace}
 use Rattle.read_fields.specs.declared.texts.TextPlace.{TextPlace}
-use Rattle.read_fields.specs.declared.entries.AddressedPlace.{AddressedPlace}
 use Rattle.read_fields.specs.declared.entries.Listed.{Listed}
 use Rattle.read_fields.specs.declared.entries.Listed.TheVariants.{Contacts, Addressed as WithAddress, QuickTexts, StatusTexts}
 use Rattle.read_fields.specs.declared.entries.EntryPlace.{EntryPlace}

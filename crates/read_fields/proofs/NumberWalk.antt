@@ -1,18 +1,16 @@
 -- Reading a line number byte by byte, two digits each. Assumes nothing.
 use Rattle.std.specs.Prelude.{Option, Some, None}
 use Rattle.read_fields.specs.declared.numbers.NumberPlace.{NumberPlace}
-use Rattle.lists.proofs.Kit.{ℕ, zero, suc, ◌+◌, ◌*◌, ◌/◌, ◌%◌, ◌^◌, ◌≤◌, ◌<◌, ◌≡◌, refl, sym, ap, ap₂, ◌∙◌, subst, subst⁻¹, ◌≢◌, List, [], ◌∷◌, ◌++◌, append-nil, arith, length, drop, take, length-append}
+use Rattle.lists.proofs.Kit.{ℕ, ◌+◌, ◌/◌, ◌%◌, ◌≤◌, ◌<◌, ◌≡◌, refl, sym, ap, ap₂, ◌∙◌, subst, subst⁻¹, List, [], ◌∷◌, ◌++◌, arith, length, drop, take, length-append}
 use Rattle.lists.specs.Bytes.{Bytes}
 use Rattle.lists.specs.Every.{All}
 use Rattle.lists.proofs.Every.{all_append, all_right}
-use Rattle.writing.specs.Fields.{Field, val, item}
-use Rattle.writing.specs.Ranges.{InNumber}
+use Rattle.writing.specs.Fields.{val, item}
 use Rattle.writing.specs.Writing.{number}
 use Rattle.writing.proofs.Unique.{number_ends}
 use Rattle.read_fields.specs.Places.{FieldsAt, be}
 use Rattle.read_fields.specs.TextsAndNumbers.{NumberAt, DigitsAre, EndedAt}
-use Rattle.read_fields.specs.declared.numbers.Digits.{Digits}
-use Rattle.read_fields.specs.declared.numbers.Digits.TheVariants.{Two, One, Zero, Bad}
+use Rattle.read_fields.specs.declared.numbers.Digits.TheVariants.{Bad}
 use Rattle.read_fields.proofs.Heads.{Cut, head_in, head_out, be_small}
 use Rattle.read_fields.proofs.Parts.{nothing}
 use Rattle.read_fields.proofs.Walk.{Walked, not_yet, extend, one_part}

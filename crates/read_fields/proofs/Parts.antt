@@ -1,5 +1,5 @@
 -- Fields that stand at a place of a message, taken apart and put together at whole bytes. Assumes nothing.
-use Rattle.lists.proofs.Kit.{ℕ, zero, suc, ◌+◌, ◌-◌, ◌*◌, ◌<◌, ◌≡◌, refl, sym, ap, ◌∙◌, subst, subst⁻¹, List, [], ◌∷◌, ◌++◌, append_assoc, append-nil, add-zero, arith, length, get_or, drop, take, length-append, length-drop, take-append-drop, length-take-le, drop-drop, drop-append_seam, get_or-drop}
+use Rattle.lists.proofs.Kit.{ℕ, zero, suc, ◌+◌, ◌*◌, ◌<◌, ◌≡◌, refl, sym, ap, ◌∙◌, subst, subst⁻¹, List, [], ◌∷◌, ◌++◌, append_assoc, add-zero, arith, length, get_or, drop, take, length-append, take-append-drop, length-take-le, drop-drop, drop-append_seam, get_or-drop}
 use Rattle.lists.specs.Bytes.{Bytes}
 use Rattle.lists.proofs.Seqs.{cut}
 use Rattle.writing.specs.Fields.{bits_of, Field, Shows, widths}

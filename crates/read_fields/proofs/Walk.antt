@@ -1,6 +1,6 @@
 -- Walking along a list that is written in a message, piece after piece. Assumes nothing.
-use Rattle.std.specs.Prelude.{Option, Some, None}
-use Rattle.lists.proofs.Kit.{ℕ, suc, ◌+◌, ◌-◌, ◌*◌, ◌≤◌, ◌<◌, ◌≡◌, refl, sym, ap, ◌∙◌, subst, subst⁻¹, List, [], ◌∷◌, ◌++◌, append_assoc, append-nil, arith, length, length-append}
+use Rattle.std.specs.Prelude.{Some, None}
+use Rattle.lists.proofs.Kit.{ℕ, ◌+◌, ◌-◌, ◌*◌, ◌≤◌, ◌<◌, ◌≡◌, refl, sym, ap, ◌∙◌, subst, subst⁻¹, List, [], ◌∷◌, ◌++◌, append_assoc, append-nil, arith, length, length-append}
 use Rattle.lists.specs.Every.{All}
 use Rattle.lists.proofs.Every.{all_append, all_right}
 use Rattle.writing.specs.Fields.{bits_of, Field, Shows, widths, each}

@@ -1,11 +1,9 @@
 -- What reading a text, a number or an address answers: it is there, with its place and what follows it, or none is.
-use Rattle.std.specs.Prelude.{ℕ, ◌*◌, ◌/◌, ◌%◌, ◌≤◌, ◌≡◌, Bool, true, false, ◌≢◌, ◌⊎◌, List, length, Option, Some, None}
-use Rattle.lists.specs.Every.{All}
-use Rattle.writing.specs.Fields.{Field, each}
+use Rattle.std.specs.Prelude.{ℕ, ◌*◌, ◌/◌, ◌%◌, ◌≤◌, ◌≡◌, Bool, true, false, ◌≢◌, List, length, Option, Some, None}
 use Rattle.writing.specs.declared.Coding.{Coding}
-use Rattle.writing.specs.Settings.{Contact, Entry, Text, Number}
+use Rattle.writing.specs.Settings.{Text, Number}
 use Rattle.writing.specs.Writing.{unit_width, text, number}
-use Rattle.writing.specs.Ranges.{TextLimits, InNumber, InContact, InAddress}
+use Rattle.writing.specs.Ranges.{InNumber, InAddress}
 use Rattle.read_fields.specs.Places.{FieldsAt}
 use Rattle.read_fields.specs.declared.texts.TextPlace.{TextPlace}
 use Rattle.read_fields.specs.declared.numbers.NumberPlace.{NumberPlace}

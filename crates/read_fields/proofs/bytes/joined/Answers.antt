@@ -1,5 +1,4 @@
-use Rattle.lists.proofs.Kit.{rules, arith, ◌+◌, ◌*◌, ◌∙◌, ap, ap₂, ◌-◌, get_or, drop, take}
-use Rattle.read_fields.specs.Places.{be}
+use Rattle.lists.proofs.Kit.{rules, arith, ◌+◌, ◌*◌, ◌∙◌, ap, ◌-◌, get_or, drop, take}
 use Rattle.read_fields.proofs.Heads.{be_64, be_room, be_next}
 use Rattle.read_fields.proofs.bytes.joined.Goals as goal
 

@@ -1,4 +1,4 @@
-use Rattle.lists.proofs.Kit.{rules, arith}
+use Rattle.lists.proofs.Kit.{arith}
 use Rattle.read_fields.proofs.ChannelPlace.{channel_here, here_room, even_is, odd_is}
 use Rattle.read_fields.proofs.channels.channel_at.Goals as goal
 

@@ -1,4 +1,4 @@
-use Rattle.lists.proofs.Kit.{arith, ℕ, ◌/◌, ◌%◌, ◌-◌, ◌*◌, ◌+◌, sym, subst}
+use Rattle.lists.proofs.Kit.{arith, ℕ, ◌/◌, ◌%◌, ◌+◌, sym, subst}
 use Rattle.writing.specs.Ranges.{InChannel}
 use Rattle.read_fields.specs.Entries.{OutOfRange}
 use Rattle.read_fields.proofs.ChannelWalk.{ChannelsPassed, no_channel_yet, no_pair, pair_passed, channels_end, no_last, last_ends}

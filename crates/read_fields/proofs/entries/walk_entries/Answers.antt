@@ -1,4 +1,4 @@
-use Rattle.lists.proofs.Kit.{arith, ℕ, ◌-◌, ◌+◌, subst, subst⁻¹}
+use Rattle.lists.proofs.Kit.{arith, ℕ, subst, subst⁻¹}
 use Rattle.read_fields.specs.Entries.{form_of, range_of, EntriesAt}
 use Rattle.read_fields.proofs.EntryLaws.{list_ends, list_whole}
 use Rattle.read_fields.proofs.Walk.{Passed, none_passed, walk_on, walk_stops, walk_ends}

@@ -1,4 +1,4 @@
-use Rattle.lists.proofs.Kit.{rules, arith}
+use Rattle.lists.proofs.Kit.{arith}
 use Rattle.read_fields.proofs.HashLaws.{no_code, no_value, the_value}
 use Rattle.read_fields.proofs.hashes.read_hash.Goals as goal
 

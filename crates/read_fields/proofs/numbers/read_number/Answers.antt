@@ -1,4 +1,4 @@
-use Rattle.lists.proofs.Kit.{arith, ◌+◌, ◌*◌, ◌≡◌, subst, subst₂, ℕ}
+use Rattle.lists.proofs.Kit.{arith, subst, subst₂, ℕ}
 use Rattle.read_fields.proofs.NumberWalk.{NumberPassed, no_digit_yet, no_digit, too_many_digits, digits_passed, one_digit_ends, no_digit_ends, bad_digits}
 use Rattle.read_fields.proofs.numbers.read_number.Goals as goal
 
