@@ -53,4 +53,3 @@ said_case say a b r e p = subst (λ x. Packs (say x) r) (sym e) p
 -- the number alone, where nothing was touched
 pub packed_refusal : (n r : ℕ) → r ≡ n → r < 256 → Packs (refused_with n) r
 packed_refusal n r e h = record { number = omega arith; failed = omega arith; reply_length = omega arith; bits = omega arith }
-
