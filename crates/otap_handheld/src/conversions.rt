@@ -29,7 +29,10 @@ pub extern "C" fn otap_group_of_dialled(number: u32) -> u64
 pub extern "C" fn otap_dialled_of_individual(address: u32) -> u64
     ensures { Converts (Back Individual) 21 address result }
 {
-    pack_value(dialled_of_individual(IndividualAddress(address)), OUTSIDE_KIND)
+    pack_value(
+        dialled_of_individual(IndividualAddress(address)),
+        OUTSIDE_KIND,
+    )
 }
 
 #[unsafe(no_mangle)]

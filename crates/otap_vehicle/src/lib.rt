@@ -1,4 +1,5 @@
 // The functions that the firmware of a vehicle set calls, in C or Rust. Crate packing says which bits of an answer are what.
+// C names each set's calls apart: each is one line, of the function for any limits or any message size.
 #![tactic(auto)]
 
 mod caller;

@@ -18,7 +18,12 @@ pub(crate) fn room<W: Write>(out: &mut W, store: &[u8]) -> io::Result<()> {
     let limits = HANDHELD;
     match answer {
         Some(held) => {
-            taken(out, b"  room                 lines ", held.lines, limits.lines)?;
+            taken(
+                out,
+                b"  room                 lines ",
+                held.lines,
+                limits.lines,
+            )?;
             taken(out, b", channels ", held.channels, limits.channels)?;
             text(out, b"\n")
         }

@@ -1,4 +1,5 @@
 // The calls of the vehicle.
+// Its twin of the handheld stays: README names a module for each set, and each call is one line, of the function for any limits.
 ghost use Rattle.lists.specs.Ladder.{Answers};
 ghost use Rattle.tables.specs.Limits.{vehicle};
 ghost use Rattle.values.specs.Digits.{digits_told, writing_digits};
