@@ -5,7 +5,7 @@ use station::answers::{Answer, Reply, failed_id, number};
 use std::io;
 use std::io::Write;
 use tables::start::Started;
-use writing::Result;
+use writing::CfgResult;
 
 pub fn yes_or_no<W: Write>(out: &mut W, what: &[u8], answer: bool) -> io::Result<()> {
     text(out, what)?;
@@ -29,7 +29,7 @@ pub fn hex<W: Write>(out: &mut W, bytes: &[u8], length: usize) -> io::Result<()>
 fn reply_of(answer: Answer) -> Reply {
     match answer {
         Answer::Untouched(_) => Reply {
-            result: Result::Taken,
+            result: CfgResult::Taken,
             failed: 0,
             send: false,
             reboot: false,

@@ -4,8 +4,8 @@ use Rattle.lists.specs.Bytes.{Bytes}
 use Rattle.lists.specs.Every.{All}
 use Rattle.lists.proofs.Bytes.{bytes_all, bytes_take, bytes_drop}
 use Rattle.writing.specs.declared.LastFlags.{LastFlags}
-use Rattle.writing.specs.declared.Result.{Result}
-use Rattle.writing.specs.declared.Result.TheVariants.{Taken, NoMatch}
+use Rattle.writing.specs.declared.CfgResult.{CfgResult}
+use Rattle.writing.specs.declared.CfgResult.TheVariants.{Taken, NoMatch}
 use Rattle.writing.specs.Carrier.{result_number}
 use Rattle.writing.specs.Ranges.{HashSize}
 use Rattle.writing.specs.Settings.{Hash}
@@ -49,7 +49,7 @@ accepted m f p hash reply after n held w message area area_after h s =
     let (ok, e) = held.1 h s in
     replied handheld message area reply Taken 0 0 f.reply f.reboot h area_after hash after n refl ok e w
 
-module _ (message : List ℕ) (place : HashPlace) (area : List ℕ) (kept : HashPlace) (hash reply after : List ℕ) (result : Result) (number n : ℕ) where
+module _ (message : List ℕ) (place : HashPlace) (area : List ℕ) (kept : HashPlace) (hash reply after : List ℕ) (result : CfgResult) (number n : ℕ) where
   -- the query matches exactly where its hash is the one at the place of the area
   pub queried : (k : Bool) → HashAsBytes area kept hash → HashSame message place hash k → ((k ≡ true) × (result ≡ Taken)) ⊎ ((k ≡ false) × (result ≡ NoMatch))
       → number ≡ result_number result → ReplyWritten number 0 hash reply after n
@@ -65,12 +65,12 @@ module _ (message : List ℕ) (place : HashPlace) (area : List ℕ) (kept : Hash
       compared : SameAs h t.hash k
       compared = same h t.hash ok kept_bytes code q.in_range stands
 
-      written : (said : Result) → result ≡ said
+      written : (said : CfgResult) → result ≡ said
           → plain_leaves (Replied (record { result = result; failed = 0; send = true; reboot = false; length = n })) area after
           ≡ replies handheld message area reply (result_number said) 0 true false t.hash area
       written said e =
           replied handheld message area reply result number 0 true false t.hash area hash after n numbered ok kept_bytes w
-          ∙ ap (λ (x : Result). replies handheld message area reply (result_number x) 0 true false t.hash area) e
+          ∙ ap (λ (x : CfgResult). replies handheld message area reply (result_number x) 0 true false t.hash area) e
 
       by : ((k ≡ true) × (result ≡ Taken)) ⊎ ((k ≡ false) × (result ≡ NoMatch))
           → Asked handheld message area reply h t.hash (plain_leaves (Replied (record { result = result; failed = 0; send = true; reboot = false; length = n })) area after)

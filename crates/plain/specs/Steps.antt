@@ -1,7 +1,7 @@
 -- How a message is handled, step by step. No promise cites these.
 use Rattle.std.specs.Prelude.{ℕ, ◌≤◌, ◌≡◌, List, length}
 use Rattle.writing.specs.declared.LastFlags.{LastFlags}
-use Rattle.writing.specs.declared.Result.{Result}
+use Rattle.writing.specs.declared.CfgResult.{CfgResult}
 use Rattle.writing.specs.Carrier.{result_number}
 use Rattle.writing.specs.Settings.{Hash}
 use Rattle.read_fields.specs.declared.hashes.HashPlace.{HashPlace}
@@ -26,7 +26,7 @@ abbrev pub HashAsBytes : List ℕ → HashPlace → List ℕ → Type 0
 HashAsBytes m p r = (length r ≡ 11) × ((h : Hash) → HashStands m p h → HashOk h × (r ≡ hash_bytes h))
 
 -- a message that was turned down with this result and failed ID
-abbrev pub TurnedDown : Result → (failed : ℕ) → List ℕ → List ℕ → Reply → Type 0
+abbrev pub TurnedDown : CfgResult → (failed : ℕ) → List ℕ → List ℕ → Reply → Type 0
 TurnedDown result failed reply after r =
     (message area : List ℕ) → plain_leaves (Replied r) area after ≡ turned_down handheld message area reply (result_number result) failed
 

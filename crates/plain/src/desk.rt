@@ -11,7 +11,7 @@ use plain_log::areas::{Started, start as start_area};
 use plain_log::checks::check_area;
 use read_carrier::carrier::{Message, read_message};
 use tables::limits::HANDHELD;
-use writing::Result;
+use writing::CfgResult;
 
 // Makes any 32,768 bytes a fresh area.
 pub fn start(area: &mut [u8]) -> Started
@@ -36,9 +36,9 @@ pub fn take(m: &[u8], area: &mut [u8], reply: &mut [u8]) -> Answer
         Message::Size => Answer::Untouched(Refusal::MessageSize),
         Message::Carrier => Answer::Untouched(Refusal::Carrier),
         Message::Type => Answer::Untouched(Refusal::MessageType),
-        Message::Version => Answer::Replied(turn_down(reply, Result::OtherVersion, 0)),
-        Message::NoRequest => Answer::Replied(turn_down(reply, Result::BadField, 0)),
-        Message::NoQuery => Answer::Replied(turn_down(reply, Result::BadField, 0)),
+        Message::Version => Answer::Replied(turn_down(reply, CfgResult::OtherVersion, 0)),
+        Message::NoRequest => Answer::Replied(turn_down(reply, CfgResult::BadField, 0)),
+        Message::NoQuery => Answer::Replied(turn_down(reply, CfgResult::BadField, 0)),
         Message::Query(place) => { Answer::Replied(answer_query(m, place, area, seen.hash, reply)) }
         Message::Request(count, at, coding) => {
             let request = Request { at, count, coding };

@@ -7,7 +7,7 @@ use station::answers::Reply;
 use station::queries::same_hash;
 use station::replies::{result_number, write_reply};
 use store_places::fixed::put_hash;
-use writing::{LastFlags, Result};
+use writing::{CfgResult, LastFlags};
 
 // The hash that stands at a place, in the 11 bytes that a store keeps it in.
 fn hash_bytes(m: &[u8], place: HashPlace) -> [u8; 11]
@@ -19,7 +19,7 @@ fn hash_bytes(m: &[u8], place: HashPlace) -> [u8; 11]
 }
 
 // The reply of 1 to 4, which carries no hash.
-pub(crate) fn turn_down(reply: &mut [u8], res: Result, failed: u8) -> Reply
+pub(crate) fn turn_down(reply: &mut [u8], res: CfgResult, failed: u8) -> Reply
     ensures { 20 ≤ length reply.old → TurnedDown res failed reply.old reply.new result }
 {
     let none = [0u8; 11];
@@ -45,9 +45,9 @@ pub(crate) fn answer_query(
 {
     let hash = hash_bytes(area, kept);
     let result = if same_hash(m, place, &hash) {
-        Result::Taken
+        CfgResult::Taken
     } else {
-        Result::NoMatch
+        CfgResult::NoMatch
     };
     let length = write_reply(reply, result_number(result), 0, &hash);
     Reply {
@@ -66,7 +66,7 @@ pub(crate) fn accept(m: &[u8], flags: LastFlags, place: HashPlace, reply: &mut [
     let hash = hash_bytes(m, place);
     let length = write_reply(reply, 0, 0, &hash);
     Reply {
-        result: Result::Taken,
+        result: CfgResult::Taken,
         failed: 0,
         send: flags.reply,
         reboot: flags.reboot,

@@ -6,7 +6,7 @@ use Rattle.lists.specs.Bytes.{Bytes}
 use Rattle.lists.specs.Every.{All}
 use Rattle.lists.proofs.Every.{all_append}
 use Rattle.writing.specs.declared.LastFlags.{LastFlags}
-use Rattle.writing.specs.declared.Result.TheVariants.{NoRoom}
+use Rattle.writing.specs.declared.CfgResult.TheVariants.{NoRoom}
 use Rattle.writing.specs.Canonical.{Fits}
 use Rattle.writing.specs.Ranges.{text_limits, InRange, no_hash}
 use Rattle.writing.specs.Settings.{Setting}

@@ -8,7 +8,7 @@ use Rattle.std.specs.declared.result.Result.TheVariants.{Ok, Err}
 use Rattle.lists.specs.Every.{All}
 use Rattle.writing.specs.declared.Coding.{Coding}
 use Rattle.writing.specs.declared.Kind.{Kind}
-use Rattle.writing.specs.declared.Result.{Result as Outcome}
+use Rattle.writing.specs.declared.CfgResult.{CfgResult}
 use Rattle.writing.specs.Canonical.{Fits}
 use Rattle.writing.specs.Carrier.{result_number}
 use Rattle.writing.specs.Fields.{val}
@@ -136,7 +136,7 @@ pub record Stepped (m : List ℕ) (q : Request) (left at next : ℕ) (t : Tables
   pub item : ItemIs m i (or_else (item_of s) (last_item []))
 
 -- what judging the setting at a place answers
-abbrev pub StepIs : List ℕ → ℕ → List ℕ → Request → ℕ → ℕ → ℕ → List ℕ → List ℕ → Answer Step Outcome → Type 0
+abbrev pub StepIs : List ℕ → ℕ → List ℕ → Request → ℕ → ℕ → ℕ → List ℕ → List ℕ → Answer Step CfgResult → Type 0
 StepIs log n m q at taken passed ws vs (Ok r) =
     (ds : List D.Deed) (was : Tables) (l : List Setting) (t : Tables) → Logged log n ds was → Along m q ds was at taken passed ws l t → taken < q.count
     → (s : Setting) × (u : Tables) × Stepped m q (q.count - taken - 1) at r.next t vs r.item s u × (r.deeds ≡ passed + length (deeds s))

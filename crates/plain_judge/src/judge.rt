@@ -9,7 +9,7 @@ use read_fields::hashes::HashPlace;
 use read_setting::reader::{SettingFault, read_setting};
 use requests::run::flags_of;
 use settings::settings::Setting;
-use writing::{Coding, LastFlags, Result as Outcome};
+use writing::{CfgResult, Coding, LastFlags};
 
 // FF's bits and where its hash stands, no and no and a hash of code 0 for another setting.
 #[derive(Clone, Copy)]
@@ -29,7 +29,7 @@ pub(crate) struct Step {
 // The first fault of a request, and the failed ID.
 #[derive(Clone, Copy)]
 pub struct Fault {
-    pub result: Outcome,
+    pub result: CfgResult,
     pub failed: u8,
 }
 
@@ -69,11 +69,11 @@ fn judge_setting(
     taken: u8,
     passed: usize,
     weights: &mut [usize],
-) -> Result<Step, Outcome>
+) -> Result<Step, CfgResult>
     ensures { StepIs log.now logged m.now request at taken passed weights.old weights.new result }
 {
     if request.count <= taken {
-        return Err(Outcome::BadField);
+        return Err(CfgResult::BadField);
     }
     let left = (request.count - taken - 1) as usize;
     let coding = request.coding;
@@ -85,7 +85,7 @@ fn judge_setting(
                 passed,
             };
             let Some(deeds) = try_setting(log, m, before, setting, weights) else {
-                return Err(Outcome::NoRoom);
+                return Err(CfgResult::NoRoom);
             };
             let item = Item {
                 flags: flags_of(setting),
@@ -93,9 +93,9 @@ fn judge_setting(
             };
             Ok(Step { next, item, deeds })
         }
-        Err(SettingFault::Missing) => Err(Outcome::BadField),
-        Err(SettingFault::Unknown) => Err(Outcome::UnknownType),
-        Err(SettingFault::Field) => Err(Outcome::BadField),
+        Err(SettingFault::Missing) => Err(CfgResult::BadField),
+        Err(SettingFault::Unknown) => Err(CfgResult::UnknownType),
+        Err(SettingFault::Field) => Err(CfgResult::BadField),
     }
 }
 
@@ -130,7 +130,7 @@ pub fn judge_settings(
     }
     if p < m.len() {
         return Err(Fault {
-            result: Outcome::BadField,
+            result: CfgResult::BadField,
             failed: 0,
         });
     }

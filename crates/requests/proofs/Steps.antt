@@ -4,7 +4,7 @@ use Rattle.lists.specs.Bytes.{Bytes}
 use Rattle.std.specs.Prelude.{Some, None, Ok, Err}
 use Rattle.writing.specs.declared.Coding.{Coding}
 use Rattle.writing.specs.declared.LastFlags.{LastFlags}
-use Rattle.writing.specs.declared.Result.TheVariants.{NoRoom}
+use Rattle.writing.specs.declared.CfgResult.TheVariants.{NoRoom}
 use Rattle.writing.specs.Canonical.{Fits}
 use Rattle.writing.specs.Settings.{Setting}
 use Rattle.writing.proofs.CanonicalLaws.{has_writing}

@@ -15,7 +15,7 @@ use Rattle.tables.specs.Apply.{apply}
 use Rattle.tables.specs.Forms.{Roomy}
 use Rattle.tables.specs.Store.{Works}
 use Rattle.tables.specs.Tables.{Tables}
-use Rattle.writing.specs.declared.Result.{Result as CfgResult}
+use Rattle.writing.specs.declared.CfgResult.{CfgResult}
 use Rattle.requests.specs.declared.run.Taken.{Taken}
 use Rattle.requests.specs.declared.run.Fault.{Fault as RunFault}
 use Rattle.requests.specs.Judge.{kept, refused}

@@ -5,7 +5,7 @@ use super::trying::{all_bytes, try_setting};
 use read_setting::reader::{SettingFault, read_setting};
 use settings::settings::Setting;
 use tables::limits::Limits;
-use writing::{Coding, LastFlags, Result as CfgResult};
+use writing::{CfgResult, Coding, LastFlags};
 
 // A request's settings: where they start in the message, how many they are, and how their texts are coded.
 #[derive(Clone, Copy)]

@@ -1,8 +1,8 @@
 -- Document 01's number and values say which case of the answer it is. Assumes nothing.
 use Rattle.lists.proofs.Kit.{ℕ, ◌≡◌, refl, Bool, [], ◌∷◌, get_or}
 use Rattle.lists.proofs.OneToOne.{decoded}
-use Rattle.writing.specs.declared.Result.{Result}
-use Rattle.writing.specs.declared.Result.TheVariants.{Taken, OtherVersion, NoRoom, UnknownType, BadField, NoMatch}
+use Rattle.writing.specs.declared.CfgResult.{CfgResult}
+use Rattle.writing.specs.declared.CfgResult.TheVariants.{Taken, OtherVersion, NoRoom, UnknownType, BadField, NoMatch}
 use Rattle.writing.specs.Carrier.{result_number}
 use Rattle.station.specs.declared.answers.Refusal.TheVariants.{ReplyBuffer, NotAStore, MessageSize, Carrier, MessageType}
 use Rattle.station.specs.declared.answers.Answer.{Answer}
@@ -10,7 +10,7 @@ use Rattle.station.specs.declared.answers.Answer.TheVariants.{Untouched, Replied
 use Rattle.station.specs.Answers.{Said, said}
 
 -- a reply with this result
-abbrev replied_as : Said → Result → Answer
+abbrev replied_as : Said → CfgResult → Answer
 replied_as s x = Replied (record { result = x; failed = s.failed; send = s.send; reboot = s.reboot; length = s.reply_length })
 
 -- the answer of a number and its values; 6 to 9 are no answer's
@@ -21,7 +21,7 @@ answer_of s =
     ∷ replied_as s Taken ∷ replied_as s Taken ∷ replied_as s Taken ∷ replied_as s Taken
     ∷ Untouched ReplyBuffer ∷ Untouched NotAStore ∷ Untouched MessageSize ∷ Untouched Carrier ∷ Untouched MessageType ∷ []) s.number (replied_as s Taken)
 
-reply_back : (x : Result) (failed length : ℕ) (send reboot : Bool)
+reply_back : (x : CfgResult) (failed length : ℕ) (send reboot : Bool)
     → answer_of (record { number = result_number x; failed = failed; send = send; reboot = reboot; reply_length = length })
     ≡ Replied (record { result = x; failed = failed; send = send; reboot = reboot; length = length })
 reply_back Taken failed length send reboot = refl

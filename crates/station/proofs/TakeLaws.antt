@@ -4,8 +4,8 @@ use Rattle.std.specs.Prelude.{Option, Some, None, Result, Ok, Err}
 use Rattle.lists.specs.Ladder.{Ladder, rung, foot, Answers}
 use Rattle.writing.specs.declared.Coding.{Coding}
 use Rattle.writing.specs.declared.LastFlags.{LastFlags}
-use Rattle.writing.specs.declared.Result.{Result as CfgResult}
-use Rattle.writing.specs.declared.Result.TheVariants.{Taken, NoMatch}
+use Rattle.writing.specs.declared.CfgResult.{CfgResult}
+use Rattle.writing.specs.declared.CfgResult.TheVariants.{Taken, NoMatch}
 use Rattle.writing.specs.Ranges.{no_hash as of_no_value}
 use Rattle.writing.specs.Settings.{Setting, Hash}
 use Rattle.writing.specs.Carrier.{result_number, Opens, InSize, NothingCarried, OtherType, OtherVersion, NoRequest, NoQuery}

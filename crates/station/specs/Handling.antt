@@ -6,7 +6,7 @@ use Rattle.read_fields.specs.declared.hashes.HashPlace.{HashPlace}
 use Rattle.read_carrier.specs.declared.carrier.Message.TheVariants.{Query as AQuery}
 use Rattle.writing.specs.declared.Coding.{Coding}
 use Rattle.writing.specs.declared.LastFlags.{LastFlags}
-use Rattle.writing.specs.declared.Result.{Result as CfgResult}
+use Rattle.writing.specs.declared.CfgResult.{CfgResult}
 use Rattle.writing.specs.Carrier.{result_number}
 use Rattle.writing.specs.Settings.{Setting, Hash}
 use Rattle.tables.specs.declared.limits.Limits.{Limits}

@@ -3,7 +3,7 @@ ghost use Rattle.std.specs.Prelude.{◌≡◌};
 ghost use Rattle.station.specs.Answers.{refusal_number, said};
 
 use super::replies::result_number;
-use writing::Result;
+use writing::CfgResult;
 
 // A refusal that touches no byte, with its number of document 01.
 #[derive(Clone, Copy)]
@@ -18,7 +18,7 @@ pub enum Refusal {
 // A reply that was written: its result, the number of the first setting at fault, whether to send it and to restart, and its length.
 #[derive(Clone, Copy)]
 pub struct Reply {
-    pub result: Result,
+    pub result: CfgResult,
     pub failed: u8,
     pub send: bool,
     pub reboot: bool,

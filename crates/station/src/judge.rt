@@ -19,7 +19,7 @@ use tables::limits::Limits;
 use tables::places::{HASH, KEY};
 use working::areas::stored_bytes;
 use working::copies::{Copy, copy_bytes, load_copy};
-use writing::{LastFlags, Result as CfgResult};
+use writing::{CfgResult, LastFlags};
 
 // What a message comes to: nothing is touched, or a reply is written and the store stays, or the working copy of these tables has what the store becomes.
 pub(crate) type Verdict = Result<(Reply, Option<Copy>), Refusal>;

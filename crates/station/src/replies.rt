@@ -5,10 +5,10 @@ ghost use Rattle.station.specs.Replies.{ReplyWritten};
 
 use read_carrier::carrier::START;
 use read_fields::hashes::hash_size;
-use writing::Result;
+use writing::CfgResult;
 
 // CfgResult of a result.
-pub fn result_number(res: Result) -> u8
+pub fn result_number(res: CfgResult) -> u8
     ensures { result ≡ result_number res }
 {
     res as u8

@@ -1,8 +1,8 @@
 -- What makes a message's bytes a carried request, result query or reply, and what makes them none: document 01, "The carrier" and the order of
 -- "Numbers returned".
 use Rattle.std.specs.Prelude.{ℕ, ◌+◌, ◌≤◌, ◌≡◌, ◌⊎◌, List, [], ◌∷◌, ◌++◌, length}
-use Rattle.writing.specs.declared.Result.{Result}
-use Rattle.writing.specs.declared.Result.TheVariants.{Taken, OtherVersion as NotVersion1, NoRoom, UnknownType, BadField, NoMatch}
+use Rattle.writing.specs.declared.CfgResult.{CfgResult}
+use Rattle.writing.specs.declared.CfgResult.TheVariants.{Taken, OtherVersion as NotVersion1, NoRoom, UnknownType, BadField, NoMatch}
 use Rattle.writing.specs.Fields.{bits_of, Field, val, res, Shows}
 use Rattle.writing.specs.Ranges.{HashSize}
 use Rattle.writing.specs.declared.Coding.{Coding}
@@ -82,7 +82,7 @@ pub record Query (h : Hash) (message : List ℕ) : Type 0 where
   pub in_range : HashSize h.code (length h.value)
 
 -- CfgResult: "0 taken, or query matches", 1 to 5 as "Numbers returned" says
-abbrev pub result_number : Result → ℕ
+abbrev pub result_number : CfgResult → ℕ
 result_number Taken = 0
 result_number NotVersion1 = 1
 result_number NoRoom = 2

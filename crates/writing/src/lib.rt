@@ -38,7 +38,7 @@ pub enum Operations {
 
 // What a reply says of its message: CfgResult.
 #[derive(Clone, Copy)]
-pub enum Result {
+pub enum CfgResult {
     Taken,
     OtherVersion,
     NoRoom,
