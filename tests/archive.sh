@@ -92,6 +92,7 @@ while read -r line; do
     ends 1 "does not look as expected, so nothing is written:" cortex-m4
 done << 'END'
 %r1 = ptrtoint ptr %a0 to i64
+%r1 = ptrtoaddr ptr %a0 to i64
 %r1 = getelementptr i64, ptr %a0, i64 1
 %r1 = add i128 1, 1
 %r1 = load i24, ptr %a0, align 1
@@ -99,7 +100,12 @@ done << 'END'
 %r1 = fadd double 1.0, 1.0
 %r1 = add <4 x i32> zeroinitializer, zeroinitializer
 %r1 = call i64 asm "rdtsc", "=r"()
+%r1 = load { i8, ptr }, ptr %r0, align 4
+store { i8, ptr } zeroinitializer, ptr %r0, align 8
 END
+# A byte and a pointer behind it are loaded by their parts.
+module "%r1 = load { i8, ptr }, ptr %r0, align 8"
+ends 0 "^target/archive/cortex-m4/libotap_handheld.a $" cortex-m4
 
 mv "$tools/clang" "$tools/other"
 ends 2 "no clang at" cortex-m4
