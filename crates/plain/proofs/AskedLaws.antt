@@ -13,6 +13,8 @@ use Rattle.tables.specs.Limits.{handheld}
 use Rattle.tables.specs.Owns.{own}
 use Rattle.tables.specs.Tables.{Tables, no_hash}
 use Rattle.tables.specs.Texts.{text_size}
+use Rattle.requests.specs.declared.run.Fault.{Fault}
+use Rattle.requests.specs.declared.run.Request.{Request}
 use Rattle.requests.specs.Judge.{Outcome, kept, refused, taken}
 use Rattle.requests.specs.Requests.{Judged, forget, last_item}
 use Rattle.events.specs.Deeds as D
@@ -23,8 +25,6 @@ use Rattle.station.specs.declared.answers.Reply.{Reply}
 use Rattle.station.specs.Taking.{AfterTaking, stays, replies}
 use Rattle.plain_judge.specs.declared.judge.Item.{Item}
 use Rattle.std.specs.declared.result.Result.TheVariants.{Ok, Err}
-use Rattle.plain_judge.specs.declared.judge.Fault.{Fault}
-use Rattle.plain_judge.specs.declared.judge.Request.{Request}
 use Rattle.plain_judge.specs.Judging.{Weights, Logged, Ran, RunIs}
 use Rattle.plain_log.specs.declared.checks.Area.{Area}
 use Rattle.plain_log.specs.declared.keeping.PastEnd.{PastEnd}

@@ -11,9 +11,9 @@ use Rattle.tables.specs.Allowed.{HashOk}
 use Rattle.tables.specs.Layout.{hash_bytes}
 use Rattle.tables.specs.Limits.{handheld}
 use Rattle.tables.specs.Tables.{Tables}
+use Rattle.requests.specs.declared.run.Request.{Request}
 use Rattle.station.specs.Taking.{replies, turned_down, AsQuery}
 use Rattle.station.specs.declared.answers.Reply.{Reply}
-use Rattle.plain_judge.specs.declared.judge.Request.{Request}
 use Rattle.plain_judge.specs.Judging.{HashStands}
 use Rattle.plain_log.specs.declared.checks.Area.{Area}
 use Rattle.plain_log.specs.Checking.{AreaSeen}

@@ -4,9 +4,10 @@ ghost use Rattle.plain.specs.Steps.{RequestTaken};
 
 use super::answers::{Answer, Refusal};
 use super::replying::{accept, turn_down};
-use plain_judge::judge::{Request, judge_settings};
+use plain_judge::judge::judge_settings;
 use plain_log::checks::Area;
 use plain_log::keeping::keep;
+use requests::run::Request;
 
 // It is judged after those that are kept, and kept where it is good and does not pass the area's end.
 pub(crate) fn take_request(

@@ -6,10 +6,10 @@ ghost use Rattle.plain.specs.Plain.{plain_leaves, plain_taken};
 use super::answers::{Answer, Refusal};
 use super::asked::take_request;
 use super::replying::{answer_query, turn_down};
-use plain_judge::judge::Request;
 use plain_log::areas::{Started, start as start_area};
 use plain_log::checks::check_area;
 use read_carrier::carrier::{Message, read_message};
+use requests::run::Request;
 use tables::limits::HANDHELD;
 use writing::CfgResult;
 

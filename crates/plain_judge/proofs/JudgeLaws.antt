@@ -20,6 +20,7 @@ use Rattle.settings.specs.contracts.settings.Setting.{the_type}
 use Rattle.tables.specs.Limits.{handheld}
 use Rattle.tables.specs.Tables.{Tables}
 use Rattle.tables.proofs.RoomSentences.{apply_change}
+use Rattle.requests.specs.declared.run.Request.{Request}
 use Rattle.requests.specs.Judge.{done, taken, over, fault, refused}
 use Rattle.requests.specs.Requests.{Runs, Fault, Judged, LastItem, item_of, or_else, last_item}
 use Rattle.requests.specs.Running.{FlagsAre}
@@ -33,7 +34,6 @@ use Rattle.read_deeds.specs.declared.cursors.Cursor.{Cursor}
 use Rattle.read_deeds.specs.Cursors.{Standing, AtSettings}
 use Rattle.plain_weigh.specs.Weighing.{Short, Read}
 use Rattle.plain_judge.specs.declared.judge.Item.{Item}
-use Rattle.plain_judge.specs.declared.judge.Request.{Request}
 use Rattle.std.specs.declared.option.Option.TheVariants.{Some, None}
 use Rattle.std.specs.declared.result.Result.TheVariants.{Ok, Err}
 use Rattle.plain_judge.specs.Judging.{Weights, Logged, HashStands, ItemIs, Ran, TryIs, HashOf, Along, Stepped, StepIs}

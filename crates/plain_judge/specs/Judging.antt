@@ -23,6 +23,8 @@ use Rattle.tables.specs.Limits.{handheld}
 use Rattle.tables.specs.Owns.{own}
 use Rattle.tables.specs.Tables.{Tables}
 use Rattle.tables.specs.Texts.{text_size, text_sum}
+use Rattle.requests.specs.declared.run.Fault.{Fault as Refusal}
+use Rattle.requests.specs.declared.run.Request.{Request}
 use Rattle.requests.specs.Judge.{kept, refused}
 use Rattle.requests.specs.Requests.{Runs, Fault, Judged, LastItem, item_of, or_else, last_item}
 use Rattle.events.specs.Deeds.{deeds, all_deeds}
@@ -35,8 +37,6 @@ use Rattle.plain_weigh.specs.declared.weighing.Before.{Before}
 use Rattle.plain_weigh.specs.declared.weights.Weight.{Weight}
 use Rattle.plain_weigh.specs.Weighing.{Short, log_start, Read}
 use Rattle.plain_judge.specs.declared.judge.Item.{Item}
-use Rattle.plain_judge.specs.declared.judge.Fault.{Fault as Refusal}
-use Rattle.plain_judge.specs.declared.judge.Request.{Request}
 use Rattle.plain_judge.specs.declared.judge.Step.{Step}
 
 -- ---- the numbers that are kept

@@ -7,9 +7,9 @@ use plain_weigh::weighing::Before;
 use read_deeds::cursors::at_settings;
 use read_fields::hashes::HashPlace;
 use read_setting::reader::{SettingFault, read_setting};
-use requests::run::flags_of;
+use requests::run::{Fault, Request, flags_of};
 use settings::settings::Setting;
-use writing::{CfgResult, Coding, LastFlags};
+use writing::{CfgResult, LastFlags};
 
 // FF's bits and where its hash stands, no and no and a hash of code 0 for another setting.
 #[derive(Clone, Copy)]
@@ -24,21 +24,6 @@ pub(crate) struct Step {
     pub next: usize,
     pub item: Item,
     pub deeds: usize,
-}
-
-// The first fault of a request, and the failed ID.
-#[derive(Clone, Copy)]
-pub struct Fault {
-    pub result: CfgResult,
-    pub failed: u8,
-}
-
-// A request's settings: where they start, how many they are, and their coding.
-#[derive(Clone, Copy)]
-pub struct Request {
-    pub at: usize,
-    pub count: u8,
-    pub coding: Coding,
 }
 
 const NO_ITEM: Item = Item {

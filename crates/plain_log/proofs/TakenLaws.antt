@@ -15,6 +15,7 @@ use Rattle.read_carrier.specs.contracts.carrier.Message.{the_type}
 use Rattle.read_carrier.proofs.KindLaws.{request_one, one_coding, request_opens, other_type, other_version, opens_no_request, uncounted, not_both}
 use Rattle.tables.specs.Limits.{handheld}
 use Rattle.tables.specs.Tables.{Tables}
+use Rattle.requests.specs.declared.run.Fault.{Fault}
 use Rattle.requests.specs.Judge.{Outcome, kept, refused, taken}
 use Rattle.requests.specs.Requests.{Judged, forget, last_item}
 use Rattle.laws_taking.specs.Demands.{InTurn}
@@ -25,7 +26,6 @@ use Rattle.plain_judge.specs.declared.judge.Item.{Item}
 use Rattle.std.specs.declared.result.Result.TheVariants.{Ok, Err}
 use Rattle.plain_judge.specs.Judging.{RunIs, HashStands}
 use Rattle.std.specs.declared.option.Option.TheVariants.{Some, None}
-use Rattle.plain_judge.specs.declared.judge.Fault.{Fault}
 use Rattle.plain_log.specs.Area.{record_bytes, TakenFrom}
 use Rattle.plain_log.specs.Frames.{NumberAt}
 use Rattle.plain_log.specs.Checking.{RecordIs}

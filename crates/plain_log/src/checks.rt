@@ -2,11 +2,12 @@
 ghost use Rattle.plain_log.specs.Checking.{MovedIs, RecordIs, AreaIs};
 
 use super::areas::{AREA, USED, number_at, used_of};
-use plain_judge::judge::{Request, judge_settings};
+use plain_judge::judge::judge_settings;
 use plain_judge::trying::WEIGHTS;
 use plain_look::known::DEEDS;
 use read_carrier::carrier::{Message, read_message};
 use read_fields::hashes::HashPlace;
+use requests::run::Request;
 use slots::bytes::is_clear;
 use tables::limits::HANDHELD;
 
