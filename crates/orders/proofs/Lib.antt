@@ -2,6 +2,7 @@ pub mod Before
 pub mod Times
 pub mod Laws
 pub mod Steps
+pub mod Comparing
 pub mod OrderBytes
 pub mod Lookups
 pub mod Checking
