@@ -1,21 +1,15 @@
 -- Two keys compared byte by byte. Assumes nothing.
-use Prim.Native.Nat.{ℕ, suc, ◌+◌, ◌*◌, ◌-◌, ◌/◌, ◌≤◌, ◌<◌}
-use mathlib.Core.Path.{◌≡◌, refl, sym, ap, ◌∙◌, subst}
-use mathlib.Core.Bool.{Bool, true, false, not, cond, ◌&&◌, ◌||◌, true≢false, false≢true}
-use mathlib.Core.Logic.{◌↔◌}
-use mathlib.Core.List.{List, [], ◌∷◌, ◌++◌, map, append-nil, append_assoc}
+use Prim.Native.Nat.{ℕ, ◌+◌, ◌≤◌, ◌<◌}
+use mathlib.Core.Path.{◌≡◌, refl, ◌∙◌}
+use mathlib.Core.Bool.{Bool, true, false, ◌&&◌, ◌||◌}
+use mathlib.Core.List.{List}
 use native.Mathlib.Omega.{arith}
-use native.Mathlib.Nat.{add-zero, le-div_iff_mul-le, suc-mul}
 use native.Mathlib.Numerals.{add-one}
-use borrow.Author.Tests.{ltb-true, ltb-false, lt-ltb, le-ltb, eq-eqb, ne_eqb, not-true, not-false}
-use borrow.Rule.Slice.PartMut.{put_mid, mid_of, post_of}
+use borrow.Author.Tests.{ltb-true, ltb-false, le-ltb, eq-eqb, ne_eqb}
 use lib.Dec.{ltb, eqb}
-use lib.ListN.{length, get_or, set, take, drop, replicate, length-drop, length-take, length-set, drop_of_length-le}
-use lib.Seq.{drop-cons, take-suc, take_all, take_at, take-suc-set, drop-set-lt, get_or-drop, length-take-le}
-use Rattle.slots.specs.Slots.{pad, unless}
-use Rattle.slots.proofs.Pads.{pad_is}
-use Rattle.orders.specs.Orders.{before, lower, without}
-use Rattle.orders.specs.OrderParts.{key_at, InSlot}
+use lib.ListN.{length, get_or, drop, drop_of_length-le}
+use lib.Seq.{drop-cons}
+use Rattle.orders.specs.Orders.{before}
 
 module _ (a b : List ℕ) (i : ℕ) where
   -- one byte more is compared

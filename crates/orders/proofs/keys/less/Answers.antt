@@ -1,9 +1,5 @@
-use borrow.Author.Rules.{rules}
-use Prim.Native.Nat.{◌≤◌, ◌-◌}
-use mathlib.Core.Path.{◌≡◌, refl, sym, ◌∙◌}
+use mathlib.Core.Path.{refl, sym, ◌∙◌}
 use native.Mathlib.Omega.{arith}
-use lib.ListN.{length, drop}
-use Rattle.orders.specs.Orders.{before}
 use Rattle.orders.proofs.Comparing.{less_more, less_differ, less_short, less_end}
 use Rattle.orders.proofs.keys.less.Goals as goal
 
