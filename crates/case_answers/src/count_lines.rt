@@ -1,6 +1,6 @@
 // How many lines and channels a store holds.
-use case_lines::printing::{decimal, text};
 use case_lines::sets::Set;
+use case_lines::showing::{decimal, text};
 use menu::counting::Counts;
 use std::io;
 use std::io::Write;

@@ -1,7 +1,7 @@
 // Moves tables from one set to another: each part exported by the one and taken by the other, a line each.
 use super::count_lines::held;
-use case_lines::printing::{decimal, text, yes_or_no};
 use case_lines::sets::Set;
+use case_lines::showing::{decimal, text, yes_or_no};
 use case_lines::taking::answer_for;
 use export::parts::{NoExport, PARTS};
 use std::io;

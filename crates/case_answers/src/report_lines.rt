@@ -1,7 +1,7 @@
 // What a set reports, and what the office reads of it.
 use case_lines::building::put_bytes;
-use case_lines::printing::{decimal, hex, text};
 use case_lines::sets::Set;
+use case_lines::showing::{decimal, hex, text};
 use report_reading::messages::ReportRead;
 use reporting::answers::{NoReport, Written};
 use std::io;

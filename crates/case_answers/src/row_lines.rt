@@ -1,6 +1,6 @@
 // What the screen shows in a row.
-use case_lines::printing::{decimal, hex, text};
 use case_lines::sets::Set;
+use case_lines::showing::{decimal, hex, text};
 use screen::answers::{Answer, number_of};
 use screen::rows::{Row, row_of};
 use std::io;

@@ -2,6 +2,6 @@
 #![tactic(auto)]
 
 pub mod building;
-pub mod printing;
 pub mod sets;
+pub mod showing;
 pub mod taking;

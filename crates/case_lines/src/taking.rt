@@ -1,7 +1,7 @@
 // Takes the messages of cases and prints their lines.
 use super::building::{put_bytes, put_message};
-use super::printing::line;
 use super::sets::{Set, commit, judge, start};
+use super::showing::line;
 use station::answers::{Answer, number};
 use std::io;
 use std::io::Write;

@@ -1,5 +1,5 @@
 // Buffers, the carrier, and what a request has before its settings.
-use case_lines::printing::started;
+use case_lines::showing::started;
 use case_lines::taking::{answer, answer_into, messages};
 use station::handheld::start;
 use std::io;

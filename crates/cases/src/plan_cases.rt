@@ -1,5 +1,5 @@
 // Dialled numbers and channels.
-use case_lines::printing::{decimal, text};
+use case_lines::showing::{decimal, text};
 use std::io;
 use std::io::Write;
 

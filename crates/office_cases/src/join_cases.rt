@@ -1,5 +1,5 @@
 // Two requests joined under one header, and what a set makes of both in turn and of the joined one; requests that are sent twice.
-use case_lines::printing::{decimal, hex, text};
+use case_lines::showing::{decimal, hex, text};
 use case_lines::taking::{messages, requests};
 use joining::answers::Join;
 use joining::handheld::join;

@@ -1,7 +1,7 @@
 // Queries and reports: what each table is reported as, cuts into messages, unknown types, and refusals; each message is read back.
 use case_answers::report_lines::{ask, asked};
-use case_lines::printing::text;
 use case_lines::sets::Set;
+use case_lines::showing::text;
 use case_lines::taking::requests;
 use std::io;
 use std::io::Write;

@@ -1,7 +1,7 @@
 // Proposed updates: which requests make one store's tables another's, what is proposed where those of a single part differ, and refusals.
 use case_answers::moving::move_part;
-use case_lines::printing::{decimal, hex, text};
 use case_lines::sets::Set;
+use case_lines::showing::{decimal, hex, text};
 use case_lines::taking::{answer, requests};
 use export::parts::PARTS;
 use slots::bytes::copy;

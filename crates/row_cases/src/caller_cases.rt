@@ -1,6 +1,6 @@
 // Who is calling: the order of the lines and the row of a number, after what changes the lines, and where the order is wrong.
 use callers::handheld::line_of;
-use case_lines::printing::{decimal, text};
+use case_lines::showing::{decimal, text};
 use case_lines::taking::requests;
 use std::io;
 use std::io::Write;

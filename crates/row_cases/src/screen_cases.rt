@@ -1,7 +1,7 @@
 // Rows of the screen: with a text, without, outside the plan, absent.
 use case_answers::row_lines::{row, show};
-use case_lines::printing::text;
 use case_lines::sets::Set;
+use case_lines::showing::text;
 use case_lines::taking::requests;
 use screen::rows::Row;
 use std::io;

@@ -1,5 +1,5 @@
 // What stands behind a row, and the settings that the radio works by: each table, places that are empty, a fresh store, and no store. Addresses are decimal.
-use case_lines::printing::{decimal, hex, text};
+use case_lines::showing::{decimal, hex, text};
 use case_lines::taking::requests;
 use screen::rows::row_of;
 use std::io;

@@ -1,6 +1,6 @@
 // Group and individual contacts, which go by their address: fields, room for 64 each, and background groups, which have no row.
 use case_answers::row_lines::row;
-use case_lines::printing::text;
+use case_lines::showing::text;
 use case_lines::taking::requests;
 use restore::handheld::restore;
 use station::handheld::start;

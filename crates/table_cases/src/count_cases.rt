@@ -1,7 +1,7 @@
 // How many lines and channels a store holds: after what changes it and what does not, and where a count is wrong.
 use case_answers::count_lines::held;
-use case_lines::printing::{decimal, text};
 use case_lines::sets::Set;
+use case_lines::showing::{decimal, text};
 use case_lines::taking::requests;
 use std::io;
 use std::io::Write;

@@ -1,8 +1,8 @@
 // Texts share a room of 4,096 bytes: what a full one takes and refuses, what is freed, and that a vehicle has no such room.
 use case_answers::moving::move_all;
 use case_answers::row_lines::row;
-use case_lines::printing::{text, yes_or_no};
 use case_lines::sets::Set;
+use case_lines::showing::{text, yes_or_no};
 use case_lines::taking::{requests, requests_for};
 use slots::bytes::same;
 use station::handheld::start;

@@ -1,6 +1,6 @@
 // Lines of the two IDtypes with one number: each is overwritten and deleted alone, both are exported, and a replace removes both.
 use case_answers::row_lines::row;
-use case_lines::printing::text;
+use case_lines::showing::text;
 use case_lines::taking::requests;
 use restore::handheld::restore;
 use station::handheld::start;

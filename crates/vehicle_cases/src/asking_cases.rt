@@ -1,7 +1,7 @@
 // Reports of 256 channels, asked for so often that 255 messages hold them, or do not.
 use case_answers::report_lines::asked;
-use case_lines::printing::text;
 use case_lines::sets::Set;
+use case_lines::showing::text;
 use case_lines::taking::requests_for;
 use std::io;
 use std::io::Write;

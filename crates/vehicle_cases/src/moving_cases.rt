@@ -1,7 +1,7 @@
 // What a vehicle set is exported as, taken by a hand-held: which parts fit, and that the tables are the same then; and back again.
 use case_answers::moving::{move_all, move_part};
-use case_lines::printing::{decimal, text, yes_or_no};
 use case_lines::sets::{Set, start};
+use case_lines::showing::{decimal, text, yes_or_no};
 use case_lines::taking::requests_for;
 use restore::restore::Restored;
 use slots::bytes::same;

@@ -2,8 +2,8 @@
 use case_answers::count_lines::held;
 use case_answers::moving::export_of;
 use case_answers::report_lines::asked;
-use case_lines::printing::{decimal, started, text};
 use case_lines::sets::{Set, start};
+use case_lines::showing::{decimal, started, text};
 use case_lines::taking::answer_for;
 use export::parts::NoExport;
 use std::io;
