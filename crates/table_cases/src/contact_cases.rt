@@ -10,10 +10,10 @@ use tables::limits::HANDHELD_SIZE;
 
 // The first four rows of a table.
 fn rows<W: Write>(out: &mut W, store: &[u8], table: u32) -> io::Result<()> {
-    row(out, store, table, 0)?;
-    row(out, store, table, 1)?;
-    row(out, store, table, 2)?;
-    row(out, store, table, 3)
+    for place in 0..4 {
+        row(out, store, table, place)?;
+    }
+    Ok(())
 }
 
 fn fields<W: Write>(out: &mut W, store: &mut [u8]) -> io::Result<()> {

@@ -4,7 +4,6 @@ use case_answers::row_lines::row;
 use case_lines::sets::Set;
 use case_lines::showing::{text, yes_or_no};
 use case_lines::taking::{requests, requests_for};
-use slots::bytes::same;
 use station::handheld::start;
 use std::io;
 use std::io::Write;
@@ -89,7 +88,7 @@ fn orders<W: Write>(out: &mut W, store: &mut [u8]) -> io::Result<()> {
         the same, the last first: 04 D0 0009 40 01 20 0044 0000 D0 0009 40 01 21 0043 0000 CC 0008 41 00 0042 0000 CC 0008 41 01 0041 0000\n",
         &mut other,
     )?;
-    yes_or_no(out, b"the same bytes:", same(store, &other))?;
+    yes_or_no(out, b"the same bytes:", *store == *other.as_slice())?;
     text(out, b"\n")
 }
 
@@ -99,7 +98,7 @@ fn moved<W: Write>(out: &mut W, store: &[u8]) -> io::Result<()> {
     start(&mut other);
     text(out, b"a full room to a fresh set\n")?;
     move_all(out, Set::Handheld, Set::Handheld, store, &mut other)?;
-    yes_or_no(out, b"the same bytes:", same(store, &other))?;
+    yes_or_no(out, b"the same bytes:", store == other.as_slice())?;
     text(out, b"\n")?;
     requests(
         out,

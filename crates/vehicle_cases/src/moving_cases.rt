@@ -4,7 +4,6 @@ use case_lines::sets::{Set, start};
 use case_lines::showing::{decimal, text, yes_or_no};
 use case_lines::taking::requests_for;
 use restore::restore::Restored;
-use slots::bytes::same;
 use std::io;
 use std::io::Write;
 use tables::limits::VEHICLE_SIZE;
@@ -88,7 +87,7 @@ fn whole<W: Write>(out: &mut W, store: &mut [u8], other: &mut [u8]) -> io::Resul
 
 // Equal tables are equal bytes, the kept hash aside, which neither has.
 fn compare<W: Write>(out: &mut W, store: &[u8], third: &[u8]) -> io::Result<()> {
-    yes_or_no(out, b"  the first vehicle's bytes:", same(store, third))?;
+    yes_or_no(out, b"  the first vehicle's bytes:", store == third)?;
     text(out, b"\n")
 }
 
