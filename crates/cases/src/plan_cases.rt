@@ -23,7 +23,7 @@ fn individual<W: Write>(out: &mut W, dialled: u32) -> io::Result<()> {
 
 fn transmit<W: Write>(out: &mut W, channel: u32) -> io::Result<()> {
     match plan::channels::transmit(channel) {
-        Some(f) => line(out, b"transmit frequency of", channel, 0, f),
+        Some(f) => line(out, b"transmit frequency of", channel, 0, f.0),
         None => line(out, b"transmit frequency of", channel, 22, 0),
     }
 }

@@ -30,7 +30,7 @@ pub extern "C" fn otap_dialled_of_individual(address: u32) -> u64
     ensures { Converts (Back Individual) 21 address result }
 {
     pack_value(
-        dialled_of_individual(IndividualAddress(address)),
+        dialled_of_individual(IndividualAddress(address)).map(|d| d.0),
         OUTSIDE_KIND,
     )
 }
@@ -39,26 +39,29 @@ pub extern "C" fn otap_dialled_of_individual(address: u32) -> u64
 pub extern "C" fn otap_dialled_of_group(address: u32) -> u64
     ensures { Converts (Back Group) 21 address result }
 {
-    pack_value(dialled_of_group(GroupAddress(address)), OUTSIDE_KIND)
+    pack_value(
+        dialled_of_group(GroupAddress(address)).map(|d| d.0),
+        OUTSIDE_KIND,
+    )
 }
 
 #[unsafe(no_mangle)]
 pub extern "C" fn otap_transmit(number: u32) -> u64
     ensures { Converts Transmits 22 number result }
 {
-    pack_value(transmit(number), NO_CHANNEL)
+    pack_value(transmit(number).map(|f| f.0), NO_CHANNEL)
 }
 
 #[unsafe(no_mangle)]
 pub extern "C" fn otap_channel_of_transmit(value: u32) -> u64
     ensures { Converts (Back Transmits) 22 value result }
 {
-    pack_value(channel_of_transmit(value), NO_CHANNEL)
+    pack_value(channel_of_transmit(value).map(|n| n.0), NO_CHANNEL)
 }
 
 #[unsafe(no_mangle)]
 pub extern "C" fn otap_receive(number: u32) -> u64
     ensures { Converts Receives 22 number result }
 {
-    pack_value(receive(number), NO_CHANNEL)
+    pack_value(receive(number).map(|f| f.0), NO_CHANNEL)
 }

@@ -5,6 +5,7 @@ use denote.Ref.{Bor}
 use types.Run.{OneOf, miss}
 use Rattle.lists.specs.Ladder.{Answers}
 use Rattle.std.specs.Prelude.{Option, Some, None}
+use Rattle.plan.specs.declared.numbers.DialledNumber.{DialledNumber}
 use Rattle.plan.specs.Answers.{Answer, Answered, has, none, Back, answer, dialled}
 use Rattle.writing.specs.Settings.{Text}
 use Rattle.read_fields.specs.declared.texts.TextPlace.{TextPlace}
@@ -28,8 +29,8 @@ use Rattle.plain_rows.specs.PlainRows.{PlainShown, plain_showing, plain_numberin
 use Rattle.plain_rows.proofs.AreaTables.{area_tables}
 
 -- the plan's answer is the number that is shown
-address_text : (Plan : ℕ → ℕ → Type 0) (d : Option ℕ) (x : ℕ) → Answered (Back Plan) 21 x (answer (dialled d)) → AddressText Plan x (map ascii (dialled_digits d x))
-address_text Plan (Some n) x (has y p e) = by_plan n (subst (λ (i : ℕ). Plan i x) (sym (ap (λ (a : Answer). a.value) e)) p) refl
+address_text : (Plan : ℕ → ℕ → Type 0) (d : Option DialledNumber) (x : ℕ) → Answered (Back Plan) 21 x (answer (dialled d)) → AddressText Plan x (map ascii (dialled_digits d x))
+address_text Plan (Some n) x (has y p e) = by_plan n.0 (subst (λ (i : ℕ). Plan i x) (sym (ap (λ (a : Answer). a.value) e)) p) refl
 address_text Plan (Some n) x (none k e) = absurd (omega (arith, ap (λ (a : Answer). a.number) e))
 address_text Plan None x (has y p e) = absurd (omega (arith, ap (λ (a : Answer). a.number) e))
 address_text Plan None x (none k e) = outside k refl
@@ -130,7 +131,7 @@ module _ (s scratch : List ℕ) (row : Row) where
       written_placed x (line [] ds) (written (map ascii ds)) e (map ascii ds, refl, refl) (w ds ok n (omega (arith, x.big)))
 
   -- a group's or an individual's number, by its plan
-  pub address_placed : (Plan : ℕ → ℕ → Type 0) {x : Naming} (i : InRow x) (c : Caption) (d : Option ℕ) (n : ℕ) {after : List ℕ} {r : ℕ} → caption i.tables row ≡ some c
+  pub address_placed : (Plan : ℕ → ℕ → Type 0) {x : Naming} (i : InRow x) (c : Caption) (d : Option DialledNumber) (n : ℕ) {after : List ℕ} {r : ℕ} → caption i.tables row ≡ some c
       → ((ns : Text) → AddressText Plan n ns → Displays c (written ns)) → Answered (Back Plan) 21 n (answer (dialled d)) → (36 ≤ length scratch → Written (map ascii (dialled_digits d n)) scratch after r)
       → PlainPlaced s scratch after row (Scratch r)
   address_placed Plan i c d n e shown p w =

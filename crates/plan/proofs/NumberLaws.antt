@@ -4,6 +4,7 @@ use Rattle.plan.specs.Answers.{Answered, has, none, Back, answer, dialled}
 use Rattle.plan.specs.Numbers.{IndividualShort, of_700, of_350, GroupShort, of_100, Numbered}
 use Rattle.plan.specs.Inner.{AddressOf, DialledOf}
 use Rattle.std.specs.Prelude.{Option, Some, None}
+use Rattle.plan.specs.declared.numbers.DialledNumber.{DialledNumber}
 use Rattle.plan.proofs.AnswerLaws.{One}
 
 -- ---- a kind's plan: what fleets, members and short addresses it has
@@ -145,9 +146,9 @@ module _ (Short : ℕ → ℕ → ℕ → Type 0) (sound : Sound Short) where
   no_member a h d n = let (_, s) = halves n in h n.fleet n.member (subst (λ (x : ℕ). Short n.fleet n.member x) s n.in_plan)
 
   -- the digits of an address's member in its area are the address's, or it has none
-  pub addressed : (a f m : ℕ) (r : Option ℕ) → Short f m (a % 32768) → DialledOf (a / 32768) f m r
+  pub addressed : (a f m : ℕ) (r : Option DialledNumber) → Short f m (a % 32768) → DialledOf (a / 32768) f m r
       → Answered (Back (Numbered Short)) 21 a (answer (dialled r))
-  addressed a f m (Some d) p (l, h, e) = has d (record {
+  addressed a f m (Some d) p (l, h, e) = has d.0 (record {
     NP = a / 32768 + 296;
     fleet = f;
     member = m;

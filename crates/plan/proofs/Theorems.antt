@@ -3,6 +3,7 @@ use Rattle.lists.proofs.Kit.{ℕ, ◌≡◌, refl, arith}
 use Rattle.std.specs.Prelude.{Option, Some, None}
 use Rattle.plan.specs.declared.numbers.IndividualAddress.{IndividualAddress}
 use Rattle.plan.specs.declared.numbers.GroupAddress.{GroupAddress}
+use Rattle.plan.specs.declared.numbers.DialledNumber.{DialledNumber}
 use Rattle.plan.specs.Answers.{answer, individual, group, dialled, Answered, Back, BothWays}
 use Rattle.plan.specs.Numbers.{IndividualShort, GroupShort, Individual, Group}
 use Rattle.plan.proofs.AnswerLaws.{case_of, case_determined, both_ways}
@@ -24,7 +25,10 @@ group_back : (a : Option GroupAddress) → case_of a_group None (answer (group a
 group_back (Some a) = refl
 group_back None = refl
 
-dialled_back : (a : Option ℕ) → case_of Some None (answer (dialled a)) ≡ a
+abbrev a_number : ℕ → Option DialledNumber
+a_number n = Some (record { 0 = n })
+
+dialled_back : (a : Option DialledNumber) → case_of a_number None (answer (dialled a)) ≡ a
 dialled_back (Some d) = refl
 dialled_back None = refl
 
@@ -34,11 +38,11 @@ individual_determined = case_determined Individual (one_address IndividualShort 
 pub group_determined : (d : ℕ) (a b : Option GroupAddress) → Answered Group 20 d (answer (group a)) → Answered Group 20 d (answer (group b)) → a ≡ b
 group_determined = case_determined Group (one_address GroupShort groups) 20 group a_group None group_back
 
-pub dialled_of_individual_determined : (i : ℕ) (a b : Option ℕ) → Answered (Back Individual) 21 i (answer (dialled a)) → Answered (Back Individual) 21 i (answer (dialled b)) → a ≡ b
-dialled_of_individual_determined = case_determined (Back Individual) (one_dialled IndividualShort individuals) 21 dialled Some None dialled_back
+pub dialled_of_individual_determined : (i : ℕ) (a b : Option DialledNumber) → Answered (Back Individual) 21 i (answer (dialled a)) → Answered (Back Individual) 21 i (answer (dialled b)) → a ≡ b
+dialled_of_individual_determined = case_determined (Back Individual) (one_dialled IndividualShort individuals) 21 dialled a_number None dialled_back
 
-pub dialled_of_group_determined : (i : ℕ) (a b : Option ℕ) → Answered (Back Group) 21 i (answer (dialled a)) → Answered (Back Group) 21 i (answer (dialled b)) → a ≡ b
-dialled_of_group_determined = case_determined (Back Group) (one_dialled GroupShort groups) 21 dialled Some None dialled_back
+pub dialled_of_group_determined : (i : ℕ) (a b : Option DialledNumber) → Answered (Back Group) 21 i (answer (dialled a)) → Answered (Back Group) 21 i (answer (dialled b)) → a ≡ b
+dialled_of_group_determined = case_determined (Back Group) (one_dialled GroupShort groups) 21 dialled a_number None dialled_back
 
 -- "Numbers and channels convert, both ways": numbers
 pub individuals_both_ways : BothWays Individual 20 21

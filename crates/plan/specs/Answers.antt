@@ -2,6 +2,9 @@
 use Rattle.std.specs.Prelude.{ℕ, ◌≡◌, Option, Some, None}
 use Rattle.plan.specs.declared.numbers.IndividualAddress.{IndividualAddress}
 use Rattle.plan.specs.declared.numbers.GroupAddress.{GroupAddress}
+use Rattle.plan.specs.declared.numbers.DialledNumber.{DialledNumber}
+use Rattle.plan.specs.declared.channels.Frequency.{Frequency}
+use Rattle.plan.specs.declared.channels.ChannelNumber.{ChannelNumber}
 
 -- "Numbers returned": a number, and a value
 pub record Answer : Type 0 where
@@ -20,9 +23,9 @@ refused n = record { number = n; value = 0 }
 pub data Said : Type 0 where
   individual : Option IndividualAddress → Said
   group : Option GroupAddress → Said
-  dialled : Option ℕ → Said
-  frequency : Option ℕ → Said
-  channel : Option ℕ → Said
+  dialled : Option DialledNumber → Said
+  frequency : Option Frequency → Said
+  channel : Option ChannelNumber → Said
 
 -- each case's number and value: 20 dialled number outside the plan, 21 address outside its kind's plan, 22 no channel
 abbrev pub answer : Said → Answer
@@ -30,11 +33,11 @@ answer (individual (Some a)) = given a.0
 answer (individual None) = refused 20
 answer (group (Some a)) = given a.0
 answer (group None) = refused 20
-answer (dialled (Some d)) = given d
+answer (dialled (Some d)) = given d.0
 answer (dialled None) = refused 21
-answer (frequency (Some f)) = given f
+answer (frequency (Some f)) = given f.0
 answer (frequency None) = refused 22
-answer (channel (Some n)) = given n
+answer (channel (Some n)) = given n.0
 answer (channel None) = refused 22
 
 -- 0 with a value that x has, or the refusal's number where it has none

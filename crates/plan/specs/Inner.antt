@@ -1,5 +1,6 @@
 -- What the inner steps of the conversions answer. No promise cites these.
 use Rattle.std.specs.Prelude.{ℕ, ◌+◌, ◌*◌, ◌-◌, ◌≤◌, ◌≡◌, Option, Some, None}
+use Rattle.plan.specs.declared.numbers.DialledNumber.{DialledNumber}
 
 -- the short address of this fleet's member in a kind's plan, or that it has none
 abbrev pub ShortIs : (ℕ → ℕ → ℕ → Type 0) → ℕ → ℕ → Option ℕ → Type 0
@@ -17,6 +18,6 @@ AddressOf NP short (Some ID) = (328 ≤ NP) × (NP ≤ 806) × (ID ≡ (NP - 328
 AddressOf NP short None = 328 ≤ NP → NP ≤ 806 → ⊥
 
 -- the eight digits of a member in area NP = area + 296, or that there are none
-abbrev pub DialledOf : ℕ → ℕ → ℕ → Option ℕ → Type 0
-DialledOf area fleet member (Some d) = (32 ≤ area) × (area ≤ 510) × (d ≡ (area + 296) * 100000 + fleet * 1000 + member)
+abbrev pub DialledOf : ℕ → ℕ → ℕ → Option DialledNumber → Type 0
+DialledOf area fleet member (Some d) = (32 ≤ area) × (area ≤ 510) × (d.0 ≡ (area + 296) * 100000 + fleet * 1000 + member)
 DialledOf area fleet member None = 32 ≤ area → area ≤ 510 → ⊥

@@ -12,6 +12,10 @@ pub struct GroupAddress(pub u32);
 #[derive(Clone, Copy, PartialEq, Eq)]
 pub struct IndividualAddress(pub u32);
 
+// The eight digits that are dialled, as one number.
+#[derive(Clone, Copy, PartialEq, Eq)]
+pub struct DialledNumber(pub u32);
+
 // The short address of a fleet's member, where the plan of individuals has one.
 fn individual_short(fleet: u32, member: u32) -> Option<u32>
     ensures { ShortIs IndividualShort fleet member result }
@@ -66,12 +70,12 @@ fn area_address(np: u32, short: u32) -> Option<u32>
 }
 
 // The eight digits of an area's member. 1048576 is 32 times 32768, so area 328 stands at 32.
-fn area_dialled(area: u32, fleet: u32, member: u32) -> Option<u32>
+fn area_dialled(area: u32, fleet: u32, member: u32) -> Option<DialledNumber>
     requires { (fleet < 100) × (member < 1000) }
     ensures { DialledOf area fleet member result }
 {
     match area {
-        32..=510 => Some((area + 296) * 100_000 + fleet * 1_000 + member),
+        32..=510 => Some(DialledNumber((area + 296) * 100_000 + fleet * 1_000 + member)),
         _ => None,
     }
 }
@@ -92,14 +96,14 @@ pub fn group_of_dialled(d: u32) -> Option<GroupAddress>
     Some(GroupAddress(address))
 }
 
-pub fn dialled_of_individual(a: IndividualAddress) -> Option<u32>
+pub fn dialled_of_individual(a: IndividualAddress) -> Option<DialledNumber>
     ensures { Answered (Back Individual) 21 a.0 (answer (backward result)) }
 {
     let (fleet, member) = individual_member(a.0 % 32_768)?;
     area_dialled(a.0 / 32_768, fleet, member)
 }
 
-pub fn dialled_of_group(a: GroupAddress) -> Option<u32>
+pub fn dialled_of_group(a: GroupAddress) -> Option<DialledNumber>
     ensures { Answered (Back Group) 21 a.0 (answer (backward result)) }
 {
     let (fleet, member) = group_member(a.0 % 32_768)?;

@@ -2,6 +2,7 @@
 use Rattle.lists.proofs.Kit.{ℕ, ◌+◌, ◌*◌, ◌-◌, ◌≤◌, ◌≡◌, refl, sym, ap, ap₂, ◌∙◌, subst, inl, inr, List, [], map, some, arith, length, take, drop, length-append}
 use Rattle.lists.specs.Ladder.{Answers}
 use Rattle.std.specs.Prelude.{Option, Some, None}
+use Rattle.plan.specs.declared.numbers.DialledNumber.{DialledNumber}
 use Rattle.plan.specs.Answers.{Answer, Answered, has, none, Back, answer, dialled}
 use Rattle.slots.specs.Slots.{EntryOf}
 use Rattle.writing.specs.Ranges.{InNumber}
@@ -31,8 +32,8 @@ shown_number lim t scratch row (written us) = refl
 -- ---- the number of an address
 
 -- the plan's answer is the number that is shown
-address_text : (Plan : ℕ → ℕ → Type 0) (d : Option ℕ) (x : ℕ) → Answered (Back Plan) 21 x (answer (dialled d)) → AddressText Plan x (map ascii (dialled_digits d x))
-address_text Plan (Some n) x (has y p e) = by_plan n (subst (λ (i : ℕ). Plan i x) (sym (ap (λ (a : Answer). a.value) e)) p) refl
+address_text : (Plan : ℕ → ℕ → Type 0) (d : Option DialledNumber) (x : ℕ) → Answered (Back Plan) 21 x (answer (dialled d)) → AddressText Plan x (map ascii (dialled_digits d x))
+address_text Plan (Some n) x (has y p e) = by_plan n.0 (subst (λ (i : ℕ). Plan i x) (sym (ap (λ (a : Answer). a.value) e)) p) refl
 address_text Plan (Some n) x (none k e) = absurd (omega (arith, ap (λ (a : Answer). a.number) e))
 address_text Plan None x (has y p e) = absurd (omega (arith, ap (λ (a : Answer). a.number) e))
 address_text Plan None x (none k e) = outside k refl
@@ -157,6 +158,6 @@ module _ {lim : Limits} {s scratch : List ℕ} {row : Row} where
       number_placed x (line [] ds) e (map ascii ds, refl, refl) (w ds ok (eighteen s at ∙ b))
 
   -- a group's or an individual's number, by its plan
-  pub address_placed : (Plan : ℕ → ℕ → Type 0) {x : Name} (i : InRow lim s scratch row x) (c : Caption) (d : Option ℕ) (n : ℕ) {after : List ℕ} {r : ℕ} → caption i.tables row ≡ some c
+  pub address_placed : (Plan : ℕ → ℕ → Type 0) {x : Name} (i : InRow lim s scratch row x) (c : Caption) (d : Option DialledNumber) (n : ℕ) {after : List ℕ} {r : ℕ} → caption i.tables row ≡ some c
       → ((ns : Text) → AddressText Plan n ns → Displays c (written ns)) → Answered (Back Plan) 21 n (answer (dialled d)) → Written (map ascii (dialled_digits d n)) scratch after r → Placed lim s scratch after row (Scratch r)
   address_placed Plan i c d n e shown p w = number_placed i c e (shown (map ascii (dialled_digits d n)) (address_text Plan d n p)) w

@@ -2,6 +2,7 @@
 use Rattle.std.specs.Prelude.{Option}
 use Rattle.lists.proofs.Kit.{ℕ, zero, suc, ◌+◌, ◌*◌, ◌-◌, ◌/◌, ◌%◌, ◌≤◌, ◌<◌, ◌≡◌, refl, sym, ap, ap₂, ◌∙◌, subst, ◌≢◌, Bool, true, false, List, [], ◌∷◌, ◌++◌, map, map-append, append_assoc, append-nil, not-suc-le-zero, le_of_suc-le-suc, add-one, arith, lt-ltb, le-ltb, ltb-true, ltb, length, take, drop, get_or, set, length-map, take-append-drop, sets-eq, take_at, drop_at, take-suc, take_all, take-append-le, drop-drop, length-take-le, take-take}
 use Rattle.lists.proofs.Every.{all_get, all_made}
+use Rattle.plan.specs.declared.numbers.DialledNumber.{DialledNumber}
 use Rattle.slots.specs.Slots.{flat, pad, u16}
 use Rattle.slots.proofs.Parts.{flat_append, slots_length}
 use Rattle.writing.specs.Ranges.{InNumber}
@@ -186,5 +187,5 @@ module _ (kept s : List ℕ) (ds : Number) (ok : InNumber ds) (e : kept ≡ digi
 -- ---- an address
 
 -- the answer of the plan by its case
-pub dialled_as : {a b : Option ℕ} (x : ℕ) (s t : List ℕ) (r : ℕ) → a ≡ b → Written (map ascii (dialled_digits b x)) s t r → Written (map ascii (dialled_digits a x)) s t r
-dialled_as x s t r e w = subst (λ (d : Option ℕ). Written (map ascii (dialled_digits d x)) s t r) (sym e) w
+pub dialled_as : {a b : Option DialledNumber} (x : ℕ) (s t : List ℕ) (r : ℕ) → a ≡ b → Written (map ascii (dialled_digits b x)) s t r → Written (map ascii (dialled_digits a x)) s t r
+dialled_as x s t r e w = subst (λ (d : Option DialledNumber). Written (map ascii (dialled_digits d x)) s t r) (sym e) w

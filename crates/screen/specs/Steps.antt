@@ -2,6 +2,7 @@
 use Rattle.std.specs.Prelude.{ℕ, ◌+◌, ◌*◌, ◌≤◌, ◌≡◌, List, ◌++◌, map, length, drop, Option, Some, None}
 use Rattle.std.specs.Borrow.{Bor}
 use Rattle.lists.specs.Ladder.{Answers}
+use Rattle.plan.specs.declared.numbers.DialledNumber.{DialledNumber}
 use Rattle.writing.specs.Ranges.{InNumber}
 use Rattle.writing.specs.Settings.{Text, Number}
 use Rattle.tables.specs.declared.limits.Limits.{Limits}
@@ -24,8 +25,8 @@ abbrev pub DigitsWritten : List ℕ → List ℕ → List ℕ → ℕ → Type 0
 DigitsWritten kept s t r = (ds : Number) → InNumber ds → kept ≡ digit_bytes ds → Written (map ascii ds) s t r
 
 -- the digits of an address: dialled ones, or its own where its plan has none
-abbrev pub dialled_digits : Option ℕ → ℕ → List ℕ
-dialled_digits (Some d) address = digits 10 8 d
+abbrev pub dialled_digits : Option DialledNumber → ℕ → List ℕ
+dialled_digits (Some d) address = digits 10 8 d.0
 dialled_digits None address = digits 16 6 address
 
 -- ---- places and parts

@@ -6,6 +6,8 @@ ghost use Rattle.writing.specs.Ranges.{InNumber};
 ghost use Rattle.screen.specs.Rows.{ascii, digits};
 ghost use Rattle.screen.specs.Steps.{Written, DigitsWritten, dialled_digits};
 
+use plan::numbers::DialledNumber;
+
 // 0 to 9, then A to F.
 fn code(digit: u8) -> u8
     requires { digit < 16 }
@@ -39,12 +41,14 @@ fn write_digits(scratch: &mut [u8], x: u64, base: u64, n: usize) -> usize
 }
 
 // A line's digits, which its slot keeps as one more than themselves.
+// By index: an iterator over bytes gives an Option of a reference, which a module for pointers of 32 bits may not hold.
 pub(crate) fn write_line(scratch: &mut [u8], kept: &[u8]) -> usize
     requires { (36 ≤ length scratch.old) × EntryOf InNumber digit_bytes kept.now }
     ensures { DigitsWritten kept.now scratch.old scratch.new result }
 {
-    for (i, digit) in kept.iter().enumerate() {
-        if *digit == 0 {
+    for i in 0..kept.len() {
+        let digit = kept[i];
+        if digit == 0 {
             return 2 * i;
         }
         put_digit(scratch, i, digit - 1);
@@ -53,18 +57,22 @@ pub(crate) fn write_line(scratch: &mut [u8], kept: &[u8]) -> usize
 }
 
 // Eight dialled digits, or six of the address where its plan has none.
-pub(crate) fn write_address(scratch: &mut [u8], dialled: Option<u32>, address: u32) -> usize
+pub(crate) fn write_address(
+    scratch: &mut [u8],
+    dialled: Option<DialledNumber>,
+    address: u32,
+) -> usize
     requires { 36 ≤ length scratch.old }
     ensures { Written (map ascii (dialled_digits dialled address)) scratch.old scratch.new result }
 {
     match dialled {
-        Some(d) => write_digits(scratch, d as u64, 10, 8),
+        Some(d) => write_digits(scratch, d.0 as u64, 10, 8),
         None => write_digits(scratch, address as u64, 16, 6),
     }
 }
 
 // The same for any other crate: nothing is written where the scratch has no room for the longest number.
-pub fn write_dialled(scratch: &mut [u8], dialled: Option<u32>, address: u32) -> usize
+pub fn write_dialled(scratch: &mut [u8], dialled: Option<DialledNumber>, address: u32) -> usize
     ensures { 36 ≤ length scratch.old → Written (map ascii (dialled_digits dialled address)) scratch.old scratch.new result }
 {
     if scratch.len() < 36 {
