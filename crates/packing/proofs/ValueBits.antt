@@ -19,14 +19,14 @@ use Rattle.tables.proofs.EntryCodes.{bit_small}
 use Rattle.screen.specs.declared.rows.Row.{Row}
 use Rattle.screen.specs.declared.rows.Row.TheVariants.{Line, QuickText, StatusText, Group, Individual, GroupContact, IndividualContact, LineSlot, NoTable}
 use Rattle.screen.specs.Rows.{of, row_named}
-use Rattle.std.specs.Prelude.{Result, Ok, Err}
+use Rattle.std.specs.Prelude.{Option as Maybe, Result, Ok, Err}
 use Rattle.writing.specs.declared.HomeNumbers.{HomeNumbers}
 use Rattle.writing.specs.declared.SystemCode.{SystemCode}
 use Rattle.values.specs.declared.answers.EmergencyKey.{EmergencyKey}
 use Rattle.values.specs.declared.answers.NoValue.{NoValue}
 use Rattle.values.specs.declared.answers.Target.{Target}
 use Rattle.values.specs.Digits.{AfterDigits, number_at, digits_told, writing_digits}
-use Rattle.values.specs.Values.{Asked, refused, given, asking, line_target, group_target, individual_target, entry_at, told, entering, channel_at, tuning, key_asked, home_asked, system_asked}
+use Rattle.values.specs.Values.{Asked, refused, given, asking, line_target, group_target, individual_target, entry_at, told, held, entering, channel_at, tuning, key_asked, home_asked, system_asked}
 use Rattle.packing.specs.declared.entries.EntryValues.{EntryValues}
 use Rattle.packing.specs.declared.fixed.KeyValues.{KeyValues}
 use Rattle.packing.specs.PackedValues.{Packed, WhereFit, entry_values, entry_bits, entry_fields, Enters, digits_fields, WritesDigits, channel_fields, Tunes, calls, key_values, key_bits, key_fields, AnswersKey, home_fields, AnswersHome, system_fields, AnswersSystem}
@@ -174,21 +174,21 @@ module _ (lim : Limits) where
       (told a) r x p
 
   -- KEY: the emergency key
-  pub key_packed : (store : List ℕ) (a : Result EmergencyKey NoValue) (r : ℕ) → Answers (key_asked lim store) (told a) → WhereFit (key_fields (told a)) r → AnswersKey lim store r
+  pub key_packed : (store : List ℕ) (a : Maybe EmergencyKey) (r : ℕ) → Answers (key_asked lim store) (held a) → WhereFit (key_fields (held a)) r → AnswersKey lim store r
   key_packed store a r x p = asked_packed lim _ store key_fields
       (λ n h. key_bits_fit (key_values none) n (omega arith) h)
       (λ t ok v e. subst (λ k. All FitsField (key_fields (given k))) (option_some_injective _ v e) (key_fits t.key.target t.key.flags ok.key))
-      (told a) r x p
+      (held a) r x p
 
   -- HOME: the home numbers
-  pub home_packed : (store : List ℕ) (a : Result HomeNumbers NoValue) (r : ℕ) → Answers (home_asked lim store) (told a) → WhereFit (home_fields (told a)) r → AnswersHome lim store r
+  pub home_packed : (store : List ℕ) (a : Maybe HomeNumbers) (r : ℕ) → Answers (home_asked lim store) (held a) → WhereFit (home_fields (held a)) r → AnswersHome lim store r
   home_packed store a r x p = asked_packed lim _ store home_fields (λ n h. (omega arith, (omega arith, (h, tt))))
       (λ t ok v e. subst (λ k. All FitsField (home_fields (given k))) (option_some_injective _ v e) (omega (arith, ok.home.np), (ok.home.nzi, (omega arith, tt))))
-      (told a) r x p
+      (held a) r x p
 
   -- SYSTEM: the system code
-  pub system_packed : (store : List ℕ) (a : Result SystemCode NoValue) (r : ℕ) → Answers (system_asked lim store) (told a) → WhereFit (system_fields (told a)) r → AnswersSystem lim store r
+  pub system_packed : (store : List ℕ) (a : Maybe SystemCode) (r : ℕ) → Answers (system_asked lim store) (held a) → WhereFit (system_fields (held a)) r → AnswersSystem lim store r
   system_packed store a r x p = asked_packed lim _ store system_fields (λ n h. (one_bit false, (omega arith, (omega arith, (omega arith, (h, tt))))))
       (λ t ok v e. subst (λ k. All FitsField (system_fields (given k))) (option_some_injective _ v e)
       (one_bit t.system.par, (omega (arith, ok.system.roaming), (omega (arith, ok.system.la), (ok.system.lai, (omega arith, tt))))))
-      (told a) r x p
+      (held a) r x p

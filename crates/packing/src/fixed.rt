@@ -1,11 +1,11 @@
 // The emergency key, the home numbers and the system code.
 ghost use Rattle.std.specs.Prelude.{◌≡◌};
 ghost use Rattle.std.proofs.Math.Option.{some};
-ghost use Rattle.values.specs.Values.{told};
+ghost use Rattle.values.specs.Values.{held};
 ghost use Rattle.packing.specs.PackedValues.{home_bits, home_fields, key_bits, key_fields, key_values, system_bits, system_fields, WhereFit};
 
 use super::bits::bit_of;
-use values::answers::{EmergencyKey, NoValue};
+use values::answers::EmergencyKey;
 use writing::{HomeNumbers, KeyTarget, SystemCode};
 
 // All that the key has, whatever it calls; no address with the current place.
@@ -52,12 +52,12 @@ fn pack_calls(v: KeyValues) -> u64
 }
 
 // Bits 0 to 7 number, and above them where the key calls, and how.
-pub fn pack_key(answer: Result<EmergencyKey, NoValue>) -> u64
-    ensures { WhereFit (key_fields (told answer)) result }
+pub fn pack_key(answer: Option<EmergencyKey>) -> u64
+    ensures { WhereFit (key_fields (held answer)) result }
 {
     match answer {
-        Ok(key) => pack_calls(KeyValues::from(key)),
-        Err(why) => why as u64,
+        Some(key) => pack_calls(KeyValues::from(key)),
+        None => 11,
     }
 }
 
@@ -69,12 +69,12 @@ fn pack_numbers(h: HomeNumbers) -> u64
 }
 
 // Bits 0 to 7 number, and above them the home numbers.
-pub fn pack_home(answer: Result<HomeNumbers, NoValue>) -> u64
-    ensures { WhereFit (home_fields (told answer)) result }
+pub fn pack_home(answer: Option<HomeNumbers>) -> u64
+    ensures { WhereFit (home_fields (held answer)) result }
 {
     match answer {
-        Ok(h) => pack_numbers(h),
-        Err(why) => why as u64,
+        Some(h) => pack_numbers(h),
+        None => 11,
     }
 }
 
@@ -89,11 +89,11 @@ fn pack_code(c: SystemCode) -> u64
 }
 
 // Bits 0 to 7 number, and above them the system code.
-pub fn pack_system(answer: Result<SystemCode, NoValue>) -> u64
-    ensures { WhereFit (system_fields (told answer)) result }
+pub fn pack_system(answer: Option<SystemCode>) -> u64
+    ensures { WhereFit (system_fields (held answer)) result }
 {
     match answer {
-        Ok(c) => pack_code(c),
-        Err(why) => why as u64,
+        Some(c) => pack_code(c),
+        None => 11,
     }
 }

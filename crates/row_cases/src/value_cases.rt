@@ -109,8 +109,8 @@ fn key<W: Write>(out: &mut W, store: &[u8]) -> io::Result<()> {
     text(out, b"  key: ")?;
     let answer = emergency_key(store);
     match answer {
-        Ok(k) => armed(out, k)?,
-        Err(why) => decimal(out, why as u32)?,
+        Some(k) => armed(out, k)?,
+        None => text(out, b"11")?,
     }
     text(out, b"\n")
 }
@@ -119,11 +119,11 @@ fn home<W: Write>(out: &mut W, store: &[u8]) -> io::Result<()> {
     text(out, b"  home numbers: ")?;
     let answer = home_numbers(store);
     match answer {
-        Ok(h) => {
+        Some(h) => {
             field(out, b"0, NZI ", h.nzi as u32)?;
             field(out, b", NP ", h.np as u32)?;
         }
-        Err(why) => decimal(out, why as u32)?,
+        None => text(out, b"11")?,
     }
     text(out, b"\n")
 }
@@ -132,13 +132,13 @@ fn system<W: Write>(out: &mut W, store: &[u8]) -> io::Result<()> {
     text(out, b"  system code: ")?;
     let answer = system_code(store);
     match answer {
-        Ok(s) => {
+        Some(s) => {
             field(out, b"0, LAI ", s.lai as u32)?;
             field(out, b", LA ", wide(s.la))?;
             field(out, b", roaming ", wide(s.roaming))?;
             field(out, b", PAR ", bit(s.par))?;
         }
-        Err(why) => decimal(out, why as u32)?,
+        None => text(out, b"11")?,
     }
     text(out, b"\n")
 }

@@ -14,9 +14,9 @@ use Rattle.tables.specs.Store.{StoreOf}
 use Rattle.tables.specs.Tables.{Key}
 use Rattle.tables.proofs.EntryCodes.{bit_small}
 use Rattle.shared_texts.proofs.FormFrames.{key_stands, home_stands, system_stands}
-use Rattle.std.specs.Prelude.{Ok}
+use Rattle.std.specs.Prelude.{Some}
 use Rattle.values.specs.declared.answers.EmergencyKey.{EmergencyKey}
-use Rattle.values.specs.Values.{key_of, key_asked, home_asked, system_asked, told}
+use Rattle.values.specs.Values.{key_of, key_asked, home_asked, system_asked, held}
 use Rattle.values.proofs.AskLaws.{is_given}
 
 -- ---- bits
@@ -96,14 +96,14 @@ system_read s lai par p q c ok e =
 -- ---- in a store
 
 module _ (lim : Limits) (store : List ℕ) (s : StoreOf lim store) where
-  pub key_answered : (r : EmergencyKey) → ((k : Key) → mid_of key_at key_size store ≡ key_bytes k → r ≡ key_of k) → Answers (key_asked lim store) (told (Ok r))
+  pub key_answered : (r : EmergencyKey) → ((k : Key) → mid_of key_at key_size store ≡ key_bytes k → r ≡ key_of k) → Answers (key_asked lim store) (held (Some r))
   key_answered r f =
       is_given lim (λ t. some (key_of t.key)) store s r (λ t h. ap some (sym (f t.key (ap (mid_of key_at key_size) h.1 ∙ key_stands lim t h.0))))
 
-  pub home_answered : (r : HomeNumbers) → ((h : HomeNumbers) → mid_of home_at home_size store ≡ home_bytes h → r ≡ h) → Answers (home_asked lim store) (told (Ok r))
+  pub home_answered : (r : HomeNumbers) → ((h : HomeNumbers) → mid_of home_at home_size store ≡ home_bytes h → r ≡ h) → Answers (home_asked lim store) (held (Some r))
   home_answered r f =
       is_given lim (λ t. some t.home) store s r (λ t h. ap some (sym (f t.home (ap (mid_of home_at home_size) h.1 ∙ home_stands lim t h.0))))
 
-  pub system_answered : (r : SystemCode) → ((c : SystemCode) → SystemOk c → mid_of system_at system_size store ≡ system_bytes c → r ≡ c) → Answers (system_asked lim store) (told (Ok r))
+  pub system_answered : (r : SystemCode) → ((c : SystemCode) → SystemOk c → mid_of system_at system_size store ≡ system_bytes c → r ≡ c) → Answers (system_asked lim store) (held (Some r))
   system_answered r f =
       is_given lim (λ t. some t.system) store s r (λ t h. ap some (sym (f t.system h.0.system (ap (mid_of system_at system_size) h.1 ∙ system_stands lim t h.0))))

@@ -19,12 +19,12 @@ use Rattle.screen.specs.declared.rows.Row.{Row}
 use Rattle.screen.specs.declared.rows.Row.TheVariants.{Line, QuickText, StatusText, Group, Individual, GroupContact, IndividualContact, LineSlot, NoTable}
 use Rattle.screen.specs.Rows.{of}
 use Rattle.values.specs.declared.answers.Target.{Target}
-use Rattle.std.specs.Prelude.{Result, Ok, Err}
+use Rattle.std.specs.Prelude.{Option as Maybe, Some, None, Result, Ok, Err}
 use Rattle.values.specs.declared.answers.EmergencyKey.{EmergencyKey}
 use Rattle.values.specs.declared.answers.NoValue.{NoValue}
 use Rattle.values.specs.declared.answers.NoValue.TheVariants.{NotAStore, BufferSize, Absent}
 use Rattle.values.specs.Digits.{number_at, AfterDigits, digits_told, stays, writing_digits}
-use Rattle.values.specs.Values.{line_target, group_target, individual_target, entry_at, channel_at, key_of, Asked, refused, given, refusal, asking, told, entering, tuning, key_asked, home_asked, system_asked}
+use Rattle.values.specs.Values.{line_target, group_target, individual_target, entry_at, channel_at, key_of, Asked, refused, given, refusal, asking, told, held, entering, tuning, key_asked, home_asked, system_asked}
 use Rattle.values.proofs.AskLaws.{is_given, is_absent}
 use Rattle.values.proofs.TuningLaws.{at_some}
 
@@ -55,6 +55,18 @@ told_read : {A : Type 0} (a : Result A NoValue) → told_back (told a) ≡ a
 told_read (Ok v) = refl
 told_read (Err why) = ap Err (why_read why)
 
+-- and of what every store has, whether there is one
+abbrev maybe : {A : Type 0} → Option A → Maybe A
+maybe none = None
+maybe (some a) = Some a
+
+abbrev held_back : {A : Type 0} → Asked A → Maybe A
+held_back a = maybe a.value
+
+held_read : {A : Type 0} (a : Maybe A) → held_back (held a) ≡ a
+held_read (Some v) = refl
+held_read None = refl
+
 module _ {A : Type 0} (lim : Limits) (what : Tables → Option A) (store : List ℕ) where
   one_foot : (a b : Asked A) → (t : Tables) × Holds lim t store × (v : A) × (what t ≡ some v) × (a ≡ given v) → (t : Tables) × Holds lim t store × (v : A) × (what t ≡ some v) × (b ≡ given v) → a ≡ b
   one_foot a b (t, h, v, e, p) (u, k, w, d, q) =
@@ -68,6 +80,9 @@ module _ {A : Type 0} (lim : Limits) (what : Tables → Option A) (store : List 
   told_one : (a b : Result A NoValue) → Answers (asking lim what store) (told a) → Answers (asking lim what store) (told b) → a ≡ b
   told_one a b x y = decoded told told_back told_read a b (asked_one (told a) (told b) x y)
 
+  held_one : (a b : Maybe A) → Answers (asking lim what store) (held a) → Answers (asking lim what store) (held b) → a ≡ b
+  held_one a b x y = decoded held held_back held_read a b (asked_one (held a) (held b) x y)
+
 module _ (lim : Limits) (store : List ℕ) where
   -- ENTRY-DETERMINED: the contract of the call for a row's entry allows one answer of the code
   pub entry_determined : (row : Row) (a b : Result Target NoValue) → Answers (entering lim row store) (told a) → Answers (entering lim row store) (told b) → a ≡ b
@@ -78,16 +93,16 @@ module _ (lim : Limits) (store : List ℕ) where
   channel_determined n = told_one lim (λ t. channel_at t n) store
 
   -- KEY-DETERMINED: and that of the call for the emergency key
-  pub key_determined : (a b : Result EmergencyKey NoValue) → Answers (key_asked lim store) (told a) → Answers (key_asked lim store) (told b) → a ≡ b
-  key_determined = told_one lim (λ t. some (key_of t.key)) store
+  pub key_determined : (a b : Maybe EmergencyKey) → Answers (key_asked lim store) (held a) → Answers (key_asked lim store) (held b) → a ≡ b
+  key_determined = held_one lim (λ t. some (key_of t.key)) store
 
   -- HOME-DETERMINED: and that of the call for the home numbers
-  pub home_determined : (a b : Result HomeNumbers NoValue) → Answers (home_asked lim store) (told a) → Answers (home_asked lim store) (told b) → a ≡ b
-  home_determined = told_one lim (λ t. some t.home) store
+  pub home_determined : (a b : Maybe HomeNumbers) → Answers (home_asked lim store) (held a) → Answers (home_asked lim store) (held b) → a ≡ b
+  home_determined = held_one lim (λ t. some t.home) store
 
   -- SYSTEM-DETERMINED: and that of the call for the system code
-  pub system_determined : (a b : Result SystemCode NoValue) → Answers (system_asked lim store) (told a) → Answers (system_asked lim store) (told b) → a ≡ b
-  system_determined = told_one lim (λ t. some t.system) store
+  pub system_determined : (a b : Maybe SystemCode) → Answers (system_asked lim store) (held a) → Answers (system_asked lim store) (held b) → a ≡ b
+  system_determined = held_one lim (λ t. some t.system) store
 
 -- ---- one answer with one buffer
 

@@ -1,5 +1,5 @@
 -- What stands behind a row, and the settings that the radio works by, as the tables have them; and what the calls answer of a store.
-use Rattle.std.specs.Prelude.{ℕ, ◌≡◌, List, map, get_or, Result, Ok, Err}
+use Rattle.std.specs.Prelude.{ℕ, ◌≡◌, List, map, get_or, Option as Maybe, Some, None, Result, Ok, Err}
 use Rattle.std.proofs.Math.Option.{Option, none, some}
 use Rattle.lists.specs.Ladder.{Ladder, rung, foot}
 use Rattle.writing.specs.declared.HomeNumbers.{HomeNumbers}
@@ -72,6 +72,11 @@ refusal Absent = 17
 abbrev pub told : {A : Type 0} → Result A NoValue → Asked A
 told (Ok v) = given v
 told (Err why) = refused (refusal why)
+
+-- and one of the code for what every store has: none of bytes that are no store
+abbrev pub held : {A : Type 0} → Maybe A → Asked A
+held (Some v) = given v
+held None = refused 11
 
 -- "11, 17 (nothing stands there)"; else what the tables of the store have there
 abbrev pub asking : {A : Type 0} → Limits → (Tables → Option A) → List ℕ → Ladder (Asked A)

@@ -5,9 +5,9 @@ ghost use Rattle.writing.specs.Writing.{bit, current, to_group};
 ghost use Rattle.tables.specs.Allowed.{SystemOk};
 ghost use Rattle.tables.specs.Layout.{home_bytes, home_size, key_address, key_bytes, key_size, system_bytes, system_size};
 ghost use Rattle.tables.specs.Tables.{Key as KeyEntry};
-ghost use Rattle.values.specs.Values.{home_asked, key_asked, key_of, system_asked, told};
+ghost use Rattle.values.specs.Values.{held, home_asked, key_asked, key_of, system_asked};
 
-use super::answers::{EmergencyKey, NoValue};
+use super::answers::EmergencyKey;
 use super::tuning::pair_of;
 use plan::numbers::{GroupAddress, IndividualAddress};
 use screen::names::address_of;
@@ -89,32 +89,32 @@ fn system_of(s: &[u8]) -> SystemCode
     }
 }
 
-// Where the emergency key calls, and how, in a store of a set with these limits.
-pub fn key_in(store: &[u8], limits: Limits) -> Result<EmergencyKey, NoValue>
-    ensures { Answers (key_asked limits store.now) (told result) }
+// Where the emergency key calls, and how, in a store of a set with these limits; none of bytes that are no store, here and below.
+pub fn key_in(store: &[u8], limits: Limits) -> Option<EmergencyKey>
+    ensures { Answers (key_asked limits store.now) (held result) }
 {
     if !is_store(store, limits) {
-        return Err(NoValue::NotAStore);
+        return None;
     }
-    Ok(key_of(&store[KEY..HOME]))
+    Some(key_of(&store[KEY..HOME]))
 }
 
 // NZI and NP.
-pub fn home_in(store: &[u8], limits: Limits) -> Result<HomeNumbers, NoValue>
-    ensures { Answers (home_asked limits store.now) (told result) }
+pub fn home_in(store: &[u8], limits: Limits) -> Option<HomeNumbers>
+    ensures { Answers (home_asked limits store.now) (held result) }
 {
     if !is_store(store, limits) {
-        return Err(NoValue::NotAStore);
+        return None;
     }
-    Ok(home_of(&store[HOME..SYSTEM]))
+    Some(home_of(&store[HOME..SYSTEM]))
 }
 
 // LAI, LA, roaming and PAR.
-pub fn system_in(store: &[u8], limits: Limits) -> Result<SystemCode, NoValue>
-    ensures { Answers (system_asked limits store.now) (told result) }
+pub fn system_in(store: &[u8], limits: Limits) -> Option<SystemCode>
+    ensures { Answers (system_asked limits store.now) (held result) }
 {
     if !is_store(store, limits) {
-        return Err(NoValue::NotAStore);
+        return None;
     }
-    Ok(system_of(&store[SYSTEM..QUICK]))
+    Some(system_of(&store[SYSTEM..QUICK]))
 }

@@ -3,7 +3,7 @@
 ghost use Rattle.lists.specs.Ladder.{Answers};
 ghost use Rattle.tables.specs.Limits.{vehicle};
 ghost use Rattle.values.specs.Digits.{digits_told, writing_digits};
-ghost use Rattle.values.specs.Values.{entering, home_asked, key_asked, system_asked, told, tuning};
+ghost use Rattle.values.specs.Values.{entering, held, home_asked, key_asked, system_asked, told, tuning};
 
 use super::answers::{EmergencyKey, NoValue, Target};
 use super::digits::digits_in;
@@ -35,21 +35,21 @@ pub fn channel(position: usize, store: &[u8]) -> Result<u16, NoValue>
     channel_in(position, store, VEHICLE)
 }
 
-// Where the emergency key calls, and how.
-pub fn emergency_key(store: &[u8]) -> Result<EmergencyKey, NoValue>
-    ensures { Answers (key_asked vehicle store.now) (told result) }
+// Where the emergency key calls, and how; none of bytes that are no store, here and below.
+pub fn emergency_key(store: &[u8]) -> Option<EmergencyKey>
+    ensures { Answers (key_asked vehicle store.now) (held result) }
 {
     key_in(store, VEHICLE)
 }
 
-pub fn home_numbers(store: &[u8]) -> Result<HomeNumbers, NoValue>
-    ensures { Answers (home_asked vehicle store.now) (told result) }
+pub fn home_numbers(store: &[u8]) -> Option<HomeNumbers>
+    ensures { Answers (home_asked vehicle store.now) (held result) }
 {
     home_in(store, VEHICLE)
 }
 
-pub fn system_code(store: &[u8]) -> Result<SystemCode, NoValue>
-    ensures { Answers (system_asked vehicle store.now) (told result) }
+pub fn system_code(store: &[u8]) -> Option<SystemCode>
+    ensures { Answers (system_asked vehicle store.now) (held result) }
 {
     system_in(store, VEHICLE)
 }
