@@ -1,6 +1,6 @@
 -- Exporting answers one thing. Assumes nothing.
 use Rattle.std.specs.Prelude.{Result, Ok, Err}
-use Rattle.lists.proofs.Kit.{ℕ, ◌-◌, ◌≡◌, refl, sym, ap, ap₂, ◌∙◌, List, [], ◌∷◌, get_or}
+use Rattle.lists.proofs.Kit.{ℕ, ◌-◌, ◌≡◌, refl, sym, ap, ap₂, ◌∙◌, List, [], ◌∷◌, some, get_or}
 use Rattle.lists.specs.Ladder.{Answers}
 use Rattle.lists.proofs.Ladder.{one_answer}
 use Rattle.lists.proofs.OneToOne.{decoded}
@@ -10,25 +10,14 @@ use Rattle.shared_texts.proofs.Forms.{layout_one}
 use Rattle.export.specs.declared.parts.Part.{Part}
 use Rattle.export.specs.declared.parts.NoExport.TheVariants.{Buffer, NotAStore, NoPart}
 use Rattle.export.specs.declared.parts.NoExport.{NoExport}
-use Rattle.export.specs.declared.parts.Part.TheVariants.{Lines, Fixed, QuickTexts, Channels, StatusTexts, Groups, Individuals, GroupContacts, IndividualContacts, LineSlots}
-use Rattle.export.specs.Exported.{ten, part_number, exported, request_bytes}
+use Rattle.export.specs.Exported.{part_number, exported, request_bytes}
+use Rattle.export.specs.PartWriters.{part_at}
 use Rattle.export.specs.Exporting.{Told, told, AfterExport, exporting, writes, Exports}
+use Rattle.export.proofs.PartWriting.{at_number}
 
 -- the number of a part says which it is
 pub one_part : (p q : Part) → part_number p ≡ part_number q → p ≡ q
-one_part p q e = sym (ten_back p) ∙ ap (λ n. get_or ten (n - 1) Lines) e ∙ ten_back q
-  where
-    ten_back : (p : Part) → get_or ten (part_number p - 1) Lines ≡ p
-    ten_back Lines = refl
-    ten_back Fixed = refl
-    ten_back QuickTexts = refl
-    ten_back Channels = refl
-    ten_back StatusTexts = refl
-    ten_back Groups = refl
-    ten_back Individuals = refl
-    ten_back GroupContacts = refl
-    ten_back IndividualContacts = refl
-    ten_back LineSlots = refl
+one_part p q e = let d : some p ≡ some q = sym (at_number p) ∙ ap part_at e ∙ at_number q in cc
 
 -- the number of an answer says which case it is: 0, or a refusal's, counted here from 11
 abbrev answer_of : Told → Result ℕ NoExport

@@ -1,5 +1,6 @@
 -- A part of a working copy was written as the settings that export it. Assumes nothing.
-use Rattle.lists.proofs.Kit.{ℕ, zero, suc, ◌+◌, ◌-◌, ◌*◌, ◌≤◌, ◌<◌, ◌≡◌, refl, ap, ◌∙◌, subst, subst⁻¹, List, ◌++◌, arith, mid_of, mid_len, length, get_or, take, drop, take-add, drop-drop}
+use Rattle.lists.proofs.Kit.{ℕ, zero, suc, ◌+◌, ◌-◌, ◌*◌, ◌≤◌, ◌<◌, ◌≡◌, refl, ap, ◌∙◌, subst, subst⁻¹, List, ◌++◌, none, some, arith, mid_of, mid_len, length, get_or, take, drop, take-add, drop-drop}
+use Rattle.lists.proofs.Seqs.{get_d_map}
 use Rattle.slots.specs.Slots.{u16, Listed}
 use Rattle.writing.specs.Canonical.{canonical_all}
 use Rattle.writing.specs.Ranges.{InChannel}
@@ -26,7 +27,7 @@ use Rattle.export.specs.declared.parts.Part.{Part}
 use Rattle.export.specs.declared.parts.Part.TheVariants.{Lines, Fixed, QuickTexts, Channels, StatusTexts, Groups, Individuals, GroupContacts, IndividualContacts, LineSlots}
 use Rattle.export.specs.Exportable.{Exportable}
 use Rattle.export.specs.Exported.{ten, part_number, exported}
-use Rattle.export.specs.PartWriters.{part_from, part_to, WritesPart, PartWritten}
+use Rattle.export.specs.PartWriters.{part_at, part_from, part_to, WritesPart, PartWritten}
 
 -- ---- parts by their number
 
@@ -43,6 +44,23 @@ ten_at (suc (suc (suc (suc (suc (suc (suc zero))))))) h = refl
 ten_at (suc (suc (suc (suc (suc (suc (suc (suc zero)))))))) h = refl
 ten_at (suc (suc (suc (suc (suc (suc (suc (suc (suc zero))))))))) h = refl
 ten_at (suc (suc (suc (suc (suc (suc (suc (suc (suc (suc k)))))))))) h = let l : length ten ≡ 10 = refl in absurd (omega arith)
+
+-- a part is found by its number
+pub at_number : (p : Part) → part_at (part_number p) ≡ some p
+at_number Lines = refl
+at_number Fixed = refl
+at_number QuickTexts = refl
+at_number Channels = refl
+at_number StatusTexts = refl
+at_number Groups = refl
+at_number Individuals = refl
+at_number GroupContacts = refl
+at_number IndividualContacts = refl
+at_number LineSlots = refl
+
+-- what is found at the numbers of the parts
+pub part_within : (n k : ℕ) → n ≡ suc k → k < length ten → part_at n ≡ some (get_or ten k Lines)
+part_within n k e h = ap part_at e ∙ get_d_map some ten k Lines none h
 
 -- ---- what stands in a part of a working copy
 

@@ -1,5 +1,6 @@
 -- Parts by their number, and their settings in the buffer. No promise cites these.
-use Rattle.std.specs.Prelude.{ℕ, ◌+◌, ◌-◌, ◌<◌, ◌≡◌, List, length, Result, MatchResult}
+use Rattle.std.specs.Prelude.{ℕ, ◌+◌, ◌-◌, ◌<◌, ◌≡◌, List, ◌∷◌, map, length, get_or, Result, MatchResult}
+use Rattle.std.proofs.Math.Option.{Option, none, some}
 use Rattle.writing.specs.Canonical.{canonical_all}
 use Rattle.writing.specs.Settings.{Setting, unicode16}
 use Rattle.tables.specs.declared.limits.Limits.{Limits}
@@ -18,11 +19,16 @@ use Rattle.export_write.specs.FixedWriters.{WritesFixed}
 use Rattle.export_write.specs.LineWriters.{WritesLines, WritesLineSlots}
 use Rattle.export_write.specs.MemberWriters.{WritesMembers}
 use Rattle.export_write.specs.Writers.{Wrote, WritesAll}
-use Rattle.export.specs.Exported.{part_number, exported, request_bytes}
+use Rattle.export.specs.Exported.{ten, part_number, exported, request_bytes}
 
--- the part with this number, or that there is none
+-- the part that the list of parts has at this number, if there is one
+abbrev pub part_at : ℕ → Option Part
+part_at n = get_or (none ∷ map some ten) n none
+
+-- it, which is the part with this number, or that there is none
 abbrev pub Numbered : ℕ → Result Part NoExport → Type 0
-Numbered n r = MatchResult r (λ p. part_number p ≡ n) (λ e. (e ≡ NoPart) × ((p : Part) → part_number p ≡ n → ⊥))
+Numbered n r =
+    MatchResult r (λ p. (part_at n ≡ some p) × (part_number p ≡ n)) (λ e. (e ≡ NoPart) × (part_at n ≡ none) × ((p : Part) → part_number p ≡ n → ⊥))
 
 -- where a part's slots stand in a working copy whose lines' region and whose order of the lines start here, behind a list's count: from this byte on
 abbrev pub part_from : (lines order : ℕ) → Part → ℕ

@@ -15,6 +15,20 @@ pub enum Part {
     LineSlots,
 }
 
+// The parts in the order of their numbers.
+const IN_ORDER: [Part; 10] = [
+    Part::Lines,
+    Part::Fixed,
+    Part::QuickTexts,
+    Part::Channels,
+    Part::StatusTexts,
+    Part::Groups,
+    Part::Individuals,
+    Part::GroupContacts,
+    Part::IndividualContacts,
+    Part::LineSlots,
+];
+
 // How many parts there are: their numbers are 1 to this.
 pub const PARTS: u32 = 10;
 
@@ -33,18 +47,9 @@ impl TryFrom<u32> for Part {
     ghost try_from_gives = { Numbered };
 
     fn try_from(number: u32) -> Result<Self, NoExport> {
-        match number {
-            1 => Ok(Part::Lines),
-            2 => Ok(Part::Fixed),
-            3 => Ok(Part::QuickTexts),
-            4 => Ok(Part::Channels),
-            5 => Ok(Part::StatusTexts),
-            6 => Ok(Part::Groups),
-            7 => Ok(Part::Individuals),
-            8 => Ok(Part::GroupContacts),
-            9 => Ok(Part::IndividualContacts),
-            10 => Ok(Part::LineSlots),
-            _ => Err(NoExport::NoPart),
+        if number < 1 || PARTS < number {
+            return Err(NoExport::NoPart);
         }
+        Ok(IN_ORDER[(number - 1) as usize])
     }
 }

@@ -37,7 +37,7 @@ returns-in_err-which c =
     let e = sym (refused_as _ _ c.from_residual.ensures.1 ∙ ap Err n.0) in (
       subst (λ (r : Result ℕ NoExport). (told r).request_length ≤ length a.buffer.now) e (omega arith),
       λ x l. subst (λ (r : Result ℕ NoExport). Answers (exporting a.limits a.part a.store.now a.buffer.now) (record { answer = told r; buffer = a.buffer.now })) e
-          (says_16 a.limits a.part a.store.now a.buffer.now (omega arith) (was_said k.result k.ensures c.if-not-is_store.false-raw) n.1),
+          (says_16 a.limits a.part a.store.now a.buffer.now (omega arith) (was_said k.result k.ensures c.if-not-is_store.false-raw) n.2),
     )
 
 pub returns : goal.returns
@@ -50,5 +50,5 @@ returns c =
     let z = c.start_request in (
       z.ensures.0,
       λ x l. says_0 a.limits a.part a.store.now a.buffer.now c.in_ok-which.which v.result.now w.new.buffer z.new.buffer w.result z.result (omega (arith, c.if-buffer-limits.false)) s (v.ensures s l)
-          (subst (Numbered a.part) c.in_ok-which.was c.try_from.ensures) (w.ensures x) z.ensures.1,
+          (subst (Numbered a.part) c.in_ok-which.was c.try_from.ensures).1 (w.ensures x) z.ensures.1,
     )
