@@ -4,7 +4,7 @@
 use plain::answers::{failed_id, number};
 use plain::desk::{start, take};
 use plain_log::areas::AREA;
-use records::each_record;
+use records::{Record, read_record};
 use std::io;
 use std::io::Write;
 
@@ -15,17 +15,21 @@ fn main(rt: HostRuntime) -> io::Result<()> {
     let mut area = [0u8; AREA];
     let mut reply = [0u8; 20];
     start(&mut area);
-    let whole = each_record(&mut input, &mut buffer, |_, kind, message| {
-        let Some(message) = message else {
-            return writeln!(out, "{kind} 12 0");
-        };
-        let answer = take(message, &mut area, &mut reply);
-        let number = number(answer);
-        let failed = failed_id(answer);
-        writeln!(out, "{kind} {number} {failed}")
-    })?;
-    if !whole {
-        out.write_all(b"cut\n")?;
+    for _ in 0..u64::MAX {
+        match read_record(&mut input, &mut buffer)? {
+            Some(Record::Whole(kind, length)) => {
+                let answer = take(&buffer[0..length], &mut area, &mut reply);
+                let number = number(answer);
+                let failed = failed_id(answer);
+                writeln!(out, "{kind} {number} {failed}")?;
+            }
+            Some(Record::TooLong(kind)) => writeln!(out, "{kind} 12 0")?,
+            Some(Record::Cut) => {
+                out.write_all(b"cut\n")?;
+                break;
+            }
+            None => break,
+        }
     }
     out.flush()
 }

@@ -13,7 +13,7 @@ use plain::answers::number;
 use plain::desk::{start as start_area, take};
 use plain_log::areas::AREA;
 use printing::output::text;
-use records::each_record;
+use records::{Record, read_record};
 use rows::compare;
 use station::handheld::{commit, start};
 use std::io;
@@ -70,12 +70,18 @@ fn main(rt: HostRuntime) -> io::Result<()> {
     let mut area = [0u8; AREA];
     start(&mut store);
     start_area(&mut area);
-    let whole = each_record(&mut input, &mut buffer, |_, kind, bytes| match bytes {
-        Some(bytes) => deal_with(&mut out, kind, bytes, &mut store, &mut area),
-        None => text(&mut out, b"too long\n"),
-    })?;
-    if !whole {
-        text(&mut out, b"cut\n")?;
+    for _ in 0..u64::MAX {
+        match read_record(&mut input, &mut buffer)? {
+            Some(Record::Whole(kind, length)) => {
+                deal_with(&mut out, kind, &buffer[0..length], &mut store, &mut area)?;
+            }
+            Some(Record::TooLong(_)) => text(&mut out, b"too long\n")?,
+            Some(Record::Cut) => {
+                text(&mut out, b"cut\n")?;
+                break;
+            }
+            None => break,
+        }
     }
     out.flush()
 }

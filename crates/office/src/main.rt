@@ -8,7 +8,7 @@ mod parameters;
 
 use messages::{refused, show_message};
 use printing::output::text;
-use records::each_record;
+use records::{Record, read_record};
 use std::io;
 use std::io::Write;
 
@@ -16,12 +16,16 @@ fn main(rt: HostRuntime) -> io::Result<()> {
     let mut input = rt.reader();
     let mut out = rt.stdout();
     let mut buffer = [0u8; 4096];
-    let whole = each_record(&mut input, &mut buffer, |_, _, message| match message {
-        Some(message) => show_message(&mut out, message),
-        None => refused(&mut out, 12),
-    })?;
-    if !whole {
-        text(&mut out, b"cut\n")?;
+    for _ in 0..u64::MAX {
+        match read_record(&mut input, &mut buffer)? {
+            Some(Record::Whole(_, length)) => show_message(&mut out, &buffer[0..length])?,
+            Some(Record::TooLong(_)) => refused(&mut out, 12)?,
+            Some(Record::Cut) => {
+                text(&mut out, b"cut\n")?;
+                break;
+            }
+            None => break,
+        }
     }
     out.flush()
 }

@@ -41,12 +41,13 @@ pub fn address<W: Write>(out: &mut W, a: u32) -> io::Result<()>
     hex_pair(out, (a % 256) as u8)
 }
 
-// A space and two hexadecimal digits.
+// A space and two hexadecimal digits, in one write, since standard output is not buffered.
 fn byte<W: Write>(out: &mut W, b: u8) -> io::Result<()>
     ensures { OnOk result (Appends (W.contents out.old) (W.contents out.new) (32 ∷ hex_pair b)) }
 {
-    text(out, b" ")?;
-    hex_pair(out, b)
+    let high = (b / 16) as usize;
+    let low = (b % 16) as usize;
+    text(out, &[b' ', HEX[high], HEX[low]])
 }
 
 // The first bytes, as many as are counted, a space before each.

@@ -3,7 +3,7 @@
 
 use export::handheld::export;
 use export::parts::PARTS;
-use records::each_record;
+use records::{Record, read_record};
 use station::answers::number;
 use station::handheld::{commit, judge, start};
 use std::io;
@@ -37,12 +37,13 @@ fn put_part<W: Write>(out: &mut W, part: u32, store: &[u8], buffer: &mut [u8]) -
 // Takes the messages of the records; one that is too long for the buffer is left out.
 fn take_all<R: Read>(input: &mut R, buffer: &mut [u8], store: &mut [u8]) -> io::Result<()> {
     let mut reply = [0u8; 20];
-    each_record(input, buffer, |_, _, message| {
-        if let Some(message) = message {
-            take(message, store, &mut reply);
+    for _ in 0..u64::MAX {
+        match read_record(input, buffer)? {
+            Some(Record::Whole(_, length)) => take(&buffer[0..length], store, &mut reply),
+            Some(Record::TooLong(_)) => {}
+            Some(Record::Cut) | None => return Ok(()),
         }
-        Ok(())
-    })?;
+    }
     Ok(())
 }
 

@@ -1,7 +1,7 @@
 // The records that the programs read from standard input: length and kind, each two bytes little-endian, then a message.
 #![tactic(auto)]
 
-ghost use Rattle.std.specs.Prelude.{◌≡◌, ◌≤◌, ◌<◌, ◌+◌, ◌*◌, false, length, take, IfOk, IfSome};
+ghost use Rattle.std.specs.Prelude.{◌≡◌, ◌≤◌, ◌<◌, ◌+◌, ◌*◌, length, take, IfOk, IfSome};
 ghost use Rattle.std.specs.Io.KnownBytes.{Consumes, IsAtEnd};
 ghost use Rattle.records.specs.Records.{Within, Reads, Follows, PassesOver};
 
@@ -78,6 +78,7 @@ fn read_message<R: Read>(
 }
 
 // The next record; a message that fits the buffer stands at its start, and a longer one is passed over.
+// Each program has a loop of its own over it: one function for all would call a closure, and so have a `requires`.
 pub fn read_record<R: Read>(input: &mut R, buffer: &mut [u8]) -> io::Result<Option<Record>>
     ensures within { IfOk result (λ r. IfSome r (Within (length buffer.new))) }
     ensures bytes { IfOk result (Reads (R.remaining input.old) (R.remaining input.new) buffer.new) }
@@ -94,27 +95,4 @@ pub fn read_record<R: Read>(input: &mut R, buffer: &mut [u8]) -> io::Result<Opti
     let kind = little_endian(head[2], head[3]);
     let record = read_message(input, buffer, kind, size as usize)?;
     Ok(Some(record))
-}
-
-// Takes the records one after another, each by its number, its kind and its message, which a record that is too long for the buffer lacks.
-// Does the input end behind a whole record?
-pub fn each_record<R: Read, F: FnMut(u64, u16, Option<&[u8]>) -> io::Result<()>>(
-    input: &mut R,
-    buffer: &mut [u8],
-    mut take: F,
-) -> io::Result<bool>
-    requires { F.IsAlwaysCallable take }
-    ensures { IfOk result (λ whole. whole ≡ false → IsAtEnd (R.remaining input.new)) }
-{
-    for n in 1..=u64::MAX {
-        let Some(record) = read_record(input, buffer)? else {
-            return Ok(true);
-        };
-        match record {
-            Record::Whole(kind, length) => take(n, kind, Some(&buffer[0..length]))?,
-            Record::TooLong(kind) => take(n, kind, None)?,
-            Record::Cut => return Ok(false),
-        }
-    }
-    Ok(true)
 }

@@ -1,5 +1,6 @@
 // Who is calling: the order of the lines and the row of a number, after what changes the lines, and where the order is wrong.
 use callers::handheld::line_of;
+use callers::lookup::NoCaller;
 use case_lines::showing::{decimal, text};
 use case_lines::taking::requests;
 use std::io;
@@ -52,10 +53,8 @@ fn ask<W: Write>(out: &mut W, idtype: u32, digits: &[u8], store: &[u8]) -> io::R
             decimal(out, (row % 65536) as u32)?;
         }
         Ok(None) => text(out, b": 0, no row")?,
-        Err(why) => {
-            text(out, b": ")?;
-            decimal(out, why as u32)?;
-        }
+        Err(NoCaller::NotAStore) => text(out, b": 11")?,
+        Err(NoCaller::NotANumber) => text(out, b": 20")?,
     }
     text(out, b"\n")
 }

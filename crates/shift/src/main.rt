@@ -10,7 +10,7 @@ mod rows;
 use call::call;
 use messages::tell;
 use printing::output::text;
-use records::each_record;
+use records::{Record, read_record};
 use room::room;
 use rows::rows;
 use station::answers::{Answer, Refusal, number};
@@ -58,15 +58,21 @@ fn main(rt: HostRuntime) -> io::Result<()> {
     start(&mut store);
     text(&mut out, b"A fresh store\n")?;
     show(&mut out, &store)?;
-    let whole = each_record(&mut input, &mut buffer, |n, _, message| match message {
-        Some(message) => receive(&mut out, n, message, &mut store, &mut reply),
-        None => {
-            let answer = Answer::Untouched(Refusal::MessageSize);
-            tell(&mut out, n, b"", answer, &reply)
+    for n in 1..=u64::MAX {
+        match read_record(&mut input, &mut buffer)? {
+            Some(Record::Whole(_, length)) => {
+                receive(&mut out, n, &buffer[0..length], &mut store, &mut reply)?;
+            }
+            Some(Record::TooLong(_)) => {
+                let answer = Answer::Untouched(Refusal::MessageSize);
+                tell(&mut out, n, b"", answer, &reply)?;
+            }
+            Some(Record::Cut) => {
+                text(&mut out, b"\nThe input ends within a record.\n")?;
+                break;
+            }
+            None => break,
         }
-    })?;
-    if !whole {
-        text(&mut out, b"\nThe input ends within a record.\n")?;
     }
     out.flush()
 }

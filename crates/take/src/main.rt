@@ -1,7 +1,7 @@
 // Takes the messages of the records on standard input, from a fresh store, and prints kind, number and failed ID of each.
 #![tactic(auto)]
 
-use records::each_record;
+use records::{Record, read_record};
 use station::answers::{Answer, failed_id, number};
 use station::handheld::{commit, judge, start};
 use std::io;
@@ -25,17 +25,21 @@ fn main(rt: HostRuntime) -> io::Result<()> {
     let mut store = [0u8; HANDHELD_SIZE];
     let mut reply = [0u8; 20];
     start(&mut store);
-    let whole = each_record(&mut input, &mut buffer, |_, kind, message| {
-        let Some(message) = message else {
-            return writeln!(out, "{kind} 12 0");
-        };
-        let answer = take(message, &mut store, &mut reply);
-        let number = number(answer);
-        let failed = failed_id(answer);
-        writeln!(out, "{kind} {number} {failed}")
-    })?;
-    if !whole {
-        out.write_all(b"cut\n")?;
+    for _ in 0..u64::MAX {
+        match read_record(&mut input, &mut buffer)? {
+            Some(Record::Whole(kind, length)) => {
+                let answer = take(&buffer[0..length], &mut store, &mut reply);
+                let number = number(answer);
+                let failed = failed_id(answer);
+                writeln!(out, "{kind} {number} {failed}")?;
+            }
+            Some(Record::TooLong(kind)) => writeln!(out, "{kind} 12 0")?,
+            Some(Record::Cut) => {
+                out.write_all(b"cut\n")?;
+                break;
+            }
+            None => break,
+        }
     }
     out.flush()
 }

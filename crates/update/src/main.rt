@@ -5,7 +5,7 @@
 
 use export::parts::PARTS;
 use printing::output::{decimal, hex, text};
-use records::{Record, each_record, read_record};
+use records::{Record, read_record};
 use station::answers::number;
 use station::handheld::{commit, start};
 use std::io;
@@ -115,12 +115,13 @@ fn answer_all<R: Read, W: Write>(
     buffer: &mut [u8],
 ) -> io::Result<()> {
     show_proposal(out, first, second, buffer)?;
-    let whole = each_record(input, buffer, |_, _, message| match message {
-        Some(message) => show_check(out, first, second, message),
-        None => text(out, b"no\n"),
-    })?;
-    if !whole {
-        text(out, b"cut\n")?;
+    for _ in 0..u64::MAX {
+        match read_record(input, buffer)? {
+            Some(Record::Whole(_, length)) => show_check(out, first, second, &buffer[0..length])?,
+            Some(Record::TooLong(_)) => text(out, b"no\n")?,
+            Some(Record::Cut) => return text(out, b"cut\n"),
+            None => return Ok(()),
+        }
     }
     Ok(())
 }
