@@ -100,12 +100,9 @@ done << 'END'
 %r1 = fadd double 1.0, 1.0
 %r1 = add <4 x i32> zeroinitializer, zeroinitializer
 %r1 = call i64 asm "rdtsc", "=r"()
-%r1 = load { i8, ptr }, ptr %r0, align 4
+%r1 = load { i8, ptr }, ptr %r0, align 8
 store { i8, ptr } zeroinitializer, ptr %r0, align 8
 END
-# A byte and a pointer behind it are loaded by their parts.
-module "%r1 = load { i8, ptr }, ptr %r0, align 8"
-ends 0 "^target/archive/cortex-m4/libotap_handheld.a $" cortex-m4
 
 mv "$tools/clang" "$tools/other"
 ends 2 "no clang at" cortex-m4

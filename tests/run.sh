@@ -54,6 +54,17 @@ own_functions() {
     [ ! -s "$built/twice" ] || { cat "$built/twice"; return 1; }
 }
 
+# What firmware has to bring is what README.md says, and no more.
+needs_no_more() {
+    for file in "$handheld" "$vehicle" "$office" "$desk"; do
+        readelf -sW "$file" | awk '$5 == "GLOBAL" && $7 == "UND" && $8 != "" { print $8 }' | sort -u > "$built/needs"
+        if grep -vx 'memcpy\|memset' "$built/needs"; then
+            echo "${file##*/} needs another name than memcpy and memset"
+            return 1
+        fi
+    done
+}
+
 build_and_run_banks() {
     build banks c c99 "$CC" "-O2 $sanitizers" tests/banks_test.c examples/banks.c && run_built banks
 }
@@ -156,6 +167,7 @@ for file in "$handheld" "$vehicle" "$office" "$desk"; do
     step "constants of ${file##*/}" few_constants "$file" && show
 done
 step "what each archive has" own_functions
+step "what each archive needs" needs_no_more
 [ -z "$emulator" ] || exit $failed
 for module in handheld vehicle office desk; do
     [ ! -f target/archive/wasm32/otap_$module.wasm ] || continue

@@ -28,14 +28,15 @@ fn is_number(digits: &[u8]) -> bool
 }
 
 // The key of a line with these: its IDtype, then each digit one more than itself, and zeros behind the last.
+// By index: an iterator over bytes gives an Option of a reference, which a module for pointers of 32 bits may not hold.
 fn key_of(idtype: u8, digits: &[u8]) -> [u8; KEY_BYTES]
     requires { InNumber digits.now }
     ensures { result ≡ idtype ∷ digit_bytes digits.now }
 {
     let mut key = [0u8; KEY_BYTES];
     key[0] = idtype;
-    for (i, digit) in digits.iter().enumerate() {
-        key[i + 1] = digit + 1;
+    for i in 0..digits.len() {
+        key[i + 1] = digits[i] + 1;
     }
     key
 }

@@ -7,7 +7,7 @@ use settings::type_table::operation_of;
 use writing::Operation;
 
 // The number, and the operation in its two highest bits.
-pub fn head(m: &[u8], p: usize, size: usize, operations: u8) -> Option<(u64, Operation)>
+pub(crate) fn head(m: &[u8], p: usize, size: usize, operations: u8) -> Option<(u64, Operation)>
     requires { (1 ≤ size) × (size ≤ 8) }
     ensures { HeadIs m.now p size operations result }
 {

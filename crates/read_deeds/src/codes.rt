@@ -16,16 +16,18 @@ const NO_FLAGS: LineFlags = LineFlags {
 };
 
 // The number of at most 18 digits that are kept as one more than themselves.
+// By index: an iterator over bytes gives an Option of a reference, which a module for pointers of 32 bits may not hold.
 fn kept_code(kept: &[u8]) -> u64
     requires { length kept.now ≤ 18 }
     ensures { KeptCode kept.now result }
 {
     let mut code: u64 = 1;
-    for digit in kept {
-        if *digit == 0 {
+    for i in 0..kept.len() {
+        let digit = kept[i];
+        if digit == 0 {
             return code;
         }
-        code = code * 10 + ((*digit - 1) % 10) as u64;
+        code = code * 10 + ((digit - 1) % 10) as u64;
     }
     code
 }

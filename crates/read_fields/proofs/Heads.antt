@@ -1,5 +1,5 @@
 -- Fields of fixed width at a place of a message: one number, big-endian, of which each field is a cut. Assumes nothing.
-use Rattle.lists.proofs.Kit.{ℕ, suc, ◌+◌, ◌-◌, ◌*◌, ◌/◌, ◌%◌, ◌^◌, ◌≤◌, ◌<◌, ◌≡◌, refl, sym, ap, ap₂, ◌∙◌, subst, subst⁻¹, List, [], ◌∷◌, ◌++◌, append_assoc, append-nil, mod-eq_of_lt, add-zero, zero-add, lt_of_lt_of_le, add-one, arith, length, get_or, drop, take, length-append, length-drop, take-append-drop, length-take-le, take_at, take-suc, get_or-drop, get_or-take, high, low, pow-add, pow_mono}
+use Rattle.lists.proofs.Kit.{ℕ, suc, ◌+◌, ◌*◌, ◌/◌, ◌%◌, ◌^◌, ◌≤◌, ◌<◌, ◌≡◌, refl, sym, ap, ap₂, ◌∙◌, subst, subst⁻¹, List, [], ◌∷◌, ◌++◌, append_assoc, append-nil, mod-eq_of_lt, add-zero, zero-add, lt_of_lt_of_le, add-one, arith, length, get_or, drop, take, length-append, length-drop, take-append-drop, length-take-le, take_at, take-suc, get_or-drop, high, low, pow-add, pow_mono}
 use lib.Arith.{digits_lt}
 use Rattle.lists.specs.Bytes.{Bytes}
 use Rattle.writing.specs.Fields.{bits, bits_of, Field, width, MayHave, Shows, widths}
@@ -80,13 +80,6 @@ be_turn m from i h =
     let z : i < length (drop from m) = omega (arith, length-drop from m) in
     sym (ap (λ j. be 0 (take j (drop from m))) (add-one i) ∙ ap (be 0) (take-suc (drop from m) i 0 z)
     ∙ be_snoc (take i (drop from m)) 0 (get_or (drop from m) i 0) ∙ ap (λ b. be 0 (take i (drop from m)) * 256 + b) (get_or-drop from m i 0))
-
--- the same with the byte of the k bytes that the loop goes through
-pub be_next : (m : List ℕ) (from i k : ℕ) → i < k → from + k ≤ length m
-    → be 0 (take i (drop from m)) * 256 + get_or (take (from + k - from) (drop from m)) i 0 ≡ be 0 (take (i + 1) (drop from m))
-be_next m from i k l r =
-    ap (λ b. be 0 (take i (drop from m)) * 256 + b) (get_or-take (from + k - from) (drop from m) i 0 (omega arith) ∙ get_or-drop from m i 0)
-    ∙ be_turn m from i (omega arith)
 
 -- it stays below 2 ^ (8 * i)
 pub be_room : (n i b : ℕ) → n < 2 ^ (8 * i) → b < 256 → n * 256 + b < 2 ^ (8 * (i + 1))

@@ -119,6 +119,7 @@ fn plan_table(
 }
 
 // The plan of message j, where a message has room for so many bytes of parameters.
+// By index: an iterator over bytes gives an Option of a reference, which a module for pointers of 32 bits may not hold.
 pub(crate) fn plan_report(types: &[u8], work: &[u8], limits: Limits, room: usize, j: usize) -> Walk
     requires { Roomy limits × (length work.now ≡ limits.size) × (length types.now ≤ 255) }
     ensures { PlanIs limits types.now work.now room j result }
@@ -135,8 +136,8 @@ pub(crate) fn plan_report(types: &[u8], work: &[u8], limits: Limits, room: usize
         own: 0,
         from: start,
     };
-    for (ask, byte) in types.iter().enumerate() {
-        let Some(asked) = asked_by(*byte) else {
+    for ask in 0..types.len() {
+        let Some(asked) = asked_by(types[ask]) else {
             let here = Cursor {
                 ask,
                 place: 0,

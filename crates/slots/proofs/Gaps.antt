@@ -1,10 +1,9 @@
 -- Taking a key out of slots, from the end: what is done so far, and what a turn does. Assumes nothing.
-use Rattle.lists.proofs.Kit.{◌≡◌, refl, sym, ap, ◌∙◌, subst, Bool, true, false, List, [], ◌∷◌, ◌++◌, append-nil, append_assoc, ℕ, zero, suc, ◌+◌, ◌-◌, ◌*◌, ◌/◌, suc-mul, ◌≤◌, ◌<◌, arith, put_mid, mid_of, length, drop, take, replicate, length-append, length-drop, drop_of_length-le, take_at, drop_at, take_all}
-use Rattle.std.proofs.Math.Nat.{mul-div_cancel}
+use Rattle.lists.proofs.Kit.{◌≡◌, refl, sym, ap, ◌∙◌, subst, Bool, true, false, List, [], ◌∷◌, ◌++◌, append-nil, append_assoc, ℕ, ◌+◌, ◌-◌, ◌*◌, ◌/◌, add-one, suc-mul, div-add-mod', mod-lt, mul-le-mul_right, ◌≤◌, ◌<◌, arith, put_mid, mid_of, length, drop, take, replicate, length-append, length-drop, drop_of_length-le, take_at, drop_at, take_all}
 use Rattle.lists.proofs.Every.{all_left}
 use Rattle.slots.specs.Slots.{pad, flat, Slots, same?, hit, removed}
 use Rattle.slots.proofs.Pads.{pad_is}
-use Rattle.slots.proofs.Parts.{flat_append, slots_length}
+use Rattle.slots.proofs.Parts.{flat_append}
 use Rattle.slots.proofs.Search.{key_there}
 
 -- the slots before `at` stand as they were, and those after it are done
@@ -32,17 +31,13 @@ record Last (w : ℕ) (xs : List (List ℕ)) : Type 0 where
   both : xs ≡ init ++ (last ∷ [])
   long : length last ≡ w
 
--- as many bytes as whole slots are all their bytes
-pub whole : (w : ℕ) (xs : List (List ℕ)) (s : List ℕ) → 0 < w → Slots w xs → s ≡ flat xs → length s ≡ length s / w * w
-whole w xs s p q e =
-    let l : length s ≡ length xs * w = ap length e ∙ slots_length w xs q in
-    let d : length s / w ≡ length xs = ap (λ i. i / w) l ∙ mul-div_cancel (length xs) p in
-    l ∙ ap (λ i. i * w) (sym d)
+-- a slot more from the end
+one_more : (k w : ℕ) → (k + 1) * w ≡ k * w + w
+one_more k w = ap (λ i. i * w) (add-one k) ∙ suc-mul k w
 
--- where a slot before k starts
-pub before_one : (k w : ℕ) → 0 < k → (k - 1) * w + w ≡ k * w
-before_one zero w h = absurd (omega arith)
-before_one (suc m) w h = let e : suc m - 1 ≡ m = omega arith in ap (λ i. i * w + w) e ∙ sym (suc-mul m w)
+-- less than a slot is left before as many as fit
+pub fewer_left : (n w k : ℕ) → 0 < w → n / w ≤ k → n - k * w < w
+fewer_left n w k p h = omega (arith, div-add-mod' n w, mod-lt n p, mul-le-mul_right w h)
 
 -- the last of slots that have bytes
 last_of : (w : ℕ) (xs : List (List ℕ)) → Slots w xs → 0 < w → w ≤ length (flat xs) → Last w xs
@@ -75,11 +70,11 @@ module _ (w o : ℕ) (key : List ℕ) (xs : List (List ℕ)) where
         bytes = g.bytes ∙ ap (λ (l : List ℕ). l ++ flat (removed w o key d)) f ∙ append_assoc (flat i) r.last (flat (removed w o key d));
       }
 
-  -- the same, of the last of k slots
-  pub turn_of : (s : List ℕ) (k : ℕ) → Slots w xs → 0 < w → Gone w o key xs s (k * w) → 0 < k → Turn w o key xs s ((k - 1) * w)
-  turn_of s k q p g h =
-      let e : k * w - w ≡ (k - 1) * w = omega (arith, before_one k w h) in
-      subst (Turn w o key xs s) e (turn s (k * w) q p g (omega (arith, before_one k w h)))
+  -- the same, where k slots of n bytes are done
+  pub turn_of : (s : List ℕ) (n k : ℕ) → Slots w xs → 0 < w → Gone w o key xs s (n - k * w) → (k + 1) * w ≤ n → Turn w o key xs s (n - (k + 1) * w)
+  turn_of s n k q p g h =
+      let e : n - k * w - w ≡ n - (k + 1) * w = omega (arith, one_more k w) in
+      subst (Turn w o key xs s) e (turn s (n - k * w) q p g (omega (arith, one_more k w)))
 
   -- all slots were looked at
   pub gone_end : (s : List ℕ) (at : ℕ) → Slots w xs → Gone w o key xs s at → at < w → s ≡ flat (removed w o key xs)

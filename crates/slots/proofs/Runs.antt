@@ -1,6 +1,5 @@
 -- Laws of bytes: what a loop over them has done so far, and what zero and equal bytes are. Assumes nothing.
-use Rattle.lists.proofs.Kit.{◌≡◌, refl, sym, ap, ap₂, ◌∙◌, Bool, true, false, ◌&&◌, false≢true, List, [], ◌∷◌, ◌++◌, append-nil, ℕ, zero, suc, ◌+◌, ◌-◌, ◌<◌, min, not-suc-le-zero, le_of_suc-le-suc, add-one, arith, eqb-true, eq-eqb, put_mid, mid_of, post_of, eqb, length, set, drop, take, get_or, replicate, length-append, length-drop, length-take, drop_of_length-le, take-append-drop, take_all, take_at, length-take-le}
-use Rattle.std.specs.List.{fold, list_all, zip}
+use Rattle.lists.proofs.Kit.{◌≡◌, refl, sym, ap, ap₂, ◌∙◌, Bool, true, false, ◌&&◌, false≢true, List, [], ◌∷◌, ◌++◌, append-nil, ℕ, zero, suc, ◌+◌, ◌-◌, ◌≤◌, ◌<◌, min, not-suc-le-zero, le_of_suc-le-suc, add-one, arith, eqb-true, eq-eqb, ltb-true, ltb-false, put_mid, mid_of, post_of, eqb, ltb, length, set, drop, take, get_or, replicate, length-append, length-drop, length-take, drop_of_length-le, take-append-drop, drop-cons, drop-nil, take_all, take_at, length-take-le}
 use Rattle.lists.proofs.Bools.{is_false, and_parts}
 use Rattle.slots.specs.Slots.{pad, zeros?, same?}
 use Rattle.slots.proofs.Pads.{pad_is}
@@ -17,14 +16,6 @@ pub still_all : (so_far : Bool) → (so_far && true) ≡ so_far
 still_all true = refl
 still_all false = refl
 
--- a fold that looks at all bytes answers whether they are zeros
-fold_from : (so_far : Bool) (s : List ℕ) → fold (λ z b. z && eqb b 0) so_far s ≡ (so_far && zeros? s)
-fold_from so_far [] = sym (still_all so_far)
-fold_from so_far (b ∷ bs) = fold_from (so_far && eqb b 0) bs ∙ sym (still_more so_far (eqb b 0) (zeros? bs))
-
-pub fold_zeros : (s : List ℕ) → fold (λ z b. z && eqb b 0) true s ≡ zeros? s
-fold_zeros s = fold_from true s
-
 -- ---- copying
 
 -- one byte more is copied, counted from 1
@@ -38,9 +29,31 @@ copy_suc (x ∷ xs) (y ∷ ys) (suc i) h k = ap (λ (l : List ℕ). x ∷ l) (co
 pub copy_more : (src dst : List ℕ) (i : ℕ) → i < length src → i < length dst → set (take i src ++ drop i dst) i (get_or src i 0) ≡ take (i + 1) src ++ drop (i + 1) dst
 copy_more src dst i h k = rw add-one (copy_suc src dst i h k)
 
+-- all that both have is copied
+pub copy_done : (src dst : List ℕ) (n : ℕ) → n ≡ min (length dst) (length src) → take n src ++ drop n dst ≡ take (length dst) src ++ drop (length src) dst
+copy_done src dst n e = go (ltb (length dst) (length src)) refl
+  where
+    go : (b : Bool) → ltb (length dst) (length src) ≡ b → take n src ++ drop n dst ≡ take (length dst) src ++ drop (length src) dst
+    go true t =
+        let l : length dst < length src = ltb-true _ _ t in
+        let k : n ≡ length dst = omega arith in
+        (rw (k, drop_of_length-le dst {i = length dst} (omega arith), drop_of_length-le dst {i = length src} (omega arith)))
+    go false t =
+        let l : length src ≤ length dst = ltb-false _ _ t in
+        let k : n ≡ length src = omega arith in
+        (rw (k, take_all (length src) src (omega arith), take_all (length dst) src l))
+
 -- bytes copied over as many are those bytes
 pub copy_whole : (src dst : List ℕ) → length dst ≡ length src → take (length dst) src ++ drop (length src) dst ≡ src
 copy_whole src dst l = rw (take_all (length dst) src (omega arith), drop_of_length-le dst {i = length src} (omega arith), append-nil)
+
+-- past what is copied, the old bytes stand
+pub get_d_past : (src dst : List ℕ) (i j : ℕ) → i ≤ length src → i ≤ j → get_or (take i src ++ drop i dst) j 0 ≡ get_or dst j 0
+get_d_past src dst zero j h k = refl
+get_d_past [] dst (suc i) j h k = absurd (not-suc-le-zero h)
+get_d_past (x ∷ xs) dst (suc i) zero h k = absurd (not-suc-le-zero k)
+get_d_past (x ∷ xs) [] (suc i) (suc j) h k = ap (λ (l : List ℕ). get_or (take i xs ++ l) j 0) (sym (drop-nil i)) ∙ get_d_past xs [] i j (le_of_suc-le-suc h) (le_of_suc-le-suc k)
+get_d_past (x ∷ xs) (y ∷ ys) (suc i) (suc j) h k = get_d_past xs ys i j (le_of_suc-le-suc h) (le_of_suc-le-suc k)
 
 -- what of xs fits stands in t up to n, and the rest of t is wiped
 wiped_pad : (t u xs : List ℕ) (n m : ℕ) → length t ≡ m → n ≡ min m (length xs) → take n t ≡ take m xs → u ≡ replicate (length (mid_of n (length t - n) t)) 0 → put_mid n (length t - n) t u ≡ pad 0 m xs
@@ -66,10 +79,9 @@ shift_done s t u w n h e l v =
 
 -- ---- zeros
 
--- a byte that is not 0 ends the search for one
-pub zeros_list : (s : List ℕ) → list_all (λ b. eqb b 0) s ≡ zeros? s
-zeros_list [] = refl
-zeros_list (b ∷ bs) = ap (λ z. eqb b 0 && z) (zeros_list bs)
+-- one byte more is looked at
+pub zeros_step : (s : List ℕ) (i : ℕ) → i < length s → zeros? (drop i s) ≡ (eqb (get_or s i 0) 0 && zeros? (drop (i + 1) s))
+zeros_step s i h = rw (add-one, drop-cons s i 0)
 
 -- zeros are zeros
 pub zeros_all : (n : ℕ) → zeros? (replicate n 0) ≡ true
@@ -104,15 +116,9 @@ zeros_part i j s z =
 
 -- ---- the same bytes
 
--- a fold that compares all bytes answers whether they are the same
-pairs_from : (so_far : Bool) (a b : List ℕ) → length a ≡ length b → fold (λ all p. all && eqb p.0 p.1) so_far (zip a b) ≡ (so_far && same? a b)
-pairs_from so_far [] [] l = sym (still_all so_far)
-pairs_from so_far [] (y ∷ b) l = absurd (omega arith)
-pairs_from so_far (x ∷ a) [] l = absurd (omega arith)
-pairs_from so_far (x ∷ a) (y ∷ b) l = pairs_from (so_far && eqb x y) a b (omega arith) ∙ sym (still_more so_far (eqb x y) (same? a b))
-
-pub fold_pairs : (a b : List ℕ) → length a ≡ length b → fold (λ all p. all && eqb p.0 p.1) true (zip a b) ≡ same? a b
-fold_pairs a b l = pairs_from true a b l
+-- one byte more is compared
+pub same_step : (a b : List ℕ) (i : ℕ) → i < length a → i < length b → same? (drop i a) (drop i b) ≡ (eqb (get_or a i 0) (get_or b i 0) && same? (drop (i + 1) a) (drop (i + 1) b))
+same_step a b i h k = rw (add-one, drop-cons a i 0, drop-cons b i 0)
 
 -- bytes are the same as themselves
 pub same_refl : (a : List ℕ) → same? a a ≡ true

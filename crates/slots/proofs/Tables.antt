@@ -1,5 +1,5 @@
 -- Laws of tables of slots: their lengths, and what reading and changing a place does. Assumes nothing.
-use Rattle.lists.proofs.Kit.{◌≡◌, refl, sym, ap, ap₂, ◌∙◌, Bool, true, false, cond, true≢false, Option, none, some, List, [], ◌∷◌, ◌++◌, map, map-map, ℕ, zero, suc, ◌+◌, ◌*◌, ◌-◌, ◌≤◌, ◌<◌, not-suc-le-zero, le_of_suc-le-suc, suc-mul, zero-mul, add_comm, mul-le-mul_right, arith, put_mid, mid_of, mid_len, length, set, take, get_or, replicate, length-set, length-map, length-replicate, replicate-append-replicate}
+use Rattle.lists.proofs.Kit.{◌≡◌, refl, sym, ap, ap₂, ◌∙◌, Bool, true, false, cond, true≢false, Option, none, some, List, [], ◌∷◌, ◌++◌, map, map-map, ℕ, zero, suc, ◌+◌, ◌*◌, ◌-◌, ◌≤◌, ◌<◌, not-suc-le-zero, le_of_suc-le-suc, suc-mul, zero-mul, add_comm, mul-le-mul_right, arith, put_mid, mid_of, mid_len, length, set, take, drop, get_or, replicate, length-set, length-map, length-replicate, replicate-append-replicate}
 use Rattle.lists.specs.Bytes.{Bytes}
 use Rattle.lists.proofs.Bytes.{bytes_zeros}
 use Rattle.lists.specs.Every.{All}
@@ -7,7 +7,7 @@ use Rattle.lists.proofs.Every.{all_get, all_made, all_map, all_set}
 use Rattle.lists.proofs.Seqs.{map_set, get_d_map}
 use Rattle.slots.specs.Slots.{flat, pad, slot, places, front, Present, Slots, unless, index_of, put_at, zeros?, Placed, sum}
 use Rattle.slots.proofs.Pads.{pad_length, pad_nil, pad_after}
-use Rattle.slots.proofs.Runs.{zeros_all}
+use Rattle.slots.proofs.Runs.{copy_whole, zeros_all}
 use Rattle.slots.proofs.Parts.{flat_bytes, get_d_length, parts_get, parts_put, slots_length}
 
 -- ---- slots, read and changed
@@ -78,6 +78,10 @@ module _ {A : Type 0} (w : ℕ) (f : A → List ℕ) (long : (a : A) → length 
 -- it has w bytes
 pub slot_wide : (s : List ℕ) (at w : ℕ) → at + w ≤ length s → length (mid_of at (at + w - at) s) ≡ w
 slot_wide s at w h = mid_len at (at + w) s h ∙ omega arith
+
+-- w bytes copied into it are what comes back
+pub slot_copied : (s x y : List ℕ) (at w : ℕ) → at + w ≤ length s → length x ≡ w → y ≡ take (length (mid_of at (at + w - at) s)) x ++ drop (length x) (mid_of at (at + w - at) s) → y ≡ x
+slot_copied s x y at w h l e = e ∙ copy_whole x (mid_of at (at + w - at) s) (slot_wide s at w h ∙ sym l)
 
 -- place k of an indexed table
 module _ {A : Type 0} (P : A → Type 0) (w : ℕ) (f : A → List ℕ) (long : (a : A) → length (f a) ≡ w) (n : ℕ) (os : List (Option A)) (s : List ℕ) (t : Placed P w f n os s) (k : ℕ) (h : k < n) where

@@ -1,4 +1,5 @@
 // Runs of bytes: copied, widened, wiped and compared. Every length is taken.
+// By index: an iterator over bytes gives an Option of a reference, and a copy of slices compares addresses, which a module for pointers of 32 bits may not hold.
 ghost use Rattle.std.specs.Prelude.{◌≡◌, ◌++◌, map, length, take, drop, replicate};
 ghost use Rattle.slots.specs.Slots.{flat, pad, u16, zeros?, same?};
 
@@ -7,7 +8,9 @@ pub fn copy(dst: &mut [u8], src: &[u8])
     ensures { dst.new ≡ take (length dst.old) src.now ++ drop (length src.now) dst.old }
 {
     let n = dst.len().min(src.len());
-    dst[..n].copy_from_slice(&src[..n]);
+    for i in 0..n {
+        dst[i] = src[i];
+    }
 }
 
 // Makes every byte 0.
@@ -32,8 +35,8 @@ pub fn widen_padded(dst: &mut [u8], src: &[u8])
 {
     wipe(dst);
     let n = (dst.len() / 2).min(src.len());
-    for (i, byte) in src[..n].iter().enumerate() {
-        dst[2 * i + 1] = *byte;
+    for i in 0..n {
+        dst[2 * i + 1] = src[i];
     }
 }
 
@@ -41,26 +44,50 @@ pub fn widen_padded(dst: &mut [u8], src: &[u8])
 pub fn is_zeros(s: &[u8]) -> bool
     ensures { result ≡ zeros? s.now }
 {
-    s.iter().all(|byte| *byte == 0)
+    for i in 0..s.len() {
+        if s[i] != 0 {
+            return false;
+        }
+    }
+    true
 }
 
-// Whether both are the same bytes, and as many.
+// Whether both are the same bytes, and as many. By a loop: == of slices calls a function that is never inlined for all but the shortest.
 pub fn same(a: &[u8], b: &[u8]) -> bool
     ensures { result ≡ same? a.now b.now }
 {
-    a == b
+    if a.len() != b.len() {
+        return false;
+    }
+    for i in 0..a.len() {
+        if a[i] != b[i] {
+            return false;
+        }
+    }
+    true
 }
 
-// Whether every byte of a long run is 0: no byte ends the fold, so that the compiler takes many at a time.
+// Whether every byte of a long run is 0: no byte ends the loop, so that the compiler takes many at a time.
 pub fn is_clear(s: &[u8]) -> bool
     ensures { result ≡ zeros? s.now }
 {
-    s.iter().fold(true, |clear, byte| clear & (*byte == 0))
+    let mut clear = true;
+    for i in 0..s.len() {
+        clear = clear & (s[i] == 0);
+    }
+    clear
 }
 
-// The same as same, for keys of a known length that differ late: there == takes a third longer than this fold, which no byte ends.
+// The same as same, for keys of a known length that differ late: no byte ends the loop.
 pub fn alike(a: &[u8], b: &[u8]) -> bool
     ensures { result ≡ same? a.now b.now }
 {
-    a.len() == b.len() && a.iter().zip(b).fold(true, |all, (x, y)| all & (*x == *y))
+    if b.len() != a.len() {
+        return false;
+    }
+    let mut all = true;
+    for i in 0..a.len() {
+        all = all & (a[i] == b[i]);
+    }
+    all
 }

@@ -45,25 +45,27 @@ pub fn place_of(s: &[u8], w: usize, o: usize, n: usize, key: &[u8]) -> usize
     at
 }
 
-// Drops the first w bytes, and puts zeros at the end.
+// Drops the first w bytes, and puts zeros at the end. By index: copy_within compares addresses, which a module for pointers of 32 bits may not hold.
 fn shift(s: &mut [u8], w: usize)
-    requires { w ≤ length s.old }
     ensures { s.new ≡ pad 0 (length s.old) (drop w s.old) }
 {
-    s.copy_within(w.., 0);
-    let n = s.len() - w;
+    let n = s.len().saturating_sub(w);
+    for i in 0..n {
+        s[i] = s[i + w];
+    }
     wipe(&mut s[n..]);
 }
 
-// Takes every slot out that has the key at o, and closes the gaps.
+// Takes every slot out that has the key at o, and closes the gaps. The slots are counted from the end, also of bytes that are not whole slots.
 pub fn remove_all(s: &mut [u8], w: usize, o: usize, key: &[u8])
     ensures { Removed w o key.now s.old s.new }
 {
     if !key_fits(w, o, key.len()) {
         return;
     }
-    for k in (0..s.len() / w).rev() {
-        let at = k * w;
+    let end = s.len();
+    for k in 0..end / w {
+        let at = end - (k + 1) * w;
         let a = at + o;
         let e = a + key.len();
         if same(&s[a..e], key) {

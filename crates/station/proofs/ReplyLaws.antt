@@ -1,6 +1,7 @@
 -- The bytes of a reply, and that the code writes them. Assumes nothing.
 use Rattle.lists.proofs.Kit.{ℕ, suc, ◌+◌, ◌-◌, ◌*◌, ◌/◌, ◌%◌, ◌^◌, ◌≤◌, ◌<◌, ◌≡◌, refl, sym, ap, ap₂, ◌∙◌, subst, List, [], ◌∷◌, ◌++◌, map, append_assoc, arith, mid_of, post_of, put_mid, mid_len, length, get_or, take, drop, replicate, length-append, length-drop, take_at, drop_at, take_all, drop-drop}
 use native.Mathlib.Decide.{dec_le}
+use Rattle.slots.proofs.Runs.{copy_whole}
 use Rattle.lists.proofs.Bytes.{all_bytes}
 use Rattle.lists.specs.Every.{All}
 use Rattle.slots.proofs.Pads.{pad_is, pad_length}
@@ -115,11 +116,22 @@ room_after a buffer size e s l =
 -- the same, as the two copies left it
 pub reply_copied : (result failed size : ℕ) (h : Hash) (hash buffer a b : List ℕ) → result < 256 → failed < 256 → HashOk h → hash ≡ hash_bytes h
     → length hash ≡ 11 → SizeOf (get_or hash 0 0) size → 20 ≤ length buffer
-    → a ≡ 2 ∷ 2 ∷ 0 ∷ (6 + size % 16) ∷ 8 ∷ 0 ∷ 9 ∷ result ∷ failed ∷ get_or hash 0 0 ∷ [] → b ≡ mid_of 1 (1 + size - 1) hash
+    → a ≡ take (length (mid_of 0 10 buffer)) (2 ∷ 2 ∷ 0 ∷ (6 + size % 16) ∷ 8 ∷ 0 ∷ 9 ∷ result ∷ failed ∷ get_or hash 0 0 ∷ [])
+    ++ drop 10 (mid_of 0 10 buffer)
+    → b ≡ take (length (mid_of 10 (10 + size - 10) (a ++ post_of 0 10 buffer))) (mid_of 1 (1 + size - 1) hash)
+    ++ drop (length (mid_of 1 (1 + size - 1) hash)) (mid_of 10 (10 + size - 10) (a ++ post_of 0 10 buffer))
     → (put_mid 10 (10 + size - 10) (a ++ post_of 0 10 buffer) b ≡ written_over (reply_bytes result failed h) buffer) × (10 + size % 16 ≡ 10 + length h.value)
 reply_copied result failed size h hash buffer a b r f ok e lh s l ea eb =
     let (n, v) = value_cut h hash size ok e s in
     let m = size_most s in
+    let X : List ℕ = 2 ∷ 2 ∷ 0 ∷ (6 + size % 16) ∷ 8 ∷ 0 ∷ 9 ∷ result ∷ failed ∷ get_or hash 0 0 ∷ [] in
+    let l0 : length (mid_of 0 10 buffer) ≡ 10 = mid_len 0 10 buffer (omega arith) in
+    let a' : a ≡ X = ea ∙ copy_whole X (mid_of 0 10 buffer) l0 in
+    let la : length a ≡ 10 = ap length a' in
+    let y : List ℕ = mid_of 1 (1 + size - 1) hash in
+    let d : List ℕ = mid_of 10 (10 + size - 10) (a ++ post_of 0 10 buffer) in
+    let ly : length y ≡ 1 + size - 1 = mid_len 1 (1 + size) hash (omega arith) in
+    let ld : length d ≡ 10 + size - 10 = mid_len 10 (10 + size) (a ++ post_of 0 10 buffer) (room_after a buffer size (omega arith) m l) in
     let w : 1 + size - 1 ≡ size = omega arith in
-    let b' : b ≡ take size (drop 1 hash) = eb ∙ ap (λ (k : ℕ). take k (drop 1 hash)) w in
-    (reply_done result failed size h hash buffer a b r f ok e s l ea b', omega arith)
+    let b' : b ≡ take size (drop 1 hash) = eb ∙ copy_whole y d (omega arith) ∙ ap (λ (k : ℕ). take k (drop 1 hash)) w in
+    (reply_done result failed size h hash buffer a b r f ok e s l a' b', omega arith)

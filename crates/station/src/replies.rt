@@ -5,6 +5,7 @@ ghost use Rattle.station.specs.Replies.{ReplyWritten};
 
 use read_carrier::carrier::START;
 use read_fields::hashes::hash_size;
+use slots::bytes::copy;
 use writing::CfgResult;
 
 // CfgResult of a result.
@@ -15,6 +16,7 @@ pub fn result_number(res: CfgResult) -> u8
 }
 
 // The reply with this result and failed ID that carries the hash kept in these 11 bytes; its length, or 0 where a buffer is too short for it.
+// By slots' copy: copy_from_slice compares two addresses, which a module for pointers of 32 bits may not hold as numbers.
 pub fn write_reply(reply: &mut [u8], res: u8, failed: u8, hash: &[u8]) -> u8
     ensures { 20 ≤ length reply.old → ReplyWritten res failed hash.now reply.old reply.new result }
 {
@@ -39,9 +41,9 @@ pub fn write_reply(reply: &mut [u8], res: u8, failed: u8, hash: &[u8]) -> u8
         failed,
         code,
     ];
-    reply[0..10].copy_from_slice(&head);
+    copy(&mut reply[0..10], &head);
     let end = 10 + size;
     let last = 1 + size;
-    reply[10..end].copy_from_slice(&hash[1..last]);
+    copy(&mut reply[10..end], &hash[1..last]);
     10 + length
 }

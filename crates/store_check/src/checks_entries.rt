@@ -71,10 +71,16 @@ pub(crate) fn text_ok(form: Form, s: &[u8], most: u8) -> bool
 }
 
 // Whether no byte is above the most.
+// By index: an iterator over bytes gives an Option of a reference, which a module for pointers of 32 bits may not hold.
 pub fn at_most(s: &[u8], most: u8) -> bool
     ensures { (result ≡ true) ↔ All (λ x. x ≤ most) s.now }
 {
-    s.iter().all(|x| *x <= most)
+    for i in 0..s.len() {
+        if most < s[i] {
+            return false;
+        }
+    }
+    true
 }
 
 // Whether a byte before another is a digit's, or 0 as that is, and all before it were so.

@@ -1,3 +1,5 @@
+use Rattle.lists.proofs.Kit.{arith}
+use Rattle.slots.proofs.Tables.{slot_copied}
 use Rattle.counted_lists.proofs.ListLaws.{added_full, added_room}
 use Rattle.counted_lists.proofs.changes.add_end.Goals as goal
 
@@ -11,6 +13,8 @@ pub returns : goal.returns
 returns c =
     let a = c.args in
     let m = c.count-n in
-    let y = c.copy_from_slice in
+    let y = c.copy in
     let t = c.set_count in
-    added_room a.w a.slot.now a.part.now c.in-Some.at c.in-Some.ensures m.result y.new.self t.new.part m.ensures c.if-slot-w.false c.if-part-at.false y.ensures.after t.ensures
+    let e = c.in-Some.ensures in
+    let z = slot_copied a.part.now a.slot.now y.new.dst c.in-Some.at a.w (omega (arith, e.within)) c.if-slot-w.false y.ensures in
+    added_room a.w a.slot.now a.part.now c.in-Some.at e m.result y.new.dst t.new.part m.ensures c.if-slot-w.false c.if-part-at.false z t.ensures

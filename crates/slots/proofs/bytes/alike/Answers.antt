@@ -1,18 +1,26 @@
-use Rattle.std.proofs.Common.{tests}
-use Rattle.lists.proofs.Kit.{rules, sym, ap, ◌∙◌, ◌&&◌, true, eqb, ne_eqb, length}
-use Rattle.std.proofs.lemmas.Iterator.{YieldsList-from_slice, YieldsList-from_zip}
-use Rattle.std.proofs.lemmas.Iterator.Consumers.{YieldsList-at, fold_from_yields_List}
-use Rattle.slots.proofs.Runs.{fold_pairs, same_not}
+use Rattle.lists.proofs.Kit.{arith, refl, sym, ap, ◌∙◌, ◌&&◌, [], length, drop, drop_of_length-le}
+use Rattle.slots.specs.Slots.{same?}
+use Rattle.slots.proofs.Runs.{same_step, same_not, still_more, still_all}
 use Rattle.slots.proofs.bytes.alike.Goals as goal
 
-pub returns-then-a-b : goal.returns-then-a-b
-returns-then-a-b c =
+pub returns-then-b-a : goal.returns-then-b-a
+returns-then-b-a c =
     let a = c.args in
-    fold_from_yields_List _ (λ all p. all && eqb p.0 p.1) true c.fold.result c.fold.ensures.ran
-    (YieldsList-from_zip (YieldsList-at c.zip.ensures.first (YieldsList-from_slice a.a.now cc)) (YieldsList-from_slice a.b.now c.zip.ensures.second.0))
-    (λ z x b q k. search (rules, tests)) ∙ fold_pairs a.a.now a.b.now c.if-a-b.true
+    sym (same_not a.a.now a.b.now (λ e. omega (arith, ap length e)))
 
-pub returns-else-a-b : goal.returns-else-a-b
-returns-else-a-b c =
+pub loop-i-init : goal.loop-i-init
+loop-i-init c = refl
+
+pub loop-i-preserved : goal.loop-i-preserved
+loop-i-preserved c =
+    let l = c.loop-i in
     let a = c.args in
-    ne_eqb _ _ c.if-a-b.false ∙ sym (same_not a.a.now a.b.now (λ e. c.if-a-b.false (ap length e)))
+    l.invariant ∙ ap (λ x. l.all && x) (same_step a.a.now a.b.now l.i (omega arith) (omega arith)) ∙ still_more l.all _ _
+
+pub returns : goal.returns
+returns c =
+    let l = c.loop-i in
+    let a = c.args in
+    sym
+    (l.invariant ∙ ap (λ x. l.all && same? x (drop l.i a.b.now)) (drop_of_length-le a.a.now {i = l.i} (omega arith))
+    ∙ ap (λ x. l.all && same? [] x) (drop_of_length-le a.b.now {i = l.i} (omega arith)) ∙ still_all l.all)

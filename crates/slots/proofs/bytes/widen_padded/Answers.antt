@@ -1,5 +1,4 @@
-use Rattle.lists.proofs.Kit.{arith, ◌<◌, refl, ap, ◌∙◌, length, length-set, length-take}
-use Rattle.std.proofs.lemmas.List.{get_or-take}
+use Rattle.lists.proofs.Kit.{arith, refl, ap, ◌∙◌, length, length-set}
 use Rattle.slots.proofs.Widening.{widened, wiped_length, widen_none, widen_more, widen_done}
 use Rattle.slots.proofs.bytes.widen_padded.Goals as goal
 
@@ -13,14 +12,11 @@ loop-i-preserved c =
     let l = c.loop-i in
     let w = c.wipe in
     let src = c.args.src.now in
-    let n = c.min-n.result in
-    let k : l.i < n = omega (arith, length-take n src) in
-    (rw (get_or-take n src l.i 0 k, l.invariant.0) (widen_more (length w.new.s) l.i src (λ j. (c.type_inv.src j).fits) (omega arith) (omega arith)), simp length-set l.invariant.1)
+    (rw l.invariant.0 (widen_more (length w.new.s) l.i src (λ j. (c.type_inv.src j).fits) (omega arith) (omega arith)), simp length-set l.invariant.1)
 
 pub returns : goal.returns
 returns c =
     let l = c.loop-i in
     let w = c.wipe in
     let a = c.args in
-    let k = length-take c.min-n.result a.src.now in
-    l.invariant.0 ∙ widen_done (length w.new.s) l.i a.src.now (λ j. (c.type_inv.src j).fits) (λ h. omega (arith, k)) ∙ ap (λ n. widened n a.src.now) (wiped_length (length a.dst.now) w.new.s w.ensures)
+    l.invariant.0 ∙ widen_done (length w.new.s) l.i a.src.now (λ j. (c.type_inv.src j).fits) (omega arith) ∙ ap (λ n. widened n a.src.now) (wiped_length (length a.dst.now) w.new.s w.ensures)
