@@ -167,8 +167,8 @@ for file in "$handheld" "$vehicle" "$office" "$desk"; do
     step "constants of ${file##*/}" few_constants "$file" && show
 done
 step "what each archive has" own_functions
-step "what each archive needs" needs_no_more
 [ -z "$emulator" ] || exit $failed
+step "what each archive needs" needs_no_more
 for module in handheld vehicle office desk; do
     [ ! -f target/archive/wasm32/otap_$module.wasm ] || continue
     echo "left out  wasm32: ./archive wasm32 was not run"
