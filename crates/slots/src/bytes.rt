@@ -52,19 +52,11 @@ pub fn is_zeros(s: &[u8]) -> bool
     true
 }
 
-// Whether both are the same bytes, and as many. By a loop: == of slices calls a function that is never inlined for all but the shortest.
+// Whether both are the same bytes, and as many.
 pub fn same(a: &[u8], b: &[u8]) -> bool
     ensures { result ≡ same? a.now b.now }
 {
-    if a.len() != b.len() {
-        return false;
-    }
-    for i in 0..a.len() {
-        if a[i] != b[i] {
-            return false;
-        }
-    }
-    true
+    a == b
 }
 
 // Whether every byte of a long run is 0: no byte ends the loop, so that the compiler takes many at a time.
