@@ -10,8 +10,8 @@ pub fn remaining(m: &[u8], at: usize) -> usize
 }
 
 // The number that k bytes make, highest first.
-// By index: an iterator over bytes gives an Option of a reference, which a module for pointers of 32 bits may not hold, and is slower here.
-fn joined(m: &[u8], at: usize, k: usize) -> u64
+// By index: an iterator over bytes gives an Option of a reference, which a module for pointers of 32 bits may not hold.
+pub(crate) fn joined(m: &[u8], at: usize, k: usize) -> u64
     requires { (k ≤ 8) × (at + k ≤ length m.now) }
     ensures { result ≡ be 0 (take k (drop at m.now)) }
 {

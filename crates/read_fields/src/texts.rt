@@ -1,7 +1,7 @@
 // Texts at a place of a message. Of the readers, only this file knows how units are coded.
 ghost use Rattle.read_fields.specs.TextsAndNumbers.{UnitBytes, TextAt};
 
-use super::bytes::{number, remaining};
+use super::bytes::{joined, remaining};
 use writing::Coding;
 
 // The units before the end unit, and the coding that they were read under.
@@ -22,19 +22,25 @@ pub fn unit_bytes(coding: Coding) -> usize
     }
 }
 
-// The text of at most limit units at a place, and the place after its end unit.
-// A `for` over units was tried: it was slower.
-pub fn read_text(m: &[u8], at: usize, limit: usize, coding: Coding) -> Option<(TextPlace, usize)>
+// The text of at most limit units of W bytes at a place, and the place after its end unit. A `for` over units was tried: it was slower.
+// Not inlined: readers hand None on, and the parts of all that they answer would be set to 0 at each unit. The width is the type's, so that the compiler knows it.
+#[inline(never)]
+fn read_units<const W: usize>(
+    m: &[u8],
+    at: usize,
+    limit: usize,
+    coding: Coding,
+) -> Option<(TextPlace, usize)>
+    requires { UnitBytes coding W }
     ensures { TextAt coding m.now at limit result }
 {
-    let width = unit_bytes(coding);
     let mut p = at;
     let mut units: usize = 0;
     while units <= limit {
-        if remaining(m, p) < width {
+        if remaining(m, p) < W {
             return None;
         }
-        if number(m, p, width) == 0 {
+        if joined(m, p, W) == 0 {
             let start = at;
             return Some((
                 TextPlace {
@@ -42,11 +48,22 @@ pub fn read_text(m: &[u8], at: usize, limit: usize, coding: Coding) -> Option<(T
                     units,
                     coding,
                 },
-                p + width,
+                p + W,
             ));
         }
         units += 1;
-        p += width;
+        p += W;
     }
     None
+}
+
+// The text of at most limit units at a place, and the place after its end unit.
+pub fn read_text(m: &[u8], at: usize, limit: usize, coding: Coding) -> Option<(TextPlace, usize)>
+    ensures { TextAt coding m.now at limit result }
+{
+    if unit_bytes(coding) == 1 {
+        read_units::<1>(m, at, limit, coding)
+    } else {
+        read_units::<2>(m, at, limit, coding)
+    }
 }
